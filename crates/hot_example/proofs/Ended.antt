@@ -10,7 +10,7 @@ use Rattle.hot_index.specs.Handles.{HandleView, Stays}
 use Rattle.hot_index.specs.Stamps.{HasSeenMore}
 use Rattle.hot_index_calls.specs.Answers.{IsNoted, IsRefusedFor, fault_of}
 use Rattle.hot_index_calls.specs.Asked.{last_try}
-use Rattle.hot_index_calls.specs.Calls.{HasCause, IsOutcome}
+use Rattle.hot_index_calls.specs.Calls.{HasCause, IsOutcome, IsWaitedFor}
 use Rattle.hot_index_calls.specs.Passes.{IsNewPass, Owns, PassView, pass_of}
 use Rattle.hot_index_calls.specs.Traces.{HasTold, untold}
 use Rattle.index_laws.specs.Joined.{HasGoneThrough, HasEndedAs, answered, call_of, called, new, notes_of_end, refused, steps_of}
@@ -69,19 +69,19 @@ module _ (q : ℕ) (key : List ℕ) (value : ℕ) (index : TableView) (k j : Pas
 
 -- An insert is asked behind all before,
 pub asks_more : (q : ℕ) (asked : List Call) (key : List ℕ) (value : ℕ) (result : Result Reply Full) (h j : HandleView) → HasMadeCalls q asked h →
-    Stays (IsOutcome (Insert key value) (last_try result)) h j → Stays (HasCause (Insert key value) (last_try result)) h j → Stays (λ index k i. HasTold index untold (k, tt) (i, tt)) h j →
+    Stays (λ index k i. IsWaitedFor (Insert key value) result index untold (k, tt) (i, tt)) h j →
     HasMadeCalls q (asked ++ Insert key value ∷ []) j
-asks_more q asked key value result h j was stays cause told =
-    let x = inserted q key value h.index h.pass j.pass result stays.pass cause.pass told.pass was.0 was.1 in
-    (x.0, subst (λ i. HasGoneThrough i q x.0 j.pass.seat) (sym stays.index) x.1, x.2 ∙ ap (λ l. l ++ Insert key value ∷ []) was.2)
+asks_more q asked key value result h j was waited =
+    let x = inserted q key value h.index h.pass j.pass result waited.pass.call waited.pass.cause waited.pass.told was.0 was.1 in
+    (x.0, subst (λ i. HasGoneThrough i q x.0 j.pass.seat) (sym waited.index) x.1, x.2 ∙ ap (λ l. l ++ Insert key value ∷ []) was.2)
 
 -- and by a new pass at first.
 pub asks_first : (q : ℕ) (key : List ℕ) (value : ℕ) (result : Result Reply Full) (h j : HandleView) → IsNewPass q h.pass → Owns h.index h.pass →
-    Stays (IsOutcome (Insert key value) (last_try result)) h j → Stays (HasCause (Insert key value) (last_try result)) h j → Stays (λ index k i. HasTold index untold (k, tt) (i, tt)) h j →
+    Stays (λ index k i. IsWaitedFor (Insert key value) result index untold (k, tt) (i, tt)) h j →
     HasMadeCalls q (Insert key value ∷ []) j
-asks_first q key value result h j fresh own stays cause told =
-    let at : h.pass.seat.table ≡ h.index.id = sym (ap (λ (p : PassView). p.table) told.pass.begins) ∙ own in
-    asks_more q [] key value result h j ([], new (at, fresh.3, fresh.4, fresh.5), refl) stays cause told
+asks_first q key value result h j fresh own waited =
+    let at : h.pass.seat.table ≡ h.index.id = sym (ap (λ (p : PassView). p.table) waited.pass.told.begins) ∙ own in
+    asks_more q [] key value result h j ([], new (at, fresh.3, fresh.4, fresh.5), refl) waited
 
 -- The passes of two handles, a and b, have asked these calls. Then they have met, and are c and d.
 pub have_ended : (index : TableView) (asked asked_too : List Call) (a b c d : HandleView) → a.index ≡ index → b.index ≡ index → index.layout.passes ≡ 2 →

@@ -3,11 +3,9 @@
 ghost use Rattle.std.specs.Prelude.{◌≡◌, IfErr, IsOk};
 ghost use Rattle.finite_map.specs.declared.Call.TheVariants.{Add};
 ghost use Rattle.rowex_writing.specs.declared.attempts.TryFault.TheVariants.{Busy};
-ghost use Rattle.hot_index_calls.specs.Asked.{last_try};
-ghost use Rattle.hot_index_calls.specs.Calls.{HasCause, IsOutcome, MakesTries};
+ghost use Rattle.hot_index_calls.specs.Calls.{IsTried, IsWaitedFor};
 ghost use Rattle.hot_index_calls.specs.Passes.{Owns};
-ghost use Rattle.hot_index_calls.specs.Rooms.{LeavesRoom};
-ghost use Rattle.hot_index_calls.specs.Traces.{HasMade, HasTold, untold};
+ghost use Rattle.hot_index_calls.specs.Traces.{untold};
 
 use crate::index::{Index, Pass};
 use finite_map::{Call, Reply};
@@ -24,11 +22,7 @@ impl Index {
     /// `Busy`.
     pub fn try_add(&self, pass: &mut Pass, key: &Key, delta: u64) -> Result<Reply, TryFault>
         requires { Owns self.now pass.old }
-        ensures own { Owns self.now pass.new }
-        ensures call { IsOutcome (Add key.now delta) result self.now pass.old pass.new }
-        ensures cause { HasCause (Add key.now delta) result self.now pass.old pass.new }
-        ensures made { HasMade self.now untold (Add key.now delta) result (pass.old, tt) (pass.new, tt) }
-        ensures room { LeavesRoom self.now.layout (Add key.now delta) result pass.old.seat pass.new.seat }
+        ensures tried { IsTried (Add key.now delta) result self.now untold (pass.old, tt) (pass.new, tt) }
         ensures busy { IfErr result (λ fault. fault ≡ Busy) }
     {
         self.try_add_with(pass, key, delta, &mut NoGate)
@@ -43,11 +37,7 @@ impl Index {
         gate: &mut G,
     ) -> Result<Reply, TryFault>
         requires { Owns self.now pass.old }
-        ensures own { Owns self.now pass.new }
-        ensures call { IsOutcome (Add key.now delta) result self.now pass.old pass.new }
-        ensures cause { HasCause (Add key.now delta) result self.now pass.old pass.new }
-        ensures made { HasMade self.now G.becomes (Add key.now delta) result (pass.old, gate.old) (pass.new, gate.new) }
-        ensures room { LeavesRoom self.now.layout (Add key.now delta) result pass.old.seat pass.new.seat }
+        ensures tried { IsTried (Add key.now delta) result self.now G.becomes (pass.old, gate.old) (pass.new, gate.new) }
         ensures busy { IfErr result (λ fault. fault ≡ Busy) }
     {
         self.try_change_with(pass, gate, &Call::Add(key.copy(), delta))
@@ -65,12 +55,7 @@ impl Index {
         delta: u64,
     ) -> Result<Reply, Full>
         requires { Owns self.now pass.old }
-        ensures own { Owns self.now pass.new }
-        ensures call { IsOutcome (Add key.now delta) (last_try result) self.now pass.old pass.new }
-        ensures cause { HasCause (Add key.now delta) (last_try result) self.now pass.old pass.new }
-        ensures tries { MakesTries (Add key.now delta) result self.now untold (pass.old, tt) (pass.new, tt) }
-        ensures told { HasTold self.now untold (pass.old, tt) (pass.new, tt) }
-        ensures room { LeavesRoom self.now.layout (Add key.now delta) (last_try result) pass.old.seat pass.new.seat }
+        ensures waited { IsWaitedFor (Add key.now delta) result self.now untold (pass.old, tt) (pass.new, tt) }
         ensures made { IsOk result }
     {
         self.retry_change_with(rt, pass, &mut NoGate, &Call::Add(key.copy(), delta))

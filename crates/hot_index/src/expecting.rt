@@ -1,14 +1,11 @@
 //! Calls that expect a key to have a certain value, and change nothing if it has another or none.
 
-ghost use Rattle.std.specs.Prelude.{◌≡◌, ◌≢◌, ◌<◌, Err, IfErr, IsOk};
+ghost use Rattle.std.specs.Prelude.{◌≡◌, ◌<◌, IfErr, IsOk};
 ghost use Rattle.finite_map.specs.declared.Call.TheVariants.{Exchange, RemoveIf};
-ghost use Rattle.rowex_writing.specs.declared.attempts.TryFault.TheVariants.{Busy, FullLeaves};
-ghost use Rattle.rowex_writing.specs.declared.plan.Full.TheVariants.{Leaves};
-ghost use Rattle.hot_index_calls.specs.Asked.{last_try};
-ghost use Rattle.hot_index_calls.specs.Calls.{HasCause, IsOutcome, MakesTries};
+ghost use Rattle.rowex_writing.specs.declared.attempts.TryFault.TheVariants.{Busy};
+ghost use Rattle.hot_index_calls.specs.Calls.{IsTried, IsWaitedFor};
 ghost use Rattle.hot_index_calls.specs.Passes.{Owns};
-ghost use Rattle.hot_index_calls.specs.Rooms.{LeavesRoom};
-ghost use Rattle.hot_index_calls.specs.Traces.{HasMade, HasTold, untold};
+ghost use Rattle.hot_index_calls.specs.Traces.{untold};
 
 use crate::index::{Index, Pass};
 use finite_map::{Call, Reply};
@@ -30,11 +27,7 @@ impl Index {
         value: u64,
     ) -> Result<Reply, TryFault>
         requires { Owns self.now pass.old }
-        ensures own { Owns self.now pass.new }
-        ensures call { IsOutcome (Exchange key.now expected value) result self.now pass.old pass.new }
-        ensures cause { HasCause (Exchange key.now expected value) result self.now pass.old pass.new }
-        ensures made { HasMade self.now untold (Exchange key.now expected value) result (pass.old, tt) (pass.new, tt) }
-        ensures room { LeavesRoom self.now.layout (Exchange key.now expected value) result pass.old.seat pass.new.seat }
+        ensures tried { IsTried (Exchange key.now expected value) result self.now untold (pass.old, tt) (pass.new, tt) }
         ensures busy { IfErr result (λ fault. fault ≡ Busy) }
     {
         self.try_exchange_with(pass, key, expected, value, &mut NoGate)
@@ -50,11 +43,7 @@ impl Index {
         gate: &mut G,
     ) -> Result<Reply, TryFault>
         requires { Owns self.now pass.old }
-        ensures own { Owns self.now pass.new }
-        ensures call { IsOutcome (Exchange key.now expected value) result self.now pass.old pass.new }
-        ensures cause { HasCause (Exchange key.now expected value) result self.now pass.old pass.new }
-        ensures made { HasMade self.now G.becomes (Exchange key.now expected value) result (pass.old, gate.old) (pass.new, gate.new) }
-        ensures room { LeavesRoom self.now.layout (Exchange key.now expected value) result pass.old.seat pass.new.seat }
+        ensures tried { IsTried (Exchange key.now expected value) result self.now G.becomes (pass.old, gate.old) (pass.new, gate.new) }
         ensures busy { IfErr result (λ fault. fault ≡ Busy) }
     {
         self.try_change_with(pass, gate, &Call::Exchange(key.copy(), expected, value))
@@ -73,12 +62,7 @@ impl Index {
         value: u64,
     ) -> Result<Reply, Full>
         requires { Owns self.now pass.old }
-        ensures own { Owns self.now pass.new }
-        ensures call { IsOutcome (Exchange key.now expected value) (last_try result) self.now pass.old pass.new }
-        ensures cause { HasCause (Exchange key.now expected value) (last_try result) self.now pass.old pass.new }
-        ensures tries { MakesTries (Exchange key.now expected value) result self.now untold (pass.old, tt) (pass.new, tt) }
-        ensures told { HasTold self.now untold (pass.old, tt) (pass.new, tt) }
-        ensures room { LeavesRoom self.now.layout (Exchange key.now expected value) (last_try result) pass.old.seat pass.new.seat }
+        ensures waited { IsWaitedFor (Exchange key.now expected value) result self.now untold (pass.old, tt) (pass.new, tt) }
         ensures made { IsOk result }
     {
         self.retry_change_with(
@@ -101,12 +85,7 @@ impl Index {
         expected: u64,
     ) -> Result<Reply, TryFault>
         requires { Owns self.now pass.old }
-        ensures own { Owns self.now pass.new }
-        ensures call { IsOutcome (RemoveIf key.now expected) result self.now pass.old pass.new }
-        ensures cause { HasCause (RemoveIf key.now expected) result self.now pass.old pass.new }
-        ensures leafless { result ≢ Err FullLeaves }
-        ensures made { HasMade self.now untold (RemoveIf key.now expected) result (pass.old, tt) (pass.new, tt) }
-        ensures room { LeavesRoom self.now.layout (RemoveIf key.now expected) result pass.old.seat pass.new.seat }
+        ensures { IsTried (RemoveIf key.now expected) result self.now untold (pass.old, tt) (pass.new, tt) }
     {
         self.try_remove_if_with(pass, key, expected, &mut NoGate)
     }
@@ -120,12 +99,7 @@ impl Index {
         gate: &mut G,
     ) -> Result<Reply, TryFault>
         requires { Owns self.now pass.old }
-        ensures own { Owns self.now pass.new }
-        ensures call { IsOutcome (RemoveIf key.now expected) result self.now pass.old pass.new }
-        ensures cause { HasCause (RemoveIf key.now expected) result self.now pass.old pass.new }
-        ensures leafless { result ≢ Err FullLeaves }
-        ensures made { HasMade self.now G.becomes (RemoveIf key.now expected) result (pass.old, gate.old) (pass.new, gate.new) }
-        ensures room { LeavesRoom self.now.layout (RemoveIf key.now expected) result pass.old.seat pass.new.seat }
+        ensures { IsTried (RemoveIf key.now expected) result self.now G.becomes (pass.old, gate.old) (pass.new, gate.new) }
     {
         self.try_change_with(pass, gate, &Call::RemoveIf(key.copy(), expected))
     }
@@ -143,14 +117,7 @@ impl Index {
         expected: u64,
     ) -> Result<Reply, Full>
         requires { Owns self.now pass.old }
-        ensures own { Owns self.now pass.new }
-        ensures call { IsOutcome (RemoveIf key.now expected) (last_try result) self.now pass.old pass.new }
-        ensures cause { HasCause (RemoveIf key.now expected) (last_try result) self.now pass.old pass.new }
-        ensures leafless { result ≢ Err Leaves }
-        ensures kept { 1 < self.now.layout.passes → IsOk result }
-        ensures tries { MakesTries (RemoveIf key.now expected) result self.now untold (pass.old, tt) (pass.new, tt) }
-        ensures told { HasTold self.now untold (pass.old, tt) (pass.new, tt) }
-        ensures room { LeavesRoom self.now.layout (RemoveIf key.now expected) (last_try result) pass.old.seat pass.new.seat }
+        ensures { IsWaitedFor (RemoveIf key.now expected) result self.now untold (pass.old, tt) (pass.new, tt) }
     {
         self.retry_change_with(rt, pass, &mut NoGate, &Call::RemoveIf(key.copy(), expected))
     }

@@ -1,6 +1,6 @@
 //! A handle: a pass at its index. Its calls don't ask that the pass belong to the index, since it does.
 
-ghost use Rattle.std.specs.Prelude.{◌-◌, ◌^◌, ◌<◌, ◌≡◌, ◌≢◌, [], All, Err, IfErr, IfOk, IsOk, length, map};
+ghost use Rattle.std.specs.Prelude.{◌-◌, ◌^◌, ◌<◌, ◌≡◌, [], All, IfErr, IfOk, IsOk, length, map};
 ghost use Rattle.finite_map.specs.declared.Call.TheVariants.{Add, Exchange, Get, Insert, Remove, RemoveIf, Upsert};
 ghost use Rattle.finite_map.specs.Calls.{LegalCalls};
 ghost use Rattle.finite_map.specs.Reverse.{IsLawfulReverseScan};
@@ -8,8 +8,7 @@ ghost use Rattle.hot_index.specs.KeyCounts.{IsCountOf};
 ghost use Rattle.rowex_table.specs.Seats.{IsShownAll};
 ghost use Rattle.rowex_writing.specs.declared.attempts.TryFault.TheVariants.{Busy};
 ghost use Rattle.hot_index_calls.specs.Answers.{HaveMet, IsNoted, IsUnnoted, MayRefuse, got, range_from};
-ghost use Rattle.hot_index_calls.specs.Asked.{last_try};
-ghost use Rattle.hot_index_calls.specs.Calls.{GetsOrCounts, GetsOrMakes, HasCause, IsOutcome, MakesTries};
+ghost use Rattle.hot_index_calls.specs.Calls.{GetsOrCounts, GetsOrMakes, HasCause, IsOutcome, IsTried, IsWaitedFor};
 ghost use Rattle.hot_index_calls.specs.Calls.{IsCountRead, IsListRead, IsListReadBy, IsRangeRead, IsScanRead, IsScanReadBy, IsValuesRead};
 ghost use Rattle.hot_index_calls.specs.Census.{HasCounted};
 ghost use Rattle.hot_index.specs.Handles.{Stays, handle_at};
@@ -19,8 +18,7 @@ ghost use Rattle.hot_index.specs.Ranges.{IsFirstFound};
 ghost use Rattle.hot_index.specs.Stamps.{HasSeenMore};
 ghost use Rattle.hot_index_calls.specs.Reverse.{IsLastFound};
 ghost use Rattle.hot_index_calls.specs.Refusals.{as_tried};
-ghost use Rattle.hot_index_calls.specs.Rooms.{LeavesRoom};
-ghost use Rattle.hot_index_calls.specs.Traces.{HasCollected, HasGot, HasMade, HasTold, untold};
+ghost use Rattle.hot_index_calls.specs.Traces.{HasCollected, HasGot, untold};
 ghost use Rattle.key_ranges.specs.Ranges.{last_with};
 ghost use Rattle.rowex_scanning.specs.Scanning.{asked_range};
 ghost use Rattle.version_laws.specs.Directions.{IsLawfulBy};
@@ -140,22 +138,14 @@ impl<I: ShowsIndex> Handle<I> {
 
     /// Inserts `key` with `value` if it is absent, and returns what `Index::insert` does.
     pub fn insert<R: Wait>(&mut self, rt: &R, key: &Key, value: u64) -> Result<Reply, Full>
-        ensures call { Stays (IsOutcome (Insert key.now value) (last_try result)) self.old self.new }
-        ensures cause { Stays (HasCause (Insert key.now value) (last_try result)) self.old self.new }
-        ensures tries { Stays (λ index k j. MakesTries (Insert key.now value) result index untold (k, tt) (j, tt)) self.old self.new }
-        ensures told { Stays (λ index k j. HasTold index untold (k, tt) (j, tt)) self.old self.new }
-        ensures room { Stays (λ index k j. LeavesRoom index.layout (Insert key.now value) (last_try result) k.seat j.seat) self.old self.new }
+        ensures { Stays (λ index k j. IsWaitedFor (Insert key.now value) result index untold (k, tt) (j, tt)) self.old self.new }
     {
         self.index.show().insert(rt, &mut self.pass, key, value)
     }
 
     /// Gives `key` the value `value`, and returns what `Index::upsert` does.
     pub fn upsert<R: Wait>(&mut self, rt: &R, key: &Key, value: u64) -> Result<Reply, Full>
-        ensures call { Stays (IsOutcome (Upsert key.now value) (last_try result)) self.old self.new }
-        ensures cause { Stays (HasCause (Upsert key.now value) (last_try result)) self.old self.new }
-        ensures tries { Stays (λ index k j. MakesTries (Upsert key.now value) result index untold (k, tt) (j, tt)) self.old self.new }
-        ensures told { Stays (λ index k j. HasTold index untold (k, tt) (j, tt)) self.old self.new }
-        ensures room { Stays (λ index k j. LeavesRoom index.layout (Upsert key.now value) (last_try result) k.seat j.seat) self.old self.new }
+        ensures { Stays (λ index k j. IsWaitedFor (Upsert key.now value) result index untold (k, tt) (j, tt)) self.old self.new }
     {
         self.index.show().upsert(rt, &mut self.pass, key, value)
     }
@@ -168,11 +158,7 @@ impl<I: ShowsIndex> Handle<I> {
         expected: u64,
         value: u64,
     ) -> Result<Reply, Full>
-        ensures call { Stays (IsOutcome (Exchange key.now expected value) (last_try result)) self.old self.new }
-        ensures cause { Stays (HasCause (Exchange key.now expected value) (last_try result)) self.old self.new }
-        ensures tries { Stays (λ index k j. MakesTries (Exchange key.now expected value) result index untold (k, tt) (j, tt)) self.old self.new }
-        ensures told { Stays (λ index k j. HasTold index untold (k, tt) (j, tt)) self.old self.new }
-        ensures room { Stays (λ index k j. LeavesRoom index.layout (Exchange key.now expected value) (last_try result) k.seat j.seat) self.old self.new }
+        ensures waited { Stays (λ index k j. IsWaitedFor (Exchange key.now expected value) result index untold (k, tt) (j, tt)) self.old self.new }
         ensures made { IsOk result }
     {
         self.index
@@ -182,11 +168,7 @@ impl<I: ShowsIndex> Handle<I> {
 
     /// Adds `delta` to the value of `key`, if it has one, and returns what `Index::add` does.
     pub fn add<R: Wait>(&mut self, rt: &R, key: &Key, delta: u64) -> Result<Reply, Full>
-        ensures call { Stays (IsOutcome (Add key.now delta) (last_try result)) self.old self.new }
-        ensures cause { Stays (HasCause (Add key.now delta) (last_try result)) self.old self.new }
-        ensures tries { Stays (λ index k j. MakesTries (Add key.now delta) result index untold (k, tt) (j, tt)) self.old self.new }
-        ensures told { Stays (λ index k j. HasTold index untold (k, tt) (j, tt)) self.old self.new }
-        ensures room { Stays (λ index k j. LeavesRoom index.layout (Add key.now delta) (last_try result) k.seat j.seat) self.old self.new }
+        ensures waited { Stays (λ index k j. IsWaitedFor (Add key.now delta) result index untold (k, tt) (j, tt)) self.old self.new }
         ensures made { IsOk result }
     {
         self.index.show().add(rt, &mut self.pass, key, delta)
@@ -194,26 +176,14 @@ impl<I: ShowsIndex> Handle<I> {
 
     /// Removes `key`, and returns what `Index::remove` does.
     pub fn remove<R: Wait>(&mut self, rt: &R, key: &Key) -> Result<Reply, Full>
-        ensures call { Stays (IsOutcome (Remove key.now) (last_try result)) self.old self.new }
-        ensures cause { Stays (HasCause (Remove key.now) (last_try result)) self.old self.new }
-        ensures tries { Stays (λ index k j. MakesTries (Remove key.now) result index untold (k, tt) (j, tt)) self.old self.new }
-        ensures told { Stays (λ index k j. HasTold index untold (k, tt) (j, tt)) self.old self.new }
-        ensures room { Stays (λ index k j. LeavesRoom index.layout (Remove key.now) (last_try result) k.seat j.seat) self.old self.new }
-        ensures leafless { result ≢ Err Full.Leaves }
-        ensures kept { 1 < self.old.index.layout.passes → IsOk result }
+        ensures { Stays (λ index k j. IsWaitedFor (Remove key.now) result index untold (k, tt) (j, tt)) self.old self.new }
     {
         self.index.show().remove(rt, &mut self.pass, key)
     }
 
     /// Removes `key` if it has the value `expected`, and returns what `Index::remove_if` does.
     pub fn remove_if<R: Wait>(&mut self, rt: &R, key: &Key, expected: u64) -> Result<Reply, Full>
-        ensures call { Stays (IsOutcome (RemoveIf key.now expected) (last_try result)) self.old self.new }
-        ensures cause { Stays (HasCause (RemoveIf key.now expected) (last_try result)) self.old self.new }
-        ensures tries { Stays (λ index k j. MakesTries (RemoveIf key.now expected) result index untold (k, tt) (j, tt)) self.old self.new }
-        ensures told { Stays (λ index k j. HasTold index untold (k, tt) (j, tt)) self.old self.new }
-        ensures room { Stays (λ index k j. LeavesRoom index.layout (RemoveIf key.now expected) (last_try result) k.seat j.seat) self.old self.new }
-        ensures leafless { result ≢ Err Full.Leaves }
-        ensures kept { 1 < self.old.index.layout.passes → IsOk result }
+        ensures { Stays (λ index k j. IsWaitedFor (RemoveIf key.now expected) result index untold (k, tt) (j, tt)) self.old self.new }
     {
         self.index
             .show()
@@ -222,20 +192,14 @@ impl<I: ShowsIndex> Handle<I> {
 
     /// Tries to insert `key` with `value` if it is absent, and returns what `Index::try_insert` does.
     pub fn try_insert(&mut self, key: &Key, value: u64) -> Result<Reply, TryFault>
-        ensures call { Stays (IsOutcome (Insert key.now value) result) self.old self.new }
-        ensures cause { Stays (HasCause (Insert key.now value) result) self.old self.new }
-        ensures made { Stays (λ index k j. HasMade index untold (Insert key.now value) result (k, tt) (j, tt)) self.old self.new }
-        ensures room { Stays (λ index k j. LeavesRoom index.layout (Insert key.now value) result k.seat j.seat) self.old self.new }
+        ensures { Stays (λ index k j. IsTried (Insert key.now value) result index untold (k, tt) (j, tt)) self.old self.new }
     {
         self.index.show().try_insert(&mut self.pass, key, value)
     }
 
     /// Tries to give `key` the value `value`, and returns what `Index::try_upsert` does.
     pub fn try_upsert(&mut self, key: &Key, value: u64) -> Result<Reply, TryFault>
-        ensures call { Stays (IsOutcome (Upsert key.now value) result) self.old self.new }
-        ensures cause { Stays (HasCause (Upsert key.now value) result) self.old self.new }
-        ensures made { Stays (λ index k j. HasMade index untold (Upsert key.now value) result (k, tt) (j, tt)) self.old self.new }
-        ensures room { Stays (λ index k j. LeavesRoom index.layout (Upsert key.now value) result k.seat j.seat) self.old self.new }
+        ensures { Stays (λ index k j. IsTried (Upsert key.now value) result index untold (k, tt) (j, tt)) self.old self.new }
     {
         self.index.show().try_upsert(&mut self.pass, key, value)
     }
@@ -243,10 +207,7 @@ impl<I: ShowsIndex> Handle<I> {
     /// Tries to give `key` the value `value` if it has the value `expected`, and returns what `Index::try_exchange` does. Its only fault is
     /// `Busy`.
     pub fn try_exchange(&mut self, key: &Key, expected: u64, value: u64) -> Result<Reply, TryFault>
-        ensures call { Stays (IsOutcome (Exchange key.now expected value) result) self.old self.new }
-        ensures cause { Stays (HasCause (Exchange key.now expected value) result) self.old self.new }
-        ensures made { Stays (λ index k j. HasMade index untold (Exchange key.now expected value) result (k, tt) (j, tt)) self.old self.new }
-        ensures room { Stays (λ index k j. LeavesRoom index.layout (Exchange key.now expected value) result k.seat j.seat) self.old self.new }
+        ensures tried { Stays (λ index k j. IsTried (Exchange key.now expected value) result index untold (k, tt) (j, tt)) self.old self.new }
         ensures busy { IfErr result (λ fault. fault ≡ Busy) }
     {
         self.index
@@ -256,10 +217,7 @@ impl<I: ShowsIndex> Handle<I> {
 
     /// Tries to add `delta` to the value of `key`, if it has one, and returns what `Index::try_add` does.
     pub fn try_add(&mut self, key: &Key, delta: u64) -> Result<Reply, TryFault>
-        ensures call { Stays (IsOutcome (Add key.now delta) result) self.old self.new }
-        ensures cause { Stays (HasCause (Add key.now delta) result) self.old self.new }
-        ensures made { Stays (λ index k j. HasMade index untold (Add key.now delta) result (k, tt) (j, tt)) self.old self.new }
-        ensures room { Stays (λ index k j. LeavesRoom index.layout (Add key.now delta) result k.seat j.seat) self.old self.new }
+        ensures tried { Stays (λ index k j. IsTried (Add key.now delta) result index untold (k, tt) (j, tt)) self.old self.new }
         ensures busy { IfErr result (λ fault. fault ≡ Busy) }
     {
         self.index.show().try_add(&mut self.pass, key, delta)
@@ -267,22 +225,14 @@ impl<I: ShowsIndex> Handle<I> {
 
     /// Tries to remove `key`, and returns what `Index::try_remove` does.
     pub fn try_remove(&mut self, key: &Key) -> Result<Reply, TryFault>
-        ensures call { Stays (IsOutcome (Remove key.now) result) self.old self.new }
-        ensures cause { Stays (HasCause (Remove key.now) result) self.old self.new }
-        ensures made { Stays (λ index k j. HasMade index untold (Remove key.now) result (k, tt) (j, tt)) self.old self.new }
-        ensures room { Stays (λ index k j. LeavesRoom index.layout (Remove key.now) result k.seat j.seat) self.old self.new }
-        ensures leafless { result ≢ Err TryFault.FullLeaves }
+        ensures { Stays (λ index k j. IsTried (Remove key.now) result index untold (k, tt) (j, tt)) self.old self.new }
     {
         self.index.show().try_remove(&mut self.pass, key)
     }
 
     /// Tries to remove `key` if it has the value `expected`, and returns what `Index::try_remove_if` does.
     pub fn try_remove_if(&mut self, key: &Key, expected: u64) -> Result<Reply, TryFault>
-        ensures call { Stays (IsOutcome (RemoveIf key.now expected) result) self.old self.new }
-        ensures cause { Stays (HasCause (RemoveIf key.now expected) result) self.old self.new }
-        ensures made { Stays (λ index k j. HasMade index untold (RemoveIf key.now expected) result (k, tt) (j, tt)) self.old self.new }
-        ensures room { Stays (λ index k j. LeavesRoom index.layout (RemoveIf key.now expected) result k.seat j.seat) self.old self.new }
-        ensures leafless { result ≢ Err TryFault.FullLeaves }
+        ensures { Stays (λ index k j. IsTried (RemoveIf key.now expected) result index untold (k, tt) (j, tt)) self.old self.new }
     {
         self.index
             .show()

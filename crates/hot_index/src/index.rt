@@ -1,22 +1,19 @@
 //! The index and the passes by which threads use it, and the calls on it.
 
-ghost use Rattle.std.specs.Prelude.{◌≡◌, ◌≢◌, ◌<◌, Err, IsOk, length};
+ghost use Rattle.std.specs.Prelude.{◌≡◌, length};
 ghost use Rattle.finite_map.specs.declared.Call.TheVariants.{Get, Insert, Remove, Upsert};
 ghost use Rattle.finite_map.specs.Calls.{LegalCalls};
 ghost use Rattle.hot_index.specs.KeyCounts.{IsCountOf};
 ghost use Rattle.rowex_table.specs.Seats.{IsShownAll};
 ghost use Rattle.rowex_writing.specs.attempts.Attempts.{IsLeafless};
 ghost use Rattle.rowex_writing.specs.declared.attempts.TryFault.TheVariants.{FullLeaves};
-ghost use Rattle.rowex_writing.specs.declared.plan.Full.TheVariants.{Leaves};
 ghost use Rattle.hot_index_calls.specs.Passes.{Owns};
 ghost use Rattle.hot_index_calls.specs.Answers.{IsNoted, IsUnnoted, HaveMet, got};
-ghost use Rattle.hot_index_calls.specs.Asked.{last_try};
-ghost use Rattle.hot_index_calls.specs.Calls.{HasCause, IsOutcome, IsTriedAndCounted, MakesTries};
+ghost use Rattle.hot_index_calls.specs.Calls.{HasCause, IsOutcome, IsTried, IsTriedAndCounted, IsWaitedFor};
 ghost use Rattle.hot_index_calls.specs.Census.{HasCounted};
 ghost use Rattle.hot_index_calls.specs.Many.{AreNoted, HasGotMany, gets};
-ghost use Rattle.hot_index_calls.specs.Refusals.{IsLeftOne, as_tried};
-ghost use Rattle.hot_index_calls.specs.Rooms.{LeavesRoom};
-ghost use Rattle.hot_index_calls.specs.Traces.{HasCollected, HasGot, HasMade, HasTold, untold};
+ghost use Rattle.hot_index_calls.specs.Refusals.{as_tried};
+ghost use Rattle.hot_index_calls.specs.Traces.{HasCollected, HasGot, untold};
 ghost use Rattle.hot_index.specs.Stamps.{HasSeenMore};
 
 use crate::key_counts::KeyCount;
@@ -138,11 +135,7 @@ impl Index {
     /// A refused call has changed nothing, and holds no lock and no record.
     pub fn try_insert(&self, pass: &mut Pass, key: &Key, value: u64) -> Result<Reply, TryFault>
         requires { Owns self.now pass.old }
-        ensures own { Owns self.now pass.new }
-        ensures call { IsOutcome (Insert key.now value) result self.now pass.old pass.new }
-        ensures cause { HasCause (Insert key.now value) result self.now pass.old pass.new }
-        ensures made { HasMade self.now untold (Insert key.now value) result (pass.old, tt) (pass.new, tt) }
-        ensures room { LeavesRoom self.now.layout (Insert key.now value) result pass.old.seat pass.new.seat }
+        ensures { IsTried (Insert key.now value) result self.now untold (pass.old, tt) (pass.new, tt) }
     {
         self.try_insert_with(pass, key, value, &mut NoGate)
     }
@@ -153,11 +146,7 @@ impl Index {
     /// `FullLeaves` only if its search found the key absent: the new value of a held key takes no record (`laws::held_is_never_full`).
     pub fn try_upsert(&self, pass: &mut Pass, key: &Key, value: u64) -> Result<Reply, TryFault>
         requires { Owns self.now pass.old }
-        ensures own { Owns self.now pass.new }
-        ensures call { IsOutcome (Upsert key.now value) result self.now pass.old pass.new }
-        ensures cause { HasCause (Upsert key.now value) result self.now pass.old pass.new }
-        ensures made { HasMade self.now untold (Upsert key.now value) result (pass.old, tt) (pass.new, tt) }
-        ensures room { LeavesRoom self.now.layout (Upsert key.now value) result pass.old.seat pass.new.seat }
+        ensures { IsTried (Upsert key.now value) result self.now untold (pass.old, tt) (pass.new, tt) }
     {
         self.try_upsert_with(pass, key, value, &mut NoGate)
     }
@@ -168,12 +157,7 @@ impl Index {
     /// never returns `FullLeaves`. It returns `FullNodes` only if its search found the key (`laws::absent_is_never_full`).
     pub fn try_remove(&self, pass: &mut Pass, key: &Key) -> Result<Reply, TryFault>
         requires { Owns self.now pass.old }
-        ensures own { Owns self.now pass.new }
-        ensures call { IsOutcome (Remove key.now) result self.now pass.old pass.new }
-        ensures cause { HasCause (Remove key.now) result self.now pass.old pass.new }
-        ensures leafless { result ≢ Err FullLeaves }
-        ensures made { HasMade self.now untold (Remove key.now) result (pass.old, tt) (pass.new, tt) }
-        ensures room { LeavesRoom self.now.layout (Remove key.now) result pass.old.seat pass.new.seat }
+        ensures { IsTried (Remove key.now) result self.now untold (pass.old, tt) (pass.new, tt) }
     {
         self.try_remove_with(pass, key, &mut NoGate)
     }
@@ -194,12 +178,7 @@ impl Index {
         value: u64,
     ) -> Result<Reply, Full>
         requires { Owns self.now pass.old }
-        ensures own { Owns self.now pass.new }
-        ensures call { IsOutcome (Insert key.now value) (last_try result) self.now pass.old pass.new }
-        ensures cause { HasCause (Insert key.now value) (last_try result) self.now pass.old pass.new }
-        ensures tries { MakesTries (Insert key.now value) result self.now untold (pass.old, tt) (pass.new, tt) }
-        ensures told { HasTold self.now untold (pass.old, tt) (pass.new, tt) }
-        ensures room { LeavesRoom self.now.layout (Insert key.now value) (last_try result) pass.old.seat pass.new.seat }
+        ensures { IsWaitedFor (Insert key.now value) result self.now untold (pass.old, tt) (pass.new, tt) }
     {
         self.retry_change_with(rt, pass, &mut NoGate, &Call::Insert(key.copy(), value))
     }
@@ -216,12 +195,7 @@ impl Index {
         value: u64,
     ) -> Result<Reply, Full>
         requires { Owns self.now pass.old }
-        ensures own { Owns self.now pass.new }
-        ensures call { IsOutcome (Upsert key.now value) (last_try result) self.now pass.old pass.new }
-        ensures cause { HasCause (Upsert key.now value) (last_try result) self.now pass.old pass.new }
-        ensures tries { MakesTries (Upsert key.now value) result self.now untold (pass.old, tt) (pass.new, tt) }
-        ensures told { HasTold self.now untold (pass.old, tt) (pass.new, tt) }
-        ensures room { LeavesRoom self.now.layout (Upsert key.now value) (last_try result) pass.old.seat pass.new.seat }
+        ensures { IsWaitedFor (Upsert key.now value) result self.now untold (pass.old, tt) (pass.new, tt) }
     {
         self.retry_change_with(rt, pass, &mut NoGate, &Call::Upsert(key.copy(), value))
     }
@@ -236,14 +210,7 @@ impl Index {
     /// `laws::one_pass_keeps_spare`).
     pub fn remove<R: Wait>(&self, rt: &R, pass: &mut Pass, key: &Key) -> Result<Reply, Full>
         requires { Owns self.now pass.old }
-        ensures own { Owns self.now pass.new }
-        ensures call { IsOutcome (Remove key.now) (last_try result) self.now pass.old pass.new }
-        ensures cause { HasCause (Remove key.now) (last_try result) self.now pass.old pass.new }
-        ensures leafless { result ≢ Err Leaves }
-        ensures kept { 1 < self.now.layout.passes → IsOk result }
-        ensures tries { MakesTries (Remove key.now) result self.now untold (pass.old, tt) (pass.new, tt) }
-        ensures told { HasTold self.now untold (pass.old, tt) (pass.new, tt) }
-        ensures room { LeavesRoom self.now.layout (Remove key.now) (last_try result) pass.old.seat pass.new.seat }
+        ensures { IsWaitedFor (Remove key.now) result self.now untold (pass.old, tt) (pass.new, tt) }
     {
         self.retry_change_with(rt, pass, &mut NoGate, &Call::Remove(key.copy()))
     }
@@ -350,11 +317,7 @@ impl Index {
         gate: &mut G,
     ) -> Result<Reply, TryFault>
         requires { Owns self.now pass.old }
-        ensures own { Owns self.now pass.new }
-        ensures call { IsOutcome (Insert key.now value) result self.now pass.old pass.new }
-        ensures cause { HasCause (Insert key.now value) result self.now pass.old pass.new }
-        ensures made { HasMade self.now G.becomes (Insert key.now value) result (pass.old, gate.old) (pass.new, gate.new) }
-        ensures room { LeavesRoom self.now.layout (Insert key.now value) result pass.old.seat pass.new.seat }
+        ensures { IsTried (Insert key.now value) result self.now G.becomes (pass.old, gate.old) (pass.new, gate.new) }
     {
         self.try_change_with(pass, gate, &Call::Insert(key.copy(), value))
     }
@@ -368,11 +331,7 @@ impl Index {
         gate: &mut G,
     ) -> Result<Reply, TryFault>
         requires { Owns self.now pass.old }
-        ensures own { Owns self.now pass.new }
-        ensures call { IsOutcome (Upsert key.now value) result self.now pass.old pass.new }
-        ensures cause { HasCause (Upsert key.now value) result self.now pass.old pass.new }
-        ensures made { HasMade self.now G.becomes (Upsert key.now value) result (pass.old, gate.old) (pass.new, gate.new) }
-        ensures room { LeavesRoom self.now.layout (Upsert key.now value) result pass.old.seat pass.new.seat }
+        ensures { IsTried (Upsert key.now value) result self.now G.becomes (pass.old, gate.old) (pass.new, gate.new) }
     {
         self.try_change_with(pass, gate, &Call::Upsert(key.copy(), value))
     }
@@ -385,12 +344,7 @@ impl Index {
         gate: &mut G,
     ) -> Result<Reply, TryFault>
         requires { Owns self.now pass.old }
-        ensures own { Owns self.now pass.new }
-        ensures call { IsOutcome (Remove key.now) result self.now pass.old pass.new }
-        ensures cause { HasCause (Remove key.now) result self.now pass.old pass.new }
-        ensures leafless { result ≢ Err FullLeaves }
-        ensures made { HasMade self.now G.becomes (Remove key.now) result (pass.old, gate.old) (pass.new, gate.new) }
-        ensures room { LeavesRoom self.now.layout (Remove key.now) result pass.old.seat pass.new.seat }
+        ensures { IsTried (Remove key.now) result self.now G.becomes (pass.old, gate.old) (pass.new, gate.new) }
     {
         self.try_change_with(pass, gate, &Call::Remove(key.copy()))
     }
@@ -425,12 +379,7 @@ impl Index {
         call: &Call,
     ) -> Result<Reply, TryFault>
         requires { Owns self.now pass.old }
-        ensures own { Owns self.now pass.new }
-        ensures call { IsOutcome call.now result self.now pass.old pass.new }
-        ensures cause { HasCause call.now result self.now pass.old pass.new }
-        ensures leafless { IsLeafless FullLeaves call.now result }
-        ensures made { HasMade self.now G.becomes call.now result (pass.old, gate.old) (pass.new, gate.new) }
-        ensures room { LeavesRoom self.now.layout call.now result pass.old.seat pass.new.seat }
+        ensures { IsTried call.now result self.now G.becomes (pass.old, gate.old) (pass.new, gate.new) }
     {
         let answer = try_change(&self.table, &mut pass.seat, gate, &mut pass.scratch, call);
         pass.count.note_answer(&answer);
@@ -467,14 +416,7 @@ impl Index {
         call: &Call,
     ) -> Result<Reply, Full>
         requires { Owns self.now pass.old }
-        ensures own { Owns self.now pass.new }
-        ensures call { IsOutcome call.now (last_try result) self.now pass.old pass.new }
-        ensures cause { HasCause call.now (last_try result) self.now pass.old pass.new }
-        ensures leafless { IsLeafless Leaves call.now result }
-        ensures kept { IsLeftOne self.now.layout.passes call.now → IsOk result }
-        ensures tries { MakesTries call.now result self.now G.becomes (pass.old, gate.old) (pass.new, gate.new) }
-        ensures told { HasTold self.now G.becomes (pass.old, gate.old) (pass.new, gate.new) }
-        ensures room { LeavesRoom self.now.layout call.now (last_try result) pass.old.seat pass.new.seat }
+        ensures { IsWaitedFor call.now result self.now G.becomes (pass.old, gate.old) (pass.new, gate.new) }
     {
         let answer = retry_change(
             rt,

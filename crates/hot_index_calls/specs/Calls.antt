@@ -1,5 +1,5 @@
 -- What calls of an index ensure: what the map says of a call, and by which steps; and of a read of a range both, each clause a field by its name.
-use Rattle.std.specs.Prelude.{◌≡◌, ◌+◌, ◌≤◌, ℕ, Bool, List, [], ◌∷◌, Result, Ok, Err, MatchResult, IfOk, IfErr, OnErr}
+use Rattle.std.specs.Prelude.{◌≡◌, ◌+◌, ◌≤◌, ℕ, Bool, List, [], ◌∷◌, Result, Ok, Err, MatchResult, IfOk, IfErr, IsOk, OnErr}
 use Rattle.finite_map.specs.declared.Call.{Call}
 use Rattle.finite_map.specs.declared.Call.TheVariants.{Get}
 use Rattle.finite_map.specs.declared.Reply.{Reply}
@@ -15,18 +15,20 @@ use Rattle.rowex_writing.specs.attempts.Attempts.{IsLeafless}
 use Rattle.rowex_writing.specs.declared.attempts.TryFault.{TryFault}
 use Rattle.rowex_writing.specs.declared.attempts.TryFault.TheVariants.{FullLeaves}
 use Rattle.rowex_writing.specs.declared.plan.Full.{Full}
+use Rattle.rowex_writing.specs.declared.plan.Full.TheVariants.{Leaves}
 use Rattle.version_laws.specs.Scan.{Range}
 use Rattle.tries.specs.Keys.{Key}
 use Rattle.version_laws.specs.Directions.{ScanLaw}
 use Rattle.hot_index_calls.specs.Answers.{AreValuesListed, AreValuesListedInPart, HasFoundPair, IsCause, IsListedBy, IsListedInPartBy, IsNoted, IsRangeCounted, IsRefused, IsScannedBy, IsUnnoted}
-use Rattle.hot_index_calls.specs.Refusals.{IsPassing, IsCountTold, as_tried}
+use Rattle.hot_index_calls.specs.Asked.{last_try}
+use Rattle.hot_index_calls.specs.Refusals.{IsPassing, IsCountTold, IsLeftOne, as_tried}
 use Rattle.hot_index_calls.specs.declared.census.RecordCounts.{RecordCounts}
 use Rattle.hot_index_calls.specs.declared.refusals.Refusal.{Refusal}
 use Rattle.hot_index_calls.specs.declared.refusals.Refusal.TheVariants.{Full as IsFull}
 use Rattle.hot_index_calls.specs.Counts.{scan_steps}
 use Rattle.hot_index_calls.specs.Passes.{Owns, PassView}
 use Rattle.hot_index_calls.specs.Rooms.{LeavesRoom}
-use Rattle.hot_index_calls.specs.Traces.{HasGot, HasGotRange, HasMade, untold}
+use Rattle.hot_index_calls.specs.Traces.{HasGot, HasGotRange, HasMade, HasTold, untold}
 
 -- What the map says of a call with this result. It was answered, and is noted with this reply. Or it was refused, and has changed nothing.
 abbrev pub IsOutcome : Call → Result Reply TryFault → TableView → PassView → PassView → Type 0
@@ -86,6 +88,18 @@ pub record MakesTries {G : Type 0} (asked : Call) (result : Result Reply Full) (
   pub outcome : Result Reply Refusal
   pub tried : IsTriedAndCounted asked outcome index becomes last b
   pub is_last : IsOfLast result outcome
+
+-- A change was made by a whole call that waits, or refused by its last try: all that such a call ensures, each clause a field by its name.
+pub record IsWaitedFor {G : Type 0} (asked : Call) (result : Result Reply Full) (index : TableView) (becomes : G → Event → G → Type 0)
+    (a b : PassView × G) : Type 0 where
+  pub own : Owns index b.0
+  pub call : IsOutcome asked (last_try result) index a.0 b.0
+  pub cause : HasCause asked (last_try result) index a.0 b.0
+  pub leafless : IsLeafless Leaves asked result
+  pub kept : IsLeftOne index.layout.passes asked → IsOk result
+  pub tries : MakesTries asked result index becomes a b
+  pub told : HasTold index becomes a b
+  pub room : LeavesRoom index.layout asked (last_try result) a.0.seat b.0.seat
 
 -- The steps of a call that waits and has this outcome: those of a get, or of a change's tries.
 abbrev pub GetsOrTries : {G : Type 0} → Call → Result Reply Full → TableView → (G → Event → G → Type 0) → PassView × G → PassView × G → Type 0

@@ -11,5 +11,5 @@ returns-clause-asked g c q fresh =
     let one = c.args.one in
     let two = c.args.two in
     let own = subst (λ (h : HandleView). Owns h.index h.pass) c.handle.view_is c.handle.invariant in
-    let first = asks_first q one.0.now one.1 c.insert.result c.args.handle c.insert.new.self fresh own c.insert.ensures.call c.insert.ensures.cause c.insert.ensures.told in
-    asks_more q (Insert one.0.now one.1 ∷ []) two.0.now two.1 c.insert-2.result c.insert.new.self c.insert-2.new.self first c.insert-2.ensures.call c.insert-2.ensures.cause c.insert-2.ensures.told
+    let first = asks_first q one.0.now one.1 c.insert.result c.args.handle c.insert.new.self fresh own c.insert.ensures in
+    asks_more q (Insert one.0.now one.1 ∷ []) two.0.now two.1 c.insert-2.result c.insert.new.self c.insert-2.new.self first c.insert-2.ensures

@@ -7,4 +7,4 @@ pub returns : goal.returns
 returns g c =
     let made = is_made c.args.self.now.layout c.args.pass.now c.retry_change_with.new.pass (Add c.copy.result c.args.delta) (λ may. may) c.retry_change_with.result c.retry_change_with.ensures.call in
     let o = rw c.copy.ensures.same at c.retry_change_with.ensures in
-    record { own = o.own; call = o.call; cause = o.cause; tries = o.tries; told = o.told; room = o.room; made = made }
+    record { waited = o; made = made }

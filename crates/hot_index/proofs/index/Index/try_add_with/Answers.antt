@@ -7,4 +7,4 @@ pub returns : goal.returns
 returns g c =
     let busy = is_busy c.args.self.now.layout c.args.pass.now c.try_change_with.new.pass (Add c.copy.result c.args.delta) (λ may. may) c.try_change_with.result c.try_change_with.ensures.call in
     let o = rw c.copy.ensures.same at c.try_change_with.ensures in
-    record { own = o.own; call = o.call; cause = o.cause; made = o.made; room = o.room; busy = busy }
+    record { tried = o; busy = busy }
