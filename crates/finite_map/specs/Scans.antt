@@ -28,8 +28,8 @@ abbrev pub IsHeldBetween : List Change → List Change → List ℕ → ℕ → 
 IsHeldBetween before after key value = (n : ℕ) × (length before ≤ n) × (n ≤ length after) × (value_at (map_of (take n after)) key ≡ Some value)
 
 -- the key is in the map of `before`, and no change of `after` beyond it removes the key
-abbrev pub IsNeverRemoved : List Change → List Change → List ℕ → Type 0
-IsNeverRemoved before after key = IsSome (value_at (map_of before) key) × All (λ c. c.kind ≡ Removed → c.key ≢ key) (drop (length before) after)
+abbrev pub IsHeldThroughout : List Change → List Change → List ℕ → Type 0
+IsHeldThroughout before after key = IsSome (value_at (map_of before) key) × All (λ c. c.kind ≡ Removed → c.key ≢ key) (drop (length before) after)
 
 -- the key is at most that of the last pair, the keys rising
 abbrev pub IsUpToLast : Map → List ℕ → Type 0
@@ -53,9 +53,9 @@ pub record IsLawfulScanWith (order : ScanOrder) (before after : List Change) (fr
   pub short : length scan.pairs.items ≤ limit
   pub held : All (λ e. IsHeldBetween before after e.0 e.1) scan.pairs.items
   -- without `more`, each key of the range that was there all along is listed
-  pub whole : scan.more ≡ false → (key : List ℕ) → IsTrue (is_within from upto key) → IsNeverRemoved before after key → Contains (keys_of scan.pairs.items) key
+  pub whole : scan.more ≡ false → (key : List ℕ) → IsTrue (is_within from upto key) → IsHeldThroughout before after key → Contains (keys_of scan.pairs.items) key
   -- with `more`, each such key as far as the last pair's is listed
-  pub part : scan.more ≡ true → (key : List ℕ) → IsTrue (is_within from upto key) → IsNeverRemoved before after key → order.reached scan.pairs.items key →
+  pub part : scan.more ≡ true → (key : List ℕ) → IsTrue (is_within from upto key) → IsHeldThroughout before after key → order.reached scan.pairs.items key →
       Contains (keys_of scan.pairs.items) key
   -- with `more`, the scan is full, and some key of the range beyond the last pair's was there meanwhile
   pub full : scan.more ≡ true → length scan.pairs.items ≡ limit

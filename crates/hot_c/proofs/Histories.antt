@@ -26,7 +26,7 @@ use Rattle.rowex_table.proofs.Onward.{led_more}
 use Rattle.tries.specs.Keys.{Key}
 use Rattle.hot_index_calls.specs.Calls.{GetsOr}
 use Rattle.hot_index_calls.specs.Census.{loads_in}
-use Rattle.hot_index_calls.specs.Many.{AreNoted, HasGotMany, gets}
+use Rattle.hot_index_calls.specs.Many.{AreNoted, HasMadeGetManySteps, gets}
 use Rattle.hot_index_calls.specs.Passes.{IsNewPass, PassView, pass_of}
 use Rattle.hot_index_calls.specs.Traces.{untold}
 use Rattle.hot_index_calls.specs.declared.refusals.Refusal.{Refusal}
@@ -148,11 +148,11 @@ looked_done {index} {q} {told} {o} {p} x before after fit is = ⊎_elim
     (is.made refl fit)
   where
     found_all : (found : List (Option ℕ)) → length found ≡ length before →
-        Stays (λ t k j. AreNoted t.layout k j (gets (map key_in before) found) × HasGotMany t untold (length before) (k, tt) (j, tt)) o.handle p.handle → after ≡ are_answered before found →
+        Stays (λ t k j. AreNoted t.layout k j (gets (map key_in before) found) × HasMadeGetManySteps t untold (length before) (k, tt) (j, tt)) o.handle p.handle → after ≡ are_answered before found →
         IsDone index q (told ++ told_of_each after ∷ []) p.handle
     found_all found many stays told_are =
         let asked_for : List (Call × Reply) = gets (map key_in before) found in
-        let both = subst (λ (t : TableView). AreNoted t.layout o.handle.pass p.handle.pass asked_for × HasGotMany t untold (length before) (o.handle.pass, tt) (p.handle.pass, tt)) x.gone.0 stays.pass in
+        let both = subst (λ (t : TableView). AreNoted t.layout o.handle.pass p.handle.pass asked_for × HasMadeGetManySteps t untold (length before) (o.handle.pass, tt) (p.handle.pass, tt)) x.gone.0 stays.pass in
         let made = read_made both.1.read in
         let noted : AreNoted index.layout (pass_of o.handle.pass.seat) (pass_of p.handle.pass.seat) asked_for =
         subst (λ (z : PassView × PassView). AreNoted index.layout z.0 z.1 asked_for) (λ i. (x.gone.1 i, made.seat i)) both.0 in

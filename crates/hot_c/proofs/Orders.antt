@@ -15,7 +15,7 @@ use Rattle.hot_index_calls.specs.Calls.{IsListReadBy, IsRangeRead}
 use Rattle.hot_index.specs.Handles.{HandleView, Stays}
 use Rattle.hot_index_calls.specs.Passes.{PassView}
 use Rattle.hot_index_calls.specs.Reverse.{IsReverseListed}
-use Rattle.hot_index_calls.specs.Traces.{HasGotRange, untold}
+use Rattle.hot_index_calls.specs.Traces.{HasMadeScanSteps, untold}
 use Rattle.hot_index.proofs.Reading.{range_whole}
 use Rattle.hot_c.specs.Calls.{FitsInKey, KeepsAll, StaysOpen}
 use Rattle.hot_c.specs.Orders.{Answer, IsFilledIn, IsListedIn, direction_of, in_order}
@@ -81,7 +81,7 @@ as_many LastUpwards pairs = length-reverse pairs
 
 module _ (from upto k l : List ℕ) (old new : Option Opened) (limit : ℕ) (s u : Opened) (was : old ≡ Some s) (first : (k ≡ from) × FitsInKey from) (last : (l ≡ upto) × FitsInKey upto) where
   pub filled : (order : Order) (count : ℕ) (is_more : Bool) → new ≡ Some u → u.handle.index ≡ s.handle.index → IsFilledIn order s.handle.index.layout s.handle.pass u.handle.pass (range_from k l limit) u.list is_more
-      → HasGotRange s.handle.index untold limit (s.handle.pass, tt) (u.handle.pass, tt) → count ≡ length u.list → length u.list < 2 ^ 63 →
+      → HasMadeScanSteps s.handle.index untold limit (s.handle.pass, tt) (u.handle.pass, tt) → count ≡ length u.list → length u.list < 2 ^ 63 →
       u.kept.items ≡ s.kept.items → HasFilled (IsFilledIn order) (range_from from upto limit) old new count is_more
   filled order count is_more is index made read many small keeps = record {
     before = s;
@@ -100,14 +100,14 @@ module _ (from upto k l : List ℕ) (old new : Option Opened) (limit : ℕ) (s u
 
   -- the list that the scan left was emptied
   pub unfilled : (v : Opened) (status : ℕ) → new ≡ Some v → KeepsAll u v → u.kept.items ≡ s.kept.items → u.handle.index ≡ s.handle.index → IsUnnoted s.handle.index.layout s.handle.pass u.handle.pass
-      → HasFoundPair s.handle.index.layout s.handle.pass u.handle.pass (range_from k l limit) → HasGotRange s.handle.index untold limit (s.handle.pass, tt) (u.handle.pass, tt) → status ≡ NO_MEMORY → ListsNothing (range_from from upto limit) old new status
+      → HasFoundPair s.handle.index.layout s.handle.pass u.handle.pass (range_from k l limit) → HasMadeScanSteps s.handle.index untold limit (s.handle.pass, tt) (u.handle.pass, tt) → status ≡ NO_MEMORY → ListsNothing (range_from from upto limit) old new status
   unfilled v status is kept keeps index unnoted pair read full =
       let here = subst (λ (x : List ℕ). HasFoundPair s.handle.index.layout s.handle.pass u.handle.pass (range_from x upto limit)) first.0 (subst (λ (x : List ℕ). HasFoundPair s.handle.index.layout s.handle.pass u.handle.pass (range_from k x limit)) last.0 pair) in
       record {
         closed = λ none. absurd (none_is_some s (sym none ∙ was));
         long = λ some no. absurd (no (first.1, last.1));
         full = λ some f t. (full, record { before = s; after = v; was = was; is = is; stays = subst (Stays (λ index k j. IsUnnoted index.layout k j × HasFoundPair index.layout k j (range_from from upto limit)) s.handle) (sym kept.0) (record { index = index; pass = (unnoted, here) }); keeps = kept.1 ∙ keeps });
-        read = λ some f t. record { before = s; after = v; was = was; is = is; stays = subst (Stays (λ index k j. HasGotRange index untold limit (k, tt) (j, tt)) s.handle) (sym kept.0) (record { index = index; pass = read }); keeps = kept.1 ∙ keeps };
+        read = λ some f t. record { before = s; after = v; was = was; is = is; stays = subst (Stays (λ index k j. HasMadeScanSteps index untold limit (k, tt) (j, tt)) s.handle) (sym kept.0) (record { index = index; pass = read }); keeps = kept.1 ∙ keeps };
       }
 
 -- the scan has left this list, which was read and then emptied
@@ -135,13 +135,13 @@ module _ {IsMade : Answer} {range : Range} {old mid : Option Opened} {count : �
     keeps = kept.1 ∙ kept_by_scan;
   }
 
-  pub reads : (new : Option Opened) (v : Opened) → new ≡ Some v → KeepsAll u v → StaysOpen (λ index k j. HasGotRange index untold range.limit (k, tt) (j, tt)) old new
+  pub reads : (new : Option Opened) (v : Opened) → new ≡ Some v → KeepsAll u v → StaysOpen (λ index k j. HasMadeScanSteps index untold range.limit (k, tt) (j, tt)) old new
   reads new v last kept = record {
     before = h.before;
     after = v;
     was = h.was;
     is = last;
-    stays = subst (Stays (λ index k j. HasGotRange index untold range.limit (k, tt) (j, tt)) h.before.handle) (sym (kept.0 ∙ ap (λ (x : Opened). x.handle) (same u h.after (sym is ∙ h.is)))) (record { index = h.index; pass = h.read });
+    stays = subst (Stays (λ index k j. HasMadeScanSteps index untold range.limit (k, tt) (j, tt)) h.before.handle) (sym (kept.0 ∙ ap (λ (x : Opened). x.handle) (same u h.after (sym is ∙ h.is)))) (record { index = h.index; pass = h.read });
     keeps = kept.1 ∙ kept_by_scan;
   }
 

@@ -16,7 +16,7 @@ use Rattle.hot_index_calls.specs.declared.refusals.Refusal.TheVariants.{Busy as 
 use Rattle.hot_index_calls.specs.Answers.{IsNoted, MayRefuse}
 use Rattle.hot_index_calls.specs.Calls.{GetsOrCounts, HasCause, IsOutcome}
 use Rattle.hot_index_calls.specs.Passes.{PassView}
-use Rattle.hot_index_calls.specs.Traces.{HasGot, untold}
+use Rattle.hot_index_calls.specs.Traces.{HasMadeGetSteps, untold}
 use Rattle.hot_index.specs.Handles.{HandleView, Stays}
 use Rattle.hot_c.specs.Calls.{Answers, FitsInKey, TellsOutcome}
 use Rattle.hot_c.specs.Refusals.{TellsOfNoLack, TellsRefusal, TellsWhatMay}
@@ -49,7 +49,7 @@ answered key call asked old new before after status s u outcome was is stays sam
 
 -- a get
 pub replied : (size : ℕ) (key : List ℕ) (reply : Reply) (status : ℕ) (old new : HandleView) → Stays (λ index k j. IsNoted index.layout k j (Get key) reply) old new →
-    Stays (λ index k j. HasGot index untold (k, tt) (j, tt)) old new → status ≡ reply_status reply → Stays (TellsOutcome size (Get key) status (Ok reply)) old new
+    Stays (λ index k j. HasMadeGetSteps index untold (k, tt) (j, tt)) old new → status ≡ reply_status reply → Stays (TellsOutcome size (Get key) status (Ok reply)) old new
 replied size key reply status old new h by told = record { index = h.index; pass = ((h.pass, tt, by.pass), told) }
 
 -- what is told of a call for a key of this length

@@ -55,8 +55,8 @@ for_key key (Remove own) = Remove key
 for_key key (RemoveIf own expected) = RemoveIf key expected
 
 -- a count of all records gave these numbers
-abbrev pub HasSeenRecords : RecordCounts → TableView → PassView → PassView → Type 0
-HasSeenRecords counts index k j = IsUnnoted index.layout k j × HasCounted index untold (k, tt) (j, tt) counts
+abbrev pub HasCountedRecords : RecordCounts → TableView → PassView → PassView → Type 0
+HasCountedRecords counts index k j = IsUnnoted index.layout k j × HasCounted index untold (k, tt) (j, tt) counts
 
 -- A call for a key of this length was made, and the status tells its outcome.
 abbrev pub TellsOutcome : ℕ → Call → ℕ → Result Reply Refusal → TableView → PassView → PassView → Type 0

@@ -7,7 +7,7 @@ use Rattle.hot_index_calls.specs.Passes.{PassView}
 use Rattle.hot_index.specs.Ranges.{IsFirstFound}
 use Rattle.hot_index_calls.specs.Reverse.{IsLastFound}
 use Rattle.key_ranges.specs.Ranges.{last_with}
-use Rattle.hot_index_calls.specs.Traces.{HasGotRange, untold}
+use Rattle.hot_index_calls.specs.Traces.{HasMadeScanSteps, untold}
 use Rattle.hot_c.specs.Calls.{FitsInKey, StaysOpen}
 use Rattle.hot_c.specs.Orders.{IsFilledIn}
 use Rattle.hot_c.specs.Pairs.{IsPairTold}
@@ -25,7 +25,7 @@ pub record FindsBy (Fits : Type 0) (IsFound : Layout → PassView → PassView �
   pub made : IsSome old → Fits →
       ((found : Option (List ℕ × ℕ)) × StaysOpen (λ index k j. IsFound index.layout k j found) old new × IsPairTold found before after status)
       ⊎ ((status ≡ NO_MEMORY) × StaysOpen (λ index k j. IsUnnoted index.layout k j × HasPair index.layout k j) old new × (after ≡ before))
-  pub read : IsSome old → Fits → StaysOpen (λ index k j. HasGotRange index untold 1 (k, tt) (j, tt)) old new
+  pub read : IsSome old → Fits → StaysOpen (λ index k j. HasMadeScanSteps index untold 1 (k, tt) (j, tt)) old new
 
 -- the call found the first pair from a key on, or that there is none
 abbrev pub FindsFirst : List ℕ → Option Opened → Option Opened → Pair → Pair → ℕ → Type 0

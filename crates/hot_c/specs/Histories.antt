@@ -14,7 +14,7 @@ use Rattle.rowex_table.specs.Traces.{RunBeginsWith}
 use Rattle.hot_index_calls.specs.Calls.{GetsOr}
 use Rattle.hot_index_calls.specs.Census.{HasCounted}
 use Rattle.hot_index_calls.specs.Passes.{IsNewPass, Owns, PassView, pass_of}
-use Rattle.hot_index_calls.specs.Traces.{HasCollected, HasGotRange, untold}
+use Rattle.hot_index_calls.specs.Traces.{HasCollected, HasMadeScanSteps, untold}
 use Rattle.hot_index_calls.specs.declared.census.RecordCounts.{RecordCounts}
 use Rattle.hot_index.specs.Handles.{HandleView}
 use Rattle.hot_index.specs.Loads.{IsLoaderPass}
@@ -23,7 +23,7 @@ use Rattle.linearizability.specs.Moments.{Happening}
 use Rattle.linearizability.specs.Statements.{IsLinearizable}
 use Rattle.index_laws.specs.Joined.{IsExecutionOf}
 use Rattle.index_laws.specs.Traced.{Instant, moment_of}
-use Rattle.hot_c.specs.Calls.{Answers, FitsInKey, HasGivenBack, HasSeenRecords, StaysOpen}
+use Rattle.hot_c.specs.Calls.{Answers, FitsInKey, HasGivenBack, HasCountedRecords, StaysOpen}
 use Rattle.hot_c.specs.Counting.{CountsRange}
 use Rattle.hot_c.specs.Ends.{FindsFirst, FindsFirstIn, FindsLast}
 use Rattle.hot_c.specs.Following.{SeesLeader, SeesSteps}
@@ -31,7 +31,7 @@ use Rattle.hot_c.specs.Lookups.{LooksUpAll, key_in}
 use Rattle.hot_c.specs.Orders.{IsFilledIn, IsListedIn}
 use Rattle.hot_c.specs.Packs.{ListsPackedBy, Packing}
 use Rattle.hot_c.specs.Scans.{Listing, ListsBy}
-use Rattle.hot_c.specs.Values.{ListsValues, Valued}
+use Rattle.hot_c.specs.Values.{ListsValues, ValueListing}
 use Rattle.hot_c.specs.declared.lookups.Lookup.{Lookup}
 use Rattle.hot_c.specs.declared.opened.Opened.{Opened}
 use Rattle.hot_c.specs.declared.pairs.Order.{Order}
@@ -73,7 +73,7 @@ pub record IsAt (index : TableView) (h : HandleView) : Type 0 where
 pub record AsksNothing (index : TableView) (k j : PassView) : Type 0 where
   pub same : j.notes ≡ k.notes
   pub legal : LegalCalls j.front j.number j.notes
-  pub made : ((limit : ℕ) × HasGotRange index untold limit (k, tt) (j, tt))
+  pub made : ((limit : ℕ) × HasMadeScanSteps index untold limit (k, tt) (j, tt))
       ⊎ (((nodes : ℕ) × (leaves : ℕ) × HasCollected index untold (k, tt) (j, tt) nodes leaves) ⊎ ((counts : RecordCounts) × HasCounted index untold (k, tt) (j, tt) counts))
 
 -- The one handle saw what the other had seen.
@@ -106,7 +106,7 @@ pub record QuietCalls : Type 0 where
       StaysQuiet (λ old new. ListsBy (IsListedIn order) from upto old new before after status)
   pub packs : (order : Order) (from upto : List ℕ) → FitsInKey from → FitsInKey upto → (before after : Packing) (status : ℕ) →
       StaysQuiet (λ old new. ListsPackedBy (IsFilledIn order) from upto old new before after status)
-  pub values : (from upto : List ℕ) → FitsInKey from → FitsInKey upto → (before after : Valued) (status : ℕ) →
+  pub values : (from upto : List ℕ) → FitsInKey from → FitsInKey upto → (before after : ValueListing) (status : ℕ) →
       StaysQuiet (λ old new. ListsValues from upto old new before after status)
   pub ends : (order : Order) (from upto : List ℕ) → FitsInKey from → FitsInKey upto → (before after : Pair) (status : ℕ) →
       StaysQuiet (λ old new. FindsFirstIn order from upto old new before after status)
@@ -115,7 +115,7 @@ pub record QuietCalls : Type 0 where
   pub counts : (from upto : List ℕ) → FitsInKey from → FitsInKey upto → (before after status : ℕ) →
       StaysQuiet (λ old new. CountsRange from upto old new before after status)
   pub round : (nodes leaves : ℕ) → StaysQuiet (StaysOpen (HasGivenBack nodes leaves))
-  pub census : (counts : RecordCounts) → StaysQuiet (StaysOpen (HasSeenRecords counts))
+  pub census : (counts : RecordCounts) → StaysQuiet (StaysOpen (HasCountedRecords counts))
 
 -- One history
 

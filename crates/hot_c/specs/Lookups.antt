@@ -1,6 +1,6 @@
 -- Look-ups of many keys by one call of a program in C.
 use Rattle.std.specs.Prelude.{◌≡◌, ◌⊎◌, ℕ, All, List, [], ◌∷◌, length, map, Option, Some, None, IsSome}
-use Rattle.hot_index_calls.specs.Many.{AreNoted, HasGotMany, gets}
+use Rattle.hot_index_calls.specs.Many.{AreNoted, HasMadeGetManySteps, gets}
 use Rattle.hot_index_calls.specs.Traces.{untold}
 use Rattle.hot_c.specs.Calls.{FitsInKey, StaysOpen}
 use Rattle.hot_c.specs.declared.lookups.Lookup.{Lookup}
@@ -30,5 +30,5 @@ pub record LooksUpAll (old new : Option Opened) (before after : List Lookup) (st
   pub made : IsSome old → All (λ it. FitsInKey (key_in it)) before →
       ((status ≡ DONE) × (found : List (Option ℕ)) × (length found ≡ length before) ×
       StaysOpen (λ index k j. AreNoted index.layout k j (gets (map key_in before) found)
-      × HasGotMany index untold (length before) (k, tt) (j, tt)) old new × (after ≡ are_answered before found))
+      × HasMadeGetManySteps index untold (length before) (k, tt) (j, tt)) old new × (after ≡ are_answered before found))
       ⊎ ((status ≡ NO_MEMORY) × (new ≡ old) × (after ≡ before))

@@ -4,7 +4,7 @@ use Rattle.std.specs.Int.{from_bool}
 use Rattle.version_laws.specs.Scan.{Range}
 use Rattle.hot_index_calls.specs.Answers.{HasFoundPair, IsListed, IsUnnoted, range_from}
 use Rattle.hot_index_calls.specs.Reverse.{IsReverseListed}
-use Rattle.hot_index_calls.specs.Traces.{HasGotRange, untold}
+use Rattle.hot_index_calls.specs.Traces.{HasMadeScanSteps, untold}
 use Rattle.hot_c.specs.Calls.{FitsInKey, StaysOpen}
 use Rattle.hot_c.specs.Orders.{Answer, IsLastListed}
 use Rattle.hot_c.specs.Pairs.{AreSpelled}
@@ -24,7 +24,7 @@ pub record HasFilled (IsMade : Answer) (range : Range) (old new : Option Opened)
   pub count_is : count ≡ length after.list
   pub few : count ≤ range.limit
   pub made : IsMade before.handle.index.layout before.handle.pass after.handle.pass range after.list is_more
-  pub read : HasGotRange before.handle.index untold range.limit (before.handle.pass, tt) (after.handle.pass, tt)
+  pub read : HasMadeScanSteps before.handle.index untold range.limit (before.handle.pass, tt) (after.handle.pass, tt)
 
 -- A scan through a handle lists nothing. A closed handle and a key that is too long are told as such, and nothing has changed. Else there
 -- is no memory for a pair that it found, and the number of its steps is bounded.
@@ -33,7 +33,7 @@ pub record ListsNothing (range : Range) (old new : Option Opened) (status : ℕ)
   pub long : IsSome old → ¬ (FitsInKey range.from × FitsInKey range.upto) → (status ≡ KEY_TOO_LONG) × (new ≡ old)
   pub full : IsSome old → FitsInKey range.from → FitsInKey range.upto →
       (status ≡ NO_MEMORY) × StaysOpen (λ index k j. IsUnnoted index.layout k j × HasFoundPair index.layout k j range) old new
-  pub read : IsSome old → FitsInKey range.from → FitsInKey range.upto → StaysOpen (λ index k j. HasGotRange index untold range.limit (k, tt) (j, tt)) old new
+  pub read : IsSome old → FitsInKey range.from → FitsInKey range.upto → StaysOpen (λ index k j. HasMadeScanSteps index untold range.limit (k, tt) (j, tt)) old new
 
 -- A scan through a handle, of at most so many pairs. A closed handle and a key that is too long are told as such, and nothing has changed.
 -- Else its pairs are written where C has room for them. Or there is no memory for a pair that it found, and nothing is written. Either way
@@ -47,7 +47,7 @@ pub record ListsInto {Room : Type 0} (IsWritten : List (List ℕ × ℕ) → Boo
       StaysOpen (λ index k j. IsMade index.layout k j range pairs is_more) old new × IsWritten pairs is_more before after)
       ⊎ ((status ≡ NO_MEMORY) × StaysOpen (λ index k j. IsUnnoted index.layout k j × HasFoundPair index.layout k j range) old new
       × (after ≡ before))
-  pub read : IsSome old → FitsInKey range.from → FitsInKey range.upto → StaysOpen (λ index k j. HasGotRange index untold range.limit (k, tt) (j, tt)) old new
+  pub read : IsSome old → FitsInKey range.from → FitsInKey range.upto → StaysOpen (λ index k j. HasMadeScanSteps index untold range.limit (k, tt) (j, tt)) old new
 
 -- what C sees of a scan: its array, the count of pairs, and whether there is a further one
 pub record Listing : Type 0 where
@@ -72,8 +72,8 @@ abbrev pub ListsBy : Answer → List ℕ → List ℕ → Option Opened → Opti
 ListsBy IsMade from upto old new before after status = ListsInto IsArrayListed IsMade (range_from from upto (length before.room)) old new before after status
 
 -- a scan upwards, from the first key of the range on
-abbrev pub Lists : List ℕ → List ℕ → Option Opened → Option Opened → Listing → Listing → ℕ → Type 0
-Lists = ListsBy IsListed
+abbrev pub ListsUpwards : List ℕ → List ℕ → Option Opened → Option Opened → Listing → Listing → ℕ → Type 0
+ListsUpwards = ListsBy IsListed
 
 -- a scan downwards: the last pairs of the range, in falling order
 abbrev pub ListsReverse : List ℕ → List ℕ → Option Opened → Option Opened → Listing → Listing → ℕ → Type 0

@@ -2,7 +2,7 @@
 use Rattle.std.specs.Prelude.{◌≡◌, ◌⊎◌, ◌<◌, ℕ, [], Option, Some, None, IsSome}
 use Rattle.sections.specs.Runs.{IsHeld, IsPast}
 use Rattle.sections.specs.Sections.{Enters, IsInside, Leaves, SeesOthers, SectionView, TakesMoment}
-use Rattle.hot_handles.specs.SectionHandles.{HasOpenedSection, KeepsSections, IsAsItWas}
+use Rattle.hot_handles.specs.SectionHandles.{HasOpenedSection, KeepsSections, IsUnchangedSection}
 use Rattle.hot_handles.specs.declared.section.opened.OpenSection.{OpenSection as OpenSection}
 use Rattle.hot_c.specs.declared.status.TheConstants.{CLOSED, DONE, INSIDE, NO_HANDLE, NO_MEMORY, NOT_PAST, OUTSIDE}
 
@@ -69,5 +69,5 @@ HasOpenedSections count new = (opened : OpenSection) × (new ≡ Some opened) ×
 abbrev pub OpensSection : OpenSection → Option OpenSection → Option OpenSection → ℕ → Type 0
 OpensSection was keeper handle status = (now : OpenSection) × (keeper ≡ Some now) ×
     (((status ≡ DONE) × (opened : OpenSection) × (handle ≡ Some opened) × HasOpenedSection was now opened)
-    ⊎ ((status ≡ NO_HANDLE) × (handle ≡ None) × (was.kept.items ≡ []) × IsAsItWas was now)
-    ⊎ ((status ≡ NO_MEMORY) × (handle ≡ None) × IsAsItWas was now))
+    ⊎ ((status ≡ NO_HANDLE) × (handle ≡ None) × (was.kept.items ≡ []) × IsUnchangedSection was now)
+    ⊎ ((status ≡ NO_MEMORY) × (handle ≡ None) × IsUnchangedSection was now))

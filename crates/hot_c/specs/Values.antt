@@ -2,23 +2,23 @@
 use Rattle.std.specs.Prelude.{◌≡◌, ◌⊎◌, ◌++◌, ℕ, ◌≤◌, List, length, drop, Bool, Option, None, IsSome}
 use Rattle.std.specs.Int.{from_bool}
 use Rattle.hot_index_calls.specs.Answers.{AreValuesListed, HasFoundPair, IsUnnoted, range_from}
-use Rattle.hot_index_calls.specs.Traces.{HasGotRange, untold}
+use Rattle.hot_index_calls.specs.Traces.{HasMadeScanSteps, untold}
 use Rattle.hot_c.specs.Calls.{FitsInKey, StaysOpen}
 use Rattle.hot_c.specs.declared.opened.Opened.{Opened}
 use Rattle.hot_c.specs.declared.status.TheConstants.{CLOSED, DONE, KEY_TOO_LONG, NO_MEMORY}
 
 -- what C sees of a scan of values: its array, the count of values, and whether there is a further one
-pub record Valued : Type 0 where
+pub record ValueListing : Type 0 where
   pub room : List ℕ
   pub count : ℕ
   pub more : ℕ
 
 -- these values as what C sees of a scan of values
-abbrev pub valued : List ℕ → ℕ → ℕ → Valued
-valued room count more = record { room = room; count = count; more = more }
+abbrev pub value_listing : List ℕ → ℕ → ℕ → ValueListing
+value_listing room count more = record { room = room; count = count; more = more }
 
 -- The array begins with these values, for which it has room, and is otherwise as it was.
-pub record AreWritten (values : List ℕ) (is_more : Bool) (before after : Valued) : Type 0 where
+pub record AreWritten (values : List ℕ) (is_more : Bool) (before after : ValueListing) : Type 0 where
   pub short : length values ≤ length before.room
   pub written : after.room ≡ values ++ drop (length values) before.room
   pub count : after.count ≡ length values
@@ -27,7 +27,7 @@ pub record AreWritten (values : List ℕ) (is_more : Bool) (before after : Value
 -- A scan of values through a handle, of as many as C's array has room for. A closed handle and a key that is too long are told as such, and
 -- nothing has changed. Else its values are written. Or there is no memory for one that it found, and nothing is written. Either way the
 -- number of its steps is bounded.
-pub record ListsValues (from upto : List ℕ) (old new : Option Opened) (before after : Valued) (status : ℕ) : Type 0 where
+pub record ListsValues (from upto : List ℕ) (old new : Option Opened) (before after : ValueListing) (status : ℕ) : Type 0 where
   pub closed : old ≡ None → (status ≡ CLOSED) × (new ≡ old) × (after ≡ before)
   pub long : IsSome old → ¬ (FitsInKey from × FitsInKey upto) → (status ≡ KEY_TOO_LONG) × (new ≡ old) × (after ≡ before)
   pub made : IsSome old → FitsInKey from → FitsInKey upto →
@@ -36,4 +36,4 @@ pub record ListsValues (from upto : List ℕ) (old new : Option Opened) (before 
       × AreWritten values is_more before after)
       ⊎ ((status ≡ NO_MEMORY) × StaysOpen (λ index k j. IsUnnoted index.layout k j × HasFoundPair index.layout k j (range_from from upto (length before.room))) old new
       × (after ≡ before))
-  pub read : IsSome old → FitsInKey from → FitsInKey upto → StaysOpen (λ index k j. HasGotRange index untold (length before.room) (k, tt) (j, tt)) old new
+  pub read : IsSome old → FitsInKey from → FitsInKey upto → StaysOpen (λ index k j. HasMadeScanSteps index untold (length before.room) (k, tt) (j, tt)) old new

@@ -3,7 +3,7 @@
 ghost use Rattle.std.specs.Prelude.{◌≡◌, ◌≢◌, ◌⊎◌, ◌↔◌, ℕ, List, IsOk, IsSome, None, Some, length, min};
 ghost use Rattle.finite_map.specs.declared.Call.TheVariants.{Add, Exchange, Get, Insert, Remove, RemoveIf, Upsert};
 ghost use Rattle.hot_c.specs.declared.opened.Opened.{Opened};
-ghost use Rattle.hot_c.specs.Calls.{Answers, AreClosed, FitsInKey, HasGivenBack, HasSeenRecords, HasOpenedKeeper, HaveOpened, HaveOpenedStock, IsSize, IsStockSize, OpensNext, StaysOpen, for_key, places_of};
+ghost use Rattle.hot_c.specs.Calls.{Answers, AreClosed, FitsInKey, HasGivenBack, HasCountedRecords, HasOpenedKeeper, HaveOpened, HaveOpenedStock, IsSize, IsStockSize, OpensNext, StaysOpen, for_key, places_of};
 ghost use Rattle.hot_c.specs.Lookups.{LooksUpAll};
 ghost use Rattle.hot_c.specs.Refusals.{TellsOfNoLack, TellsWhatMay};
 ghost use Rattle.hot_c.specs.Stocks.{TakesBytes, stock_in};
@@ -427,7 +427,7 @@ pub extern "C" fn hot_collect(handle: &mut IndexHandle, nodes: &mut u32, leaves:
 #[unsafe(no_mangle)]
 pub extern "C" fn hot_census(handle: &mut IndexHandle, counts: &mut RecordCounts) -> u32
     ensures closed { handle.old.cell.opened ≡ None → (result ≡ CLOSED) × (handle.new.cell.opened ≡ None) × (counts.new ≡ counts.old) }
-    ensures counted { IsSome handle.old.cell.opened → (result ≡ DONE) × StaysOpen (HasSeenRecords counts.new) handle.old.cell.opened handle.new.cell.opened }
+    ensures counted { IsSome handle.old.cell.opened → (result ≡ DONE) × StaysOpen (HasCountedRecords counts.new) handle.old.cell.opened handle.new.cell.opened }
     ensures place { handle.new.place ≡ handle.old.place }
 {
     if !handle.is_open() {

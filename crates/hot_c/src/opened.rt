@@ -10,7 +10,7 @@ ghost use Rattle.hot_index_calls.specs.declared.refusals.Refusal.{Refusal as Ref
 ghost use Rattle.hot_index.specs.Handles.{Stays};
 ghost use Rattle.hot_index.specs.Stamps.{HasCaughtUp, HasStamped, IsStampFrom};
 ghost use Rattle.rowex_table.specs.Traces.{RunBeginsWith};
-ghost use Rattle.hot_index_calls.specs.Traces.{HasGot, untold};
+ghost use Rattle.hot_index_calls.specs.Traces.{HasMadeGetSteps, untold};
 ghost use Rattle.hot_c.specs.Calls.{HasOpenedNext, KeepsAll, TellsOutcome};
 ghost use Rattle.hot_c.specs.Following.{IsAsTold};
 ghost use Rattle.hot_c.specs.Orders.{IsFilledIn};
@@ -64,7 +64,7 @@ impl Opened {
     /// The reply to a get of `key`: `Value`, or `Absent`. No `Call` is made for it, which would copy the key.
     pub fn get(&mut self, key: &Key) -> Reply
         ensures call { Stays (λ index k j. IsNoted index.layout k j (Get key.now) result) self.old.handle self.new.handle }
-        ensures made { Stays (λ index k j. HasGot index untold (k, tt) (j, tt)) self.old.handle self.new.handle }
+        ensures made { Stays (λ index k j. HasMadeGetSteps index untold (k, tt) (j, tt)) self.old.handle self.new.handle }
         ensures keeps { self.new.kept.items ≡ self.old.kept.items }
     {
         match self.handle.get(key) {

@@ -5,7 +5,7 @@ ghost use Rattle.key_ranges.specs.Ranges.{last_with};
 ghost use Rattle.hot_c.specs.Calls.{FitsInKey};
 ghost use Rattle.hot_c.specs.Orders.{IsListedIn};
 ghost use Rattle.hot_c.specs.Prefixes.{HasPrefixAbove, HasPrefixBelow, IsRangeOf, ListsAfter, ListsBefore};
-ghost use Rattle.hot_c.specs.Scans.{Lists, ListsBy, ListsReverse, listing};
+ghost use Rattle.hot_c.specs.Scans.{ListsUpwards, ListsBy, ListsReverse, listing};
 
 use crate::handle::IndexHandle;
 use crate::pairs::{Order, Pair, Query};
@@ -25,7 +25,7 @@ pub extern "C" fn hot_scan_whole_prefix(
     count: &mut usize,
     more: &mut u32,
 ) -> u32
-    ensures call { Lists prefix.now (last_with prefix.now) handle.old.cell.opened handle.new.cell.opened
+    ensures call { ListsUpwards prefix.now (last_with prefix.now) handle.old.cell.opened handle.new.cell.opened
         (listing room.old count.old more.old) (listing room.new count.new more.new) result }
     ensures place { handle.new.place ≡ handle.old.place }
 {

@@ -3,7 +3,7 @@
 ghost use Rattle.std.specs.Prelude.{◌≡◌, ◌<◌, ◌^◌, IfErr, IfOk};
 ghost use Rattle.hot_index_calls.specs.Answers.{range_from};
 ghost use Rattle.hot_c.specs.Orders.{IsFilledIn, IsListedIn};
-ghost use Rattle.hot_c.specs.Scans.{HasFilled, Lists, ListsBy, ListsLast, ListsNothing, ListsReverse, listing};
+ghost use Rattle.hot_c.specs.Scans.{HasFilled, ListsUpwards, ListsBy, ListsLast, ListsNothing, ListsReverse, listing};
 
 use crate::handle::IndexHandle;
 use crate::pairs::{Order, Pair, Query, write_pairs_in_order};
@@ -22,7 +22,7 @@ pub extern "C" fn hot_scan(
     count: &mut usize,
     more: &mut u32,
 ) -> u32
-    ensures call { Lists from.now upto.now handle.old.cell.opened handle.new.cell.opened
+    ensures call { ListsUpwards from.now upto.now handle.old.cell.opened handle.new.cell.opened
         (listing room.old count.old more.old) (listing room.new count.new more.new) result }
     ensures place { handle.new.place ≡ handle.old.place }
 {

@@ -1,7 +1,7 @@
 //! The values of a range, without their keys, for programs in C.
 
 ghost use Rattle.std.specs.Prelude.{◌++◌, ◌≡◌, ◌≤◌, drop, length};
-ghost use Rattle.hot_c.specs.Values.{ListsValues, valued};
+ghost use Rattle.hot_c.specs.Values.{ListsValues, value_listing};
 
 use crate::handle::IndexHandle;
 use crate::status::{CLOSED, DONE, KEY_TOO_LONG, NO_MEMORY};
@@ -22,7 +22,7 @@ pub extern "C" fn hot_scan_values(
     more: &mut u32,
 ) -> u32
     ensures call { ListsValues from.now upto.now handle.old.cell.opened handle.new.cell.opened
-        (valued room.old count.old more.old) (valued room.new count.new more.new) result }
+        (value_listing room.old count.old more.old) (value_listing room.new count.new more.new) result }
     ensures place { handle.new.place ≡ handle.old.place }
 {
     if !handle.is_open() {

@@ -12,7 +12,7 @@ use Rattle.hot_index_calls.specs.Answers.{IsNoted, IsRefusedFor, fault_of}
 use Rattle.hot_index_calls.specs.Asked.{last_try}
 use Rattle.hot_index_calls.specs.Calls.{HasCause, IsOutcome, IsWaitedFor}
 use Rattle.hot_index_calls.specs.Passes.{IsNewPass, Owns, PassView, pass_of}
-use Rattle.hot_index_calls.specs.Traces.{HasTold, untold}
+use Rattle.hot_index_calls.specs.Traces.{HasMadeCallSteps, untold}
 use Rattle.index_laws.specs.Joined.{HasGoneThrough, HasEndedAs, answered, call_of, called, new, notes_of_end, refused, steps_of}
 use Rattle.index_laws.proofs.Joined.{two_that_meet_have_ended}
 use Rattle.linearizability.specs.Moments.{Happening, invokes, refuses, responds, shows, steps}
@@ -55,7 +55,7 @@ module _ (q : ℕ) (key : List ℕ) (value : ℕ) (index : TableView) (k j : Pas
       (subst (λ x. IsRefusedFor index.layout call x j (fault_of full)) begins (record { refused = h; cause = cause })) in
       (refuses q, refused call (fault_of full) refl denied tt, refl)
 
-  inserted : (result : Result Reply Full) → IsOutcome call (last_try result) index k j → HasCause call (last_try result) index k j → HasTold index untold (k, tt) (j, tt) → (done : List Happening) →
+  inserted : (result : Result Reply Full) → IsOutcome call (last_try result) index k j → HasCause call (last_try result) index k j → HasMadeCallSteps index untold (k, tt) (j, tt) → (done : List Happening) →
       HasGoneThrough index q done k.seat → (then : List Happening) × HasGoneThrough index q then j.seat × (asked_in then ≡ asked_in done ++ call ∷ [])
   inserted result h cause told done was =
       let end = ceased told.begins told.ends result h cause in

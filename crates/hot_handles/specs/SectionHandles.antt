@@ -10,8 +10,8 @@ pub record KeepsSections (count : ℕ) (opened : OpenSection) : Type 0 where
   pub new : IsNewSection opened.sections.value 0 opened.section
 
 -- the open section has the same table, the same section, and keeps the same others
-abbrev pub IsAsItWas : OpenSection → OpenSection → Type 0
-IsAsItWas was now = (now.sections.value ≡ was.sections.value) × (now.section ≡ was.section) × (now.kept.items ≡ was.kept.items)
+abbrev pub IsUnchangedSection : OpenSection → OpenSection → Type 0
+IsUnchangedSection was now = (now.sections.value ≡ was.sections.value) × (now.section ≡ was.section) × (now.kept.items ≡ was.kept.items)
 
 -- The next of the sections that `was` keeps was opened. It keeps none itself.
 pub record HasOpenedSection (was now opened : OpenSection) : Type 0 where

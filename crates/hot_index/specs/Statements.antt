@@ -32,8 +32,8 @@ use Rattle.hot_index_calls.specs.declared.census.RecordCounts.{RecordCounts}
 
 -- Let all leaf records be long, as in an index that `create` makes. A call that lacks one has found each of them not free, and none its
 -- own.
-abbrev pub AllLongFullIsFull : Type 0
-AllLongFullIsFull =
+abbrev pub AllLongFullMeansNoneFree : Type 0
+AllLongFullMeansNoneFree =
     (layout : Layout) (key : Key) (k j : PassView) → layout.long_from ≡ 0 → IsKey key → IsCause layout key k j FullLeaves →
     AllMissed (IsAnothers layout j.number [] []) a_leaf layout.leaves j.failed k.steps
 
@@ -60,8 +60,8 @@ pub record ThirdIsTaken (layout : Layout) (k j : PassView) : Type 0 where
 -- What it means that a call of an index's only pass is full. For want of a leaf record, each with room for its key was in the tree or
 -- retired when its turn came. For want of a node record, a third of these were so, but one, and all but those that it may have claimed
 -- itself.
-abbrev pub OnePassFullIsFull : Type 0
-OnePassFullIsFull =
+abbrev pub OnePassFullMeansTaken : Type 0
+OnePassFullMeansTaken =
     (layout : Layout) (key : Key) (k j : PassView) → layout.passes ≡ 1 → j.number < layout.passes →
     (IsCause layout key k j FullLeaves → AllMissedFrom IsNobodys layout (words_for (length key)) j.failed k.steps) ×
     (IsCause layout key k j FullNodes → ThirdIsTaken layout k j × AreTakenButOwn layout k j)
@@ -85,8 +85,8 @@ AbsentIsNeverFull =
     ((n : ℕ) → length k.front ≤ n → n ≤ length j.front → value_at (map_of (take n j.front)) (key_of call) ≡ None) → fault ≡ Busy
 
 -- In an index of one pass, a call that gives its key a value is refused only if the key is absent.
-abbrev pub OnePassRefusesNewAlone : Type 0
-OnePassRefusesNewAlone =
+abbrev pub OnePassRefusesOnlyNewKeys : Type 0
+OnePassRefusesOnlyNewKeys =
     (layout : Layout) (call : Call) (k j : PassView) (fault : TryFault) → layout.passes ≡ 1 → j.number < layout.passes → LegalCalls k.front k.number k.notes →
     IsRefusedFor layout call k j fault → GivesValue call → value_at (map_of k.front) (key_of call) ≡ None
 

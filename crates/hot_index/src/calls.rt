@@ -8,7 +8,7 @@ ghost use Rattle.hot_index_calls.specs.Calls.{GetsOrCounts, GetsOrMakes, GetsOrT
 ghost use Rattle.hot_index_calls.specs.Counts.{try_steps};
 ghost use Rattle.hot_index_calls.specs.Passes.{Owns};
 ghost use Rattle.hot_index_calls.specs.Refusals.{as_tried};
-ghost use Rattle.hot_index_calls.specs.Traces.{HasTold, untold};
+ghost use Rattle.hot_index_calls.specs.Traces.{HasMadeCallSteps, untold};
 
 use crate::index::{Index, Pass, reply_to_get};
 use finite_map::{Call, Reply};
@@ -48,7 +48,7 @@ impl Index {
         ensures may { IfErr result (MayRefuse call.now) }
         ensures made { GetsOrMakes call.now result self.now G.becomes (pass.old, gate.old) (pass.new, gate.new) }
         ensures steps { pass.new.steps ≤ pass.old.steps + try_steps call.now self.now.layout }
-        ensures told { HasTold self.now G.becomes (pass.old, gate.old) (pass.new, gate.new) }
+        ensures told { HasMadeCallSteps self.now G.becomes (pass.old, gate.old) (pass.new, gate.new) }
     {
         match call {
             Call::Get(key) => Ok(reply_to_get(self.get_with(pass, key, gate))),
@@ -90,7 +90,7 @@ impl Index {
         ensures cause { HasCause call.now (last_try result) self.now pass.old pass.new }
         ensures lacks { IfErr result (MayLack call.now) }
         ensures tries { GetsOrTries call.now result self.now G.becomes (pass.old, gate.old) (pass.new, gate.new) }
-        ensures told { HasTold self.now G.becomes (pass.old, gate.old) (pass.new, gate.new) }
+        ensures told { HasMadeCallSteps self.now G.becomes (pass.old, gate.old) (pass.new, gate.new) }
     {
         match call {
             Call::Get(key) => Ok(reply_to_get(self.get_with(pass, key, gate))),

@@ -32,7 +32,7 @@ pub enum IndexFault {
 /// first that is out of range; `Memory` if memory is refused.
 ///
 /// The index has one node record more, for removals: with one pass insertions leave it free. All leaf records are long. So a call that
-/// lacks one has found each of them taken (`laws::all_long_full_is_full`).
+/// lacks one has found each of them taken (`laws::all_long_full_means_none_free`).
 pub fn create(
     alloc: Global,
     passes: u32,

@@ -12,13 +12,13 @@ ghost use Rattle.hot_index_calls.specs.Calls.{GetsOrCounts, GetsOrMakes, HasCaus
 ghost use Rattle.hot_index_calls.specs.Calls.{IsCountRead, IsListRead, IsListReadBy, IsRangeRead, IsScanRead, IsScanReadBy, IsValuesRead};
 ghost use Rattle.hot_index_calls.specs.Census.{HasCounted};
 ghost use Rattle.hot_index.specs.Handles.{Stays, handle_at};
-ghost use Rattle.hot_index_calls.specs.Many.{AreNoted, HasGotMany, gets};
+ghost use Rattle.hot_index_calls.specs.Many.{AreNoted, HasMadeGetManySteps, gets};
 ghost use Rattle.hot_index_calls.specs.Passes.{Owns};
 ghost use Rattle.hot_index.specs.Ranges.{IsFirstFound};
 ghost use Rattle.hot_index.specs.Stamps.{HasSeenMore};
 ghost use Rattle.hot_index_calls.specs.Reverse.{IsLastFound};
 ghost use Rattle.hot_index_calls.specs.Refusals.{as_tried};
-ghost use Rattle.hot_index_calls.specs.Traces.{HasCollected, HasGot, untold};
+ghost use Rattle.hot_index_calls.specs.Traces.{HasCollected, HasMadeGetSteps, untold};
 ghost use Rattle.key_ranges.specs.Ranges.{last_with};
 ghost use Rattle.rowex_scanning.specs.Scanning.{asked_range};
 ghost use Rattle.version_laws.specs.Directions.{IsLawfulBy};
@@ -121,7 +121,7 @@ impl<I: ShowsIndex> Handle<I> {
     /// The value of `key`, or `None` if it is absent, as `Index::get` returns.
     pub fn get(&mut self, key: &Key) -> Option<u64>
         ensures call { Stays (λ index k j. IsNoted index.layout k j (Get key.now) (got result)) self.old self.new }
-        ensures made { Stays (λ index k j. HasGot index untold (k, tt) (j, tt)) self.old self.new }
+        ensures made { Stays (λ index k j. HasMadeGetSteps index untold (k, tt) (j, tt)) self.old self.new }
     {
         self.index.show().get(&mut self.pass, key)
     }
@@ -131,7 +131,7 @@ impl<I: ShowsIndex> Handle<I> {
     pub fn get_many(&mut self, keys: &[Key], found: &mut [Option<u64>])
         requires { length found.old ≡ length keys.now }
         ensures call { Stays (λ index k j. AreNoted index.layout k j (gets keys.now found.new)) self.old self.new }
-        ensures made { Stays (λ index k j. HasGotMany index untold (length keys.now) (k, tt) (j, tt)) self.old self.new }
+        ensures made { Stays (λ index k j. HasMadeGetManySteps index untold (length keys.now) (k, tt) (j, tt)) self.old self.new }
     {
         self.index.show().get_many(&mut self.pass, keys, found)
     }

@@ -5,15 +5,15 @@ ghost use Rattle.finite_map.specs.declared.Call.TheVariants.{Get, Insert, Remove
 ghost use Rattle.finite_map.specs.Calls.{LegalCalls};
 ghost use Rattle.hot_index.specs.KeyCounts.{IsCountOf};
 ghost use Rattle.rowex_table.specs.Seats.{IsShownAll};
-ghost use Rattle.rowex_writing.specs.attempts.Attempts.{IsLeafless};
+ghost use Rattle.rowex_writing.specs.attempts.Attempts.{LacksNoLeaf};
 ghost use Rattle.rowex_writing.specs.declared.attempts.TryFault.TheVariants.{FullLeaves};
 ghost use Rattle.hot_index_calls.specs.Passes.{Owns};
 ghost use Rattle.hot_index_calls.specs.Answers.{IsNoted, IsUnnoted, HaveMet, got};
 ghost use Rattle.hot_index_calls.specs.Calls.{HasCause, IsOutcome, IsTried, IsTriedAndCounted, IsWaitedFor};
 ghost use Rattle.hot_index_calls.specs.Census.{HasCounted};
-ghost use Rattle.hot_index_calls.specs.Many.{AreNoted, HasGotMany, gets};
+ghost use Rattle.hot_index_calls.specs.Many.{AreNoted, HasMadeGetManySteps, gets};
 ghost use Rattle.hot_index_calls.specs.Refusals.{as_tried};
-ghost use Rattle.hot_index_calls.specs.Traces.{HasCollected, HasGot, untold};
+ghost use Rattle.hot_index_calls.specs.Traces.{HasCollected, HasMadeGetSteps, untold};
 ghost use Rattle.hot_index.specs.Stamps.{HasSeenMore};
 
 use crate::key_counts::KeyCount;
@@ -92,7 +92,7 @@ impl Index {
         requires { Owns self.now pass.old }
         ensures own { Owns self.now pass.new }
         ensures call { IsNoted self.now.layout pass.old pass.new (Get key.now) (got result) }
-        ensures made { HasGot self.now untold (pass.old, tt) (pass.new, tt) }
+        ensures made { HasMadeGetSteps self.now untold (pass.old, tt) (pass.new, tt) }
     {
         self.get_with(pass, key, &mut NoGate)
     }
@@ -112,7 +112,7 @@ impl Index {
         requires room { length found.old ≡ length keys.now }
         ensures own { Owns self.now pass.new }
         ensures call { AreNoted self.now.layout pass.old pass.new (gets keys.now found.new) }
-        ensures made { HasGotMany self.now untold (length keys.now) (pass.old, tt) (pass.new, tt) }
+        ensures made { HasMadeGetManySteps self.now untold (length keys.now) (pass.old, tt) (pass.new, tt) }
     {
         self.get_many_with(pass, keys, found, &mut NoGate)
     }
@@ -281,7 +281,7 @@ impl Index {
         requires { Owns self.now pass.old }
         ensures own { Owns self.now pass.new }
         ensures call { IsNoted self.now.layout pass.old pass.new (Get key.now) (got result) }
-        ensures made { HasGot self.now G.becomes (pass.old, gate.old) (pass.new, gate.new) }
+        ensures made { HasMadeGetSteps self.now G.becomes (pass.old, gate.old) (pass.new, gate.new) }
     {
         pin(&self.table, &mut pass.seat, gate);
         let found = look_up(&self.table, &mut pass.seat, key, gate);
@@ -301,7 +301,7 @@ impl Index {
         requires room { length found.old ≡ length keys.now }
         ensures own { Owns self.now pass.new }
         ensures call { AreNoted self.now.layout pass.old pass.new (gets keys.now found.new) }
-        ensures made { HasGotMany self.now G.becomes (length keys.now) (pass.old, gate.old) (pass.new, gate.new) }
+        ensures made { HasMadeGetManySteps self.now G.becomes (length keys.now) (pass.old, gate.old) (pass.new, gate.new) }
     {
         pin(&self.table, &mut pass.seat, gate);
         look_up_all(&self.table, &mut pass.seat, gate, keys, found);
@@ -398,7 +398,7 @@ impl Index {
         ensures own { Owns self.now pass.new }
         ensures call { IsOutcome call.now (as_tried result) self.now pass.old pass.new }
         ensures cause { HasCause call.now (as_tried result) self.now pass.old pass.new }
-        ensures leafless { IsLeafless FullLeaves call.now (as_tried result) }
+        ensures leafless { LacksNoLeaf FullLeaves call.now (as_tried result) }
         ensures made { IsTriedAndCounted call.now result self.now G.becomes (pass.old, gate.old) (pass.new, gate.new) }
     {
         let answer = try_and_count(&self.table, &mut pass.seat, gate, &mut pass.scratch, call);

@@ -1,14 +1,14 @@
 //! Laws of the index. The functions do nothing: their contracts are the laws.
 
 ghost use Rattle.hot_index.specs.Alone.{AloneCallsEnd};
-ghost use Rattle.hot_index.specs.Statements.{AbsentIsNeverFull, AllLongFullIsFull, CountsAddUp, HeldIsNeverFull, OnePassFullIsFull, OnePassIsNeverBusy, OnePassKeepsSpare, OnePassRefusesNewAlone, ReturnedBeforeBegun};
+ghost use Rattle.hot_index.specs.Statements.{AbsentIsNeverFull, AllLongFullMeansNoneFree, CountsAddUp, HeldIsNeverFull, OnePassFullMeansTaken, OnePassIsNeverBusy, OnePassKeepsSpare, OnePassRefusesOnlyNewKeys, ReturnedBeforeBegun};
 
 use rowex_core::Gate;
 
 /// If all leaf records are long, as `create` makes them, a call that returns `FullLeaves` has found each of them not free since it began.
 /// None was claimed by its own pass.
-pub fn all_long_full_is_full()
-    ensures { AllLongFullIsFull }
+pub fn all_long_full_means_none_free()
+    ensures { AllLongFullMeansNoneFree }
 {}
 
 /// In an index of one pass no call returns `Busy`: its cause is always another pass of the index.
@@ -24,8 +24,8 @@ pub fn alone_calls_end<G: Gate>()
 
 /// In an index of one pass a call returns `FullLeaves` only if each leaf record with room for the key was in the tree or retired. It
 /// returns `FullNodes` only if at least a third of the node records were so, and all but 4,321, which it may have claimed itself.
-pub fn one_pass_full_is_full()
-    ensures { OnePassFullIsFull }
+pub fn one_pass_full_means_taken()
+    ensures { OnePassFullMeansTaken }
 {}
 
 /// A call that gives its key a value is never refused as full if the key was held all the while. That is in each version that its pass has
@@ -41,8 +41,8 @@ pub fn absent_is_never_full()
 {}
 
 /// In an index of one pass a call that gives its key a value is refused only if the key is absent. So a new value of a held key never is.
-pub fn one_pass_refuses_new_alone()
-    ensures { OnePassRefusesNewAlone }
+pub fn one_pass_refuses_only_new_keys()
+    ensures { OnePassRefusesOnlyNewKeys }
 {}
 
 /// Let a stamp tell of all that a pass had seen when a call of it returned. Let a pass then follow the stamp and make a call. The first

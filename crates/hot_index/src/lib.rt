@@ -38,7 +38,7 @@
 //! `create` and `create_with` give passes in order (`IsNewPass`) or say which number is out of range. `Load::finish` says that pass 0 has
 //! inserted the pairs, in their order, and that the map is just these (`IsLoaderPass`). `meet` ensures `HaveMet`, by `legal_longer` and
 //! `weave-legal_two`. `follow` ensures `HasCaughtUp`; `laws::returned_before_begun` orders two calls by a stamp.
-//! `laws::one_pass_is_never_busy`, `all_long_full_is_full`. A pass's invariant has the count of its keys (`IsSettledWith`); these add up
+//! `laws::one_pass_is_never_busy`, `all_long_full_means_none_free`. A pass's invariant has the count of its keys (`IsSettledWith`); these add up
 //! (`laws::counts_add_up`). A handle's has `Owns`, and its methods keep its index (`Stays`). Cursors: `IsLeft`, `GoesOnAt`.
 //!
 //! Contracts see of a pass its number, front, notes, steps and failed steps (`PassView`), of an index its layout and its identity

@@ -29,7 +29,7 @@ use Rattle.rowex_core.specs.declared.known.Known.{Known}
 use Rattle.rowex_core.specs.Cores.{Core, IsLawful}
 use Rattle.rowex_core.specs.Knowing.{IsEvent, IsPinnedSince, Recalls}
 use Rattle.rowex_table.specs.Runs.{Runs, StepsWith}
-use Rattle.rowex_table.specs.Seats.{IsSame, SeatView, TableView}
+use Rattle.rowex_table.specs.Seats.{MakesNoAside, SeatView, TableView}
 use Rattle.rowex_reading.proofs.Seen.Later.{event_recalls}
 use Rattle.rowex_table.proofs.Made.ActsLeave.{act_leaves}
 use Rattle.rowex_table.proofs.Runs.{runs_same}
@@ -39,7 +39,7 @@ use Rattle.epochs.specs.Runs.{Pins}
 use Rattle.publish_laws.specs.Lone.{KeepsSpare}
 use Rattle.rowex_writing.specs.plan.Asking.{reply_to}
 use Rattle.rowex_writing.specs.attempts.Attempts as tries
-use Rattle.rowex_writing.specs.attempts.Attempts.{HasAnswered, HasRefused, IsChangeOf, IsLeafless}
+use Rattle.rowex_writing.specs.attempts.Attempts.{HasAnswered, HasRefused, IsChangeOf, LacksNoLeaf}
 use Rattle.rowex_writing.specs.plan.Planned.{HasLoadedRoot}
 use Rattle.rowex_writing.specs.build.Changes.{HasChanged, LacksLeaves, LacksNodes}
 use Rattle.rowex_writing.specs.locks.Locks.{HasMetLock, HasMetTaken, HasTried, IsOfAttempt}
@@ -62,7 +62,7 @@ use Rattle.hot_index_calls.specs.Counts.{once_steps, round_steps, try_steps, twi
 use Rattle.hot_index_calls.specs.Noting.{change_notes, place_by}
 use Rattle.hot_index_calls.specs.Passes.{IsSettled, Owns, PassView, pass_of}
 use Rattle.hot_index_calls.specs.Rooms.{FindsRoom, LeavesRoom}
-use Rattle.hot_index_calls.specs.Traces.{AreAttempts, AreTries, HasMade, HasStepped, HasTold, IsOneAttempt, Tidies, is_full}
+use Rattle.hot_index_calls.specs.Traces.{AreAttempts, AreTries, HasMadeChangeSteps, HasStepped, HasMadeCallSteps, IsOneAttempt, Tidies, is_full}
 use Rattle.hot_index_calls.proofs.Noting.{HasGoneOn, HasLooked, WasRight, event_makers, found_had, goes_on, legal_front, longer, met_had, missed_had, noted, note_of, pinned_front, pinned_pass, settles}
 use Rattle.hot_index_calls.proofs.changing.Conflicts.{conflict_from_before, found_from_before, may_take_from_before, met_from_before, no_further, overtaken, pins_after, under_pin}
 use Rattle.hot_index_calls.proofs.Passes.Collected.{AreBetween, does_unnoted, small_few, small_later, small_unnoted}
@@ -355,7 +355,7 @@ module _ {G : Type 0} (table : TableView) (becomes : G → Event → G → Type 
   pub run_pinned : {locks : List Target} (a b : SeatView × G) → HasTried table becomes locks a b → IsSome a.0.known.pin → IsSome b.0.known.pin
   run_pinned a b run pinned = subst IsSome (sym (pin_stays run.acts a b run.each run.steps)) pinned
 
-  pub run_same : {locks : List Target} (a b : SeatView × G) → HasTried table becomes locks a b → IsSame a.0 b.0
+  pub run_same : {locks : List Target} (a b : SeatView × G) → HasTried table becomes locks a b → MakesNoAside a.0 b.0
   run_same a b run = runs_same table becomes run.acts a b run.steps
 
 -- A pass that was settled is pinned, makes an attempt, has nothing then, and clears its pin.
@@ -459,10 +459,10 @@ module _ {G : Type 0} {table : TableView} {becomes : G → Event → G → Type 
         found = had.3;
       }
 
-  absent_seen : (key : Key) {said : Known → List Note} → IsEvent table.layout ClearPin said c.0.known d.0.known → tries.HasMissedKey c.0.known key → WasFound key None (pass_of a.0) (pass_of d.0)
+  absent_seen : (key : Key) {said : Known → List Note} → IsEvent table.layout ClearPin said c.0.known d.0.known → tries.HasSeenKeyAbsent c.0.known key → WasFound key None (pass_of a.0) (pass_of d.0)
   absent_seen key event (m, pinned, missed) = found_seen key None m event pinned (missed_had c.0.known key m missed event.core event.lawful (event_recalls event))
 
-  held_seen : (key : Key) (value : ℕ) {said : Known → List Note} → IsEvent table.layout ClearPin said c.0.known d.0.known → tries.HasMetKey c.0.known key value → WasFound key (Some value) (pass_of a.0) (pass_of d.0)
+  held_seen : (key : Key) (value : ℕ) {said : Known → List Note} → IsEvent table.layout ClearPin said c.0.known d.0.known → tries.HasSeenKeyHeld c.0.known key value → WasFound key (Some value) (pass_of a.0) (pass_of d.0)
   held_seen key value event (m, pinned, met) = found_seen key (Some value) m event pinned (met_had c.0.known key value m met event.core event.lawful (event_recalls event))
 
   may_take_seen : (call : Call) {said : Known → List Note} → IsEvent table.layout ClearPin said c.0.known d.0.known → tries.WantsRecord c.0.known call → MayTake call (pass_of a.0) (pass_of d.0)
@@ -475,7 +475,7 @@ module _ {G : Type 0} {table : TableView} {becomes : G → Event → G → Type 
   may_take_seen (RemoveIf key expected) event met = held_seen key expected event met
 
   -- it was refused
-  when_refused : (call : Call) (made : List Rec) (fault : TryFault) → HasRefused table.layout (key_of call) b.0.known c.0.known made fault → tries.IsFullOfNew c.0.known call fault →
+  when_refused : (call : Call) (made : List Rec) (fault : TryFault) → HasRefused table.layout (key_of call) b.0.known c.0.known made fault → tries.IsFullOnlyIfWanting c.0.known call fault →
       (fault ≡ Busy → IsHindered table.layout b.0 c.0) → StepsWith table becomes ClearPin (change_notes call (Err fault)) c d → Leaves call (Err fault)
   when_refused call made fault h new hindered step = (
     (
@@ -490,7 +490,7 @@ module _ {G : Type 0} {table : TableView} {becomes : G → Event → G → Type 
 
   -- whatever came of it
   pub tried : (call : Call) (made : List Rec) (r : Result Reply TryFault) → IfOk r (HasAnswered b.0.known c.0.known call) → IfErr r (HasRefused table.layout (key_of call) b.0.known c.0.known made) →
-      IfErr r (tries.IsFullOfNew c.0.known call) → IfErr r (λ fault. fault ≡ Busy → IsHindered table.layout b.0 c.0) → StepsWith table becomes ClearPin (change_notes call r) c d → Leaves call r
+      IfErr r (tries.IsFullOnlyIfWanting c.0.known call) → IfErr r (λ fault. fault ≡ Busy → IsHindered table.layout b.0 c.0) → StepsWith table becomes ClearPin (change_notes call r) c d → Leaves call r
   tried call made (Ok reply) (inl looked) refused new hindered step = when_looked call reply looked.0 looked.1 step.event
   tried call made (Ok reply) (inr (x, was, is, changed)) refused new hindered step = when_changed call reply x was is changed step.event
   tried call made (Err fault) answered refused new hindered step = when_refused call made fault refused new hindered step
@@ -514,7 +514,7 @@ module _ {G : Type 0} {table : TableView} {becomes : G → Event → G → Type 
       let cleared : d.0.known.steps ≡ c.0.known.steps + 1 = ap (λ (z : Known). z.steps) step.event.learned_is in
       omega (arith, counted, loaded.from, loaded.upto, cleared)
 
-pub waited_leafless : (call : Call) (r : Result Reply Full) → IsLeafless FullLeaves call (last_try r) → IsLeafless OfLeaves call r
+pub waited_leafless : (call : Call) (r : Result Reply Full) → LacksNoLeaf FullLeaves call (last_try r) → LacksNoLeaf OfLeaves call r
 waited_leafless (Get key) r h = tt
 waited_leafless (Insert key value) r h = tt
 waited_leafless (Upsert key value) r h = tt
@@ -528,7 +528,7 @@ leaves_of : (full : Full) → fault_of full ≡ FullLeaves → full ≡ OfLeaves
 leaves_of OfNodes e = absurd (cc)
 leaves_of OfLeaves e = refl
 
-waits_leafless : (call : Call) (full : Full) → IsLeafless {F = Full} OfLeaves call (Err full) → IsLeafless FullLeaves call (Err (fault_of full))
+waits_leafless : (call : Call) (full : Full) → LacksNoLeaf {F = Full} OfLeaves call (Err full) → LacksNoLeaf FullLeaves call (Err (fault_of full))
 waits_leafless (Get key) full h = tt
 waits_leafless (Insert key value) full h = tt
 waits_leafless (Upsert key value) full h = tt
@@ -538,7 +538,7 @@ waits_leafless (Remove key) full h = λ e. h (ap Err (leaves_of full (let same :
 waits_leafless (RemoveIf key expected) full h = λ e. h (ap Err (leaves_of full (let same : fault_of full ≡ FullLeaves = cc in same)))
 
 -- a call that is no get is refused where it may be
-may : (call : Call) (k j : PassView) (fault : TryFault) → ((key : Key) → call ≢ Get key) → IsLeafless FullLeaves call (Err fault) → (tries.IsFullFault fault → MayTake call k j) → MayRefuse call fault
+may : (call : Call) (k j : PassView) (fault : TryFault) → ((key : Key) → call ≢ Get key) → LacksNoLeaf FullLeaves call (Err fault) → (tries.IsFullFault fault → MayTake call k j) → MayRefuse call fault
 may (Insert key value) k j fault change h full = tt
 may (Upsert key value) k j fault change h full = tt
 may (Exchange key expected value) k j Busy change h full = tt
@@ -556,12 +556,12 @@ may (RemoveIf key expected) k j FullNodes change h full = tt
 may (RemoveIf key expected) k j FullLeaves change h full = h refl
 
 module _ (layout : Layout) (k j : PassView) (call : Call) (change : (key : Key) → call ≢ Get key) where
-  pub may_refuse : (r : Result Reply TryFault) → IsLeafless FullLeaves call r → MatchResult r (IsNoted layout k j call) (IsRefused layout call k j) → IfErr r (MayRefuse call)
+  pub may_refuse : (r : Result Reply TryFault) → LacksNoLeaf FullLeaves call r → MatchResult r (IsNoted layout k j call) (IsRefused layout call k j) → IfErr r (MayRefuse call)
   may_refuse (Ok reply) h made = tt
   may_refuse (Err fault) h made = may call k j fault change h made.full
 
   -- where it waits
-  pub waited_lacks : (r : Result Reply Full) → IsLeafless OfLeaves call r → MatchResult (last_try r) (IsNoted layout k j call) (IsRefused layout call k j) → IfErr r (MayLack call)
+  pub waited_lacks : (r : Result Reply Full) → LacksNoLeaf OfLeaves call r → MatchResult (last_try r) (IsNoted layout k j call) (IsRefused layout call k j) → IfErr r (MayLack call)
   waited_lacks (Ok reply) h made = tt
   waited_lacks (Err full) h made = may call k j (fault_of full) change (waits_leafless call full h) made.full
 
@@ -604,9 +604,9 @@ module _ {table index : TableView} {k : PassView} {s t : SeatView} {call : Call}
   room_seen r spares finds = subst (λ (x : TableView × PassView). LeavesRoom x.0.layout call r x.1.seat t) (λ e. (index_is e, pass_is e)) (record { spares = spares; finds = finds })
 
   pub made_seen : {G : Type 0} {becomes : G → Event → G → Type 0} {g h : G} {r : Result Reply TryFault} → HasAsked table becomes (AreAttempts table becomes call r) call r (s, g) (t, h) → t.known.steps ≤ s.known.steps + try_steps call table.layout →
-      HasMade index becomes call r (k, g) (pass_of t, h)
+      HasMadeChangeSteps index becomes call r (k, g) (pass_of t, h)
   made_seen {becomes = becomes} {g = g} {h = h} {r = r} asked few =
-      subst (λ (x : TableView × PassView). HasMade x.0 becomes call r (x.1, g) (pass_of t, h)) (λ e. (index_is e, pass_is e)) (has_made table becomes (s, g) (t, h) asked.ended few asked.replied.loaded)
+      subst (λ (x : TableView × PassView). HasMadeChangeSteps x.0 becomes call r (x.1, g) (pass_of t, h)) (λ e. (index_is e, pass_is e)) (has_made table becomes (s, g) (t, h) asked.ended few asked.replied.loaded)
 
   -- a change that waits
   pub tries_seen : {G : Type 0} {becomes : G → Event → G → Type 0} {g h : G} (r : Result Reply Full) → MakesTries call r table becomes (pass_of s, g) (pass_of t, h) → MakesTries call r index becomes (k, g) (pass_of t, h)
@@ -630,9 +630,9 @@ has_tried {r = r} asked few spares finds = record {
 
 -- and its steps, as the index and the pass see them
 pub stepped_told : {table index : TableView} {k : PassView} {s t : SeatView} {G : Type 0} {becomes : G → Event → G → Type 0} {g h : G} {said : Known → List Note} → table ≡ index → pass_of s ≡ k →
-    HasStepped table becomes said (s, g) (t, h) → s.known.steps ≤ t.known.fresh.step → HasTold index becomes (k, g) (pass_of t, h)
+    HasStepped table becomes said (s, g) (t, h) → s.known.steps ≤ t.known.fresh.step → HasMadeCallSteps index becomes (k, g) (pass_of t, h)
 stepped_told {table = table} {s = s} {t = t} {becomes = becomes} {g = g} {h = h} index_is pass_is stepped loaded =
-    subst (λ (x : TableView × PassView). HasTold x.0 becomes (x.1, g) (pass_of t, h)) (λ e. (index_is e, pass_is e)) (has_told table becomes (s, g) (t, h) stepped loaded)
+    subst (λ (x : TableView × PassView). HasMadeCallSteps x.0 becomes (x.1, g) (pass_of t, h)) (λ e. (index_is e, pass_is e)) (has_told table becomes (s, g) (t, h) stepped loaded)
 
 -- one try more was refused
 pub refused_again : {G : Type 0} {call : Call} {index : TableView} {becomes : G → Event → G → Type 0} (a b c : PassView × G) (refusals : List Refusal) (refusal : Refusal) →

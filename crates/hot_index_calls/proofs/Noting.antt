@@ -30,7 +30,7 @@ use Rattle.rowex_core.specs.declared.known.Known.{Known}
 use Rattle.rowex_core.specs.Cores.{Core, IsLawful}
 use Rattle.rowex_core.specs.Knowing.{Recalls, IsEvent}
 use Rattle.rowex_table.specs.Runs.{StepsWith}
-use Rattle.rowex_table.specs.Seats.{TableView, SeatView, IsPassOf, IsSame}
+use Rattle.rowex_table.specs.Seats.{TableView, SeatView, IsPassOf, MakesNoAside}
 use Rattle.epochs.specs.Runs.{Pins}
 use Rattle.rowex_reading.specs.Lookups.{HasFound, HasSearched}
 use Rattle.rowex_reading.specs.Reads.{Looks}
@@ -179,7 +179,7 @@ pub longer : (later front : List Change) → BeginsWith later front → length f
 longer later front b = let e = ap length b.1 ∙ length-append front b.0 in omega arith
 
 -- it is one seat still
-pub fits_then : (table : TableView) (s t : SeatView) → IsSame s t → IsPassOf table s → IsPassOf table t
+pub fits_then : (table : TableView) (s t : SeatView) → MakesNoAside s t → IsPassOf table s → IsPassOf table t
 fits_then table s t same fits = (same.0 ∙ fits.0, subst (λ q. q < table.layout.passes) (sym same.2) fits.1)
 
 -- the pin changes neither its number nor its front

@@ -29,7 +29,7 @@ use Rattle.hot_index_calls.specs.Calls.{IsTriedAndCounted}
 use Rattle.hot_index_calls.specs.Census.{CountsAll}
 use Rattle.hot_index_calls.specs.Passes.{PassView, pass_of}
 use Rattle.hot_index_calls.specs.Rooms.{IsEarly}
-use Rattle.hot_index_calls.specs.Refusals.{AreAllAtRest, IsLeftOne, IsPassing, IsShortOf, IsToldAfter, Judges, NeedsBeside, fault_in}
+use Rattle.hot_index_calls.specs.Refusals.{AreAllAtRest, HasNodeLeft, IsPassing, IsShortOf, IsToldAfter, Judges, NeedsBeside, fault_in}
 use Rattle.hot_index_calls.specs.Traces.{HasStepped}
 use Rattle.hot_index_calls.specs.declared.census.RecordCounts.{RecordCounts}
 use Rattle.hot_index_calls.specs.declared.refusals.Refusal.{Refusal}
@@ -77,7 +77,6 @@ module _ {G : Type 0} {table : TableView} {becomes : G → Event → G → Type 
 -- ---- the call has ended with the count
 module _ {G : Type 0} {table : TableView} {becomes : G → Event → G → Type 0} {counts : RecordCounts} {m b : SeatView × G} (all : CountsAll table becomes counts m b) (some : 1 ≤ table.layout.nodes)
     (pin : b.0.known.pin ≡ m.0.known.pin) (call : Call) (s : SeatView) (lacks : Full) (replied : HasReplied table call (Err (fault_of lacks)) s m.0) (early : s.known.steps ≤ m.0.known.steps) where
-
   pub counted_replied : HasReplied table call (Err (fault_of lacks)) s b.0
   counted_replied = record {
     idle = (all.3.seat.0 ∙ replied.idle.0, counts_settled all some (pin ∙ replied.idle.1.pin) replied.idle.1);
@@ -106,7 +105,7 @@ judged_fault passes lacks needs size counts (HeldBack full) j = ap fault_of j.0
 judged_fault passes lacks needs size counts (IsFull full shown) j = ap fault_of j.0
 
 pub told_after : {G : Type 0} {table : TableView} {becomes : G → Event → G → Type 0} {counts : RecordCounts} {m b : SeatView × G} (all : CountsAll table becomes counts m b) (some : 1 ≤ table.layout.nodes) (call : Call) (s : SeatView) (g : G) (lacks : Full) (made : List Rec) (needs : ℕ) →
-    HasLacked table made (Err (fault_of lacks)) s m.0 → needs ≡ length (nodes_among made) + 1 → ¬ (IsLeftOne table.layout.passes call) → (table.layout.passes ≡ 1 → IsEarly b.0 → AreAllAtRest counts × IsShortOf lacks needs (length (key_of call)) counts) → (refusal : Refusal) → Judges table.layout.passes lacks needs (length (key_of call)) counts refusal →
+    HasLacked table made (Err (fault_of lacks)) s m.0 → needs ≡ length (nodes_among made) + 1 → ¬ (HasNodeLeft table.layout.passes call) → (table.layout.passes ≡ 1 → IsEarly b.0 → AreAllAtRest counts × IsShortOf lacks needs (length (key_of call)) counts) → (refusal : Refusal) → Judges table.layout.passes lacks needs (length (key_of call)) counts refusal →
     IsToldAfter call table becomes (pass_of s, g) (pass_of m.0, m.1) (pass_of b.0, b.1) refusal
 told_after {table = table} all some call s g lacks made needs lacked is other rest IsBusy j = absurd j
 told_after {table = table} {becomes = becomes} {counts = counts} {m = m} {b = b} all some call s g lacks made needs lacked is other rest (HeldBack full) j = inr (record {
@@ -150,7 +149,7 @@ passes_never call (HeldBack lacks) table becomes a b one it passing = elim it.to
 passes_never call (IsFull lacks counts) table becomes a b one it passing = passing
 
 -- a removal in one of several is never full
-pub left_never : {G : Type 0} (call : Call) (lacks : Full) (counts : RecordCounts) (table : TableView) (becomes : G → Event → G → Type 0) (a b : PassView × G) → IsLeftOne table.layout.passes call →
+pub left_never : {G : Type 0} (call : Call) (lacks : Full) (counts : RecordCounts) (table : TableView) (becomes : G → Event → G → Type 0) (a b : PassView × G) → HasNodeLeft table.layout.passes call →
     IsTriedAndCounted call (Err (IsFull lacks counts)) table becomes a b → ⊥
 left_never call lacks counts table becomes a b left it = it.told.0 left
 

@@ -12,7 +12,7 @@ use Rattle.hot_index_calls.specs.Traces.{Collects, HasEnded}
 use Rattle.publish_laws.proofs.Lone.Fates.{IsClosed, MarksWell, fate_kept, out_closed, out_marks}
 use Rattle.publish_laws.proofs.Lone.{IsBack, lead_layout, lead_same, one_of, runs_back, runs_free, runs_spare, step_back, step_knows, step_lawful, unused_free}
 use Rattle.publish_laws.proofs.Lone.Timely.{IsMarkedBy, run_timely}
-use Rattle.publish_laws.specs.Lone.{HasRoom, HasSpare, KeepsSpare, IsLone, IsOut, IsUnpublished, IsUnused}
+use Rattle.publish_laws.specs.Lone.{HasRoom, HasSpare, KeepsSpare, IsLone, IsOut, LeavesTree, IsUnused}
 use Rattle.record_words.specs.State.{state_word}
 use Rattle.record_words.specs.declared.TheConstants.{EPOCHS}
 use Rattle.record_words.specs.declared.layout.Layout.{Layout}
@@ -75,14 +75,14 @@ passes_by c r e word (Ready p) is found none waits = tt
 passes_by c r e word (InTree since) is found none waits = waits
 passes_by c r e word (Unlinked since last p) is found none waits = waits
 
-visit_plain : (bound : ℕ) (r : Rec) (acts : List Act) → Visits bound r acts → All IsUnpublished acts
-visit_plain bound r _ (Visits.passes word not) = All-cons IsUnpublished (LoadState r word) [] tt (All-nil IsUnpublished)
+visit_plain : (bound : ℕ) (r : Rec) (acts : List Act) → Visits bound r acts → All LeavesTree acts
+visit_plain bound r _ (Visits.passes word not) = All-cons LeavesTree (LoadState r word) [] tt (All-nil LeavesTree)
 visit_plain bound r _ (Visits.tries epoch found low below) =
-    All-cons IsUnpublished (LoadState r (state_word (Obsolete epoch))) (GiveBack r epoch found ∷ []) tt (All-cons IsUnpublished (GiveBack r epoch found) [] tt (All-nil IsUnpublished))
+    All-cons LeavesTree (LoadState r (state_word (Obsolete epoch))) (GiveBack r epoch found ∷ []) tt (All-cons LeavesTree (GiveBack r epoch found) [] tt (All-nil LeavesTree))
 
-visits_plain : (bound : ℕ) (kind : ℕ → Rec) (n : ℕ) (acts : List Act) → InTurn (λ m. Visits bound (kind m)) n acts → All IsUnpublished acts
-visits_plain bound kind zero acts none = subst (All IsUnpublished) (sym none) (All-nil IsUnpublished)
-visits_plain bound kind (suc n) acts (before, last, first, visit, all) = subst (All IsUnpublished) (sym all) (All-append IsUnpublished before last (visits_plain bound kind n before first) (visit_plain bound (kind n) last visit))
+visits_plain : (bound : ℕ) (kind : ℕ → Rec) (n : ℕ) (acts : List Act) → InTurn (λ m. Visits bound (kind m)) n acts → All LeavesTree acts
+visits_plain bound kind zero acts none = subst (All LeavesTree) (sym none) (All-nil LeavesTree)
+visits_plain bound kind (suc n) acts (before, last, first, visit, all) = subst (All LeavesTree) (sym all) (All-append LeavesTree before last (visits_plain bound kind n before first) (visit_plain bound (kind n) last visit))
 
 visit_leaves : (bound : ℕ) (r : Rec) (acts : List Act) → Visits bound r acts → All LeavesRound acts
 visit_leaves bound r _ (Visits.passes word not) = All-cons LeavesRound (LoadState r word) [] tt (All-nil LeavesRound)
@@ -95,16 +95,16 @@ visits_leave bound kind (suc n) acts (before, last, first, visit, all) = subst (
 
 module _ {G : Type 0} (table : TableView) (becomes : G → Event → G → Type 0) where
   -- back from a core to the one before these steps, where what waits still does or is unused
-  runs_wait : (e : ℕ) (acts : List Act) (a b : SeatView × G) → All IsUnpublished acts → Runs table becomes acts a b → (d : Core) → IsLone table.layout b.0 d →
+  runs_wait : (e : ℕ) (acts : List Act) (a b : SeatView × G) → All LeavesTree acts → Runs table becomes acts a b → (d : Core) → IsLone table.layout b.0 d →
       (c : Core) × IsLone table.layout a.0 c × ((r : Rec) → IsWaiting e (c.fate r) → IsWaiting e (d.fate r))
   runs_wait e [] a b plain run d lone = (d, subst (λ (z : SeatView × G). IsLone table.layout z.0 d) run lone, λ r was. was)
   runs_wait e (act ∷ acts) a b plain (m, step, rest) d lone =
-      let (o, there, on) = runs_wait e acts m b (All-tail IsUnpublished act acts plain) rest d lone in
+      let (o, there, on) = runs_wait e acts m b (All-tail LeavesTree act acts plain) rest d lone in
       let (first, is) = step_back table becomes act silent a m step o there in
       let c = step.event.core in (
         c,
         first,
-        λ r was. on r (subst (λ (z : Core). IsWaiting e (z.fate r)) (sym is) (fate_kept (IsWaiting e) (waiting_closed e) c a.0.known.pass act (All-head IsUnpublished act acts plain) (waiting_marks e act) r was)),
+        λ r was. on r (subst (λ (z : Core). IsWaiting e (z.fate r)) (sym is) (fate_kept (IsWaiting e) (waiting_closed e) c a.0.known.pass act (All-head LeavesTree act acts plain) (waiting_marks e act) r was)),
       )
 
   visit_frees : (e bound : ℕ) (r : Rec) (acts : List Act) (a b : SeatView × G) → 1 ≤ e → e < bound → Visits bound r acts → Runs table becomes acts a b → (d : Core) → IsLone table.layout b.0 d →
@@ -177,16 +177,16 @@ still_is e (Marked since last epoch) none by = inr (since, last, epoch, refl, by
 
 module _ {G : Type 0} (table : TableView) (becomes : G → Event → G → Type 0) (x : Rec) where
   -- steps that are no publishes retire nothing
-  pub step_still : (act : Act) (said : Known → List Note) (a b : SeatView × G) → IsUnpublished act → StepsWith table becomes act said a b → IsUnretiredAt table.layout a.0 x → IsUnretiredAt table.layout b.0 x
+  pub step_still : (act : Act) (said : Known → List Note) (a b : SeatView × G) → LeavesTree act → StepsWith table becomes act said a b → IsUnretiredAt table.layout a.0 x → IsUnretiredAt table.layout b.0 x
   step_still act said a b plain step was d lone =
       let (there, is) = step_back table becomes act said a b step d lone in
       let c = step.event.core in
       subst (λ (z : Core). IsUnretired (z.fate x)) (sym is) (fate_kept IsUnretired still_closed c a.0.known.pass act plain (still_marks act) x (was c there))
 
-  pub runs_still : (acts : List Act) (a b : SeatView × G) → All IsUnpublished acts → Runs table becomes acts a b → IsUnretiredAt table.layout a.0 x → IsUnretiredAt table.layout b.0 x
+  pub runs_still : (acts : List Act) (a b : SeatView × G) → All LeavesTree acts → Runs table becomes acts a b → IsUnretiredAt table.layout a.0 x → IsUnretiredAt table.layout b.0 x
   runs_still [] a b plain run was = subst (λ (z : SeatView × G). IsUnretiredAt table.layout z.0 x) (sym run) was
   runs_still (act ∷ acts) a b plain (m, step, rest) was =
-      runs_still acts m b (All-tail IsUnpublished act acts plain) rest (step_still act silent a m (All-head IsUnpublished act acts plain) step was)
+      runs_still acts m b (All-tail LeavesTree act acts plain) rest (step_still act silent a m (All-head LeavesTree act acts plain) step was)
 
 -- ---- how a round begins
 next_epoch : (c : Core) (expected : ℕ) → expected ≡ c.epoch → (if nat_eq c.epoch expected then with_epoch c.shared (suc c.epoch) else c.shared).epoch ≡ c.epoch + 1
@@ -239,10 +239,10 @@ module _ {G : Type 0} (table : TableView) (becomes : G → Event → G → Type 
     abbrev four : List Act
     four = LoadEpoch r.epoch ∷ Advance r.epoch r.found ∷ LoadEpoch r.next ∷ LoadPin 0 word ∷ []
 
-    four_plain : All IsUnpublished four
+    four_plain : All LeavesTree four
     four_plain =
-        All-cons IsUnpublished (LoadEpoch r.epoch) (Advance r.epoch r.found ∷ LoadEpoch r.next ∷ LoadPin 0 word ∷ []) tt (All-cons IsUnpublished (Advance r.epoch r.found) (LoadEpoch r.next ∷ LoadPin 0 word ∷ []) tt
-        (All-cons IsUnpublished (LoadEpoch r.next) (LoadPin 0 word ∷ []) tt (All-cons IsUnpublished (LoadPin 0 word) [] tt (All-nil IsUnpublished))))
+        All-cons LeavesTree (LoadEpoch r.epoch) (Advance r.epoch r.found ∷ LoadEpoch r.next ∷ LoadPin 0 word ∷ []) tt (All-cons LeavesTree (Advance r.epoch r.found) (LoadEpoch r.next ∷ LoadPin 0 word ∷ []) tt
+        (All-cons LeavesTree (LoadEpoch r.next) (LoadPin 0 word ∷ []) tt (All-cons LeavesTree (LoadPin 0 word) [] tt (All-nil LeavesTree))))
 
     -- the bound of the round is the next epoch
     bound_is : (s : SeatView × G) → Runs table becomes four a s → (c : Core) → IsLone table.layout a.0 c → s.0.known.round.bound ≡ c.epoch + 1
@@ -278,14 +278,14 @@ module _ {G : Type 0} (table : TableView) (becomes : G → Event → G → Type 
         (runs_round table becomes r.leaves s5 b (visits_leave b.0.known.round.bound a_leaf table.layout.leaves r.leaves r.visits_leaves) leaves ∙
         runs_round table becomes r.nodes s4 s5 (visits_leave b.0.known.round.bound a_node table.layout.nodes r.nodes r.visits_nodes) nodes) ∙
         bound_is s4 (subst (λ l. Runs table becomes l a s4) as_four begin) c lone in
-        let begin_plain : All IsUnpublished beginning = subst (All IsUnpublished) (sym as_four) four_plain in
+        let begin_plain : All LeavesTree beginning = subst (All LeavesTree) (sym as_four) four_plain in
         let unlinked : (since last q : ℕ) → c.fate (a_node n) ≢ Unlinked since last q = λ since last q is.
         (let p : q ≡ a.0.known.pass = (let there = st1.event.lawful.records.holders (a_node n) q (ap holder_of is) in let mine = st1.event.knows.pass in let lay = ap (λ (l : Layout). l.passes) st1.event.layout_is in omega (arith, there, mine, lay, one)) in
         let has = one_of a.0.known.own _ ((knows_all c a.0.known st1.event.knows).all_own (a_node n) (UnlinkedBy since last) (is ∙ ap (Unlinked since last) p)) in subst (IsOneOf _) own has) in
         let unused : (d : Core) → IsLone table.layout b.0 d → IsUnused (d.fate (a_node n)) = λ d there. elim (out_is c.epoch (c.fate (a_node n)) out unlinked (marks (a_node n))) [
           | inl idle ↦
               let back = runs_back table becomes ((beginning ++ r.nodes) ++ r.leaves) a b
-              (All-append IsUnpublished (beginning ++ r.nodes) r.leaves (All-append IsUnpublished beginning r.nodes begin_plain (visits_plain b.0.known.round.bound a_node table.layout.nodes r.nodes r.visits_nodes))
+              (All-append LeavesTree (beginning ++ r.nodes) r.leaves (All-append LeavesTree beginning r.nodes begin_plain (visits_plain b.0.known.round.bound a_node table.layout.nodes r.nodes r.visits_nodes))
               (visits_plain b.0.known.round.bound a_leaf table.layout.leaves r.leaves r.visits_leaves)) r.does.steps d there in
               back.unused (a_node n) (subst (λ (z : Core). IsUnused (z.fate (a_node n))) (sym (lone_same a.0 c back.core lone back.lone)) idle)
           | inr (since, last, m, is, old) ↦
@@ -305,7 +305,7 @@ module _ {G : Type 0} (table : TableView) (becomes : G → Event → G → Type 
         )
 
     -- its bound is the next epoch, and it begins with no publish
-    round_begins : (c : Core) → IsLone table.layout a.0 c → (b.0.known.round.bound ≡ c.epoch + 1) × All IsUnpublished beginning
+    round_begins : (c : Core) → IsLone table.layout a.0 c → (b.0.known.round.bound ≡ c.epoch + 1) × All LeavesTree beginning
     round_begins c lone =
         let st1 = r.does.steps.1 in
         let same : st1.event.core ≡ c = lone_same a.0 c st1.event.core lone (step_here (LoadEpoch r.epoch) a r.does.steps.0 st1) in
@@ -319,11 +319,11 @@ module _ {G : Type 0} (table : TableView) (becomes : G → Event → G → Type 
               (runs_round table becomes r.leaves s5 b (visits_leave b.0.known.round.bound a_leaf table.layout.leaves r.leaves r.visits_leaves) leaves ∙
               runs_round table becomes r.nodes s4 s5 (visits_leave b.0.known.round.bound a_node table.layout.nodes r.nodes r.visits_nodes) nodes) ∙
               bound_is s4 (subst (λ l. Runs table becomes l a s4) as_four begin) c lone,
-          subst (All IsUnpublished) (sym as_four) four_plain,
+          subst (All LeavesTree) (sym as_four) four_plain,
         )
 
     -- what was retired when it began is given back by visits of its kind
-    visits_give : (kind : ℕ → Rec) (n count : ℕ) (before acts : List Act) (s t : SeatView × G) (c e : Core) → IsLone table.layout a.0 c → IsLone table.layout t.0 e → n < count → All IsUnpublished before → Runs table becomes before a s →
+    visits_give : (kind : ℕ → Rec) (n count : ℕ) (before acts : List Act) (s t : SeatView × G) (c e : Core) → IsLone table.layout a.0 c → IsLone table.layout t.0 e → n < count → All LeavesTree before → Runs table becomes before a s →
         InTurn (λ i. Visits b.0.known.round.bound (kind i)) count acts → Runs table becomes acts s t → (since last m : ℕ) → c.fate (kind n) ≡ Marked since last m → 1 ≤ m → m < b.0.known.round.bound → IsUnused (e.fate (kind n))
     visits_give kind n count before acts s t c e lone at low plain first visits run since last m is some below =
         let (i, at4, frees) = visits_free table becomes kind m b.0.known.round.bound n count acts s t some below low visits run e at in
@@ -340,7 +340,7 @@ module _ {G : Type 0} (table : TableView) (becomes : G → Event → G → Type 
     round_gives (a_leaf n) low c d lone there since last m is some old =
         let (bound, plain) = round_begins c lone in
         let (s5, top, leaves) = runs_split table becomes (beginning ++ r.nodes) r.leaves a b r.does.steps in
-        let before = All-append IsUnpublished beginning r.nodes plain (visits_plain b.0.known.round.bound a_node table.layout.nodes r.nodes r.visits_nodes) in
+        let before = All-append LeavesTree beginning r.nodes plain (visits_plain b.0.known.round.bound a_node table.layout.nodes r.nodes r.visits_nodes) in
         visits_give a_leaf n table.layout.leaves (beginning ++ r.nodes) r.leaves s5 b c d lone there low before top r.visits_leaves leaves since last m is some (omega (arith, bound, old))
 
     -- so no record is retired after it
@@ -351,8 +351,8 @@ module _ {G : Type 0} (table : TableView) (becomes : G → Event → G → Type 
         let lone = step_here (LoadEpoch r.epoch) a r.does.steps.0 st1 in
         let (marks, few) = run_timely (opening table.layout) a.0.trace c (opening_is_lawful table.layout).0 lone.led (λ z. tt) in
         let (bound, plain) = round_begins c lone in
-        let acts_plain = All-append IsUnpublished (beginning ++ r.nodes) r.leaves
-        (All-append IsUnpublished beginning r.nodes plain (visits_plain b.0.known.round.bound a_node table.layout.nodes r.nodes r.visits_nodes))
+        let acts_plain = All-append LeavesTree (beginning ++ r.nodes) r.leaves
+        (All-append LeavesTree beginning r.nodes plain (visits_plain b.0.known.round.bound a_node table.layout.nodes r.nodes r.visits_nodes))
         (visits_plain b.0.known.round.bound a_leaf table.layout.leaves r.leaves r.visits_leaves) in
         let unlinked : (since last q : ℕ) → c.fate x ≢ Unlinked since last q = λ since last q is.
         (let p : q ≡ a.0.known.pass = (let there = st1.event.lawful.records.holders x q (ap holder_of is) in let mine = st1.event.knows.pass in let lay = ap (λ (l : Layout). l.passes) st1.event.layout_is in omega (arith, there, mine, lay, one)) in
@@ -363,30 +363,30 @@ module _ {G : Type 0} (table : TableView) (becomes : G → Event → G → Type 
         ]
 
 -- ---- what is spare, and how long a trace is
-advance_plain : (epoch found : ℕ) → All IsUnpublished (advance_steps epoch found)
+advance_plain : (epoch found : ℕ) → All LeavesTree (advance_steps epoch found)
 advance_plain epoch found = cases (nat_lt (epoch + 1) EPOCHS)
   where
-    cases : (t : Bool) → All IsUnpublished (if t then Advance epoch found ∷ [] else [])
-    cases true = All-cons IsUnpublished (Advance epoch found) [] tt (All-nil IsUnpublished)
-    cases false = All-nil IsUnpublished
+    cases : (t : Bool) → All LeavesTree (if t then Advance epoch found ∷ [] else [])
+    cases true = All-cons LeavesTree (Advance epoch found) [] tt (All-nil LeavesTree)
+    cases false = All-nil LeavesTree
 
-pins_plain : (n : ℕ) (acts : List Act) → InTurn LoadsPin n acts → All IsUnpublished acts
-pins_plain zero acts none = subst (All IsUnpublished) (sym none) (All-nil IsUnpublished)
+pins_plain : (n : ℕ) (acts : List Act) → InTurn LoadsPin n acts → All LeavesTree acts
+pins_plain zero acts none = subst (All LeavesTree) (sym none) (All-nil LeavesTree)
 pins_plain (suc n) acts (before, last, first, (w, is), all) =
-    subst (All IsUnpublished) (sym all) (All-append IsUnpublished before last (pins_plain n before first) (subst (All IsUnpublished) (sym is) (All-cons IsUnpublished (LoadPin n w) [] tt (All-nil IsUnpublished))))
+    subst (All LeavesTree) (sym all) (All-append LeavesTree before last (pins_plain n before first) (subst (All LeavesTree) (sym is) (All-cons LeavesTree (LoadPin n w) [] tt (All-nil LeavesTree))))
 
-each_plain : (bound : ℕ) (recs : List Rec) (acts : List Act) → VisitEach bound recs acts → All IsUnpublished acts
-each_plain bound [] acts none = subst (All IsUnpublished) (sym none) (All-nil IsUnpublished)
-each_plain bound (r ∷ recs) acts (first, rest, visit, visits, all) = subst (All IsUnpublished) (sym all) (All-append IsUnpublished first rest (visit_plain bound r first visit) (each_plain bound recs rest visits))
+each_plain : (bound : ℕ) (recs : List Rec) (acts : List Act) → VisitEach bound recs acts → All LeavesTree acts
+each_plain bound [] acts none = subst (All LeavesTree) (sym none) (All-nil LeavesTree)
+each_plain bound (r ∷ recs) acts (first, rest, visit, visits, all) = subst (All LeavesTree) (sym all) (All-append LeavesTree first rest (visit_plain bound r first visit) (each_plain bound recs rest visits))
 
-begin_plain : (epoch found next : ℕ) (n : ℕ) (pins : List Act) → InTurn LoadsPin n pins → All IsUnpublished ((LoadEpoch epoch ∷ advance_steps epoch found) ++ LoadEpoch next ∷ pins)
+begin_plain : (epoch found next : ℕ) (n : ℕ) (pins : List Act) → InTurn LoadsPin n pins → All LeavesTree ((LoadEpoch epoch ∷ advance_steps epoch found) ++ LoadEpoch next ∷ pins)
 begin_plain epoch found next n pins loads =
-    All-append IsUnpublished (LoadEpoch epoch ∷ advance_steps epoch found) (LoadEpoch next ∷ pins) (All-cons IsUnpublished (LoadEpoch epoch) (advance_steps epoch found) tt (advance_plain epoch found))
-    (All-cons IsUnpublished (LoadEpoch next) pins tt (pins_plain n pins loads))
+    All-append LeavesTree (LoadEpoch epoch ∷ advance_steps epoch found) (LoadEpoch next ∷ pins) (All-cons LeavesTree (LoadEpoch epoch) (advance_steps epoch found) tt (advance_plain epoch found))
+    (All-cons LeavesTree (LoadEpoch next) pins tt (pins_plain n pins loads))
 
-loads_plain : (kind : ℕ → Rec) (first : ℕ) (tags : List Tag) → All IsUnpublished (loads_of kind first tags)
-loads_plain kind first [] = All-nil IsUnpublished
-loads_plain kind first (tag ∷ tags) = All-cons IsUnpublished _ _ tt (loads_plain kind (suc first) tags)
+loads_plain : (kind : ℕ → Rec) (first : ℕ) (tags : List Tag) → All LeavesTree (loads_of kind first tags)
+loads_plain kind first [] = All-nil LeavesTree
+loads_plain kind first (tag ∷ tags) = All-cons LeavesTree _ _ tt (loads_plain kind (suc first) tags)
 
 module _ {G : Type 0} (table : TableView) (becomes : G → Event → G → Type 0) where
   abbrev pub round_acts : {given_nodes given_leaves : ℕ} {a b : SeatView × G} → IsRound table becomes a b given_nodes given_leaves → List Act
@@ -397,16 +397,16 @@ module _ {G : Type 0} (table : TableView) (becomes : G → Event → G → Type 
       let bound = b.0.known.round.bound in
       let front = (LoadEpoch r.epoch ∷ advance_steps r.epoch r.found) ++ LoadEpoch r.next ∷ r.pins in
       runs_spare table becomes ((front ++ r.nodes) ++ r.leaves) a b
-      (All-append IsUnpublished (front ++ r.nodes) r.leaves (All-append IsUnpublished front r.nodes (begin_plain r.epoch r.found r.next table.layout.passes r.pins r.loads_pins) (visits_plain bound a_node table.layout.nodes r.nodes r.visits_nodes))
+      (All-append LeavesTree (front ++ r.nodes) r.leaves (All-append LeavesTree front r.nodes (begin_plain r.epoch r.found r.next table.layout.passes r.pins r.loads_pins) (visits_plain bound a_node table.layout.nodes r.nodes r.visits_nodes))
       (visits_plain bound a_leaf table.layout.leaves r.leaves r.visits_leaves)) r.does.steps
 
   pub small_spare : {most : ℕ} (a b : SeatView × G) → IsSmallRound table becomes most a b → KeepsSpare table.layout a.0 b.0
   small_spare a b r =
       let front = (LoadEpoch r.epoch ∷ advance_steps r.epoch r.found) ++ LoadEpoch r.next ∷ r.pins in
-      runs_spare table becomes (front ++ r.visits) a b (All-append IsUnpublished front r.visits (begin_plain r.epoch r.found r.next table.layout.passes r.pins r.loads_pins) (each_plain b.0.known.round.bound r.recs r.visits r.visits_each)) r.does.steps
+      runs_spare table becomes (front ++ r.visits) a b (All-append LeavesTree front r.visits (begin_plain r.epoch r.found r.next table.layout.passes r.pins r.loads_pins) (each_plain b.0.known.round.bound r.recs r.visits r.visits_each)) r.does.steps
 
-  pin_plain : (epoch : ℕ) → All IsUnpublished (LoadEpoch epoch ∷ SetPin epoch ∷ [])
-  pin_plain epoch = All-cons IsUnpublished (LoadEpoch epoch) (SetPin epoch ∷ []) tt (All-cons IsUnpublished (SetPin epoch) [] tt (All-nil IsUnpublished))
+  pin_plain : (epoch : ℕ) → All LeavesTree (LoadEpoch epoch ∷ SetPin epoch ∷ [])
+  pin_plain epoch = All-cons LeavesTree (LoadEpoch epoch) (SetPin epoch ∷ []) tt (All-cons LeavesTree (SetPin epoch) [] tt (All-nil LeavesTree))
 
   pub pin_spare : (a b : SeatView × G) → Pins table becomes a b → KeepsSpare table.layout a.0 b.0
   pin_spare a b (epoch, does) = runs_spare table becomes (LoadEpoch epoch ∷ SetPin epoch ∷ []) a b (pin_plain epoch) does.steps
@@ -415,7 +415,7 @@ module _ {G : Type 0} (table : TableView) (becomes : G → Event → G → Type 
   pin_room a b (epoch, does) own (one, (n, low, free)) =
       (one, (n, low, runs_free table becomes (LoadEpoch epoch ∷ SetPin epoch ∷ []) a b n (pin_plain epoch) does.steps (λ o has is. absurd (subst (IsOneOf o) (ap (λ (z : Known). z.own) does.rest ∙ own) has)) free))
 
-  pub noted_spare : (act : Act) (said : Known → List Note) (a b : SeatView × G) → IsUnpublished act → StepsWith table becomes act said a b → KeepsSpare table.layout a.0 b.0
+  pub noted_spare : (act : Act) (said : Known → List Note) (a b : SeatView × G) → LeavesTree act → StepsWith table becomes act said a b → KeepsSpare table.layout a.0 b.0
   noted_spare act said a b plain step was d lone =
       let (there, is) = step_back table becomes act said a b step d lone in
       let c = step.event.core in
@@ -439,7 +439,7 @@ module _ {G : Type 0} (table : TableView) (becomes : G → Event → G → Type 
   counts_spare tags a b run =
       let layout = table.layout in
       runs_spare table becomes (loads_in layout tags) a b
-      (All-append IsUnpublished _ _ (All-append IsUnpublished _ _ (All-append IsUnpublished _ _ (All-append IsUnpublished _ _ (All-append IsUnpublished _ _ (loads_plain a_node 0 tags.nodes) (loads_plain a_leaf 0 tags.short)) (loads_plain a_leaf layout.medium_from tags.medium))
+      (All-append LeavesTree _ _ (All-append LeavesTree _ _ (All-append LeavesTree _ _ (All-append LeavesTree _ _ (All-append LeavesTree _ _ (loads_plain a_node 0 tags.nodes) (loads_plain a_leaf 0 tags.short)) (loads_plain a_leaf layout.medium_from tags.medium))
       (loads_plain a_leaf layout.large_from tags.large)) (loads_plain a_leaf layout.wide_from tags.wide)) (loads_plain a_leaf layout.long_from tags.long)) run
 
   -- a round of a pass that is between two calls leaves a record free

@@ -26,10 +26,10 @@ use Rattle.rowex_writing.specs.declared.attempts.TryFault.{TryFault}
 use Rattle.rowex_writing.specs.declared.plan.Full.{Full}
 use Rattle.hot_index_calls.specs.Answers.{IsRefusedFor, fault_of}
 use Rattle.hot_index_calls.specs.Counts.{try_steps}
-use Rattle.hot_index_calls.specs.Many.{HasGotMany}
+use Rattle.hot_index_calls.specs.Many.{HasMadeGetManySteps}
 use Rattle.hot_index_calls.specs.Noting.{change_notes}
 use Rattle.hot_index_calls.specs.Passes.{PassView, pass_of}
-use Rattle.hot_index_calls.specs.Traces.{AreAttempts, AreTries, GiveNoneBetween, HasEnded, HasGot, HasMade, HasRead, HasStepped, HasTold, HasGotRange, IsAttempt, StandsSince, Tidies, is_full, reading, untold}
+use Rattle.hot_index_calls.specs.Traces.{AreAttempts, AreTries, GiveNoneBetween, HasEnded, HasMadeGetSteps, HasMadeChangeSteps, HasRead, HasStepped, HasMadeCallSteps, HasMadeScanSteps, IsAttempt, StandsSince, Tidies, is_full, reading, untold}
 use Rattle.hot_index_calls.proofs.Passes.Collected.{AreBetween, small_steps_of}
 
 module _ {G : Type 0} (table : TableView) (becomes : G → Event → G → Type 0) where
@@ -87,7 +87,7 @@ module _ {G : Type 0} (table : TableView) (becomes : G → Event → G → Type 
   looks_touched looks = let root = root_still looks.root in let (low, high) = runs_touch table becomes looks.rest.acts looks.at _ looks.rest.steps in omega (arith, root, high)
 
   pub has_got : {said : Known → List Note} {a b c d : SeatView × G} → Pins table becomes a b → HasSearched table becomes b c → StepsWith table becomes ClearPin said c d →
-      HasGot table becomes (pass_of a.0, a.1) (pass_of d.0, d.1)
+      HasMadeGetSteps table becomes (pass_of a.0, a.1) (pass_of d.0, d.1)
   unfolding has_read
   has_got {said} {a} {b} {c} {d} pins search end =
       let steps = read_steps pins search.looks end in let few = search.few in let entries = search.looks.rest.entries_are in
@@ -100,7 +100,7 @@ module _ {G : Type 0} (table : TableView) (becomes : G → Event → G → Type 
 
   -- and so of many keys
   pub has_got_many : {said : Known → List Note} {a b c d : SeatView × G} (count : ℕ) → Pins table becomes a b → HaveSearched table becomes count b c → StepsWith table becomes ClearPin said c d →
-      HasGotMany table becomes count (pass_of a.0, a.1) (pass_of d.0, d.1)
+      HasMadeGetManySteps table becomes count (pass_of a.0, a.1) (pass_of d.0, d.1)
   unfolding has_read
   has_got_many {said} {a} {b} {c} {d} count pins search end =
       let steps = read_steps pins search.looks end in let few = search.few in let entries = search.looks.rest.entries_are in
@@ -112,7 +112,7 @@ module _ {G : Type 0} (table : TableView) (becomes : G → Event → G → Type 
       }
 
   pub has_walked : {said : Known → List Note} {a b c d : SeatView × G} (limit : ℕ) → Pins table becomes a b → Scans table becomes limit b c → StepsWith table becomes ClearPin said c d →
-      HasGotRange table becomes limit (pass_of a.0, a.1) (pass_of d.0, d.1)
+      HasMadeScanSteps table becomes limit (pass_of a.0, a.1) (pass_of d.0, d.1)
   unfolding has_read
   has_walked {said} {a} {b} {c} {d} limit pins (loads, found, are, looks) end =
       let steps = read_steps pins looks end in let few = are.few in let entries = looks.rest.entries_are in
@@ -137,7 +137,7 @@ module _ {G : Type 0} (table : TableView) (becomes : G → Event → G → Type 
 
   -- a call that ended on its seat
   pub has_made : {call : Call} {r : Result Reply TryFault} (a b : SeatView × G) → HasEnded table becomes (AreAttempts table becomes call r a b) (change_notes call r) a b → b.0.known.steps ≤ a.0.known.steps + try_steps call table.layout →
-      a.0.known.steps ≤ b.0.known.fresh.step → HasMade table becomes call r (pass_of a.0, a.1) (pass_of b.0, b.1)
+      a.0.known.steps ≤ b.0.known.fresh.step → HasMadeChangeSteps table becomes call r (pass_of a.0, a.1) (pass_of b.0, b.1)
   has_made {call = call} {r = r} a b (acts, tries, ends) few loaded = record {
     acts = acts;
     begins = refl;
@@ -152,7 +152,7 @@ module _ {G : Type 0} (table : TableView) (becomes : G → Event → G → Type 
 
   -- Calls that wait
 
-  pub has_told : {said : Known → List Note} (a b : SeatView × G) → HasStepped table becomes said a b → a.0.known.steps ≤ b.0.known.fresh.step → HasTold table becomes (pass_of a.0, a.1) (pass_of b.0, b.1)
+  pub has_told : {said : Known → List Note} (a b : SeatView × G) → HasStepped table becomes said a b → a.0.known.steps ≤ b.0.known.fresh.step → HasMadeCallSteps table becomes (pass_of a.0, a.1) (pass_of b.0, b.1)
   has_told {said = said} a b (acts, last, steps) loaded = record {
     acts = acts;
     last = last;
@@ -164,7 +164,7 @@ module _ {G : Type 0} (table : TableView) (becomes : G → Event → G → Type 
     told = ends_told table becomes acts last said a b steps;
   }
 
-  pub told_untold : (a b : PassView × G) → HasTold table becomes a b → HasTold table untold (a.0, tt) (b.0, tt)
+  pub told_untold : (a b : PassView × G) → HasMadeCallSteps table becomes a b → HasMadeCallSteps table untold (a.0, tt) (b.0, tt)
   told_untold a b x = record {
     acts = x.acts;
     last = x.last;
@@ -180,7 +180,7 @@ module _ {G : Type 0} (table : TableView) (becomes : G → Event → G → Type 
       all = ends_untold x.acts x.last x.said (a.0.seat, a.1) (b.0.seat, b.1) x.steps
 
   -- a call that only read
-  pub read_told : (a b : PassView × G) → HasRead table becomes a b → HasTold table becomes a b
+  pub read_told : (a b : PassView × G) → HasRead table becomes a b → HasMadeCallSteps table becomes a b
   read_told a b x = record {
     acts = reading x.epoch x.root x.loads;
     last = ClearPin;

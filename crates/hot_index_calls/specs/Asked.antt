@@ -6,7 +6,7 @@ use Rattle.rowex_core.specs.declared.event.Act.{Act}
 use Rattle.rowex_core.specs.declared.event.Event.{Event}
 use Rattle.rowex_table.specs.Runs.{silent}
 use Rattle.rowex_table.specs.Seats.{TableView, SeatView, IsSeatOf}
-use Rattle.rowex_writing.specs.attempts.Attempts.{IsLeafless}
+use Rattle.rowex_writing.specs.attempts.Attempts.{LacksNoLeaf}
 use Rattle.rowex_writing.specs.build.Changes.{LacksNodes}
 use Rattle.rowex_writing.specs.build.Walks.{nodes_among}
 use Rattle.record_words.specs.declared.records.Rec.{Rec}
@@ -27,7 +27,7 @@ pub record HasReplied (table : TableView) (call : Call) (result : Result Reply T
   pub idle : IsIdle table t
   pub noted : IfOk result (IsNoted table.layout (pass_of s) (pass_of t) call)
   pub refused : IfErr result (IsRefusedFor table.layout call (pass_of s) (pass_of t))
-  pub leafless : IsLeafless FullLeaves call result
+  pub leafless : LacksNoLeaf FullLeaves call result
   pub loaded : s.known.steps ≤ t.known.fresh.step
 
 -- if the call was refused for want of a node record, the pass lacks one beside those that it had made

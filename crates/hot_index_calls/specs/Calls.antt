@@ -11,7 +11,7 @@ use Rattle.rowex_core.specs.declared.event.Event.{Event}
 use Rattle.rowex_table.specs.Seats.{TableView}
 use Rattle.rowex_scanning.specs.Counts.{limit_by}
 use Rattle.rowex_scanning.specs.Scanning.{limited}
-use Rattle.rowex_writing.specs.attempts.Attempts.{IsLeafless}
+use Rattle.rowex_writing.specs.attempts.Attempts.{LacksNoLeaf}
 use Rattle.rowex_writing.specs.declared.attempts.TryFault.{TryFault}
 use Rattle.rowex_writing.specs.declared.attempts.TryFault.TheVariants.{FullLeaves}
 use Rattle.rowex_writing.specs.declared.plan.Full.{Full}
@@ -21,14 +21,14 @@ use Rattle.tries.specs.Keys.{Key}
 use Rattle.version_laws.specs.Directions.{ScanLaw}
 use Rattle.hot_index_calls.specs.Answers.{AreValuesListed, AreValuesListedInPart, HasFoundPair, IsCause, IsListedBy, IsListedInPartBy, IsNoted, IsRangeCounted, IsRefused, IsScannedBy, IsUnnoted}
 use Rattle.hot_index_calls.specs.Asked.{last_try}
-use Rattle.hot_index_calls.specs.Refusals.{IsPassing, IsCountTold, IsLeftOne, as_tried}
+use Rattle.hot_index_calls.specs.Refusals.{IsPassing, IsCountTold, HasNodeLeft, as_tried}
 use Rattle.hot_index_calls.specs.declared.census.RecordCounts.{RecordCounts}
 use Rattle.hot_index_calls.specs.declared.refusals.Refusal.{Refusal}
 use Rattle.hot_index_calls.specs.declared.refusals.Refusal.TheVariants.{Full as IsFull}
 use Rattle.hot_index_calls.specs.Counts.{scan_steps}
 use Rattle.hot_index_calls.specs.Passes.{Owns, PassView}
 use Rattle.hot_index_calls.specs.Rooms.{LeavesRoom}
-use Rattle.hot_index_calls.specs.Traces.{HasGot, HasGotRange, HasMade, HasTold, untold}
+use Rattle.hot_index_calls.specs.Traces.{HasMadeGetSteps, HasMadeScanSteps, HasMadeChangeSteps, HasMadeCallSteps, untold}
 
 -- What the map says of a call with this result. It was answered, and is noted with this reply. Or it was refused, and has changed nothing.
 abbrev pub IsOutcome : Call → Result Reply TryFault → TableView → PassView → PassView → Type 0
@@ -44,8 +44,8 @@ pub record IsTried {G : Type 0} (asked : Call) (result : Result Reply TryFault) 
   pub own : Owns index b.0
   pub call : IsOutcome asked result index a.0 b.0
   pub cause : HasCause asked result index a.0 b.0
-  pub leafless : IsLeafless FullLeaves asked result
-  pub made : HasMade index becomes asked result a b
+  pub leafless : LacksNoLeaf FullLeaves asked result
+  pub made : HasMadeChangeSteps index becomes asked result a b
   pub room : LeavesRoom index.layout asked result a.0.seat b.0.seat
 
 -- the first holds of a get, the second of each other call
@@ -56,7 +56,7 @@ GetsOr asked Gets Changes = Changes
 -- The steps of a call with this outcome, whose number is bounded: those of a get, or of a change's attempts and rounds. The gate was told
 -- each.
 abbrev pub GetsOrMakes : {G : Type 0} → Call → Result Reply TryFault → TableView → (G → Event → G → Type 0) → PassView × G → PassView × G → Type 0
-GetsOrMakes asked result index becomes a b = GetsOr asked (HasGot index becomes a b) (HasMade index becomes asked result a b)
+GetsOrMakes asked result index becomes a b = GetsOr asked (HasMadeGetSteps index becomes a b) (HasMadeChangeSteps index becomes asked result a b)
 
 -- A change was tried once, by a call that doesn't wait. If no record was free, all records were counted then. The result is what the count
 -- says.
@@ -95,20 +95,20 @@ pub record IsWaitedFor {G : Type 0} (asked : Call) (result : Result Reply Full) 
   pub own : Owns index b.0
   pub call : IsOutcome asked (last_try result) index a.0 b.0
   pub cause : HasCause asked (last_try result) index a.0 b.0
-  pub leafless : IsLeafless Leaves asked result
-  pub kept : IsLeftOne index.layout.passes asked → IsOk result
+  pub leafless : LacksNoLeaf Leaves asked result
+  pub kept : HasNodeLeft index.layout.passes asked → IsOk result
   pub tries : MakesTries asked result index becomes a b
-  pub told : HasTold index becomes a b
+  pub told : HasMadeCallSteps index becomes a b
   pub room : LeavesRoom index.layout asked (last_try result) a.0.seat b.0.seat
 
 -- The steps of a call that waits and has this outcome: those of a get, or of a change's tries.
 abbrev pub GetsOrTries : {G : Type 0} → Call → Result Reply Full → TableView → (G → Event → G → Type 0) → PassView × G → PassView × G → Type 0
-GetsOrTries asked result index becomes a b = GetsOr asked (HasGot index becomes a b) (MakesTries asked result index becomes a b)
+GetsOrTries asked result index becomes a b = GetsOr asked (HasMadeGetSteps index becomes a b) (MakesTries asked result index becomes a b)
 
 -- The steps of a call that doesn't wait and counts. They are those of a get or of a change, with a count of all records if it found none
 -- free.
 abbrev pub GetsOrCounts : {G : Type 0} → Call → Result Reply Refusal → TableView → (G → Event → G → Type 0) → PassView × G → PassView × G → Type 0
-GetsOrCounts asked result index becomes a b = GetsOr asked (HasGot index becomes a b) (IsTriedAndCounted asked result index becomes a b)
+GetsOrCounts asked result index becomes a b = GetsOr asked (HasMadeGetSteps index becomes a b) (IsTriedAndCounted asked result index becomes a b)
 
 -- A range was read, with an answer of this kind. Or memory was refused for a pair that it had found, and such a part is left. The number of
 -- its steps is bounded, and the gate was told each.
@@ -120,7 +120,7 @@ pub record IsRangeReadWith {A E G : Type 0} (IsAnswer : Layout → PassView → 
   pub part : OnErr result (IsPart index.layout a.0 b.0)
   pub memory : OnErr result (HasFoundPair index.layout a.0 b.0 range)
   pub steps : b.0.steps ≤ a.0.steps + scan_steps range.limit
-  pub read : HasGotRange index becomes range.limit a b
+  pub read : HasMadeScanSteps index becomes range.limit a b
 
 -- of a part that is left out of memory nothing is said
 abbrev pub no_part : Layout → PassView → PassView → Type 0

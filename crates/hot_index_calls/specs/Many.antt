@@ -34,7 +34,7 @@ pub record AreNoted (layout : Layout) (k j : PassView) (calls : List (Call × Re
 
 -- The pass reads once for so many keys: it loads the root once, and one entry in each node on a key's path. It makes at most 26 steps for
 -- each entry, 32 for each key, and 4 others. It touches at most eleven words for each entry. Which loads serve which key isn't said.
-pub record HasGotMany {G : Type 0} (index : TableView) (becomes : G → Event → G → Type 0) (count : ℕ) (a b : PassView × G) : Type 0 where
+pub record HasMadeGetManySteps {G : Type 0} (index : TableView) (becomes : G → Event → G → Type 0) (count : ℕ) (a b : PassView × G) : Type 0 where
   pub read : HasRead index becomes a b
   pub depth : entries_in read.loads ≤ count * (9 * MAX_BYTES)
   pub few : b.0.steps ≤ a.0.steps + 4 + 32 * count + 26 * entries_in read.loads

@@ -103,17 +103,17 @@ pub record IsCountedAfter {G : Type 0} (call : Call) (lacks : Full) (refusal : R
 
 -- The call is a removal in an index of several passes. Insertions leave a node record for it. If it finds none free, another call has that
 -- one, or holds back one that was retired since.
-abbrev pub IsLeftOne : (passes : ℕ) → Call → Type 0
-IsLeftOne passes call = (1 < passes) × IsRemoval call
+abbrev pub HasNodeLeft : (passes : ℕ) → Call → Type 0
+HasNodeLeft passes call = (1 < passes) × IsRemoval call
 
 -- What follows a refused try. If it was busy, nothing is counted. So it is if a removal lacked the node record that is left for it: that is
 -- held back, and never full.
 abbrev pub IsToldAfter : {G : Type 0} → Call → TableView → (G → Event → G → Type 0) → (a m b : PassView × G) → Refusal → Type 0
 IsToldAfter call index becomes a m b IsBusy = b ≡ m
 IsToldAfter call index becomes a m b (HeldBack lacks) =
-    (IsLeftOne index.layout.passes call × (b ≡ m)) ⊎ IsCountedAfter call lacks (HeldBack lacks) index becomes a m b
+    (HasNodeLeft index.layout.passes call × (b ≡ m)) ⊎ IsCountedAfter call lacks (HeldBack lacks) index becomes a m b
 IsToldAfter call index becomes a m b (IsFull lacks counts) =
-    ¬ (IsLeftOne index.layout.passes call) × IsCountedAfter call lacks (IsFull lacks counts) index becomes a m b
+    ¬ (HasNodeLeft index.layout.passes call) × IsCountedAfter call lacks (IsFull lacks counts) index becomes a m b
 
 -- what follows a try: a count if it was refused for want of a record
 abbrev pub IsCountTold : {G : Type 0} → Call → Result Reply Refusal → TableView → (G → Event → G → Type 0) → (a m b : PassView × G) → Type 0

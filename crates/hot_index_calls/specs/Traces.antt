@@ -53,7 +53,7 @@ pub record HasRead {G : Type 0} (index : TableView) (becomes : G → Event → G
 
 -- What a get does. It loads one entry in each node on its key's path. It makes at most 26 steps for each entry, and 36 others. It touches
 -- at most four words for each.
-pub record HasGot {G : Type 0} (index : TableView) (becomes : G → Event → G → Type 0) (a b : PassView × G) : Type 0 where
+pub record HasMadeGetSteps {G : Type 0} (index : TableView) (becomes : G → Event → G → Type 0) (a b : PassView × G) : Type 0 where
   pub read : HasRead index becomes a b
   pub depth : entries_in read.loads ≤ 9 * MAX_BYTES
   pub few : b.0.steps ≤ a.0.steps + 36 + 26 * entries_in read.loads
@@ -61,7 +61,7 @@ pub record HasGot {G : Type 0} (index : TableView) (becomes : G → Event → G 
 
 -- What a scan does. It loads one entry for each node to which it goes, and one for each leaf. It makes at most 26 steps for each entry, 8
 -- for each pair of its limit, and 101 others. It touches at most eleven words for each entry.
-pub record HasGotRange {G : Type 0} (index : TableView) (becomes : G → Event → G → Type 0) (limit : ℕ) (a b : PassView × G) : Type 0 where
+pub record HasMadeScanSteps {G : Type 0} (index : TableView) (becomes : G → Event → G → Type 0) (limit : ℕ) (a b : PassView × G) : Type 0 where
   pub read : HasRead index becomes a b
   pub most : entries_in read.loads ≤ scan_entries limit
   pub few : b.0.steps ≤ a.0.steps + 101 + 26 * entries_in read.loads + 8 * limit
@@ -193,7 +193,7 @@ HasEnded table becomes Are said a b = (acts : List Act) × Are acts × Ends tabl
 -- attempt follows only a first that was full. The last step clears the pin, with the call's note, if it was answered. The gate is told each
 -- step, and their number is bounded. For each entry loaded it touches at most eleven words. Its last load of the root has shown the pass
 -- all changes made by then, and so all that any pass had seen.
-pub record HasMade {G : Type 0} (index : TableView) (becomes : G → Event → G → Type 0) (call : Call) (result : Result Reply TryFault)
+pub record HasMadeChangeSteps {G : Type 0} (index : TableView) (becomes : G → Event → G → Type 0) (call : Call) (result : Result Reply TryFault)
     (a b : PassView × G) : Type 0 where
   pub acts : List Act
   pub begins : a.0 ≡ pass_of a.0.seat
@@ -211,7 +211,7 @@ HasStepped table becomes said a b = (acts : List Act) × (last : Act) × Ends ta
 
 -- A call that loads the root makes these steps and no other, and its notes come with the last. The gate is told each of them, in order, and
 -- nothing else. Its last load of the root has shown the pass all changes made by then, and so all that any pass had seen.
-pub record HasTold {G : Type 0} (index : TableView) (becomes : G → Event → G → Type 0) (a b : PassView × G) : Type 0 where
+pub record HasMadeCallSteps {G : Type 0} (index : TableView) (becomes : G → Event → G → Type 0) (a b : PassView × G) : Type 0 where
   pub acts : List Act
   pub last : Act
   pub said : Known → List Note

@@ -20,7 +20,7 @@ ghost use Rattle.hot_index_calls.specs.Calls.{IsTriedAndCounted, MakesTries};
 ghost use Rattle.hot_index_calls.specs.Counts.{once_steps, try_steps, twice_steps};
 ghost use Rattle.hot_index_calls.specs.Noting.{change_notes};
 ghost use Rattle.hot_index_calls.specs.Passes.{pass_of};
-ghost use Rattle.hot_index_calls.specs.Refusals.{IsLeftOne, as_tried};
+ghost use Rattle.hot_index_calls.specs.Refusals.{HasNodeLeft, as_tried};
 ghost use Rattle.hot_index_calls.specs.Traces.{AreAttempts, AreTries, Collects, CollectsNone, HasStepped, IsOneAttempt, Tidies, is_full, of_kind};
 
 use crate::census::count_records;
@@ -188,8 +188,8 @@ fn is_removal(call: &Call) -> bool
 }
 
 /// Whether a node record is left for `call` in an index of `passes` passes: it removes a key, and there are several passes.
-fn is_left_one(passes: u32, call: &Call) -> bool
-    ensures { IsTrue result ↔ IsLeftOne passes call.now }
+fn has_node_left(passes: u32, call: &Call) -> bool
+    ensures { IsTrue result ↔ HasNodeLeft passes call.now }
 {
     passes > 1 && is_removal(call)
 }
@@ -230,7 +230,7 @@ pub fn try_and_count<G: Gate>(
                 return Err(Refusal::Busy);
             };
             let passes = table.layout().passes;
-            if is_left_one(passes, call) {
+            if has_node_left(passes, call) {
                 return Err(Refusal::HeldBack(lacks));
             }
             let needs = count_node_records(scratch.build.made.as_slice()).saturating_add(1);
@@ -257,7 +257,7 @@ pub fn retry_change<R: Wait, G: Gate>(
     ensures replied { HasReplied table.now call.now (last_try result) seat.old seat.new }
     ensures stepped { HasStepped table.now G.becomes (change_notes call.now (last_try result)) (seat.old, gate.old) (seat.new, gate.new) }
     ensures tries { MakesTries call.now result table.now G.becomes (pass_of seat.old, gate.old) (pass_of seat.new, gate.new) }
-    ensures kept { IsLeftOne table.now.layout.passes call.now → IsOk result }
+    ensures kept { HasNodeLeft table.now.layout.passes call.now → IsOk result }
     ensures spares { KeepsSpare table.now.layout seat.old seat.new }
     ensures room { FindsRoom table.now.layout call.now (last_try result) seat.old seat.new }
 {

@@ -6,7 +6,7 @@
 //! Between calls a pass owns nothing, and its calls are legal in its front: the invariant `IsSettled`. A note comes with the unpin, at the
 //! first place at which the map gives the reply (`place_of`); `IsNoted` follows. The gets of `get_many` are noted in the order of their
 //! places (`AreNoted`). What the map says is `IsOutcome`: noted, or `IsRefused`, as full only where the call may take a record (`MayTake`).
-//! `HasCause` is apart: `HasConflict`, or all missed. `HasGot`, `HasGotRange`, `HasGotMany`, `HasMade`, `HasTold`, `HasCollected`,
+//! `HasCause` is apart: `HasConflict`, or all missed. `HasMadeGetSteps`, `HasMadeScanSteps`, `HasMadeGetManySteps`, `HasMadeChangeSteps`, `HasMadeCallSteps`, `HasCollected`,
 //! `HasCounted` say which steps a call makes, with bounds. A change is a small round or none, and one attempt, or two with a round between,
 //! whole or spared (`AreAttempts`, `is_full`).
 //!

@@ -17,7 +17,7 @@ use Rattle.rowex_table.specs.Seats.{SeatView}
 use Rattle.rowex_table.proofs.Seats.{new_knows}
 use Rattle.hot_index_calls.specs.Answers.{IsNoted}
 use Rattle.hot_index_calls.specs.Passes.{pass_of}
-use Rattle.linearizability.specs.Moments.{Continues, Happening, IsPlacedSince, IsResponse, IsWholeRun, Moment, Pending, invokes, refuses, responds, shows, steps}
+use Rattle.linearizability.specs.Moments.{Continues, Happening, IsNotedBetween, IsResponse, IsWholeRun, Moment, Pending, invokes, refuses, responds, shows, steps}
 use Rattle.linearizability.proofs.Moments.Completing.{linearizable}
 use Rattle.index_laws.specs.Executions.{HasAnsweredMany, HasBulkLoaded, LeadsOn, IsExecution, IsQuiet, IsReturning, insertions}
 use Rattle.index_laws.specs.Statements.{ExecutionsAreLinearizable, ExecutionsAreRuns, LackMayRefuse, OpeningIsNew, RefusedIsRefused, Responses, ReturnedResponds}
@@ -44,7 +44,7 @@ noted_now k l j i notes now before h = sym (ap (λ (z : Known). z.notes) now) �
 
 -- a note's place is no lower than what a load of the root showed in the call
 placed_since : (at : ℕ → Moment) (q t : ℕ) (call : Pending) (s e : SeatView) → IsReturning at q t call s e → s.known.steps ≤ e.known.fresh.step → (n : Note) → length e.known.fresh.front ≤ n.place →
-    IsPlacedSince at q call.since t n
+    IsNotedBetween at q call.since t n
 placed_since at q t call s e ends loaded n low = record {
   shown = t;
   from = ends.later;
@@ -54,7 +54,7 @@ placed_since at q t call s e ends loaded n low = record {
 }
 
 pub noted_placed : (layout : Layout) (at : ℕ → Moment) (q t : ℕ) (call : Pending) (s e : SeatView) → IsReturning at q t call s e → (asked : Call) (reply : Reply) →
-    (noted : IsNoted layout (pass_of s) (pass_of e) asked reply) → IsPlacedSince at q call.since t (record { place = noted.place; call = asked; reply = reply })
+    (noted : IsNoted layout (pass_of s) (pass_of e) asked reply) → IsNotedBetween at q call.since t (record { place = noted.place; call = asked; reply = reply })
 noted_placed layout at q t call s e ends asked reply noted = placed_since at q t call s e ends noted.on.now.0 (record { place = noted.place; call = asked; reply = reply }) noted.low
 
 noted_is_response : (layout : Layout) (at : ℕ → Moment) (q t : ℕ) (call : Pending) (s e : SeatView) → IsReturning at q t call s e → (asked : Call) (reply : Reply) → call.calls ≡ asked ∷ [] →
@@ -66,7 +66,7 @@ noted_is_response layout at q t call s e ends asked reply calls noted =
       called = ends.pending;
       calls = subst (λ z. IsPermutation z (asked ∷ [])) (sym calls) (IsPermutation-refl (asked ∷ []));
       noted = noted_now ((at t).known q) ((at since).known q) e.known s.known (n ∷ []) ends.now ends.before noted.notes;
-      placed = All-cons (IsPlacedSince at q since t) n [] (noted_placed layout at q t call s e ends asked reply noted) (All-nil (IsPlacedSince at q since t));
+      placed = All-cons (IsNotedBetween at q since t) n [] (noted_placed layout at q t call s e ends asked reply noted) (All-nil (IsNotedBetween at q since t));
       legal = legal_now q ((at t).known q) e.known ends.now ends.pass noted.legal;
     }
 
@@ -84,7 +84,7 @@ many_are_response layout at q t call s e ends notes x =
       calls = subst (λ (z : List Call × List Call). IsPermutation z.0 z.1) (λ i. (x.calls i, calls_of noted.added i))
           (IsPermutation-map (λ (y : Call × Reply). y.0) x.asked (map (λ (n : Note). (n.call, n.reply)) noted.added) noted.calls_are);
       noted = noted_now ((at t).known q) ((at call.since).known q) e.known s.known noted.added ends.now ends.before noted.notes;
-      placed = All-weaker (λ n. length e.known.fresh.front ≤ n.place) (IsPlacedSince at q call.since t) (λ n low. placed_since at q t call s e ends noted.on.now.0 n low) noted.added noted.low;
+      placed = All-weaker (λ n. length e.known.fresh.front ≤ n.place) (IsNotedBetween at q call.since t) (λ n low. placed_since at q t call s e ends noted.on.now.0 n low) noted.added noted.low;
       legal = legal_now q ((at t).known q) e.known ends.now ends.pass noted.legal;
     })
 
@@ -94,7 +94,7 @@ quiet_is_response layout at q t call s e ends notes x = record {
   called = ends.pending;
   calls = subst (λ z. IsPermutation z []) (sym x.calls) (IsPermutation-refl []);
   noted = noted_now ((at t).known q) ((at call.since).known q) e.known s.known [] ends.now ends.before (x.same ∙ sym (append-nil s.known.notes));
-  placed = All-nil (IsPlacedSince at q call.since t);
+  placed = All-nil (IsNotedBetween at q call.since t);
   legal = legal_now q ((at t).known q) e.known ends.now ends.pass x.legal;
 }
 

@@ -42,16 +42,16 @@ use Rattle.versions.proofs.Told.{content_in_order}
 use Rattle.hot_index_calls.specs.Answers.{IsCause, MayRefuse}
 use Rattle.hot_index_calls.specs.Counts.{try_steps}
 use Rattle.hot_index_calls.specs.Passes.{PassView}
-use Rattle.hot_index_calls.specs.Traces.{HasMade, untold}
-use Rattle.hot_index.proofs.Statements.Alone.{one_pass_full_is_full, one_pass_is_never_busy}
+use Rattle.hot_index_calls.specs.Traces.{HasMadeChangeSteps, untold}
+use Rattle.hot_index.proofs.Statements.Alone.{one_pass_full_means_taken, one_pass_is_never_busy}
 use Rattle.hot_index.proofs.KeyCounts.Counted.{counts_add_up}
-use Rattle.hot_index.proofs.Statements.Held.{absent_is_never_full, held_is_never_full, one_pass_refuses_new_alone}
+use Rattle.hot_index.proofs.Statements.Held.{absent_is_never_full, held_is_never_full, one_pass_refuses_only_new_keys}
 use Rattle.hot_index.proofs.Stamps.{returned_before_begun}
 use Rattle.linearizability.specs.Moments.{Happening, IsWholeRun, Moment}
 use Rattle.linearizability.specs.Scanning.{IsScanInTime}
 use Rattle.linearizability.proofs.Statements.Replies.{behind, effect, replies_in_time}
 use Rattle.linearizability.proofs.Scanning.{scans_in_time}
-use Rattle.index_laws.specs.Headline.{BoundedSteps, BoundedTouches, Freshness, FreshnessOfMany, Headline, History, LoadedHistory, NeverRefused, OneHistory, Refusals, ScansShow, ValuesInReach}
+use Rattle.index_laws.specs.Headline.{BoundedSteps, BoundedTouches, Freshness, FreshnessOfMany, Headline, History, LoadedHistory, FaultsByCall, OneHistory, Refusals, ScansShow, ValuesInReach}
 use Rattle.index_laws.proofs.Joined.{one_run_is_an_execution}
 use Rattle.index_laws.proofs.Lives.{one_history_of_all}
 use Rattle.index_laws.proofs.Executions.Loaded.{loader_legal}
@@ -144,7 +144,7 @@ added key delta Busy full may = full refl
 added key delta FullNodes full may = may
 added key delta FullLeaves full may = may
 
-never_refused : NeverRefused
+never_refused : FaultsByCall
 never_refused call fault may key = (
   λ e. subst (λ c. MayRefuse c fault) e may,
   λ full e. subst (MayRefuse (Remove key)) full (subst (λ c. MayRefuse c fault) e may),
@@ -190,7 +190,7 @@ entries_most (act ∷ acts) =
     let all = sum_by-cons (λ (a : Act). cond (loads_entry a) 1 0) act acts in let rest = entries_most acts in let one = bit_most (loads_entry act) in omega (arith, all, rest, one)
 
 -- nor than a try makes
-made_most : (index : TableView) (call : Call) (result : Result Reply TryFault) (k j : PassView) (h : HasMade index untold call result (k, tt) (j, tt)) → entries_in h.acts ≤ try_steps call index.layout
+made_most : (index : TableView) (call : Call) (result : Result Reply TryFault) (k j : PassView) (h : HasMadeChangeSteps index untold call result (k, tt) (j, tt)) → entries_in h.acts ≤ try_steps call index.layout
 made_most index call result k j h =
     let (m, runs, last) = h.steps in
     let ran = runs_count index untold h.acts (k.seat, tt) m runs in
@@ -241,9 +241,9 @@ headline = record {
   scans = scans;
   reverse_scans = reverse_scans;
   refusals = refusals;
-  full_alone = one_pass_full_is_full;
+  full_alone = one_pass_full_means_taken;
   never_refused = never_refused;
-  never_full = record { held = held_is_never_full; absent = absent_is_never_full; alone = one_pass_refuses_new_alone };
+  never_full = record { held = held_is_never_full; absent = absent_is_never_full; alone = one_pass_refuses_only_new_keys };
   number_of_keys = counts_add_up;
   steps = steps;
   touches = touches;

@@ -26,7 +26,7 @@ use Rattle.record_words.specs.declared.TheConstants.{VALUE_OFFSET}
 use Rattle.rowex_core.specs.Cores.{Core, IsLawful}
 use Rattle.rowex_core.specs.Events.{IsLoad, loaded_tree}
 use Rattle.rowex_core.specs.Reading.{head_value}
-use Rattle.rowex_core.specs.Statements.{EntriesInReach, InReach, StoodLast}
+use Rattle.rowex_core.specs.Statements.{EntriesInReach, ReachKeepsWords, StoodLast}
 use Rattle.rowex_core.specs.Words.{record_word}
 use Rattle.rowex_scanning.specs.Counts.{scan_entries}
 use Rattle.rowex_table.specs.Seats.{IsLoaderSeat, SeatView, TableView}
@@ -42,10 +42,10 @@ use Rattle.hot_index_calls.specs.Answers.{HaveMet, IsCause, IsListedBy, IsNoted,
 use Rattle.hot_index_calls.specs.declared.census.RecordCounts.{RecordCounts}
 use Rattle.hot_index_calls.specs.Census.{HasCounted}
 use Rattle.hot_index_calls.specs.Counts.{round_steps, try_steps}
-use Rattle.hot_index_calls.specs.Many.{HasGotMany}
+use Rattle.hot_index_calls.specs.Many.{HasMadeGetManySteps}
 use Rattle.hot_index_calls.specs.Passes.{PassView, pass_of}
-use Rattle.hot_index_calls.specs.Traces.{HasCollected, HasGot, HasGotRange, HasMade, untold}
-use Rattle.hot_index.specs.Statements.{AbsentIsNeverFull, CountsAddUp, HeldIsNeverFull, OnePassFullIsFull, OnePassRefusesNewAlone, ReturnedBeforeBegun}
+use Rattle.hot_index_calls.specs.Traces.{HasCollected, HasMadeGetSteps, HasMadeScanSteps, HasMadeChangeSteps, untold}
+use Rattle.hot_index.specs.Statements.{AbsentIsNeverFull, CountsAddUp, HeldIsNeverFull, OnePassFullMeansTaken, OnePassRefusesOnlyNewKeys, ReturnedBeforeBegun}
 use Rattle.linearizability.specs.Moments.{Happening, IsWholeRun, Moment, Pending}
 use Rattle.linearizability.specs.Scanning.{IsScanInTime, map_at}
 use Rattle.index_laws.specs.Lives.{OneHistoryOfAll}
@@ -118,12 +118,12 @@ Refusals =
 pub record NeverFull : Type 0 where
   pub held : HeldIsNeverFull
   pub absent : AbsentIsNeverFull
-  pub alone : OnePassRefusesNewAlone
+  pub alone : OnePassRefusesOnlyNewKeys
 
 -- With which faults calls are never refused. A get never is. An exchange and an addition are never full. A removal never lacks a leaf
 -- record.
-abbrev pub NeverRefused : Type 0
-NeverRefused =
+abbrev pub FaultsByCall : Type 0
+FaultsByCall =
     (call : Call) (fault : TryFault) → MayRefuse call fault → (key : List ℕ) →
     (call ≢ Get key) × (fault ≡ FullLeaves → call ≢ Remove key) × (fault ≡ FullLeaves → (expected : ℕ) → call ≢ RemoveIf key expected) ×
     (fault ≢ Busy → (expected value : ℕ) → call ≢ Exchange key expected value) × (fault ≢ Busy → (delta : ℕ) → call ≢ Add key delta)
@@ -131,12 +131,12 @@ NeverRefused =
 -- The steps of calls that wait for no other pass are bounded. These are a get, gets of many keys, a try of a change, a scan, a round of
 -- collection, and a count of all records.
 pub record BoundedSteps : Type 0 where
-  pub get : (index : TableView) (k j : PassView) → HasGot index untold (k, tt) (j, tt) → j.steps ≤ k.steps + 36 + 26 * (9 * MAX_BYTES)
-  pub get_many : (index : TableView) (count : ℕ) (k j : PassView) → HasGotMany index untold count (k, tt) (j, tt) →
+  pub get : (index : TableView) (k j : PassView) → HasMadeGetSteps index untold (k, tt) (j, tt) → j.steps ≤ k.steps + 36 + 26 * (9 * MAX_BYTES)
+  pub get_many : (index : TableView) (count : ℕ) (k j : PassView) → HasMadeGetManySteps index untold count (k, tt) (j, tt) →
       j.steps ≤ k.steps + 4 + 32 * count + 26 * (count * (9 * MAX_BYTES))
-  pub change : (index : TableView) (call : Call) (result : Result Reply TryFault) (k j : PassView) → HasMade index untold call result (k, tt) (j, tt) →
+  pub change : (index : TableView) (call : Call) (result : Result Reply TryFault) (k j : PassView) → HasMadeChangeSteps index untold call result (k, tt) (j, tt) →
       j.steps ≤ k.steps + try_steps call index.layout
-  pub scan : (index : TableView) (limit : ℕ) (k j : PassView) → HasGotRange index untold limit (k, tt) (j, tt) →
+  pub scan : (index : TableView) (limit : ℕ) (k j : PassView) → HasMadeScanSteps index untold limit (k, tt) (j, tt) →
       j.steps ≤ k.steps + 101 + 26 * scan_entries limit + 8 * limit
   pub collect : (index : TableView) (nodes leaves : ℕ) (k j : PassView) → HasCollected index untold (k, tt) (j, tt) nodes leaves →
       j.steps ≤ k.steps + round_steps index.layout
@@ -147,12 +147,12 @@ pub record BoundedSteps : Type 0 where
 -- eleven for each on theirs. A path has at most 2,160 nodes. A scan touches eleven for each entry that it loads, and a try of a change at
 -- most eleven for each step.
 pub record BoundedTouches : Type 0 where
-  pub get : (index : TableView) (k j : PassView) → HasGot index untold (k, tt) (j, tt) → j.touches ≤ k.touches + 4 * (9 * MAX_BYTES)
-  pub get_many : (index : TableView) (count : ℕ) (k j : PassView) → HasGotMany index untold count (k, tt) (j, tt) →
+  pub get : (index : TableView) (k j : PassView) → HasMadeGetSteps index untold (k, tt) (j, tt) → j.touches ≤ k.touches + 4 * (9 * MAX_BYTES)
+  pub get_many : (index : TableView) (count : ℕ) (k j : PassView) → HasMadeGetManySteps index untold count (k, tt) (j, tt) →
       j.touches ≤ k.touches + 11 * (count * (9 * MAX_BYTES))
-  pub change : (index : TableView) (call : Call) (result : Result Reply TryFault) (k j : PassView) → HasMade index untold call result (k, tt) (j, tt) →
+  pub change : (index : TableView) (call : Call) (result : Result Reply TryFault) (k j : PassView) → HasMadeChangeSteps index untold call result (k, tt) (j, tt) →
       j.touches ≤ k.touches + 11 * try_steps call index.layout
-  pub scan : (index : TableView) (limit : ℕ) (k j : PassView) → HasGotRange index untold limit (k, tt) (j, tt) →
+  pub scan : (index : TableView) (limit : ℕ) (k j : PassView) → HasMadeScanSteps index untold limit (k, tt) (j, tt) →
       j.touches ≤ k.touches + 11 * scan_entries limit
 
 -- Let a leaf have stood in a version m since a pass's pin. Its value is the one that it had when it stood last, which is now or in a
@@ -188,8 +188,8 @@ pub record Headline : Type 0 where
   pub refusals : Refusals
   -- With one pass, each leaf record that a full call lacked was in the tree or retired. Of node records, at least a third were so, but one,
   -- and all but at most 4,321.
-  pub full_alone : OnePassFullIsFull
-  pub never_refused : NeverRefused
+  pub full_alone : OnePassFullMeansTaken
+  pub never_refused : FaultsByCall
   pub never_full : NeverFull
   -- if no pass is changing the index, the counts that passes keep of their keys are those of its map
   pub number_of_keys : CountsAddUp
@@ -197,6 +197,6 @@ pub record Headline : Type 0 where
   pub touches : BoundedTouches
   -- A record that a pinned pass may reach is not reused. Its words are as they were when it stood in the tree, but for its state, a node's
   -- entries, a leaf's value, and what stands behind a leaf's key. An entry or a value is one that the record had when it stood last.
-  pub out_of_reach : InReach
+  pub out_of_reach : ReachKeepsWords
   pub entries_in_reach : EntriesInReach
   pub values_in_reach : ValuesInReach

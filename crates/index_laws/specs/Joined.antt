@@ -63,7 +63,7 @@ load_call layout q words =
     let notes = insertion_notes layout words in invokes q (insertions layout words) ∷ steps q (load_of words) notes ∷ responds q notes ∷ []
 
 -- What pass q of the table has done since it was new, up to this seat. Pass 0 of a table that was loaded has made this load first. Its calls
--- are made by their steps (`HasRead`, `HasMade`, `HasTold`), and ended as their contracts say. It may have met another pass (`IsShownAll`,
+-- are made by their steps (`HasRead`, `HasMadeChangeSteps`, `HasMadeCallSteps`), and ended as their contracts say. It may have met another pass (`IsShownAll`,
 -- `HasSeenMore`), followed a stamp (`HasCaughtUp`) or made one (`HasStamped`).
 pub data HasGoneThrough (table : TableView) (q : ℕ) : List Happening → SeatView → Type 0 where
   new : {s : SeatView} → IsNewSeatOf table q s → HasGoneThrough table q [] s

@@ -21,7 +21,7 @@ use Rattle.rowex_core.specs.Knowing.{IsEvent, learned}
 use Rattle.rowex_core.specs.Opening.{opening}
 use Rattle.rowex_table.specs.Rule.{with_front}
 use Rattle.rowex_table.specs.Runs.{Ends, SeesAllOfRun, root_load}
-use Rattle.rowex_table.specs.Seats.{IsNewSeatOf, IsSame, IsShownAll, SeatView, TableView}
+use Rattle.rowex_table.specs.Seats.{IsNewSeatOf, MakesNoAside, IsShownAll, SeatView, TableView}
 use Rattle.rowex_table.specs.Traces.{IsNextStep, RunBeginsWith}
 use Rattle.hot_index_calls.specs.Answers.{IsNoted}
 use Rattle.hot_index_calls.specs.Passes.{pass_of}
@@ -39,7 +39,7 @@ pub record Instant : Type 0 where
 -- The pass of the seat makes this event, as the contract of a step says (`StepsWith`), or that of a bulk load (`IsLoaderSeat`). It is the
 -- next one of a run, and `said` are the notes that come with it.
 pub record MakesEvent (table : TableView) (act : Act) (said : Known → List Note) (s t : SeatView) : Type 0 where
-  pub seat : IsSame s t
+  pub seat : MakesNoAside s t
   pub event : IsEvent table.layout act said s.known t.known
   pub next : IsNextStep table.layout s.known.pass act event.core s.trace t.trace
 

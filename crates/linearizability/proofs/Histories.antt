@@ -18,7 +18,7 @@ use Rattle.plain_index.proofs.Times.{woven-in_time}
 use Rattle.record_words.specs.declared.layout.Layout.{Layout}
 use Rattle.rowex_core.proofs.Knowing.Keeping.{seen_by}
 use Rattle.linearizability.specs.Histories.{answers, complete_calls, completed, had_responded, invoked, responder, since_of, stays}
-use Rattle.linearizability.specs.Moments.{Continues, Happening, IsPlacedSince, IsResponse, IsSoundMoment, IsWholeRun, Moment, Pending, invokes, refuses, responds, shows, steps}
+use Rattle.linearizability.specs.Moments.{Continues, Happening, IsNotedBetween, IsResponse, IsSoundMoment, IsWholeRun, Moment, Pending, invokes, refuses, responds, shows, steps}
 use Rattle.linearizability.specs.Statements.{HaveOneOrder}
 use Rattle.linearizability.proofs.Histories.Calling.{LegalUpTo, calls_legal, noted-append, noted_at, notes_by, notes_complete, notes_up_to}
 use Rattle.linearizability.proofs.Moments.{all_behind, grown, loaded_since, longer, runs_stay_sound}
@@ -140,7 +140,7 @@ module _ (layout : Layout) (last : ℕ) (at : ℕ → Moment) (happens : ℕ →
     seen : length ((at t).known q).front ≤ length (at t).core.changes
     seen = longer (at t).core.changes ((at t).known q).front (seen_by (at t).core ((at t).known q) ((sound_at t (omega (arith, low))).knows q pass))
 
-    timed_note : (n : Note) → IsPlacedSince at q s t n → StandsIn ((at t).known q).front q n → IsTimed (t, n)
+    timed_note : (n : Note) → IsNotedBetween at q s t n → StandsIn ((at t).known q).front q n → IsTimed (t, n)
     timed_note n placed standing =
         let upto = placed.upto in
         let shown = longer ((at placed.shown).known q).fresh.front (at s).core.changes (loaded_since layout last at happens run s q pass placed.shown placed.from (omega (arith, upto, low)) placed.loaded) in

@@ -62,7 +62,7 @@ pub record IsCallTurn (layout : Layout) (a b : Moment) (q : ℕ) (call : Option 
 
 -- The note may be of the call that pass q has made from moment `since` to `until`. By a moment in between the pass had loaded the root in
 -- the call. The note's place is no lower than what that load showed.
-pub record IsPlacedSince (at : ℕ → Moment) (q since until : ℕ) (n : Note) : Type 0 where
+pub record IsNotedBetween (at : ℕ → Moment) (q since until : ℕ) (n : Note) : Type 0 where
   pub shown : ℕ
   pub from : since ≤ shown
   pub upto : shown ≤ until
@@ -74,7 +74,7 @@ pub record IsResponse (at : ℕ → Moment) (t q : ℕ) (call : Pending) (notes 
   pub called : (at t).pending q ≡ Some call
   pub calls : IsPermutation call.calls (map (λ n. n.call) notes)
   pub noted : ((at t).known q).notes ≡ ((at call.since).known q).notes ++ notes
-  pub placed : All (IsPlacedSince at q call.since t) notes
+  pub placed : All (IsNotedBetween at q call.since t) notes
   pub legal : LegalCalls ((at t).known q).front q ((at t).known q).notes
 
 -- Pass q's pending call is refused at moment t: it adds no note.

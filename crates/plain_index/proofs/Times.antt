@@ -12,7 +12,7 @@ use Rattle.finite_map.specs.Weaves.{Event, answered, quiet_at, changing_at, call
 use Rattle.finite_map.proofs.Calls.{place_after-within}
 use Rattle.finite_map.proofs.Weaves.{weave-legal_listed}
 use Rattle.plain_index.specs.Orders.{calls_in}
-use Rattle.plain_index.specs.Statements.{WovenInTime}
+use Rattle.plain_index.specs.Statements.{WeavePutsReturnedFirst}
 use Rattle.plain_index.specs.Times.{FitsPlaces, IsInTime, noted}
 use Rattle.plain_index.proofs.Orders.{calls_here, calls_in-all}
 
@@ -223,7 +223,7 @@ of_notes : (P : Note → Type 0) (l : List Labelled) → All P (noted l) → All
 of_notes P [] h = All-nil (λ x. P x.1)
 of_notes P (x ∷ l) h = All-cons (λ x. P x.1) x l (All-head P x.1 (noted l) h) (of_notes P l (All-tail P x.1 (noted l) h))
 
-pub woven-in_time : WovenInTime
+pub woven-in_time : WeavePutsReturnedFirst
 woven-in_time front passes before listed legal same fits in_time =
     let high = of_notes (λ n. place_after n ≤ length front) listed (All-permutation (λ n. place_after n ≤ length front) (notes_of passes) (noted listed) same (within_front front passes legal)) in (
       weave-legal_listed front passes (noted listed) legal same,

@@ -12,56 +12,56 @@ use Rattle.plain_index.specs.Orders.{calls_in, AreWoven, CallsAreWoven}
 use Rattle.plain_index.specs.Times.{FitsPlaces, IsInTime, noted}
 
 -- Calls that are legal in a front are legal in each legal front that goes on from it by changes of other passes alone.
-abbrev pub Longer : Type 0
-Longer = (front later : List Change) (q : ℕ) (notes : List Note) → LegalCalls front q notes → OthersGoOn q front later → LegalFront later → LegalCalls later q notes
+abbrev pub LegalCallsStayLegal : Type 0
+LegalCallsStayLegal = (front later : List Change) (q : ℕ) (notes : List Note) → LegalCalls front q notes → OthersGoOn q front later → LegalFront later → LegalCalls later q notes
 
 -- Where the calls of each pass are legal in one front, all are answered as by a finite map in one sequential history. It is the weave of
 -- all their notes into the front.
-abbrev pub Woven : Type 0
-Woven = (front : List Change) (passes : List (ℕ × List Note)) → AllLegal front passes → LegalHistory (weave front (notes_of passes))
+abbrev pub WeaveIsLegal : Type 0
+WeaveIsLegal = (front : List Change) (passes : List (ℕ × List Note)) → AllLegal front passes → LegalHistory (weave front (notes_of passes))
 
 -- Where the calls of two passes are legal in one front, the weave of the notes of both into it is a legal history.
-abbrev pub WovenTwo : Type 0
-WovenTwo =
+abbrev pub WeaveOfTwoIsLegal : Type 0
+WeaveOfTwoIsLegal =
     (front : List Change) (p q : ℕ) (notes_p notes_q : List Note) → p ≢ q → LegalCalls front p notes_p → LegalCalls front q notes_q →
     LegalHistory (weave front (notes_p ++ notes_q))
 
 -- The weave of the calls of several passes has each call once. Those of each pass stand in the order in which it made them.
-abbrev pub WovenInOrder : Type 0
-WovenInOrder = (front : List Change) (passes : List (ℕ × List Note)) → AllLegal front passes → CallsAreWoven passes (calls_in (weave front (notes_of passes)))
+abbrev pub WeaveOfPassesKeepsCalls : Type 0
+WeaveOfPassesKeepsCalls = (front : List Change) (passes : List (ℕ × List Note)) → AllLegal front passes → CallsAreWoven passes (calls_in (weave front (notes_of passes)))
 
 -- The weave of the calls of two passes has each call once. Those of each pass stand in the order in which it made them.
-abbrev pub WovenInOrderTwo : Type 0
-WovenInOrderTwo =
+abbrev pub WeaveOfTwoKeepsCalls : Type 0
+WeaveOfTwoKeepsCalls =
     (front : List Change) (p q : ℕ) (notes_p notes_q : List Note) → LegalCalls front p notes_p → LegalCalls front q notes_q →
     AreWoven (calls_of notes_p) (calls_of notes_q) (calls_in (weave front (notes_p ++ notes_q)))
 
 -- Calls of passes, each legal in one front, are listed in an order that breaks no known order in time, and their places fit it. Then the
 -- weave of the list is a legal history in which each call stands once. None stands before one that is known to have returned when it began.
-abbrev pub WovenInTime : Type 0
-WovenInTime =
+abbrev pub WeavePutsReturnedFirst : Type 0
+WeavePutsReturnedFirst =
     (front : List Change) (passes : List (ℕ × List Note)) (before : ℕ → ℕ → Bool) (listed : List (ℕ × Note)) → AllLegal front passes →
     IsPermutation (notes_of passes) (noted listed) → FitsPlaces before listed → IsInTime before listed →
     LegalHistory (weave front (noted listed)) ×
     ((history : List (ℕ × Note)) × IsPermutation listed history × IsInTime before history × (calls_in (weave front (noted listed)) ≡ calls_of (noted history)))
 
 -- A scan of the map of a front is lawful where the front stays as it is.
-abbrev pub ScansAtOnce : Type 0
-ScansAtOnce =
+abbrev pub FirstPairsAreAStillScan : Type 0
+FirstPairsAreAStillScan =
     (front : List Change) (from upto : List ℕ) (limit : ℕ) (scan : Scan) → IsScanOf (map_of front) from upto limit scan → IsLawfulScan front front from upto limit scan
 
 -- The weave of one pass's legal calls has each of them once, in the order in which the pass made them.
-abbrev pub InOrder : Type 0
-InOrder = (front : List Change) (q : ℕ) (notes : List Note) → LegalCalls front q notes → calls_in (weave front notes) ≡ calls_of notes
+abbrev pub WeaveKeepsCalls : Type 0
+WeaveKeepsCalls = (front : List Change) (q : ℕ) (notes : List Note) → LegalCalls front q notes → calls_in (weave front notes) ≡ calls_of notes
 
 -- A scan of a front that stays as it is gives the first pairs of its map's range. It says whether there is a further one.
-abbrev pub StillScans : Type 0
-StillScans =
+abbrev pub StillScanGivesFirstPairs : Type 0
+StillScanGivesFirstPairs =
     (front : List Change) (from upto : List ℕ) (limit : ℕ) (scan : Scan) → IsLawfulScan front front from upto limit scan → IsScanOf (map_of front) from upto limit scan
 
 -- If a pass made all changes of the front, its legal calls are a run of the finite map, from the empty one on.
-abbrev pub Alone : Type 0
-Alone = (front : List Change) (q : ℕ) (notes : List Note) → LegalCalls front q notes → All (λ c. c.pass ≡ q) front → IsRun [] notes (map_of front)
+abbrev pub LoneCallsAreARun : Type 0
+LoneCallsAreARun = (front : List Change) (q : ℕ) (notes : List Note) → LegalCalls front q notes → All (λ c. c.pass ≡ q) front → IsRun [] notes (map_of front)
 
 -- A lawful scan is a get of each key of its range, each at a moment of its own. At some moment between the scan's fronts the map has the
 -- value of the key's pair, or lacks the key if it has no pair. Where the scan ended at its limit, that is said of the keys up to the last

@@ -15,7 +15,7 @@ pub fn are_legal(front: &[Change], pass: u16, notes: &[Note]) -> bool
     ensures { IsTrue result ↔ LegalCalls front.now pass notes.now }
 {
     is_legal_front(front)
-        && notes.iter().all(|note| stands_in_front(front, pass, note))
+        && notes.iter().all(|note| note_fits_front(front, pass, note))
         && places_rise_from(0, notes)
         && tell_own_changes(front, pass, notes)
 }
@@ -117,7 +117,7 @@ fn names_change(front: &[Change], pass: u16, note: &Note) -> bool
 
 /// Whether `note` is legal in `front` as a note of `pass`. Its place is in the front, and its reply is that of the map there. The change
 /// that it tells of, if any, stands at that place.
-fn stands_in_front(front: &[Change], pass: u16, note: &Note) -> bool
+fn note_fits_front(front: &[Change], pass: u16, note: &Note) -> bool
     ensures { IsTrue result ↔ StandsIn front.now pass note.now }
 {
     if note.place > front.len() as u64 {

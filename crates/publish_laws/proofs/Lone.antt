@@ -33,7 +33,7 @@ use Rattle.rowex_core.proofs.Cores.{stays_lawful}
 use Rattle.rowex_table.specs.Runs.{Runs, Steps, StepsWith, silent}
 use Rattle.rowex_table.specs.Seats.{TableView, SeatView}
 use Rattle.rowex_table.proofs.Runs.Linking.{lead_rest}
-use Rattle.publish_laws.specs.Lone.{IsFreeAt, IsLone, IsOut, IsUnpublished, IsUnused, KeepsSpare}
+use Rattle.publish_laws.specs.Lone.{IsFreeAt, IsLone, IsOut, LeavesTree, IsUnused, KeepsSpare}
 use Rattle.publish_laws.proofs.Lone.Fates.{fate_kept, out_closed, out_marks, unused_closed, unused_marks}
 
 -- ---- steps that lead from core to core
@@ -104,7 +104,7 @@ module _ {G : Type 0} (table : TableView) (becomes : G → Event → G → Type 
     pub unused : (r : Rec) → IsUnused (core.fate r) → IsUnused (d.fate r)
     pub known : ((b ≡ a) × (d ≡ core)) ⊎ (Knows core a.0.known × Knows d b.0.known × IsLawful d)
 
-  step_is_back : (act : Act) (said : Known → List Note) (a b : SeatView × G) → IsUnpublished act → StepsWith table becomes act said a b → (d : Core) → IsLone table.layout b.0 d → IsBack a b d
+  step_is_back : (act : Act) (said : Known → List Note) (a b : SeatView × G) → LeavesTree act → StepsWith table becomes act said a b → (d : Core) → IsLone table.layout b.0 d → IsBack a b d
   step_is_back act said a b plain step d lone =
       let c = step.event.core in
       let q = a.0.known.pass in
@@ -134,7 +134,7 @@ module _ {G : Type 0} (table : TableView) (becomes : G → Event → G → Type 
       joined (inr (knew, knows, lawful)) (inl (still, now)) = inr (knew, subst (λ (z : SeatView × G). Knows d z.0.known) (sym still) (subst (λ z. Knows z m.0.known) (sym now) knows), subst IsLawful (sym now) lawful)
       joined (inr (knew, knows, lawful)) (inr (then, now, still)) = inr (knew, now, still)
 
-  pub runs_back : (acts : List Act) (a b : SeatView × G) → All IsUnpublished acts → Runs table becomes acts a b → (d : Core) → IsLone table.layout b.0 d → IsBack a b d
+  pub runs_back : (acts : List Act) (a b : SeatView × G) → All LeavesTree acts → Runs table becomes acts a b → (d : Core) → IsLone table.layout b.0 d → IsBack a b d
   runs_back [] a b plain run d lone = record {
     core = d;
     lone = subst (λ (z : SeatView × G). IsLone table.layout z.0 d) run lone;
@@ -143,17 +143,17 @@ module _ {G : Type 0} (table : TableView) (becomes : G → Event → G → Type 
     known = inl (run, refl);
   }
   runs_back (act ∷ acts) a b plain (m, step, rest) d lone =
-      let second = runs_back acts m b (All-tail IsUnpublished act acts plain) rest d lone in
-      back_more a m b d second (step_is_back act silent a m (All-head IsUnpublished act acts plain) step second.core second.lone)
+      let second = runs_back acts m b (All-tail LeavesTree act acts plain) rest d lone in
+      back_more a m b d second (step_is_back act silent a m (All-head LeavesTree act acts plain) step second.core second.lone)
 
   -- ---- a spare record, and a free one
-  pub runs_spare : (acts : List Act) (a b : SeatView × G) → All IsUnpublished acts → Runs table becomes acts a b → KeepsSpare table.layout a.0 b.0
+  pub runs_spare : (acts : List Act) (a b : SeatView × G) → All LeavesTree acts → Runs table becomes acts a b → KeepsSpare table.layout a.0 b.0
   runs_spare acts a b plain run was d lone =
       let back = runs_back acts a b plain run d lone in
       let (n, low, out) = was back.core back.lone in
       (n, low, back.out (a_node n) out)
 
-  pub runs_out : (acts : List Act) (a b : SeatView × G) (n : ℕ) → All IsUnpublished acts → Runs table becomes acts a b →
+  pub runs_out : (acts : List Act) (a b : SeatView × G) (n : ℕ) → All LeavesTree acts → Runs table becomes acts a b →
       ((c : Core) → IsLone table.layout a.0 c → IsOut (c.fate (a_node n))) → (c : Core) → IsLone table.layout b.0 c → IsOut (c.fate (a_node n))
   runs_out acts a b n plain run was d lone =
       let back = runs_back acts a b plain run d lone in
@@ -192,7 +192,7 @@ free_not_own c k r knows free o has is = not_free k.pass o.holding (sym free ∙
 
 module _ {G : Type 0} (table : TableView) (becomes : G → Event → G → Type 0) where
   -- a free record is free after steps that are no publishes, if the pass has got no other records
-  pub runs_free : (acts : List Act) (a b : SeatView × G) (n : ℕ) → All IsUnpublished acts → Runs table becomes acts a b →
+  pub runs_free : (acts : List Act) (a b : SeatView × G) (n : ℕ) → All LeavesTree acts → Runs table becomes acts a b →
       ((o : Owned) → IsOneOf o b.0.known.own → o.rec ≡ a_node n → (p : Owned) × IsOneOf p a.0.known.own × (p.rec ≡ a_node n)) →
       IsFreeAt table.layout a.0 n → IsFreeAt table.layout b.0 n
   runs_free acts a b n plain run fewer was d lone =

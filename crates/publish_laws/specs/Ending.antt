@@ -23,8 +23,8 @@ pub record IsEnding (k : Known) (epoch : ℕ) (recs : List Rec) (nodes : List �
   pub epoch_is : epoch ≡ k.round.epoch
 
 -- what the pass has seen is the same, and so is the anchor's lock
-abbrev pub SeesTheSame : Known → Known → Type 0
-SeesTheSame k j = (j.front ≡ k.front) × (j.anchor ≡ k.anchor)
+abbrev pub KeepsFrontAndAnchor : Known → Known → Type 0
+KeepsFrontAndAnchor k j = (j.front ≡ k.front) × (j.anchor ≡ k.anchor)
 
 -- the pass has no records of its own, and no locks
 pub record IsAtRest (k : Known) : Type 0 where
@@ -44,7 +44,7 @@ HaveSameElements {X} xs ys = ((x : X) → IsOneOf x xs → IsOneOf x ys) × ((x 
 abbrev pub EndBegins : Type 0
 EndBegins =
     (layout : Layout) (k j i : Known) (x : Change) (was : Option ℕ) (gone : List Rec) (kept : List ℕ) (epoch : ℕ) → HasPublished k j x was gone kept →
-    AreApart kept → IsEvent layout (LoadEpoch epoch) silent j i → IsEnding i epoch gone kept × SeesTheSame j i
+    AreApart kept → IsEvent layout (LoadEpoch epoch) silent j i → IsEnding i epoch gone kept × KeepsFrontAndAnchor j i
 
 -- If a publish has unlinked nothing, the end has begun with it.
 abbrev pub EndsAtOnce : Type 0
@@ -55,14 +55,14 @@ EndsAtOnce =
 abbrev pub EndMarks : Type 0
 EndMarks =
     (layout : Layout) (k : Known) (epoch : ℕ) (r : Rec) (rs : List Rec) (ns : List ℕ) → IsEnding k epoch (r ∷ rs) ns →
-    MayStep layout (λ found. Mark r epoch) k × ((j : Known) → IsEvent layout (Mark r epoch) silent k j → IsEnding j epoch rs ns × SeesTheSame k j)
+    MayStep layout (λ found. Mark r epoch) k × ((j : Known) → IsEvent layout (Mark r epoch) silent k j → IsEnding j epoch rs ns × KeepsFrontAndAnchor k j)
 
 -- In the end, the first node may be unlocked. The others are still locked then.
 abbrev pub EndUnlocks : Type 0
 EndUnlocks =
     (layout : Layout) (k : Known) (epoch : ℕ) (rs : List Rec) (n : ℕ) (ns : List ℕ) → IsEnding k epoch rs (n ∷ ns) →
     MayStep layout (λ found. Unlock (NodeTarget n)) k ×
-    ((j : Known) → IsEvent layout (Unlock (NodeTarget n)) silent k j → IsEnding j epoch rs ns × SeesTheSame k j)
+    ((j : Known) → IsEvent layout (Unlock (NodeTarget n)) silent k j → IsEnding j epoch rs ns × KeepsFrontAndAnchor k j)
 
 -- In the end, the anchor may be unlocked, if it is locked.
 abbrev pub EndUnlocksAnchor : Type 0
@@ -99,4 +99,4 @@ abbrev pub Settles : Type 0
 Settles =
     (layout : Layout) (k j i h g : Known) (x : Change) (was : Option ℕ) (gone : List Rec) (kept : List ℕ) (epoch : ℕ) → HasPublished k j x was gone kept →
     AreApart kept → IsEvent layout (LoadEpoch epoch) silent j i → MarksEach layout epoch gone i h → UnlocksEach layout kept h g →
-    (g.own ≡ []) × (g.locks ≡ []) × SeesTheSame j g
+    (g.own ≡ []) × (g.locks ≡ []) × KeepsFrontAndAnchor j g

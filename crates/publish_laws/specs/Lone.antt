@@ -54,18 +54,18 @@ abbrev pub KeepsSpare : Layout → SeatView → SeatView → Type 0
 KeepsSpare layout s t = HasSpare layout s → HasSpare layout t
 
 -- the step is no publish, and no bulk load
-abbrev pub IsUnpublished : Act → Type 0
-IsUnpublished (Publish spot w) = ⊥
-IsUnpublished (Load words) = ⊥
-IsUnpublished act = Unit {0}
+abbrev pub LeavesTree : Act → Type 0
+LeavesTree (Publish spot w) = ⊥
+LeavesTree (Load words) = ⊥
+LeavesTree act = Unit {0}
 
 -- steps that are no publishes leave a node record spare
 abbrev pub SpareStays : {G : Type 0} → (G → Event → G → Type 0) → Type 0
 SpareStays {G = G} becomes =
-    (table : TableView) (acts : List Act) (a b : SeatView × G) → All IsUnpublished acts → Runs table becomes acts a b → KeepsSpare table.layout a.0 b.0
+    (table : TableView) (acts : List Act) (a b : SeatView × G) → All LeavesTree acts → Runs table becomes acts a b → KeepsSpare table.layout a.0 b.0
 
 -- steps that are no publishes leave a free node record free, if the pass then has no record
 abbrev pub FreeStays : {G : Type 0} → (G → Event → G → Type 0) → Type 0
 FreeStays {G = G} becomes =
-    (table : TableView) (acts : List Act) (a b : SeatView × G) → All IsUnpublished acts → Runs table becomes acts a b → b.0.known.own ≡ [] →
+    (table : TableView) (acts : List Act) (a b : SeatView × G) → All LeavesTree acts → Runs table becomes acts a b → b.0.known.own ≡ [] →
     (n : ℕ) → IsFreeAt table.layout a.0 n → IsFreeAt table.layout b.0 n

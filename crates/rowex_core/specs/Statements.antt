@@ -45,35 +45,35 @@ use Rattle.rowex_core.specs.Runs.{EventsLead, AreOthers}
 use Rattle.rowex_core.specs.declared.event.Event.{Event}
 
 -- a legal step keeps the core lawful
-abbrev pub StaysLawful : Type 0
-StaysLawful = (c : Core) (q : ℕ) (act : Act) → IsLawful c → Legal c q act → IsLawful (after c q act)
+abbrev pub StepsStayLawful : Type 0
+StepsStayLawful = (c : Core) (q : ℕ) (act : Act) → IsLawful c → Legal c q act → IsLawful (after c q act)
 
 -- a legal step of one pass leaves true what the view of another says
-abbrev pub Keeps : Type 0
-Keeps = (c : Core) (p : ℕ) (act : Act) (v : View) → IsLawful c → Legal c p act → ¬ IsViewOf v p → Knowing c v → Knowing (after c p act) v
+abbrev pub StepsKeepKnowledge : Type 0
+StepsKeepKnowledge = (c : Core) (p : ℕ) (act : Act) (v : View) → IsLawful c → Legal c p act → ¬ IsViewOf v p → Knowing c v → Knowing (after c p act) v
 
 -- A legal step of one pass leaves to another what it has, and the versions and changes so far. So locks of two passes on different nodes
 -- are lawful at once. Each publish is one change, whatever other locks are held.
-abbrev pub LeavesOthers : Type 0
-LeavesOthers = (c : Core) (p q : ℕ) (act : Act) → p ≢ q → IsLawful c → Legal c p act → IsFrame q c (after c p act)
+abbrev pub StepsLeaveOthers : Type 0
+StepsLeaveOthers = (c : Core) (p q : ℕ) (act : Act) → p ≢ q → IsLawful c → Legal c p act → IsFrame q c (after c p act)
 
 -- what a pass knows after its own step is true
-abbrev pub Learns : Type 0
-Learns = (c : Core) (k : Known) (act : Act) → IsLawful c → Knows c k → Legal c k.pass act → Knows (after c k.pass act) (learned c act k)
+abbrev pub LearnedIsTrue : Type 0
+LearnedIsTrue = (c : Core) (k : Known) (act : Act) → IsLawful c → Knows c k → Legal c k.pass act → Knows (after c k.pass act) (learned c act k)
 
 -- A legal load of the root leaves its pass all changes made before it. So these include all that any pass had seen by then.
-abbrev pub SeesAll : Type 0
-SeesAll =
+abbrev pub RootLoadSeesAll : Type 0
+RootLoadSeesAll =
     (c : Core) (k : Known) (w : ℕ) → IsLawful c → Knows c k → Legal c k.pass (LoadRef Root w) →
     let j = learned c (LoadRef Root w) k in (j.front ≡ c.changes) × (j.fresh.front ≡ c.changes) × ((o : Known) → Knows c o → BeginsWith j.fresh.front o.front)
 
 -- a pass whose knowledge is true has what it knows that it has, and no more
-abbrev pub KnowsAll : Type 0
-KnowsAll = (c : Core) (k : Known) → Knows c k → HasAll c k
+abbrev pub PassKnowsAllItHas : Type 0
+PassKnowsAllItHas = (c : Core) (k : Known) → Knows c k → HasAll c k
 
 -- a legal atomic step writes one word at most, and the words then show the core after it
-abbrev pub WritesOne : Type 0
-WritesOne =
+abbrev pub StepsWriteOneWord : Type 0
+StepsWriteOneWord =
     (c : Core) (q : ℕ) (act : Act) (words : List ℕ) → IsAtomic act → IsLawful c → Legal c q act → Shows c words →
     Shows (after c q act) (set words (address c.layout (location_of q act)) (writes act (word_at c (location_of q act))))
 
@@ -110,16 +110,16 @@ Hindsight =
     IsLed c.past m k (Node n h) → IsLed c.past m k (seek k (node_words_of (c.words (a_node n))).subtrie)
 
 -- Keys below two entries of a record part at the fork between these, whichever versions of its present life they come from.
-abbrev pub Parting : Type 0
-Parting =
+abbrev pub KeysPartAtFork : Type 0
+KeysPartAtFork =
     (c : Core) → IsLawful c → (r : Rec) (n o x y : ℕ) (g h : Fixed) (a b : Tree) → n ≤ c.past.now → o ≤ c.past.now →
     Spans c.past.now (life_of (c.fate r)) n → Spans c.past.now (life_of (c.fate r)) o → Stands c.past n r (node x g a) → Stands c.past o r (node y h b) →
     (i j : ℕ) → i < j → (k l : Key) → IsUnder a i k → IsUnder b j l → IsParted (between (subtrie a) i j) k l
 
 -- A record that stood in a version since a pass's pin is neither free nor held. Its words are those that it had then, but for its state,
 -- its entries, and the words behind a leaf's key.
-abbrev pub InReach : Type 0
-InReach =
+abbrev pub ReachKeepsWords : Type 0
+ReachKeepsWords =
     (c : Core) → IsLawful c → (q : ℕ) (p : Pin) → c.pins q ≡ Some p → (n : ℕ) (r : Rec) (u : Tree) → p.version ≤ n → n ≤ c.past.now → Stands c.past n r u →
     (c.fate r ≢ Free) × ((o : ℕ) → c.fate r ≢ Held o) × ((offset : ℕ) → IsFixedOffset r offset → HasWordAt u offset (record_word c r offset))
 

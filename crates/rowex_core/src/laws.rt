@@ -1,40 +1,40 @@
 //! The laws of the core. The functions do nothing: their contracts are the laws.
 
-ghost use Rattle.rowex_core.specs.Statements.{EntriesInReach, FindsChange, Hindsight, InReach, Keeps, KnowsAll, Learns, LeavesOthers, LocksApart, OnlyPublishAppends, OpeningIsLawful, Parting, PublishIsAStep, RunsKeep, RunsStayLawful, SeesAll, StaysLawful, WritesOne};
+ghost use Rattle.rowex_core.specs.Statements.{EntriesInReach, FindsChange, Hindsight, ReachKeepsWords, StepsKeepKnowledge, PassKnowsAllItHas, LearnedIsTrue, StepsLeaveOthers, LocksApart, OnlyPublishAppends, OpeningIsLawful, KeysPartAtFork, PublishIsAStep, RunsKeep, RunsStayLawful, RootLoadSeesAll, StepsStayLawful, StepsWriteOneWord};
 
 /// A legal step keeps the core lawful.
 pub fn steps_stay_lawful()
-    ensures { StaysLawful }
+    ensures { StepsStayLawful }
 {}
 
 /// A legal step of one pass leaves another its records, locks, pin and round, and all versions. It adds to the changes none of that other.
 pub fn steps_leave_what_others_have()
-    ensures { LeavesOthers }
+    ensures { StepsLeaveOthers }
 {}
 
 /// A legal step of one pass leaves true what any other seat knows.
 pub fn steps_keep_what_others_know()
-    ensures { Keeps }
+    ensures { StepsKeepKnowledge }
 {}
 
 /// What a pass knows is true after its own legal step too, with what that step teaches it.
 pub fn learned_is_true()
-    ensures { Learns }
+    ensures { LearnedIsTrue }
 {}
 
 /// A load of the root leaves its pass all changes that were made before it, and so all that any pass had seen by then.
 pub fn root_load_sees_all_changes()
-    ensures { SeesAll }
+    ensures { RootLoadSeesAll }
 {}
 
 /// A pass has just the records of its own, the locks of nodes in the tree and the anchor's lock that it knows to have.
 pub fn pass_knows_all_it_has()
-    ensures { KnowsAll }
+    ensures { PassKnowsAllItHas }
 {}
 
 /// A legal atomic step changes at most one word of the table. If the words showed the core before it, they then show the core after it.
 pub fn steps_write_one_word()
-    ensures { WritesOne }
+    ensures { StepsWriteOneWord }
 {}
 
 /// The opening core is lawful, the opening words show it, and no pass has done anything.
@@ -66,13 +66,13 @@ pub fn hindsight()
 
 /// Keys below two entries of a node, in any versions of its life, first differ at the fork between the two. That below the first has 0 there.
 pub fn keys_part_at_fork_between_entries()
-    ensures { Parting }
+    ensures { KeysPartAtFork }
 {}
 
 /// A record that was in the tree in a version since a pass's pin is neither free nor held. It has the words of that version, but for its
 /// state, a node's entries and what stands behind a leaf's key.
 pub fn reach_keeps_its_words()
-    ensures { InReach }
+    ensures { ReachKeepsWords }
 {}
 
 /// Each entry in a node of a pinned pass's reach is now the one that the node had in the last version that linked it. The node's fixed

@@ -6,16 +6,16 @@ use Rattle.finite_map.specs.declared.Note.{Note}
 use Rattle.rowex_core.specs.declared.event.Act.{Act}
 use Rattle.rowex_core.specs.declared.event.Event.{Event}
 use Rattle.rowex_core.specs.declared.known.Known.{Known}
-use Rattle.rowex_table.specs.Seats.{TableView, SeatView, IsSame}
+use Rattle.rowex_table.specs.Seats.{TableView, SeatView, MakesNoAside}
 use Rattle.rowex_table.specs.Runs.{IsTold, events_of, Steps, Runs, Ends, Does, InTurn}
 use Rattle.rowex_table.specs.Statements.{GateIsToldEachStep}
 
 -- One seat
 
-pub same_none : (s : SeatView) → IsSame s s
+pub same_none : (s : SeatView) → MakesNoAside s s
 same_none s = (refl, refl, refl, refl)
 
-pub same_more : (s t u : SeatView) → IsSame s t → IsSame t u → IsSame s u
+pub same_more : (s t u : SeatView) → MakesNoAside s t → MakesNoAside t u → MakesNoAside s u
 same_more s t u first second = (second.0 ∙ first.0, second.1 ∙ first.1, second.2 ∙ first.2, second.3 ∙ first.3)
 
 -- A step is counted, and no note comes with it. Where what it has taught (l) differs from what the pass knew (k) by no more than `changed` takes,
@@ -40,8 +40,8 @@ module _ {G : Type 0} (table : TableView) (becomes : G → Event → G → Type 
   runs_append (act ∷ acts) more a m b first second = (first.0, first.1, runs_append acts more first.0 m b first.2 second)
 
   -- the seat stays one seat
-  pub runs_same : (acts : List Act) (a b : SeatView × G) → Runs table becomes acts a b → IsSame a.0 b.0
-  runs_same [] a b run = subst (λ (z : SeatView × G). IsSame a.0 z.0) (sym run) (same_none a.0)
+  pub runs_same : (acts : List Act) (a b : SeatView × G) → Runs table becomes acts a b → MakesNoAside a.0 b.0
+  runs_same [] a b run = subst (λ (z : SeatView × G). MakesNoAside a.0 z.0) (sym run) (same_none a.0)
   runs_same (act ∷ acts) a b run = same_more a.0 run.0.0 b.0 run.1.seat (runs_same acts run.0 b run.2)
 
   -- and the gate was told each step, in order

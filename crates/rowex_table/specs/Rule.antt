@@ -191,8 +191,8 @@ dealt (Founder k t m) = Pass k t
 dealt _ = Spent
 
 -- The rule holds of a table of these words with its first view.
-abbrev pub IsFounded : Layout → Bool → List ℕ → Type 0
-IsFounded layout loads words = Ruled {S = Unit {0}} layout (first_state words [] (first_view layout loads words))
+abbrev pub IsRuledAtFirst : Layout → Bool → List ℕ → Type 0
+IsRuledAtFirst layout loads words = Ruled {S = Unit {0}} layout (first_state words [] (first_view layout loads words))
 
 -- the dealer's view once the passes below this number have been dealt, from the table's first view on
 abbrev pub dealer_at : TracedView → ℕ → TracedView

@@ -11,7 +11,7 @@ use Rattle.rowex_core.specs.Events.{IsAtomic, Legal}
 use Rattle.rowex_core.specs.Knowing.{IsEvent, SeesAllAtRoot}
 use Rattle.rowex_core.specs.Opening.{opening}
 use Rattle.rowex_core.specs.Runs.{EventsLead}
-use Rattle.rowex_table.specs.Seats.{TableView, SeatView, IsSame}
+use Rattle.rowex_table.specs.Seats.{TableView, SeatView, MakesNoAside}
 use Rattle.rowex_table.specs.Stays.{LeavesFresh}
 use Rattle.rowex_table.specs.Traces.{IsNextStep, RunBeginsWith, own_acts}
 
@@ -45,7 +45,7 @@ MayTouch act before after = (before ≤ after) × (after ≤ before + most_touch
 -- The seat's pass makes this one atomic step, with which the notes `said` come, and the gate is told it. It is the next step of a run. The
 -- steps before it lead from a new table to its core, and begin with those that the pass knew. It may touch some words beside it.
 pub record StepsWith {G : Type 0} (table : TableView) (becomes : G → Event → G → Type 0) (act : Act) (said : Known → List Note) (a b : SeatView × G) : Type 0 where
-  pub seat : IsSame a.0 b.0
+  pub seat : MakesNoAside a.0 b.0
   pub atomic : IsAtomic act
   pub event : IsEvent table.layout act said a.0.known b.0.known
   pub next : IsNextStep table.layout a.0.known.pass act event.core a.0.trace b.0.trace
@@ -87,7 +87,7 @@ Ends {G = G} table becomes acts act said a b = (m : SeatView × G) × Runs table
 -- what it knows after. The rest stays, but that they are counted.
 pub record Does {G : Type 0} (table : TableView) (becomes : G → Event → G → Type 0) (changed : Known → Known → Known)
     (acts : List Act) (a b : SeatView × G) : Type 0 where
-  pub seat : IsSame a.0 b.0
+  pub seat : MakesNoAside a.0 b.0
   pub steps : Runs table becomes acts a b
   pub rest : b.0.known ≡ record (changed a.0.known b.0.known) { steps = a.0.known.steps + length acts }
 

@@ -48,8 +48,8 @@ abbrev pub IsOneSeat : SeatView → SeatView → Type 0
 IsOneSeat s t = (t.table ≡ s.table) × (t.id ≡ s.id) × (t.known.pass ≡ s.known.pass)
 
 -- The two views are of one seat. Meanwhile its pass has made or followed no stamp, and met no other pass.
-abbrev pub IsSame : SeatView → SeatView → Type 0
-IsSame s t = (t.table ≡ s.table) × (t.id ≡ s.id) × (t.known.pass ≡ s.known.pass) × (t.asides ≡ s.asides)
+abbrev pub MakesNoAside : SeatView → SeatView → Type 0
+MakesNoAside s t = (t.table ≡ s.table) × (t.id ≡ s.id) × (t.known.pass ≡ s.known.pass) × (t.asides ≡ s.asides)
 
 -- the seat, once its pass has touched n words more
 abbrev pub touched : ℕ → SeatView → SeatView

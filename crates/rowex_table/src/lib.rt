@@ -12,7 +12,7 @@
 #![tactic(auto)]
 
 mod epoch_steps;
-mod founding;
+mod first_words;
 pub mod laws;
 mod locations;
 mod plays;

@@ -9,7 +9,7 @@ ghost use Rattle.rowex_core.specs.declared.known.Known.{Known};
 ghost use Rattle.rowex_table.specs.declared.traces.TracedView.TheVariants.{Spent};
 ghost use Rattle.rowex_table.specs.Rule.{Ruled, did, first_view, met, next_dealer, dealt, paired, first_of_two, second_of_two, stamped, stamping, following, followed, touching};
 
-use crate::founding::Founding;
+use crate::first_words::FirstWords;
 use crate::traces::TracedView;
 use atomic_table::{Join, Play, Split, TableRule};
 use std::marker::{Brand, PhantomData};
@@ -19,10 +19,10 @@ use std::marker::{Brand, PhantomData};
 /// of one pass, and each pass has a seat.
 pub(crate) struct RowexRule;
 
-impl TableRule<(), TracedView, Founding> for RowexRule {
-    ghost holds = { λ founding. Ruled founding.layout };
+impl TableRule<(), TracedView, FirstWords> for RowexRule {
+    ghost holds = { λ first_words. Ruled first_words.layout };
 
-    ghost first = { λ founding. first_view founding.layout founding.loads founding.words.items };
+    ghost first = { λ first_words. first_view first_words.layout first_words.loads first_words.words.items };
 }
 
 /// Which event a step makes, at a table of which layout, and the notes that its caller adds to what is known after it.

@@ -7,10 +7,10 @@ ghost use Rattle.record_words.specs.Layout.{word_count};
 ghost use Rattle.rowex_core.specs.Events.{IsLoad, after};
 ghost use Rattle.rowex_core.specs.Opening.{opening};
 ghost use Rattle.rowex_core.specs.Words.{Shows};
-ghost use Rattle.rowex_table.specs.Rule.{IsFounded, SeatsHaveMet, first_view, load_of};
+ghost use Rattle.rowex_table.specs.Rule.{IsRuledAtFirst, SeatsHaveMet, first_view, load_of};
 ghost use Rattle.rowex_table.specs.Seats.{SeatView, IsDealtSeat, IsLoaderSeat, IsNewSeatOf, IsNewSeat, IsSeatOf, IsShownAll};
 
-use crate::founding::Founding;
+use crate::first_words::FirstWords;
 use crate::plays::{Deal, Meets, Part, Step};
 use crate::table::{HotTable, TableSeat};
 use atomic_table::Table;
@@ -31,9 +31,9 @@ impl HotTable {
         words[EPOCH_WORD] = 1;
         words[ANCHOR_WORD] = pack_state(Tag::Live);
         let loads = false;
-        HotTable::found(
+        HotTable::make_with_seats(
             alloc,
-            &Founding {
+            &FirstWords {
                 layout,
                 loads,
                 words,
@@ -57,9 +57,9 @@ impl HotTable {
         ensures others { IfOk result (λ made. (q : ℕ) (s : SeatView) → 1 ≤ q → get_elem? made.1.items q ≡ some s → IsNewSeatOf made.0 q s) }
     {
         let loads = true;
-        HotTable::found(
+        HotTable::make_with_seats(
             alloc,
-            &Founding {
+            &FirstWords {
                 layout,
                 loads,
                 words,
@@ -67,17 +67,24 @@ impl HotTable {
         )
     }
 
-    /// Makes the table that `founding` says, and deals the seats of its passes, in the order of their numbers from 0 on.
-    fn found(alloc: Global, founding: &Founding) -> Result<(HotTable, Vec<TableSeat>), AllocError>
-        requires count { length founding.now.words.items ≡ word_count founding.now.layout }
-        requires ruled { IsFounded founding.now.layout founding.now.loads founding.now.words.items }
-        ensures table { IfOk result (λ made. made.0.layout ≡ founding.now.layout) }
-        ensures count { IfOk result (λ made. length made.1.items ≡ founding.now.layout.passes) }
-        ensures seats { let first = first_view founding.now.layout founding.now.loads founding.now.words.items in
+    /// Makes the table that `first_words` says, and deals the seats of its passes, in the order of their numbers from 0 on.
+    fn make_with_seats(
+        alloc: Global,
+        first_words: &FirstWords,
+    ) -> Result<(HotTable, Vec<TableSeat>), AllocError>
+        requires count { length first_words.now.words.items ≡ word_count first_words.now.layout }
+        requires ruled { IsRuledAtFirst first_words.now.layout first_words.now.loads first_words.now.words.items }
+        ensures table { IfOk result (λ made. made.0.layout ≡ first_words.now.layout) }
+        ensures count { IfOk result (λ made. length made.1.items ≡ first_words.now.layout.passes) }
+        ensures seats { let first = first_view first_words.now.layout first_words.now.loads first_words.now.words.items in
             IfOk result (λ made. (q : ℕ) (s : SeatView) → get_elem? made.1.items q ≡ some s → IsDealtSeat made.0 first q s) }
     {
-        let layout = founding.layout;
-        let (table, mut dealer) = Table::of_words(alloc, founding.words.as_slice(), founding)?;
+        let layout = first_words.layout;
+        let (table, mut dealer) = Table::of_words(
+            alloc,
+            first_words.words.as_slice(),
+            first_words,
+        )?;
         let mut seats = Vec::new(alloc);
         for number in 0..layout.passes {
             let seat = table.shared.split_seat::<Deal>(&mut dealer);

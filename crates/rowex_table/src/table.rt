@@ -2,7 +2,7 @@
 
 ghost use Rattle.std.specs.Prelude.{◌≡◌};
 
-use crate::founding::Founding;
+use crate::first_words::FirstWords;
 use crate::plays::RowexRule;
 use crate::traces::TracedView;
 use atomic_table::{Seat, Table};
@@ -49,7 +49,7 @@ impl TableSeat {
 /// The shared words of an index, which passes step on through a `&`.
 #[derive(Drop)]
 pub struct HotTable {
-    pub(crate) table: Table<(), TracedView, Founding, RowexRule, Global>,
+    pub(crate) table: Table<(), TracedView, FirstWords, RowexRule, Global>,
     /// What is fixed of the layout, added up once: each step finds its word by this.
     pub(crate) origins: Origins,
 }

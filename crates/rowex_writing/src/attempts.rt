@@ -10,7 +10,7 @@ ghost use Rattle.rowex_table.specs.Made.{IsLater};
 ghost use Rattle.rowex_table.specs.Seats.{IsSeatOf};
 ghost use Rattle.publish_laws.specs.Lone.{HasRoom, KeepsSpare};
 ghost use Rattle.rowex_writing.specs.build.Spare.{IsRemoval};
-ghost use Rattle.rowex_writing.specs.attempts.Attempts.{HasAnswered, HasAttempted, HasFailed, HasRefused, IsFullOfNew, IsLeafless, refusal_of as the_refusal};
+ghost use Rattle.rowex_writing.specs.attempts.Attempts.{HasAnswered, HasAttempted, HasFailed, HasRefused, IsFullOnlyIfWanting, LacksNoLeaf, refusal_of as the_refusal};
 ghost use Rattle.rowex_writing.specs.store.Values.{HasDoneDeed, HasFoundOther, HasLoadedFound, IsFoundAgain};
 ghost use Rattle.rowex_writing.specs.plan.Planned.{HasLoadedRoot};
 ghost use Rattle.rowex_reading.specs.Ways.{value_of as the_value};
@@ -32,12 +32,12 @@ ghost use Rattle.record_words.specs.declared.TheConstants.{HEAD_WORDS};
 use crate::build::deeds::carry_out_deed;
 use crate::build::kept::Build;
 use crate::build::rising::load_without_leaf;
-use crate::build::taking::{claim_for_left, fill_left, put_in_place};
+use crate::build::taking::{claim_for_leftover, fill_leftover, put_in_place};
 use crate::locks::checking::check_span;
 use crate::locks::lock_span;
 use crate::merging::{find_merge, try_merge};
 use crate::plan::asking::{found_value, request_of};
-use crate::plan::job::{Job, Left, Raised};
+use crate::plan::job::{Job, Leftover, Raised};
 use crate::plan::{Deed, Full, Plan, find_plan};
 use crate::store::ending::release_records_and_locks;
 use crate::store::publishing::publish_change;
@@ -95,8 +95,8 @@ pub fn attempt<G: Gate>(
     ensures rest { IsAtRest seat.new.known }
     ensures answered { IfOk result (HasAnswered seat.old.known seat.new.known call.now) }
     ensures refused { IfErr result (HasRefused table.now.layout (the_key call.now) seat.old.known seat.new.known build.new.made.items) }
-    ensures leafless { IsLeafless TryFault.FullLeaves call.now result }
-    ensures full { IfErr result (IsFullOfNew seat.new.known call.now) }
+    ensures leafless { LacksNoLeaf TryFault.FullLeaves call.now result }
+    ensures full { IfErr result (IsFullOnlyIfWanting seat.new.known call.now) }
     ensures few { seat.new.known.steps ≤ seat.old.known.steps + most_steps_of call.now table.now.layout }
     ensures spares { KeepsSpare table.now.layout seat.old seat.new }
     ensures finds { IsRemoval call.now → HasRoom table.now.layout seat.old → result ≢ Err TryFault.FullNodes }
@@ -244,7 +244,7 @@ fn make_removal<G: Gate>(
     ensures finds { HasRoom table.now.layout seat.old → result ≢ Err TryFault.FullNodes }
 {
     let lowest = job.way[job.span.end];
-    let mut left = Left {
+    let mut left = Leftover {
         number: 0,
         words: [0; NODE_FIELDS],
     };
@@ -253,7 +253,7 @@ fn make_removal<G: Gate>(
         publish_change(table, seat, gate, build, job, put_in_place(job, entry));
         return Ok(());
     }
-    let Some(number) = claim_for_left(table, seat, gate, build, job) else {
+    let Some(number) = claim_for_leftover(table, seat, gate, build, job) else {
         undo_change(table, seat, gate, build, job);
         return Err(TryFault::FullNodes);
     };
@@ -269,7 +269,7 @@ fn end_removal<G: Gate>(
     gate: &mut G,
     build: &mut Build,
     job: &Job<'_>,
-    left: &Left,
+    left: &Leftover,
 ) -> Result<(), TryFault>
     requires takes { TakesOn table.now seat.old job.now }
     requires claimed { HasClaimed table.now seat.old.known left.now.number }
@@ -283,14 +283,14 @@ fn end_removal<G: Gate>(
     ensures spares { KeepsSpare table.now.layout seat.old seat.new }
 {
     let Some(merge) = find_merge(table, seat, gate, job, left) else {
-        let raised = fill_left(table, seat, gate, build, job, left);
+        let raised = fill_leftover(table, seat, gate, build, job, left);
         publish_change(table, seat, gate, build, job, raised);
         return Ok(());
     };
     if try_merge(table, seat, gate, build, job, &merge) {
         return Ok(());
     }
-    let raised = fill_left(table, seat, gate, build, job, left);
+    let raised = fill_leftover(table, seat, gate, build, job, left);
     publish_or_undo(table, seat, gate, build, job, raised)
 }
 

@@ -5,7 +5,7 @@ ghost use Rattle.versions.specs.Trades.{AreApart};
 ghost use Rattle.rowex_core.specs.Knowing.{version_of};
 ghost use Rattle.rowex_table.specs.Seats.{IsSeatOf};
 ghost use Rattle.rowex_table.specs.Rights.{MayLock};
-ghost use Rattle.rowex_writing.specs.locks.Locks.{AreLed, AreNodes, HasJustLocked, HasLockedSpan, HasMadeNoChange, HasNoLock, HasNotLocked, HasTheSame, IsRefusedLock, KnowsSameButLocks, LocksAnchor, LocksOne, Tries, TriesNodes, TriesOnce, Works, locks_of, numbers_of, span_numbers};
+ghost use Rattle.rowex_writing.specs.locks.Locks.{AreLed, AreNodes, HasJustLocked, HasLockedSpan, HasMadeNoChange, HasNoLock, HasNotLocked, KeepsLocksAndRecords, IsRefusedLock, KnowsSameButLocks, LocksAnchor, LocksOne, Tries, TriesNodes, TriesOnce, Works, locks_of, numbers_of, span_numbers};
 ghost use Rattle.rowex_writing.specs.locks.Others.{HasMetOther, IsBlocked};
 
 pub mod checking;
@@ -75,7 +75,7 @@ pub(crate) fn lock_node<G: Gate>(
     requires may { MayLock table.now.layout (Target.Node number) seat.old.known }
     ensures tries { Tries table.now G.becomes (Target.Node number ∷ []) (seat.old, gate.old) (seat.new, gate.new) }
     ensures locked { result ≡ true → LocksOne number seat.old.known seat.new.known }
-    ensures same { result ≡ false → HasTheSame seat.old.known seat.new.known }
+    ensures same { result ≡ false → KeepsLocksAndRecords seat.old.known seat.new.known }
     ensures refused { result ≡ false → HasNotLocked seat.old.known number → IsBlocked table.now.layout seat.old seat.new }
     ensures few { seat.new.known.steps ≤ seat.old.known.steps + 1 }
 {

@@ -31,7 +31,7 @@ use crate::locks::locked::{
     load_locked_entry, load_locked_node_words, load_position, load_sibling, read_locked_node,
 };
 use crate::merging::widening::{lock_for_merge, release_merge_locks};
-use crate::plan::job::{Job, Left, Merge};
+use crate::plan::job::{Job, Leftover, Merge};
 use crate::store::Store;
 use crate::store::publishing::{publish_entry, spot_above};
 use crate::store::valuing::is_unchanged;
@@ -98,7 +98,7 @@ pub(crate) fn find_merge<'a, G: Gate>(
     seat: &mut TableSeat,
     gate: &mut G,
     job: &Job<'_>,
-    left: &'a Left,
+    left: &'a Leftover,
 ) -> Option<Merge<'a>>
     requires takes { TakesOn table.now seat.old job.now }
     ensures reads { ReadsOn table.now G.becomes (seat.old, gate.old) (seat.new, gate.new) }

@@ -23,7 +23,7 @@ use Rattle.rowex_table.specs.Seats.{TableView}
 use Rattle.rowex_table.proofs.Runs.{told_append}
 use Rattle.hot_index_calls.specs.Answers.{IsListed, IsNoted, IsScanned, range_from}
 use Rattle.hot_index_calls.specs.Passes.{PassView, AreByPasses}
-use Rattle.hot_index_calls.specs.Traces.{HasRead, HasTold, untold}
+use Rattle.hot_index_calls.specs.Traces.{HasRead, HasMadeCallSteps, untold}
 use Rattle.hot_index_calls.proofs.Traces.{read_told, told_untold}
 use Rattle.hot_index_calls.proofs.Noting.{longer}
 use Rattle.hot_scripts.specs.declared.command.Command.{Command}
@@ -123,7 +123,7 @@ module _ {G : Type 0} (index : TableView) (becomes : G → Event → G → Type 
 
   -- a call that was answered so
   pub HasAnsweredCommand-call : (a m : PassView × G) (call : Call) (answer : Answer) (place : ℕ) (before after : List ℕ)
-      → IsCommandTold index.layout a.0 (answered_as call answer place) m.0 → HasTold index becomes a m → after ≡ before ++ line (answer_text answer)
+      → IsCommandTold index.layout a.0 (answered_as call answer place) m.0 → HasMadeCallSteps index becomes a m → after ≡ before ++ line (answer_text answer)
       → HasAnsweredCommand index becomes a (Asks call) m before after
   HasAnsweredCommand-call a m call (Reply reply) place before after told steps text = record {
     answer = called (record { place = place; call = call; reply = reply });

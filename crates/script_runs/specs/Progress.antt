@@ -6,7 +6,7 @@ use Rattle.rowex_table.specs.Seats.{TableView}
 use Rattle.hot_index_calls.specs.Answers.{HaveMet}
 use Rattle.hot_index.specs.Handles.{HandleView, handle_at}
 use Rattle.hot_index_calls.specs.Passes.{PassView, IsNewPass, Owns}
-use Rattle.hot_index_calls.specs.Traces.{HasTold, untold}
+use Rattle.hot_index_calls.specs.Traces.{HasMadeCallSteps, untold}
 use Rattle.hot_scripts.specs.declared.command.Command.{Command}
 use Rattle.hot_scripts.specs.Meaning.{line}
 use Rattle.hot_scripts.specs.Parses.{script_commands}
@@ -30,7 +30,7 @@ pub record HasAnsweredCommand {G : Type 0} (index : TableView) (becomes : G → 
   pub answer : Answered
   pub command_is : answered_command answer ≡ command
   pub told : IsCommandTold index.layout a.0 answer b.0
-  pub steps : HasTold index becomes a b
+  pub steps : HasMadeCallSteps index becomes a b
   pub text_is : after ≡ before ++ lines_of_answer answer
 
 -- The pass made these commands, one after another, and the text has the answers to them.

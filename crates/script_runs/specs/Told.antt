@@ -12,7 +12,7 @@ use Rattle.rowex_table.specs.Runs.{IsTold}
 use Rattle.rowex_table.specs.Seats.{TableView}
 use Rattle.hot_index_calls.specs.Answers.{IsRefusedFor, IsScanned, MayLack, fault_of, range_from}
 use Rattle.hot_index_calls.specs.Passes.{PassView, AreByPasses, IsNewPass, Owns}
-use Rattle.hot_index_calls.specs.Traces.{HasTold}
+use Rattle.hot_index_calls.specs.Traces.{HasMadeCallSteps}
 use Rattle.hot_index.specs.Kept.{with_one_kept}
 use Rattle.hot_scripts.specs.declared.command.Command.{Command}
 use Rattle.hot_scripts.specs.Grammar.{called_key}
@@ -40,7 +40,7 @@ IsCommandTold layout k (listed range scan before after) j =
 abbrev pub AreTold : {G : Type 0} → TableView → (G → Event → G → Type 0) → PassView × G → List Answered → PassView × G → Type 0
 AreTold index becomes a [] b = b ≡ a
 AreTold {G = G} index becomes a (answer ∷ answers) b =
-    (m : PassView × G) × IsCommandTold index.layout a.0 answer m.0 × HasTold index becomes a m × AreTold index becomes m answers b
+    (m : PassView × G) × IsCommandTold index.layout a.0 answer m.0 × HasMadeCallSteps index becomes a m × AreTold index becomes m answers b
 
 -- The gate, given as it was before and after, was told steps of this pass and no others, one after another.
 abbrev pub IsToldOf : {G : Type 0} → (G → Event → G → Type 0) → ℕ → G × G → Type 0

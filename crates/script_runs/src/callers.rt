@@ -5,7 +5,7 @@ ghost use Rattle.hot_index_calls.specs.Answers.{MayLack};
 ghost use Rattle.hot_index_calls.specs.Asked.{last_try};
 ghost use Rattle.hot_index_calls.specs.Calls.{HasCause, IsOutcome};
 ghost use Rattle.hot_index.specs.Handles.{Stays};
-ghost use Rattle.hot_index_calls.specs.Traces.{HasTold};
+ghost use Rattle.hot_index_calls.specs.Traces.{HasMadeCallSteps};
 
 use finite_map::{Call, Reply};
 use hot_index::{Full, Gate, Handle, Index, TryFault};
@@ -30,7 +30,7 @@ pub trait Caller {
         ensures call { Stays (IsOutcome call.now (last_try result)) handle.old handle.new }
         ensures cause { Stays (HasCause call.now (last_try result)) handle.old handle.new }
         ensures lacks { IfErr result (MayLack call.now) }
-        ensures told { HasTold handle.old.index G.becomes (handle.old.pass, gate.old) (handle.new.pass, gate.new) };
+        ensures told { HasMadeCallSteps handle.old.index G.becomes (handle.old.pass, gate.old) (handle.new.pass, gate.new) };
 }
 
 /// A caller that tries again, and waits by `rt`, while another pass is in its way, or records that it lacks may come back.

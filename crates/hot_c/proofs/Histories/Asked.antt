@@ -15,7 +15,7 @@ use Rattle.rowex_core.specs.declared.known.Known.{Known}
 use Rattle.rowex_table.specs.Runs.{Ends, Runs, silent}
 use Rattle.rowex_table.specs.Seats.{SeatView, TableView}
 use Rattle.rowex_table.proofs.Runs.{runs_append}
-use Rattle.rowex_writing.specs.attempts.Attempts.{IsLeafless}
+use Rattle.rowex_writing.specs.attempts.Attempts.{LacksNoLeaf}
 use Rattle.rowex_writing.specs.declared.attempts.TryFault.{TryFault}
 use Rattle.rowex_writing.specs.declared.attempts.TryFault.TheVariants.{Busy, FullLeaves, FullNodes}
 use Rattle.rowex_writing.specs.declared.plan.Full.TheVariants.{Leaves, Nodes}
@@ -25,7 +25,7 @@ use Rattle.hot_index_calls.specs.Census.{HasCounted, loads_in}
 use Rattle.hot_index_calls.specs.Noting.{change_notes}
 use Rattle.hot_index_calls.specs.Passes.{PassView, pass_of}
 use Rattle.hot_index_calls.specs.Refusals.{IsToldAfter, fault_in}
-use Rattle.hot_index_calls.specs.Traces.{HasMade, HasRead, reading, untold}
+use Rattle.hot_index_calls.specs.Traces.{HasMadeChangeSteps, HasRead, reading, untold}
 use Rattle.hot_index_calls.specs.declared.census.RecordCounts.{RecordCounts}
 use Rattle.hot_index_calls.specs.declared.refusals.Refusal.{Refusal}
 use Rattle.hot_index_calls.specs.declared.refusals.Refusal.TheVariants.{Busy as IsBusy, HeldBack, Full as IsFull}
@@ -82,7 +82,7 @@ pub record Made (index : TableView) (k j : PassView) : Type 0 where
 pub read_made : {index : TableView} {k j : PassView} → HasRead index untold (k, tt) (j, tt) → Made index k j
 read_made x = record { acts = reading x.epoch x.root x.loads; last = ClearPin; said = x.said; seat = x.ends; ends = x.steps }
 
-try_made : {index : TableView} {call : Call} {result : Result Reply TryFault} {k j : PassView} → HasMade index untold call result (k, tt) (j, tt) → Made index k j
+try_made : {index : TableView} {call : Call} {result : Result Reply TryFault} {k j : PassView} → HasMadeChangeSteps index untold call result (k, tt) (j, tt) → Made index k j
 try_made {call = call} {result = result} x = record { acts = x.acts; last = ClearPin; said = change_notes call result; seat = x.ends; ends = x.steps }
 
 module _ (index : TableView) where
@@ -95,12 +95,12 @@ module _ (index : TableView) where
       let first : Runs index untold (acts ++ last ∷ []) (s, tt) (m, tt) = runs_append index untold acts (last ∷ []) (s, tt) i (m, tt) run ((m, tt), step, refl) in
       ((acts ++ last ∷ []) ++ h.0, h.1, (h.3.0, runs_append index untold (acts ++ last ∷ []) h.0 (s, tt) (m, tt) h.3.0 first h.3.1, h.3.2))
 
-  counted_made : {call : Call} {fault : TryFault} {k m j : PassView} {counts : RecordCounts} → HasMade index untold call (Err fault) (k, tt) (m, tt) → HasCounted index untold (m, tt) (j, tt) counts → Made index k j
+  counted_made : {call : Call} {fault : TryFault} {k m j : PassView} {counts : RecordCounts} → HasMadeChangeSteps index untold call (Err fault) (k, tt) (m, tt) → HasCounted index untold (m, tt) (j, tt) counts → Made index k j
   counted_made {k = k} {m = m} {j = j} x y =
       let h = more_steps x.acts ClearPin (loads_in index.layout y.tags) k.seat m.seat j.seat x.steps y.steps in
       record { acts = h.0; last = h.1; said = silent; seat = y.ends; ends = h.2 }
 
-  told_made : {call : Call} {fault : TryFault} {k m j : PassView} (refusal : Refusal) → HasMade index untold call (Err fault) (k, tt) (m, tt) →
+  told_made : {call : Call} {fault : TryFault} {k m j : PassView} (refusal : Refusal) → HasMadeChangeSteps index untold call (Err fault) (k, tt) (m, tt) →
       IsToldAfter call index untold (k, tt) (m, tt) (j, tt) refusal → Made index k j
   told_made {k = k} IsBusy x same = subst (λ (z : PassView × Unit {0}). Made index k z.0) (sym same) (try_made x)
   told_made {k = k} (HeldBack lacks) x (inl (left, same)) = subst (λ (z : PassView × Unit {0}). Made index k z.0) (sym same) (try_made x)
@@ -122,7 +122,7 @@ module _ (index : TableView) where
 
   -- Refusals
 
-  leafless_of : (call : Call) (refusal : Refusal) (k j : PassView) → GetsOrCounts call (Err refusal) index untold (k, tt) (j, tt) → IsLeafless FullLeaves call (Err (fault_in refusal))
+  leafless_of : (call : Call) (refusal : Refusal) (k j : PassView) → GetsOrCounts call (Err refusal) index untold (k, tt) (j, tt) → LacksNoLeaf FullLeaves call (Err (fault_in refusal))
   leafless_of (Get key) refusal k j x = tt
   leafless_of (Insert key value) refusal k j x = tt
   leafless_of (Upsert key value) refusal k j x = tt
@@ -131,7 +131,7 @@ module _ (index : TableView) where
   leafless_of (Remove key) refusal k j x = x.tried.leafless
   leafless_of (RemoveIf key expected) refusal k j x = x.tried.leafless
 
-  may_fault : (call : Call) (fault : TryFault) (k j : PassView) → IsRefused index.layout call k j fault → IsLeafless FullLeaves call (Err fault) → GetsOr call (fault ≢ Busy) (Unit {0}) → MayRefuse call fault
+  may_fault : (call : Call) (fault : TryFault) (k j : PassView) → IsRefused index.layout call k j fault → LacksNoLeaf FullLeaves call (Err fault) → GetsOr call (fault ≢ Busy) (Unit {0}) → MayRefuse call fault
   may_fault (Insert key value) fault k j x leafless never = tt
   may_fault (Upsert key value) fault k j x leafless never = tt
   may_fault (Exchange key expected value) Busy k j x leafless never = tt

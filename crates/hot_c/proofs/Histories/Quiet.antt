@@ -5,7 +5,7 @@ use Rattle.record_words.specs.declared.layout.Layout.{Layout}
 use Rattle.version_laws.specs.Scan.{Range}
 use Rattle.rowex_table.specs.Seats.{TableView}
 use Rattle.hot_index_calls.specs.Passes.{PassView}
-use Rattle.hot_index_calls.specs.Traces.{HasGotRange, untold}
+use Rattle.hot_index_calls.specs.Traces.{HasMadeScanSteps, untold}
 use Rattle.hot_c.specs.Calls.{StaysOpen}
 use Rattle.hot_c.specs.Histories.{AsksNothing, QuietCalls}
 use Rattle.hot_c.specs.Orders.{IsFilledIn, IsListedIn}
@@ -48,7 +48,7 @@ module _ {o : Opened} {new : Option Opened} where
         keeps = x.keeps;
       }
 
-  read_quiet : (limit : ℕ) → StaysOpen (λ index k j. HasGotRange index untold limit (k, tt) (j, tt)) (Some o) new → StaysOpen IsUnasked (Some o) new → StaysOpen AsksNothing (Some o) new
+  read_quiet : (limit : ℕ) → StaysOpen (λ index k j. HasMadeScanSteps index untold limit (k, tt) (j, tt)) (Some o) new → StaysOpen IsUnasked (Some o) new → StaysOpen AsksNothing (Some o) new
   read_quiet limit read noted = with_notes (λ index k j got x. record { same = x.0; legal = x.1; made = inl (limit, got) }) read noted
 
 listed_in : (order : Order) (layout : Layout) (k j : PassView) (range : Range) (pairs : List (List ℕ × ℕ)) (is_more : Bool) → IsListedIn order layout k j range pairs is_more → (j.notes ≡ k.notes) × LegalCalls j.front j.number j.notes

@@ -17,7 +17,7 @@ use Rattle.finite_map.specs.declared.Change.{Change}
 use Rattle.finite_map.specs.declared.Scan.{Scan}
 use Rattle.finite_map.specs.Maps.{Map, key_order}
 use Rattle.finite_map.specs.Reverse.{falling_order, IsLawfulReverseScan}
-use Rattle.finite_map.specs.Scans.{is_within, IsHeldBetween, IsLawfulScan, IsLawfulScanWith, IsNeverRemoved, ScanOrder}
+use Rattle.finite_map.specs.Scans.{is_within, IsHeldBetween, IsLawfulScan, IsLawfulScanWith, IsHeldThroughout, ScanOrder}
 use Rattle.version_laws.specs.Directions.{ScanLaw}
 
 -- a pair that is read where there is none
@@ -79,7 +79,7 @@ module _ (order : List ℕ → List ℕ → Ordering) (total : IsTotalOrder orde
 
   module _ {before after : List Change} {from upto : List ℕ} {limit : ℕ} (whole : Scan) (law : IsLawfulScanWith scan_order before after from upto limit whole) (pairs : List (List ℕ × ℕ)) (all : whole.pairs.items ≡ pairs) (n : ℕ) (few : n < length pairs) where
     -- a key that was there all along is among all pairs, if it isn't above them
-    held_all : (is_more : Bool) → whole.more ≡ is_more → (key : List ℕ) → IsTrue (is_within from upto key) → IsNeverRemoved before after key → IsReached whole.pairs.items key → Contains (keys_of whole.pairs.items) key
+    held_all : (is_more : Bool) → whole.more ≡ is_more → (key : List ℕ) → IsTrue (is_within from upto key) → IsHeldThroughout before after key → IsReached whole.pairs.items key → Contains (keys_of whole.pairs.items) key
     held_all true more key inside kept up = law.part more key inside kept up
     held_all false more key inside kept up = law.whole more key inside kept
 

@@ -6,10 +6,10 @@ use Rattle.rowex_table.specs.Seats.{TableView}
 use Rattle.hot_index_calls.specs.Answers.{AreValuesListed, HasFoundPair, IsUnnoted, range_from}
 use Rattle.hot_index_calls.specs.Calls.{IsCountRead, IsValuesRead}
 use Rattle.hot_index_calls.specs.Passes.{PassView}
-use Rattle.hot_index_calls.specs.Traces.{HasGotRange, untold}
+use Rattle.hot_index_calls.specs.Traces.{HasMadeScanSteps, untold}
 use Rattle.hot_index.specs.Handles.{Stays}
 use Rattle.hot_c.specs.Calls.{FitsInKey, StaysOpen}
-use Rattle.hot_c.specs.Values.{AreWritten, ListsValues, Valued}
+use Rattle.hot_c.specs.Values.{AreWritten, ListsValues, ValueListing}
 use Rattle.hot_c.specs.Counting.{CountsRange}
 use Rattle.hot_c.specs.declared.opened.Opened.{Opened}
 use Rattle.hot_c.specs.declared.status.TheConstants.{DONE, NO_MEMORY}
@@ -33,7 +33,7 @@ module _ (from upto k l : List ℕ) (limit : ℕ) (old new : Option Opened) (s u
   not_closed none = none_is_some s (sym was ∙ none)
 
   -- The values of the range were listed, or memory was refused for one.
-  module _ (before after : Valued) (status : ℕ) (room : length before.room ≡ limit) (values : List ℕ) where
+  module _ (before after : ValueListing) (status : ℕ) (room : length before.room ≡ limit) (values : List ℕ) where
     pub values_listed : (more : Bool) → Stays (IsValuesRead {E = AllocError} (range_from k l limit) values (Ok more)) s.handle u.handle → status ≡ DONE → AreWritten values more before after → ListsValues from upto old new before after status
     values_listed more stays done written = record {
       closed = λ none. absurd (not_closed none);
@@ -46,8 +46,8 @@ module _ (from upto k l : List ℕ) (limit : ℕ) (old new : Option Opened) (s u
             (ranged (λ range index k j. AreValuesListed index.layout k j range values more) (record { index = stays.index; pass = stays.pass.ok })),
         written,
       );
-      read = λ some low high. subst (λ n. StaysOpen (λ index k j. HasGotRange index untold n (k, tt) (j, tt)) old new) (sym room)
-          (ranged (λ range index k j. HasGotRange index untold range.limit (k, tt) (j, tt)) (record { index = stays.index; pass = stays.pass.read }));
+      read = λ some low high. subst (λ n. StaysOpen (λ index k j. HasMadeScanSteps index untold n (k, tt) (j, tt)) old new) (sym room)
+          (ranged (λ range index k j. HasMadeScanSteps index untold range.limit (k, tt) (j, tt)) (record { index = stays.index; pass = stays.pass.read }));
     }
 
     pub values_refused : (e : AllocError) → Stays (IsValuesRead (range_from k l limit) values (Err e)) s.handle u.handle → status ≡ NO_MEMORY → after ≡ before → ListsValues from upto old new before after status
@@ -60,8 +60,8 @@ module _ (from upto k l : List ℕ) (limit : ℕ) (old new : Option Opened) (s u
             (ranged (λ range index k j. IsUnnoted index.layout k j × HasFoundPair index.layout k j range) (record { index = stays.index; pass = (stays.pass.err, stays.pass.memory) })),
         kept,
       );
-      read = λ some low high. subst (λ n. StaysOpen (λ index k j. HasGotRange index untold n (k, tt) (j, tt)) old new) (sym room)
-          (ranged (λ range index k j. HasGotRange index untold range.limit (k, tt) (j, tt)) (record { index = stays.index; pass = stays.pass.read }));
+      read = λ some low high. subst (λ n. StaysOpen (λ index k j. HasMadeScanSteps index untold n (k, tt) (j, tt)) old new) (sym room)
+          (ranged (λ range index k j. HasMadeScanSteps index untold range.limit (k, tt) (j, tt)) (record { index = stays.index; pass = stays.pass.read }));
     }
 
 -- It was counted.

@@ -2,7 +2,7 @@
 use Rattle.std.proofs.Common.{◌≡◌, ℕ, zero, suc, ◌+◌, ◌<◌, List, [], ◌∷◌, ◌++◌, length, map, take, get_or, slice_set, All, Option, None, Some, inl, refl, sym, ap, ◌∙◌, subst, arith}
 use Rattle.std.proofs.lemmas.List.{length-map}
 use Rattle.hot_index.specs.Handles.{Stays}
-use Rattle.hot_index_calls.specs.Many.{AreNoted, HasGotMany, gets}
+use Rattle.hot_index_calls.specs.Many.{AreNoted, HasMadeGetManySteps, gets}
 use Rattle.hot_index_calls.specs.Traces.{untold}
 use Rattle.hot_c.specs.Calls.{FitsInKey}
 use Rattle.hot_c.specs.Lookups.{LooksUpAll, answer, are_answered, key_in}
@@ -39,7 +39,7 @@ some_is_none : (s : Opened) → Some s ≡ None → ⊥
 some_is_none s e = cc
 
 pub looked_up : (old new : Option Opened) (before after : List Lookup) (status : ℕ) (s u : Opened) (keys : List (List ℕ)) (found : List (Option ℕ)) → old ≡ Some s → new ≡ Some u
-    → All (λ it. FitsInKey (key_in it)) before → keys ≡ map key_in before → length found ≡ length before → Stays (λ index k j. AreNoted index.layout k j (gets keys found) × HasGotMany index untold (length keys) (k, tt) (j, tt)) s.handle u.handle → status ≡ DONE
+    → All (λ it. FitsInKey (key_in it)) before → keys ≡ map key_in before → length found ≡ length before → Stays (λ index k j. AreNoted index.layout k j (gets keys found) × HasMadeGetManySteps index untold (length keys) (k, tt) (j, tt)) s.handle u.handle → status ≡ DONE
     → after ≡ are_answered before found → u.kept.items ≡ s.kept.items → LooksUpAll old new before after status
 looked_up old new before after status s u keys found was is fit keys_are many stays done told keeps = record {
   closed = λ none. absurd (some_is_none s (sym was ∙ none));
@@ -57,7 +57,7 @@ looked_up old new before after status s u keys found was is fit keys_are many st
         index = stays.index;
         pass = (
           subst (λ (l : List (List ℕ)). AreNoted s.handle.index.layout s.handle.pass u.handle.pass (gets l found)) keys_are stays.pass.0,
-          subst (λ n. HasGotMany s.handle.index untold n (s.handle.pass, tt) (u.handle.pass, tt)) (ap length keys_are ∙ length-map before key_in) stays.pass.1,
+          subst (λ n. HasMadeGetManySteps s.handle.index untold n (s.handle.pass, tt) (u.handle.pass, tt)) (ap length keys_are ∙ length-map before key_in) stays.pass.1,
         );
       };
       keeps = keeps;

@@ -3,7 +3,7 @@ use Rattle.std.proofs.Common.{◌≡◌, ◌⊎◌, ℕ, Bool, true, false, List
 use Rattle.std.specs.Global.{Global}
 use Rattle.sections.specs.Runs.{IsHeld, IsPast}
 use Rattle.sections.specs.Sections.{Enters, IsInside, Leaves, SeesOthers, SectionView, TakesMoment}
-use Rattle.hot_handles.specs.SectionHandles.{HasOpenedSection, IsAsItWas}
+use Rattle.hot_handles.specs.SectionHandles.{HasOpenedSection, IsUnchangedSection}
 use Rattle.hot_handles.specs.declared.section.opened.OpenSection.{OpenSection as OpenSection}
 use Rattle.hot_c.specs.declared.status.TheConstants.{CLOSED, DONE, INSIDE, NO_HANDLE, NO_MEMORY, NOT_PAST, OUTSIDE}
 use Rattle.hot_c.specs.Sections.{EntersSection, FindsHeld, FindsPast, HoldsInside, HoldsOutside, KeepsSection, LeavesSection, OpensSection, TellsMoment, TellsPast}
@@ -69,13 +69,13 @@ module _ (old : Option OpenSection) (o p : OpenSection) (held : old ≡ Some o) 
   opened_next handle next is opens was has =
       (p, refl, inl (refl, next, is, subst (λ (z : OpenSection). HasOpenedSection z p next) (sym (same was has)) opens))
 
-  pub none_kept : (handle : Option OpenSection) → handle ≡ None → o.kept.items ≡ [] → IsAsItWas o p → (was : OpenSection) → old ≡ Some was → OpensSection was (Some p) handle NO_HANDLE
+  pub none_kept : (handle : Option OpenSection) → handle ≡ None → o.kept.items ≡ [] → IsUnchangedSection o p → (was : OpenSection) → old ≡ Some was → OpensSection was (Some p) handle NO_HANDLE
   none_kept handle none empty keeps was has =
       let is = sym (same was has) in
-      (p, refl, inr (inl (refl, none, subst (λ (z : OpenSection). z.kept.items ≡ []) is empty, subst (λ (z : OpenSection). IsAsItWas z p) is keeps)))
+      (p, refl, inr (inl (refl, none, subst (λ (z : OpenSection). z.kept.items ≡ []) is empty, subst (λ (z : OpenSection). IsUnchangedSection z p) is keeps)))
 
-  pub none_opened : (handle : Option OpenSection) → handle ≡ None → IsAsItWas o p → (was : OpenSection) → old ≡ Some was → OpensSection was (Some p) handle NO_MEMORY
-  none_opened handle none keeps was has = (p, refl, inr (inr (refl, none, subst (λ (z : OpenSection). IsAsItWas z p) (sym (same was has)) keeps)))
+  pub none_opened : (handle : Option OpenSection) → handle ≡ None → IsUnchangedSection o p → (was : OpenSection) → old ≡ Some was → OpensSection was (Some p) handle NO_MEMORY
+  none_opened handle none keeps was has = (p, refl, inr (inr (refl, none, subst (λ (z : OpenSection). IsUnchangedSection z p) (sym (same was has)) keeps)))
 
 -- what an option has, and what it is where it has nothing
 pub some_of : {A : Type 0} (Empty : Type 0) (Holds : A → Type 0) (found : Option A) (x : A) → found ≡ Some x → MatchOption found Empty Holds → Holds x

@@ -3,7 +3,7 @@
 ghost use Rattle.std.specs.Prelude.{◌≡◌, ◌<◌, [], IfErr, IfOk, MatchOption, false, true};
 ghost use Rattle.sections.specs.Runs.{IsHeld, IsPast};
 ghost use Rattle.sections.specs.Sections.{Enters, IsInside, IsSectionOf, Leaves, SeesOthers, TakesMoment};
-ghost use Rattle.hot_handles.specs.SectionHandles.{HasOpenedSection, KeepsSections, IsAsItWas};
+ghost use Rattle.hot_handles.specs.SectionHandles.{HasOpenedSection, KeepsSections, IsUnchangedSection};
 
 use crate::section::opened::OpenSection;
 use sections::{Section, Sections};
@@ -41,9 +41,9 @@ impl OpenSection {
         &mut self,
         alloc: Global,
     ) -> Result<Option<Box<OpenSection, Global>>, AllocError>
-        ensures opened { IfOk result (λ next. MatchOption next (self.old.kept.items ≡ [] × IsAsItWas self.old self.new)
+        ensures opened { IfOk result (λ next. MatchOption next (self.old.kept.items ≡ [] × IsUnchangedSection self.old self.new)
             (λ b. HasOpenedSection self.old self.new b.value)) }
-        ensures refused { IfErr result (λ _. IsAsItWas self.old self.new) }
+        ensures refused { IfErr result (λ _. IsUnchangedSection self.old self.new) }
     {
         let sections = Arc::try_clone(&self.sections)?;
         let Some(section) = self.kept.pop() else {

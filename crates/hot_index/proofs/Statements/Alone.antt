@@ -18,7 +18,7 @@ use Rattle.hot_index_calls.specs.Answers.{IsOvertaken}
 use Rattle.hot_index_calls.specs.Passes.{PassView}
 use Rattle.hot_index_calls.proofs.Lacked.{without_one}
 use Rattle.hot_index_calls.proofs.Refusing.{no_other}
-use Rattle.hot_index.specs.Statements.{IsNobodys, OnePassFullIsFull, OnePassIsNeverBusy, ThirdIsTaken}
+use Rattle.hot_index.specs.Statements.{IsNobodys, OnePassFullMeansTaken, OnePassIsNeverBusy, ThirdIsTaken}
 
 pub one_pass_is_never_busy : OnePassIsNeverBusy
 one_pass_is_never_busy layout key k j one conflict =
@@ -124,8 +124,8 @@ module _ (layout : Layout) (k j : PassView) (one : layout.passes ≡ 1) (mine : 
       })
       (cases_lt (length all_taken.nodes) (length l.locked))
 
-pub one_pass_full_is_full : OnePassFullIsFull
-one_pass_full_is_full layout key k j one mine = (
+pub one_pass_full_means_taken : OnePassFullMeansTaken
+one_pass_full_means_taken layout key k j one mine = (
   λ all q low room. missed_so (IsAnothers layout j.number [] []) IsNobodys j.failed (a_leaf q) k.steps (λ by. alone_with_none layout j.number (a_leaf q) by one mine) (all q low room),
   λ lacks. (let (own, l) = lacks in (third_is_taken layout k j one mine own l, (own, (let few = l.few in let most = l.most in omega arith), missed layout k j one mine own l))),
 )

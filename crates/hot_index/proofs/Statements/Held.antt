@@ -19,7 +19,7 @@ use Rattle.hot_index_calls.specs.Answers.{IsNoted, IsRefused, IsRefusedFor, MayT
 use Rattle.hot_index_calls.specs.Asked.{last_try}
 use Rattle.hot_index_calls.specs.Passes.{PassView}
 use Rattle.hot_index_calls.proofs.Passes.Settled.{none_seen}
-use Rattle.hot_index.specs.Statements.{AbsentIsNeverFull, GivesValue, HeldIsNeverFull, OnePassRefusesNewAlone}
+use Rattle.hot_index.specs.Statements.{AbsentIsNeverFull, GivesValue, HeldIsNeverFull, OnePassRefusesOnlyNewKeys}
 use Rattle.hot_index.proofs.Statements.Alone.{one_pass_is_never_busy}
 
 -- a refusal that can't be as full is a busy one
@@ -62,8 +62,8 @@ full_alone layout call k j Busy one refused = absurd (one_pass_is_never_busy lay
 full_alone layout call k j FullNodes one refused = tt
 full_alone layout call k j FullLeaves one refused = tt
 
-pub one_pass_refuses_new_alone : OnePassRefusesNewAlone
-one_pass_refuses_new_alone layout call k j fault one mine legal refused gives =
+pub one_pass_refuses_only_new_keys : OnePassRefusesOnlyNewKeys
+one_pass_refuses_only_new_keys layout call k j fault one mine legal refused gives =
     let was = takes_new call k j gives (refused.refused.full (full_alone layout call k j fault one refused)) in
     let same : j.front ≡ k.front = none_seen layout k j one mine legal refused.refused.unnoted in
     let at : was.place ≡ length k.front = (let begun = was.begun in let upto = was.upto in omega (arith, begun, upto, ap length same)) in

@@ -13,7 +13,7 @@ use Rattle.rowex_core.specs.declared.event.Event.{Event}
 use Rattle.rowex_core.specs.declared.event.Spot.TheVariants.{Root}
 use Rattle.rowex_table.specs.Seats.{IsShownAll, SeatView, TableView}
 use Rattle.rowex_reading.specs.Reads.{IsBelowRoot}
-use Rattle.publish_laws.specs.Lone.{HasSpare, IsLone, IsOut, IsUnpublished, KeepsSpare}
+use Rattle.publish_laws.specs.Lone.{HasSpare, IsLone, IsOut, LeavesTree, KeepsSpare}
 use Rattle.publish_laws.proofs.Lone.{lead_layout, lead_split, none_other, runs_spare}
 use Rattle.rowex_writing.proofs.Cited.{reads_plain}
 use Rattle.hot_index_calls.specs.Census.{HasCounted}
@@ -28,10 +28,10 @@ new_has_spare layout q p some new c lone =
     let first : c ≡ opening layout = subst (λ l. EventsLead (opening layout) l c) new.4 lone.led in
     (0, some, subst (λ (z : Core). IsOut (z.fate (a_node 0))) (sym first) tt)
 
-reading_plain : (epoch root : ℕ) (loads : List Act) → All IsBelowRoot loads → All IsUnpublished (reading epoch root loads)
+reading_plain : (epoch root : ℕ) (loads : List Act) → All IsBelowRoot loads → All LeavesTree (reading epoch root loads)
 reading_plain epoch root loads below =
-    All-cons IsUnpublished (LoadEpoch epoch) (SetPin epoch ∷ LoadRef Root root ∷ loads) tt
-    (All-cons IsUnpublished (SetPin epoch) (LoadRef Root root ∷ loads) tt (All-cons IsUnpublished (LoadRef Root root) loads tt (reads_plain loads below)))
+    All-cons LeavesTree (LoadEpoch epoch) (SetPin epoch ∷ LoadRef Root root ∷ loads) tt
+    (All-cons LeavesTree (SetPin epoch) (LoadRef Root root ∷ loads) tt (All-cons LeavesTree (LoadRef Root root) loads tt (reads_plain loads below)))
 
 module _ {G : Type 0} (becomes : G → Event → G → Type 0) where
   pub reads : (index : TableView) (a b : PassView × G) → HasRead index becomes a b → KeepsSpare index.layout a.0.seat b.0.seat

@@ -37,7 +37,7 @@ use Rattle.rowex_writing.proofs.Cited.{act_front, runs_split}
 use Rattle.publish_laws.proofs.Lone.{one_of}
 use Rattle.rowex_writing.specs.declared.attempts.TryFault.{TryFault}
 use Rattle.rowex_writing.specs.declared.attempts.TryFault.TheVariants.{Busy, FullNodes, FullLeaves}
-use Rattle.publish_laws.specs.Lone.{IsUnpublished}
+use Rattle.publish_laws.specs.Lone.{LeavesTree}
 use Rattle.hot_index_calls.specs.Answers.{IsRefusedFor, IsUnnoted}
 use Rattle.hot_index_calls.specs.Census.{FoundTags, counts_in, counts_of, is_held, is_obsolete, loads_in, loads_of}
 use Rattle.hot_index_calls.proofs.Counted.{count_first}
@@ -87,17 +87,17 @@ module _ {G : Type 0} (table : TableView) (becomes : G → Event → G → Type 
   runs_grow [] a b run = let same = ap (λ (z : SeatView × G). length z.0.known.front) run in omega (arith, same)
   runs_grow (act ∷ acts) a b (m, step, rest) = let first = step_grows act a m step in let later = runs_grow acts m b rest in omega (arith, first, later)
 
-  is_plain : (act : Act) (a b : SeatView × G) → StepsWith table becomes act silent a b → length b.0.known.front ≤ length a.0.known.front → IsUnpublished act
+  is_plain : (act : Act) (a b : SeatView × G) → StepsWith table becomes act silent a b → length b.0.known.front ≤ length a.0.known.front → LeavesTree act
   is_plain (Publish spot w) a b step few = absurd (let more = published_longer table.layout a.0.known b.0.known spot w silent step.event in omega (arith, few, more))
   is_plain (Load words) a b step few = absurd step.atomic
   is_plain _ a b step few = tt
 
-  are_plain : (acts : List Act) (a b : SeatView × G) → Runs table becomes acts a b → length b.0.known.front ≤ length a.0.known.front → All IsUnpublished acts
-  are_plain [] a b run few = All-nil IsUnpublished
+  are_plain : (acts : List Act) (a b : SeatView × G) → Runs table becomes acts a b → length b.0.known.front ≤ length a.0.known.front → All LeavesTree acts
+  are_plain [] a b run few = All-nil LeavesTree
   are_plain (act ∷ acts) a b (m, step, rest) few =
       let first = step_grows act a m step in
       let later = runs_grow acts m b rest in
-      All-cons IsUnpublished act acts (is_plain act a m step (omega (arith, few, later))) (are_plain acts m b rest (omega (arith, few, first)))
+      All-cons LeavesTree act acts (is_plain act a m step (omega (arith, few, later))) (are_plain acts m b rest (omega (arith, few, first)))
 
   -- an attempt that has seen no change retires nothing
   ended_still : {Are : List Act → Type 0} {said : Known → List Note} (a b : SeatView × G) → HasEnded table becomes Are said a b → b.0.known.front ≡ a.0.known.front → HasNoneRetired table.layout a.0 → HasNoneRetired table.layout b.0

@@ -13,7 +13,7 @@ use Rattle.finite_map.specs.Fronts.{BeginsWith, map_of}
 use Rattle.finite_map.specs.Maps.{Map, key_of, reply_of, step_if, step_where, value_at}
 use Rattle.record_words.specs.declared.layout.Layout.{Layout}
 use Rattle.rowex_core.proofs.Knowing.Keeping.{seen_by}
-use Rattle.linearizability.specs.Moments.{Happening, IsPlacedSince, IsWholeRun, Moment}
+use Rattle.linearizability.specs.Moments.{Happening, IsNotedBetween, IsWholeRun, Moment}
 use Rattle.linearizability.specs.Scanning.{map_at}
 use Rattle.linearizability.specs.Statements.{RepliesInTime}
 pub use Rattle.linearizability.proofs.Moments.{all_behind as behind}
@@ -55,7 +55,7 @@ module _ (layout : Layout) (last : ℕ) (at : ℕ → Moment) (happens : ℕ →
   seen : BeginsWith made front
   seen = seen_by (at t).core ((at t).known q) ((runs_stay_sound layout last at happens run t within).knows q below)
 
-  pub effect : (since : ℕ) (n : Note) → IsPlacedSince at q since t n → StandsIn front q n → (m : ℕ) × (since ≤ m) × (m ≤ t) × (n.reply ≡ reply_of (map_at at m) n.call)
+  pub effect : (since : ℕ) (n : Note) → IsNotedBetween at q since t n → StandsIn front q n → (m : ℕ) × (since ≤ m) × (m ≤ t) × (n.reply ≡ reply_of (map_at at m) n.call)
   effect since n placed stands =
       let from = placed.from in
       let upto = placed.upto in

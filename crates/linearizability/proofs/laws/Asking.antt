@@ -17,7 +17,7 @@ use Rattle.finite_map.proofs.Calls.{legal_longer, pass-change_of, same_value}
 use Rattle.finite_map.proofs.Fronts.{nothing_before}
 use Rattle.record_words.specs.declared.layout.Layout.{Layout}
 use Rattle.linearizability.specs.Histories.{ChangesAsAsked, HasChangedOnce, replied}
-use Rattle.linearizability.specs.Moments.{Happening, IsPlacedSince, IsRefusal, IsResponse, IsSoundMoment, IsWholeRun, Moment, Pending}
+use Rattle.linearizability.specs.Moments.{Happening, IsNotedBetween, IsRefusal, IsResponse, IsSoundMoment, IsWholeRun, Moment, Pending}
 use Rattle.linearizability.specs.Statements.{RefusedChangeNothing, RespondersChangeAsAsked}
 use Rattle.linearizability.proofs.Histories.Calling.{LegalUpTo, calls_legal}
 use Rattle.linearizability.proofs.Moments.{all_behind, cancelled, grown, loaded_since, longer, runs_stay_sound}
@@ -200,8 +200,8 @@ module _ (layout : Layout) (last : ℕ) (at : ℕ → Moment) (happens : ℕ →
           stands : StandsIn (at t).core.changes q n
           stands = All-head (StandsIn (at t).core.changes q) n [] (subst (All (StandsIn (at t).core.changes q)) e (all_behind (StandsIn (at t).core.changes q) ((at s).known q).notes notes second.each))
 
-          placed : IsPlacedSince at q s t n
-          placed = All-head (IsPlacedSince at q s t) n [] (subst (All (IsPlacedSince at q s t)) e x.placed)
+          placed : IsNotedBetween at q s t n
+          placed = All-head (IsNotedBetween at q s t) n [] (subst (All (IsNotedBetween at q s t)) e x.placed)
 
           low : length (at s).core.changes ≤ n.place
           low =

@@ -11,7 +11,7 @@ use Rattle.rowex_core.specs.declared.event.Target.TheVariants.{Anchor, Node as N
 use Rattle.rowex_core.specs.Cores.{Core}
 use Rattle.rowex_core.specs.Events.{after, anchored, claimed, given_back, marked}
 use Rattle.rowex_core.proofs.Sharing.{at_record}
-use Rattle.publish_laws.specs.Lone.{IsOut, IsUnpublished, IsUnused}
+use Rattle.publish_laws.specs.Lone.{IsOut, LeavesTree, IsUnused}
 
 -- What holds of a fate holds of those that steps which are no publishes make of it.
 pub record IsClosed (P : Fate → Type 0) : Type 0 where
@@ -76,7 +76,7 @@ module _ (P : Fate → Type 0) (closed : IsClosed P) where
   anchor_kept s q (Some p) i = λ was. was
 
   -- a step that is no publish
-  pub fate_kept : (c : Core) (q : ℕ) (act : Act) → IsUnpublished act → MarksWell P act → (i : Rec) → P (c.fate i) → P ((after c q act).fate i)
+  pub fate_kept : (c : Core) (q : ℕ) (act : Act) → LeavesTree act → MarksWell P act → (i : Rec) → P (c.fate i) → P ((after c q act).fate i)
   fate_kept c q (Claim r found) plain well i = claim_kept c.shared q r (c.fate r) i
   fate_kept c q (Fill r offset w) plain well i = λ was. was
   fate_kept c q (MakeReady r) plain well i = given c.shared r (Ready q) (λ was. closed.ready q) i

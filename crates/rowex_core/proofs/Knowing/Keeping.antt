@@ -21,7 +21,7 @@ use Rattle.rowex_core.specs.Cores.{Core, IsLawful}
 use Rattle.rowex_core.specs.Events.{Legal, after}
 use Rattle.rowex_core.specs.Frames.{IsFrame}
 use Rattle.rowex_core.specs.Knowing.{StoodBetween, StoodAs, HoldsIfStood, IsFact, Knows, NoChangeBy, IsUntouched, Knowing, IsViewOf}
-use Rattle.rowex_core.specs.Statements.{SeesAll}
+use Rattle.rowex_core.specs.Statements.{RootLoadSeesAll}
 use Rattle.rowex_core.proofs.Frames.{frame}
 use Rattle.rowex_core.proofs.Cores.Valuing.{namer_shared, loaded_kept}
 use Rattle.finite_map.proofs.Fronts.{begins_on, others_begin, others_on}
@@ -78,7 +78,7 @@ pub seen_by : (c : Core) (o : Known) → Knows c o → BeginsWith c.changes o.fr
 seen_by c o h = others_begin o.pass o.front c.changes h.seen.front
 
 -- A load of the root shows all changes.
-pub sees_all : SeesAll
+pub sees_all : RootLoadSeesAll
 sees_all c k w law h l = (refl, refl, λ o known. seen_by c o known)
 
 -- A legal step of one pass leaves true what any other view says.

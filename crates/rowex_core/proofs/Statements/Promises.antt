@@ -33,7 +33,7 @@ use Rattle.rowex_core.specs.Cores.{IsLawful, bare, heap_of, word_count_of}
 use Rattle.rowex_core.specs.Words.{record_word, word_at, Shows}
 use Rattle.rowex_core.specs.Events.{IsFixedOffset, after, next_change}
 use Rattle.rowex_core.specs.Opening.{opening, opening_words}
-use Rattle.rowex_core.specs.Statements.{OpeningIsLawful, Hindsight, Parting, InReach, EntriesInReach, PublishIsAStep, LocksApart, call_of_kind, call_of_change}
+use Rattle.rowex_core.specs.Statements.{OpeningIsLawful, Hindsight, KeysPartAtFork, ReachKeepsWords, EntriesInReach, PublishIsAStep, LocksApart, call_of_kind, call_of_change}
 use Rattle.rowex_core.proofs.Frames.{next_change_pass}
 use Rattle.rowex_core.proofs.Cores.Loading.{LastOf, last, entry_of_last, fixed_fact, view}
 use Rattle.rowex_core.proofs.Cores.{stays_lawful}
@@ -98,7 +98,7 @@ opening_is_lawful layout = (
 pub hindsight : Hindsight
 hindsight c law q p e m low k n h = state_hindsight (view c) law.core.state m (reach_later (view c) p.version m low (law.core.state.reach q p.version (ap pin_version e))) k n h
 
-pub parting : Parting
+pub parting : KeysPartAtFork
 parting c law = state_parting (view c) law.core.state
 
 -- behind the value the words of a leaf are its key's
@@ -124,7 +124,7 @@ same_word r offset w (node n x b) (leaf m l z) is fits h has = absurd h
 same_word r offset w (node n x b) (fork p a d) is fits h has = absurd h
 same_word r offset w (fork p a b) v is fits h has = absurd h
 
-pub in_reach : InReach
+pub in_reach : ReachKeepsWords
 in_reach c law q p e n r u lo hi st =
     let kept = core_reach (bare c) law.core q p e n lo hi r u st in (kept.0, kept.1, word)
   where

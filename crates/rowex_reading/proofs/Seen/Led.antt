@@ -23,7 +23,7 @@ use Rattle.rowex_core.specs.declared.known.Loaded.{Loaded}
 use Rattle.rowex_core.specs.declared.known.Known.{Known}
 use Rattle.rowex_core.specs.Knowing.{IsEvent, IsPinnedSince, version_of}
 use Rattle.rowex_table.specs.Runs.{Runs, Steps, silent}
-use Rattle.rowex_table.specs.Seats.{TableView, SeatView, IsSame, IsSeatOf}
+use Rattle.rowex_table.specs.Seats.{TableView, SeatView, MakesNoAside, IsSeatOf}
 use Rattle.rowex_table.proofs.Runs.{runs_append, runs_one, runs_same, same_more}
 use Rattle.version_laws.specs.Scan.{EntryStoodSince, IsPlaced, IsShaped}
 use Rattle.version_laws.proofs.Scan.Loads.{placed_seen, rooted_seen}
@@ -140,7 +140,7 @@ module _ {G : Type 0} {table : TableView} {becomes : G → Event → G → Type 
     steps = runs_append table becomes x.acts y.acts a b c x.steps y.steps;
   }
 
-  pub reads_same : {e n : ℕ} {a b : SeatView × G} → Reads table becomes e n a b → IsSame a.0 b.0
+  pub reads_same : {e n : ℕ} {a b : SeatView × G} → Reads table becomes e n a b → MakesNoAside a.0 b.0
   reads_same {a = a} {b = b} x = runs_same table becomes x.acts a b x.steps
 
   pub reads_later : {e n : ℕ} {a b : SeatView × G} → Reads table becomes e n a b → IsLater a.0.known b.0.known
@@ -182,7 +182,7 @@ module _ {G : Type 0} {table : TableView} {becomes : G → Event → G → Type 
   pub looks_on : {e f n m : ℕ} {a b c : SeatView × G} → Looks table becomes e n a b → Reads table becomes f m b c → Looks table becomes (e + f) (n + m) a c
   looks_on x y = record { at = x.at; root = x.root; rest = reads_trans x.rest y }
 
-  pub looks_same : {e n : ℕ} {a b : SeatView × G} → Looks table becomes e n a b → IsSame a.0 b.0
+  pub looks_same : {e n : ℕ} {a b : SeatView × G} → Looks table becomes e n a b → MakesNoAside a.0 b.0
   looks_same {a = a} {b = b} x = same_more a.0 x.at.0 b.0 x.root.1.seat (reads_same x.rest)
 
   pub looked_at : {ents n : ℕ} {a b : SeatView × G} → Looks table becomes ents n a b → HasLookedAt n a.0.known b.0.known

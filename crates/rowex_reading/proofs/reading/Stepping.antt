@@ -134,7 +134,6 @@ module _ {k : Known} {m n h : ℕ} (words : List ℕ) (are : AreHeadWords k m n 
 -- ---- a head of a kind
 module _ {k : Known} {m n h : ℕ} (kind : HeadKind) (part : List ℕ) (is : kind_in (get_or part 0 0) ≡ kind) (long : length part ≡ head_size kind)
     (are : AreHeadWords k m n h (part ++ replicate (HEAD_WORDS - head_size kind) (2 ^ 64 - 1))) where
-
   some : 0 < length part
   some = omega (arith, long, size_some kind)
     where

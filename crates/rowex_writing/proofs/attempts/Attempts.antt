@@ -36,7 +36,7 @@ use Rattle.rowex_core.specs.Knowing.{IsPinnedSince}
 use Rattle.rowex_reading.specs.Seen.{Sure, since}
 use Rattle.rowex_reading.proofs.Seen.{later_trans, held_stable, missed_stable, shaped_stable, sure_later, since_later}
 use Rattle.rowex_writing.specs.plan.Asking.{aim_of, aim_where, reply_to, value_in}
-use Rattle.rowex_writing.specs.attempts.Attempts.{HasAnswered, HasLooked, HasRefused, IsAttemptCause, IsChangeOf, IsLeafless, refusal_of, HasFailed, HasMetKey, HasMissedKey, IsFullFault, IsFullOfNew, WantsRecord}
+use Rattle.rowex_writing.specs.attempts.Attempts.{HasAnswered, HasLooked, HasRefused, IsAttemptCause, IsChangeOf, LacksNoLeaf, refusal_of, HasFailed, HasSeenKeyHeld, HasSeenKeyAbsent, IsFullFault, IsFullOnlyIfWanting, WantsRecord}
 use Rattle.rowex_writing.specs.store.Values.{HasDoneDeed, revalued}
 use Rattle.rowex_writing.specs.build.Changes.{HasChanged, HasNoRoom, IsFull}
 use Rattle.rowex_writing.specs.plan.Planned.{AreAffected, IsPlanned, HasLoadedRoot}
@@ -275,7 +275,7 @@ removal_takes k m key way aim found plan span deed e is planned =
     takes k m key way found span deed (subst (λ a. IsPlanned k m key way a found (a_change span deed)) e (subst (IsPlanned k m key way aim found) is planned))
 
 -- a removal is not full of leaves, if what aims at one is not; and no call that was answered is
-pub leafless : (call : Call) (held : Option ℕ) (aim : Aim) (fault : TryFault) → aim_of call held ≡ Some aim → (aim ≡ ToRemove → fault ≢ FullLeaves) → IsLeafless FullLeaves call (Err fault)
+pub leafless : (call : Call) (held : Option ℕ) (aim : Aim) (fault : TryFault) → aim_of call held ≡ Some aim → (aim ≡ ToRemove → fault ≢ FullLeaves) → LacksNoLeaf FullLeaves call (Err fault)
 leafless (Insert key value) held aim fault e h = tt
 leafless (Upsert key value) held aim fault e h = tt
 leafless (Exchange key expected value) held aim fault e h = tt
@@ -298,7 +298,7 @@ pub nodes_refused : (full : Full) → refusal_of full ≡ FullNodes → full ≡
 nodes_refused Nodes is = refl
 nodes_refused Leaves is = cc
 
-pub answered_leafless : (call : Call) (reply : Reply) → IsLeafless FullLeaves call (Ok reply)
+pub answered_leafless : (call : Call) (reply : Reply) → LacksNoLeaf FullLeaves call (Ok reply)
 answered_leafless (Insert key value) reply = tt
 answered_leafless (Upsert key value) reply = tt
 answered_leafless (Exchange key expected value) reply = tt
@@ -457,17 +457,17 @@ expects expected held own aim e = go (nat_eq held expected) refl e
     go false same e = absurd (cc)
 
 -- a call that aims at a removal is one, and has found its key
-removal_may : (j : Known) (call : Call) (held : ℕ) → aim_of call (Some held) ≡ Some ToRemove → HasMetKey j (key_of call) held → WantsRecord j call
+removal_may : (j : Known) (call : Call) (held : ℕ) → aim_of call (Some held) ≡ Some ToRemove → HasSeenKeyHeld j (key_of call) held → WantsRecord j call
 removal_may j (Insert key value) held e met = absurd (cc)
 removal_may j (Upsert key value) held e met = absurd (cc)
 removal_may j (Exchange key expected value) held e met = absurd (let other : ToUpsert ≡ ToRemove = aim_met (λ a. a ≡ ToRemove) expected (Some held) ToUpsert ToRemove e refl in cc)
 removal_may j (Add key delta) held e met = absurd (cc)
 removal_may j (Get key) held e met = absurd (cc)
 removal_may j (Remove key) held e met = (held, met)
-removal_may j (RemoveIf key expected) held e met = subst (HasMetKey j key) (expects expected held ToRemove ToRemove e) met
+removal_may j (RemoveIf key expected) held e met = subst (HasSeenKeyHeld j key) (expects expected held ToRemove ToRemove e) met
 
 -- and one that aims at anything else where its key is absent gives it a value
-absent_may : (j : Known) (call : Call) (aim : Aim) → (aim ≡ ToRemove → ⊥) → aim_of call None ≡ Some aim → HasMissedKey j (key_of call) → WantsRecord j call
+absent_may : (j : Known) (call : Call) (aim : Aim) → (aim ≡ ToRemove → ⊥) → aim_of call None ≡ Some aim → HasSeenKeyAbsent j (key_of call) → WantsRecord j call
 absent_may j (Insert key value) aim gives e missed = missed
 absent_may j (Upsert key value) aim gives e missed = missed
 absent_may j (Exchange key expected value) aim gives e missed = absurd (cc)
@@ -476,18 +476,18 @@ absent_may j (Get key) aim gives e missed = absurd (cc)
 absent_may j (Remove key) aim gives e missed = absurd (gives (sym (some_is _ _ e)))
 absent_may j (RemoveIf key expected) aim gives e missed = absurd (cc)
 
-missed : (k j : Known) (key other : Key) → key ≡ other → IsPinnedSince k (since k) → Sure k (λ s. WasAbsentSince s (since k) key) → IsLater k j → HasMissedKey j other
+missed : (k j : Known) (key other : Key) → key ≡ other → IsPinnedSince k (since k) → Sure k (λ s. WasAbsentSince s (since k) key) → IsLater k j → HasSeenKeyAbsent j other
 missed k j key other same pinned sure later =
     (since k, since_later later pinned, subst (λ z. Sure j (λ s. WasAbsentSince s (since k) z)) same (sure_later {P = λ s. WasAbsentSince s (since k) key} (missed_stable (since k) key) later sure))
 
-met : (k j : Known) (key other : Key) (value : ℕ) → key ≡ other → IsPinnedSince k (since k) → Sure k (λ s. IsHeldSince s (since k) key value) → IsLater k j → HasMetKey j other value
+met : (k j : Known) (key other : Key) (value : ℕ) → key ≡ other → IsPinnedSince k (since k) → Sure k (λ s. IsHeldSince s (since k) key value) → IsLater k j → HasSeenKeyHeld j other value
 met k j key other value same pinned sure later =
     (since k, since_later later pinned, subst (λ z. Sure j (λ s. IsHeldSince s (since k) z value)) same (sure_later {P = λ s. IsHeldSince s (since k) key value} (held_stable (since k) key value) later sure))
 
 -- so where no record was free for it, it may take one
 pub full_of_new : (k p j : Known) (m : ℕ) (key : Key) (way : List PathNode) (aim : Aim) (found : Found) (span : Span) (deed : Deed) (fault : TryFault) (call : Call) → key ≡ key_of call →
     IsPlanned p m key way aim found (a_change span deed) → IsPinnedSince k (since k) → HasFound k key (value_of found) → IsLater k j → aim_of call (value_of found) ≡ Some aim → (deed ≡ ValueDeed → fault ≡ Busy) →
-    IsFullOfNew j call fault
+    IsFullOnlyIfWanting j call fault
 full_of_new k p j m key way ToInsert Nothing span deed fault call same planned pinned sure later e whole full = absent_may j call ToInsert (λ is. cc) e (missed k j key (key_of call) same pinned sure later)
 full_of_new k p j m key way ToUpsert Nothing span deed fault call same planned pinned sure later e whole full = absent_may j call ToUpsert (λ is. cc) e (missed k j key (key_of call) same pinned sure later)
 full_of_new k p j m key way ToRemove Nothing span deed fault call same (first, last, is, affected) pinned sure later e whole full = no_answer _ span deed (sym is)

@@ -14,7 +14,7 @@ use Rattle.rowex_table.specs.Seats.{TableView, SeatView}
 use Rattle.rowex_records.specs.Claims.{Claims, FindsFree, FindsNone}
 use Rattle.rowex_reading.proofs.Counting.{runs_count}
 use Rattle.rowex_writing.specs.build.Building.{HasLeafMade, IsBuilding}
-use Rattle.rowex_writing.specs.plan.Counts.{deed_steps, leaf_steps, levels_steps}
+use Rattle.rowex_writing.specs.plan.Counts.{deed_steps, leaf_steps, all_levels_steps}
 use Rattle.rowex_writing.specs.build.Walks.{nodes_among}
 
 -- ---- parts of a list
@@ -76,6 +76,6 @@ nodes_apart (a_node n ∷ made) apart = ((λ h. apart.0 (of_nodes (a_node n) mad
 nodes_apart (a_leaf n ∷ made) apart = nodes_apart made apart.1
 
 -- a deed takes these steps at least, with or without a record
-pub deed_least : {X E : Type 0} (layout : Layout) (locks : ℕ) (r : Result X E) → leaf_steps layout + levels_steps layout locks ≤ deed_steps layout locks r
+pub deed_least : {X E : Type 0} (layout : Layout) (locks : ℕ) (r : Result X E) → leaf_steps layout + all_levels_steps layout locks ≤ deed_steps layout locks r
 deed_least layout locks (Ok made) = omega arith
 deed_least layout locks (Err full) = omega arith

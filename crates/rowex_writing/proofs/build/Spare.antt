@@ -34,7 +34,7 @@ use Rattle.rowex_table.proofs.Onward.{led_more}
 use Rattle.rowex_reading.specs.Reads.{IsBelowRoot, Looks, Reads}
 use Rattle.rowex_records.specs.Claims.{FindsFree, FindsNone, Misses, begin_of, wrapped}
 use Rattle.rowex_records.proofs.Claims.{begins_low, turned_to}
-use Rattle.publish_laws.specs.Lone.{HasFree, HasRoom, HasSpare, IsLone, IsUnpublished, KeepsSpare}
+use Rattle.publish_laws.specs.Lone.{HasFree, HasRoom, HasSpare, IsLone, LeavesTree, KeepsSpare}
 use Rattle.publish_laws.proofs.Lone.{look_free, one_of, runs_free, runs_out, runs_spare, step_back}
 use Rattle.publish_laws.proofs.Lone.Published.{gone_out, publish_free, publish_spare}
 use Rattle.rowex_writing.specs.build.Building.{IsBuilding}
@@ -54,24 +54,24 @@ use Rattle.rowex_writing.proofs.build.Changes.{reversed_has}
 use Rattle.rowex_writing.proofs.locks.Runs.{plain_recalls, quiet_recalls}
 
 -- ---- kinds of steps
-recalls_unpublished : (act : Act) → KeepsRecall act → IsUnpublished act
+recalls_unpublished : (act : Act) → KeepsRecall act → LeavesTree act
 recalls_unpublished (Publish spot w) t = absurd t
 recalls_unpublished (Load words) t = absurd t
 recalls_unpublished _ t = tt
 
-below_unpublished : (act : Act) → IsBelowRoot act → IsUnpublished act
+below_unpublished : (act : Act) → IsBelowRoot act → LeavesTree act
 below_unpublished (Publish spot w) t = absurd t
 below_unpublished (Load words) t = absurd t
 below_unpublished _ t = tt
 
-goes_plain : (acts : List Act) → All TriesNoLock acts → All IsUnpublished acts
-goes_plain acts plain = All-weaker TriesNoLock IsUnpublished (λ act t. recalls_unpublished act (quiet_recalls act t)) acts plain
+goes_plain : (acts : List Act) → All TriesNoLock acts → All LeavesTree acts
+goes_plain acts plain = All-weaker TriesNoLock LeavesTree (λ act t. recalls_unpublished act (quiet_recalls act t)) acts plain
 
-works_plain : (acts : List Act) → All LoadsNoRoot acts → All IsUnpublished acts
-works_plain acts plain = All-weaker LoadsNoRoot IsUnpublished (λ act t. recalls_unpublished act (plain_recalls act t)) acts plain
+works_plain : (acts : List Act) → All LoadsNoRoot acts → All LeavesTree acts
+works_plain acts plain = All-weaker LoadsNoRoot LeavesTree (λ act t. recalls_unpublished act (plain_recalls act t)) acts plain
 
-pub reads_plain : (acts : List Act) → All IsBelowRoot acts → All IsUnpublished acts
-reads_plain acts plain = All-weaker IsBelowRoot IsUnpublished below_unpublished acts plain
+pub reads_plain : (acts : List Act) → All IsBelowRoot acts → All LeavesTree acts
+reads_plain acts plain = All-weaker IsBelowRoot LeavesTree below_unpublished acts plain
 
 -- ---- what stays
 module _ {G : Type 0} (table : TableView) (becomes : G → Event → G → Type 0) where
@@ -84,21 +84,21 @@ module _ {G : Type 0} (table : TableView) (becomes : G → Event → G → Type 
   pub reads_spare : {entries n : ℕ} (a b : SeatView × G) → Reads table becomes entries n a b → KeepsSpare table.layout a.0 b.0
   reads_spare a b reads = runs_spare table becomes reads.acts a b (reads_plain reads.acts reads.below) reads.steps
 
-  looks_plain : (w : ℕ) (acts : List Act) → All IsBelowRoot acts → All IsUnpublished (LoadRef Root w ∷ acts)
-  looks_plain w acts below = All-cons IsUnpublished (LoadRef Root w) acts tt (reads_plain acts below)
+  looks_plain : (w : ℕ) (acts : List Act) → All IsBelowRoot acts → All LeavesTree (LoadRef Root w ∷ acts)
+  looks_plain w acts below = All-cons LeavesTree (LoadRef Root w) acts tt (reads_plain acts below)
 
   pub looks_spare : {entries n : ℕ} (a b : SeatView × G) → Looks table becomes entries n a b → KeepsSpare table.layout a.0 b.0
   looks_spare a b looks = runs_spare table becomes (LoadRef Root looks.root.0 ∷ looks.rest.acts) a b (looks_plain looks.root.0 looks.rest.acts looks.rest.below) (looks.at, looks.root.1, looks.rest.steps)
 
-  pub act_spare : (act : Act) (a b : SeatView × G) → IsUnpublished act → Steps table becomes act a b → KeepsSpare table.layout a.0 b.0
+  pub act_spare : (act : Act) (a b : SeatView × G) → LeavesTree act → Steps table becomes act a b → KeepsSpare table.layout a.0 b.0
   act_spare act a b plain step = runs_spare table becomes (act ∷ []) a b (one plain) (b, step, refl)
     where
-      one : IsUnpublished act → All IsUnpublished (act ∷ [])
+      one : LeavesTree act → All LeavesTree (act ∷ [])
       one plain zero d low = plain
       one plain (suc i) d low = absurd (omega arith)
 
   -- what is free, if the pass has no record
-  runs_room : (acts : List Act) (a b : SeatView × G) → All IsUnpublished acts → Runs table becomes acts a b → b.0.known.own ≡ [] → HasRoom table.layout a.0 → HasRoom table.layout b.0
+  runs_room : (acts : List Act) (a b : SeatView × G) → All LeavesTree acts → Runs table becomes acts a b → b.0.known.own ≡ [] → HasRoom table.layout a.0 → HasRoom table.layout b.0
   runs_room acts a b plain run none (one, (n, low, free)) = (one, (n, low, runs_free table becomes acts a b n plain run (λ o has is. absurd (subst (IsOneOf o) none has)) free))
 
   pub goes_room : (a b : SeatView × G) → WorksOn table becomes a b → b.0.known.own ≡ [] → HasRoom table.layout a.0 → HasRoom table.layout b.0

@@ -51,7 +51,7 @@ use Rattle.publish_laws.proofs.Loops.{later_if_same, later_transitive}
 use Rattle.publish_laws.proofs.Lone.{one_of}
 use Rattle.rowex_writing.proofs.locks.Runs.{plain_recalls, runs_count}
 use Rattle.rowex_writing.proofs.locks.Tried.{tries_none, tries_one, tries_more}
-use Rattle.rowex_writing.specs.locks.Locks.{Tries, Works, HasTheSame, LoadsNoRoot, IsTakenWord, LocksOne, LocksAnchor, IsRefusedLock, NoChangeFrom, HasMadeNoChange, targets_of}
+use Rattle.rowex_writing.specs.locks.Locks.{Tries, Works, KeepsLocksAndRecords, LoadsNoRoot, IsTakenWord, LocksOne, LocksAnchor, IsRefusedLock, NoChangeFrom, HasMadeNoChange, targets_of}
 
 module _ {G : Type 0} (table : TableView) (becomes : G → Event → G → Type 0) where
   pub works_none : (a : SeatView × G) → Works table becomes a a
@@ -190,7 +190,7 @@ module _ (layout : Layout) (k j : Known) where
       met Anchor found e ne (subst IsTakenWord (sym is) (taken_anchor e.core.anchor (λ z. ne (is ∙ z)))) (anchor_taker e.core k e.lawful e.knows free e.core.anchor refl (λ z. ne (is ∙ z)))
 
   -- whoever is in the way, the pass has what it had
-  pub node_same : (n found : ℕ) → IsEvent layout (Lock (NodeTarget n) found) silent k j → found ≢ 2 → HasTheSame k j
+  pub node_same : (n found : ℕ) → IsEvent layout (Lock (NodeTarget n) found) silent k j → found ≢ 2 → KeepsLocksAndRecords k j
   node_same n found e ne =
       let is = before.lock_fails layout k j (NodeTarget n) found e ne in (ap (λ (z : Known). z.locks) is, ap (λ (z : Known). z.anchor) is, ap (λ (z : Known). z.own) is)
 

@@ -30,7 +30,7 @@ use Rattle.publish_laws.proofs.Cases.Merging.{beside_in_table}
 use Rattle.rowex_writing.specs.merging.Merging.{IsNeighbour}
 use Rattle.rowex_writing.specs.build.Taking.{IsTaking, TakesOn, lower, no_step, upper}
 use Rattle.rowex_writing.specs.declared.plan.job.Job.{Job}
-use Rattle.rowex_writing.specs.declared.plan.job.Left.{Left}
+use Rattle.rowex_writing.specs.declared.plan.job.Leftover.{Leftover}
 use Rattle.rowex_writing.specs.declared.plan.job.Merge.{Merge}
 use Rattle.rowex_writing.proofs.build.Above.{locked_at}
 use Rattle.rowex_writing.proofs.locks.Going.{locked_on, seat_of}
@@ -114,7 +114,7 @@ module _ (table : TableView) (a : SeatView) (job : Job) (takes : TakesOn table a
           sym (sibling_spot job.key.now shown) ∙ sibling_beside (spot job.key.now shown) place (get_or view.columns column 0) (Node number height) shown (spot_below job.key.now shown) forks_shown
           (sym (place_is shown place) ∙ (ap (λ (b : Bool). if b then Some (entry_at shown place) else None) (lt-ltb place (size shown) place_shown) ∙ ap Some (sym entry)))
 
-      pub found_beside : (left : Bor Left) (number height position : ℕ) → position ≡ position_at view.columns column → Node number height ≡ entry_at shown place →
+      pub found_beside : (left : Bor Leftover) (number height position : ℕ) → position ≡ position_at view.columns column → Node number height ≡ entry_at shown place →
           IsNeighbour a.known job (record { slot = place; position = position; number = number; left = left })
       found_beside left number height position at entry =
           let is : get_or view.columns column 0 ≡ position = sym (at ∙ get_or_default view.columns column 65535 0 forks.in_range) in

@@ -83,10 +83,10 @@ HasAnswered k j call reply = (HasLooked j call reply × OthersGoOn k.pass k.fron
     ((x : Change) × (was : Option ℕ) × IsChangeOf k.pass call reply x was × HasChanged k j x was)
 
 -- the result is no refusal for want of a leaf record, if the call removes
-abbrev pub IsLeafless : {F : Type 0} → F → Call → Result Reply F → Type 0
-IsLeafless leaves (Remove key) result = result ≢ Err leaves
-IsLeafless leaves (RemoveIf key expected) result = result ≢ Err leaves
-IsLeafless leaves call result = Unit {0}
+abbrev pub LacksNoLeaf : {F : Type 0} → F → Call → Result Reply F → Type 0
+LacksNoLeaf leaves (Remove key) result = result ≢ Err leaves
+LacksNoLeaf leaves (RemoveIf key expected) result = result ≢ Err leaves
+LacksNoLeaf leaves call result = Unit {0}
 
 -- Why an attempt was refused. As busy, a lock found its target taken by another pass, or the pass has seen a change since its pin. As full,
 -- no node record was free, or no leaf record with room for the key.
@@ -101,25 +101,25 @@ IsFullFault Busy = ⊥
 IsFullFault fault = Unit {0}
 
 -- the key was absent in a version since the pass's pin
-abbrev pub HasMissedKey : Known → Key → Type 0
-HasMissedKey j key = (m : ℕ) × IsPinnedSince j m × Sure j (λ s. WasAbsentSince s m key)
+abbrev pub HasSeenKeyAbsent : Known → Key → Type 0
+HasSeenKeyAbsent j key = (m : ℕ) × IsPinnedSince j m × Sure j (λ s. WasAbsentSince s m key)
 
 -- the key had this value in a version since the pass's pin
-abbrev pub HasMetKey : Known → Key → ℕ → Type 0
-HasMetKey j key value = (m : ℕ) × IsPinnedSince j m × Sure j (λ s. IsHeldSince s m key value)
+abbrev pub HasSeenKeyHeld : Known → Key → ℕ → Type 0
+HasSeenKeyHeld j key value = (m : ℕ) × IsPinnedSince j m × Sure j (λ s. IsHeldSince s m key value)
 
 -- A call may lack a record. An insertion or an upsert may whose search has not found the key. A removal may whose search has found it, with
 -- the value that it expects.
 abbrev pub WantsRecord : Known → Call → Type 0
-WantsRecord j (Insert key value) = HasMissedKey j key
-WantsRecord j (Upsert key value) = HasMissedKey j key
-WantsRecord j (Remove key) = (value : ℕ) × HasMetKey j key value
-WantsRecord j (RemoveIf key expected) = HasMetKey j key expected
+WantsRecord j (Insert key value) = HasSeenKeyAbsent j key
+WantsRecord j (Upsert key value) = HasSeenKeyAbsent j key
+WantsRecord j (Remove key) = (value : ℕ) × HasSeenKeyHeld j key value
+WantsRecord j (RemoveIf key expected) = HasSeenKeyHeld j key expected
 WantsRecord j call = ⊥
 
 -- the fault is that no record was free only if the call may lack one
-abbrev pub IsFullOfNew : Known → Call → TryFault → Type 0
-IsFullOfNew j call fault = IsFullFault fault → WantsRecord j call
+abbrev pub IsFullOnlyIfWanting : Known → Call → TryFault → Type 0
+IsFullOnlyIfWanting j call fault = IsFullFault fault → WantsRecord j call
 
 -- The attempt was refused, and made no change. Others have made all changes since.
 pub record HasRefused (layout : Layout) (key : Key) (k j : Known) (made : List Rec) (fault : TryFault) : Type 0 where

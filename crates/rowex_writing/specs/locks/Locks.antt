@@ -172,8 +172,8 @@ abbrev pub LocksAnchor : Known → Known → Type 0
 LocksAnchor k j = IsSome j.anchor × (j.locks ≡ k.locks) × (j.own ≡ k.own)
 
 -- the pass has the same locks and records
-abbrev pub HasTheSame : Known → Known → Type 0
-HasTheSame k j = (j.locks ≡ k.locks) × (j.anchor ≡ k.anchor) × (j.own ≡ k.own)
+abbrev pub KeepsLocksAndRecords : Known → Known → Type 0
+KeepsLocksAndRecords k j = (j.locks ≡ k.locks) × (j.anchor ≡ k.anchor) × (j.own ≡ k.own)
 
 -- Since the pass knew k, it has the same records. Its seat is one of the table's, and what it knows is possible.
 abbrev pub KeepsRecords : TableView → Known → SeatView → Type 0

@@ -41,8 +41,8 @@ abbrev pub level_steps : ℕ
 level_steps = NODE_FIELDS + 2 * node_steps
 
 -- How many steps the nodes take at most that are remade, no more than there are locks. Each node record is tried by two steps.
-abbrev pub levels_steps : Layout → ℕ → ℕ
-levels_steps layout locks = locks * level_steps + 2 * layout.nodes
+abbrev pub all_levels_steps : Layout → ℕ → ℕ
+all_levels_steps layout locks = locks * level_steps + 2 * layout.nodes
 
 -- How many steps it takes at most to undo a change for which no record was free. Each new record, two for a lock, is looked at and given
 -- up, and each lock is given back.
@@ -52,8 +52,8 @@ undo_steps locks = 5 * locks + 1
 -- How many steps a deed takes at most: for a leaf's record, and for nodes that are remade. If no record was free, each that was made, two
 -- for a lock, is looked at.
 abbrev pub deed_steps : {X E : Type 0} → Layout → ℕ → Result X E → ℕ
-deed_steps layout locks (Ok made) = leaf_steps layout + levels_steps layout locks
-deed_steps layout locks (Err full) = leaf_steps layout + levels_steps layout locks + 2 * locks
+deed_steps layout locks (Ok made) = leaf_steps layout + all_levels_steps layout locks
+deed_steps layout locks (Err full) = leaf_steps layout + all_levels_steps layout locks + 2 * locks
 
 -- how many of a deed's steps are left over, since a removal and a new value make no leaf's record
 abbrev pub spare_steps : Deed → ℕ
@@ -71,7 +71,7 @@ held_loads found = 0
 -- How many steps a change takes at most, once its nodes are locked and checked. They are for a leaf's record, for nodes that are remade,
 -- and to undo them.
 abbrev pub change_steps : Layout → ℕ → ℕ
-change_steps layout locks = leaf_steps layout + levels_steps layout locks + undo_steps locks
+change_steps layout locks = leaf_steps layout + all_levels_steps layout locks + undo_steps locks
 
 -- how many steps follow the search at most; if no lock is tried, those of a head for the plan
 abbrev pub rest_steps : Layout → ℕ → ℕ

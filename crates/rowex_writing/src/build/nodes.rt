@@ -138,7 +138,7 @@ fn make_half_entry<G: Gate>(
 
 /// Makes the fork that replaces a node with the entry `old`, which was cut in two. Each new node gets a record, that of the 1 side first.
 /// `None` if no node record was free: one made by then stays in `build.made`.
-pub(crate) fn make_risen<G: Gate>(
+pub(crate) fn make_fork_of_cut<G: Gate>(
     table: &HotTable,
     seat: &mut TableSeat,
     gate: &mut G,

@@ -24,7 +24,7 @@ ghost use Rattle.rowex_writing.specs.plan.Counts.{level_steps, node_steps};
 ghost use Rattle.rowex_writing.specs.build.Walks.{Makes};
 
 use crate::build::kept::{Build, MOST_MADE};
-use crate::build::nodes::{make_node, make_node_from_words, make_node_with_leaf, make_risen};
+use crate::build::nodes::{make_fork_of_cut, make_node, make_node_from_words, make_node_with_leaf};
 use crate::build::remaking::{Fork, NewLeaf, add_fork, add_leaf, cut_with_fork, cut_with_leaf};
 use crate::locks::locked::{load_locked_node_words, read_locked_node};
 use crate::plan::job::Job;
@@ -58,7 +58,7 @@ fn raise_node_with_fork<G: Gate>(
     if node.count() as usize == MAX_ENTRIES {
         let old = node_entry(number, &node);
         let cut = cut_with_fork(&node, fork);
-        return make_risen(table, seat, gate, build, old, &cut);
+        return make_fork_of_cut(table, seat, gate, build, old, &cut);
     }
     add_fork(&mut node, fork);
     let entry = make_node(table, seat, gate, build, &node)?;
@@ -82,9 +82,9 @@ pub(crate) struct LoadedNode {
     pub words: [u64; NODE_FIELDS],
 }
 
-/// Does what [`make_risen_with_leaf`] does, for any node, by way of a `Node` made of its words. `None` if no node record was free: one that
+/// Does what [`remake_node_with_leaf`] does, for any node, by way of a `Node` made of its words. `None` if no node record was free: one that
 /// was made by then stays in `build.made`.
-fn make_risen_with_leaf_by_value<G: Gate>(
+fn remake_node_with_leaf_by_value<G: Gate>(
     table: &HotTable,
     seat: &mut TableSeat,
     gate: &mut G,
@@ -103,7 +103,7 @@ fn make_risen_with_leaf_by_value<G: Gate>(
         let old = node_entry(loaded.number, &node);
         let cut = cut_with_leaf(&node, new);
         let stays = has_whole_node(&cut);
-        let risen = make_risen(table, seat, gate, build, old, &cut)?;
+        let risen = make_fork_of_cut(table, seat, gate, build, old, &cut)?;
         return Some((risen, stays));
     }
     add_leaf(&mut node, new);
@@ -114,7 +114,7 @@ fn make_risen_with_leaf_by_value<G: Gate>(
 /// Makes what replaces the node `loaded` when it gets the leaf `new`: one entry, or a fork of two if it was full. The flag tells whether
 /// the node stays, as one side of that fork. `None` if no node record was free: one that was made by then stays in `build.made`.
 /// `loaded.words` may be changed: a node of leaves alone with room gets the leaf there, which costs least.
-fn make_risen_with_leaf<G: Gate>(
+fn remake_node_with_leaf<G: Gate>(
     table: &HotTable,
     seat: &mut TableSeat,
     gate: &mut G,
@@ -132,7 +132,7 @@ fn make_risen_with_leaf<G: Gate>(
         let entry = make_node_with_leaf(table, seat, gate, build, &mut loaded.words, new)?;
         return Some((Risen::Whole(entry), false));
     }
-    make_risen_with_leaf_by_value(table, seat, gate, build, loaded, new)
+    remake_node_with_leaf_by_value(table, seat, gate, build, loaded, new)
 }
 
 /// Makes what replaces the locked node `number`, the lowest of a span, when it gets the leaf `new`. It is one entry, or a fork of two if it
@@ -160,7 +160,7 @@ fn raise_lowest_node_with_leaf<G: Gate>(
         words: [0; NODE_FIELDS],
     };
     load_locked_node_words(table, seat, gate, number, &mut loaded.words);
-    make_risen_with_leaf(table, seat, gate, build, &mut loaded, new)
+    remake_node_with_leaf(table, seat, gate, build, &mut loaded, new)
 }
 
 /// Whether one side of `cut` is the node that was cut, as it was.
@@ -347,7 +347,7 @@ pub(crate) fn load_without_leaf<G: Gate>(
 
 /// The entry for what is left of the locked node of `step` without the leaf in its slot, to which some key's search leads. It is that of a
 /// new record, or the only entry left. `None` if no node record was free: none is made then.
-pub(crate) fn raise_without_leaf<G: Gate>(
+pub(crate) fn make_entry_without_leaf<G: Gate>(
     table: &HotTable,
     seat: &mut TableSeat,
     gate: &mut G,

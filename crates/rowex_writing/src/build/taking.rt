@@ -21,9 +21,9 @@ ghost use Rattle.rowex_writing.specs.declared.plan.Deed.TheVariants.{TakeTop};
 use crate::build::growing::show_number_fits;
 use crate::build::kept::Build;
 use crate::build::nodes::claim_node;
-use crate::build::rising::raise_without_leaf;
+use crate::build::rising::make_entry_without_leaf;
 use crate::plan::Full;
-use crate::plan::job::{Job, Left, Raised};
+use crate::plan::job::{Job, Leftover, Raised};
 use compound_node::Entry;
 use record_words::{NUMBERS_INDEX, read_numbers};
 use rowex_core::{Gate, Rec};
@@ -91,7 +91,7 @@ fn remake_without_leaf<G: Gate>(
 {
     build.begin_claims(table.layout().nodes);
     let lowest = job.way[job.span.end];
-    let Some(entry) = raise_without_leaf(table, seat, gate, build, lowest) else {
+    let Some(entry) = make_entry_without_leaf(table, seat, gate, build, lowest) else {
         return Err(Full::Nodes);
     };
     Ok(put_in_place(job, entry))
@@ -99,7 +99,7 @@ fn remake_without_leaf<G: Gate>(
 
 /// Claims a record for what is left of the lower node of `job`'s span, or for the node that this is merged into. Returns its number. `None`
 /// if no node record was free.
-pub(crate) fn claim_for_left<G: Gate>(
+pub(crate) fn claim_for_leftover<G: Gate>(
     table: &HotTable,
     seat: &mut TableSeat,
     gate: &mut G,
@@ -121,13 +121,13 @@ pub(crate) fn claim_for_left<G: Gate>(
 }
 
 /// Fills the record of `left`, which is the only one of the change then. What is left is to take the place of the lower node.
-pub(crate) fn fill_left<G: Gate>(
+pub(crate) fn fill_leftover<G: Gate>(
     table: &HotTable,
     seat: &mut TableSeat,
     gate: &mut G,
     build: &mut Build,
     job: &Job<'_>,
-    left: &Left,
+    left: &Leftover,
 ) -> Raised
     requires still { TakesStill table.now seat.old job.now }
     requires claimed { HasClaimed table.now seat.old.known left.now.number }

@@ -12,7 +12,7 @@ ghost use Rattle.rowex_table.specs.Seats.{IsSeatOf};
 ghost use Rattle.publish_laws.specs.Lone.{KeepsSpare};
 ghost use Rattle.rowex_writing.specs.locks.Going.{HasLocked};
 ghost use Rattle.rowex_writing.specs.locks.Jobs.{IsJobFrom};
-ghost use Rattle.rowex_writing.specs.locks.Locks.{AreNodes, HasTheSame, KeepsRecords, LocksLast, Works, span_numbers, HasRun, HasTried};
+ghost use Rattle.rowex_writing.specs.locks.Locks.{AreNodes, KeepsLocksAndRecords, KeepsRecords, LocksLast, Works, span_numbers, HasRun, HasTried};
 ghost use Rattle.rowex_reading.specs.declared.descent.Found.{Found as FoundView};
 ghost use Rattle.tries.specs.Keys.{Key as KeyView};
 ghost use Rattle.rowex_writing.specs.merging.Merging.{IsFar, IsNeighbour, IsTargetAbove, IsWide, LocksAbove, TriesMore};
@@ -43,7 +43,7 @@ pub(crate) fn lock_for_merge<G: Gate>(
     ensures later { KeepsRecords table.now seat.old.known seat.new }
     ensures wide { result ≡ true → (w : IsWide table.now seat.new job.now number) ×
         (w.taking.before.known.locks ≡ seat.old.known.locks) × (w.taking.before.known.anchor ≡ seat.old.known.anchor) }
-    ensures same { result ≡ false → HasTheSame seat.old.known seat.new.known }
+    ensures same { result ≡ false → KeepsLocksAndRecords seat.old.known seat.new.known }
     ensures few { seat.new.known.steps ≤ seat.old.known.steps + 5 }
     ensures spares { KeepsSpare table.now.layout seat.old seat.new }
 {
@@ -91,7 +91,7 @@ fn lock_target_above<G: Gate>(
         IsTargetAbove job.now.way.now (job.now.span.end - 1) target }
     ensures later { IsLater seat.old.known seat.new.known × (seat.new.known.own ≡ seat.old.known.own) }
     ensures above { result ≡ true → LocksAbove seat.old.known.locks job.now.key.now job.now.way.now job.now.found (job.now.span.end - 1) seat.new.known }
-    ensures same { result ≡ false → HasTheSame seat.old.known seat.new.known }
+    ensures same { result ≡ false → KeepsLocksAndRecords seat.old.known seat.new.known }
     ensures few { seat.new.known.steps ≤ seat.old.known.steps + 3 }
     ensures spares { KeepsSpare table.now.layout seat.old seat.new }
 {
@@ -117,7 +117,7 @@ fn lock_root<G: Gate>(
     ensures tries { HasTried table.now G.becomes (Target.Anchor ∷ []) (seat.old, gate.old) (seat.new, gate.new) }
     ensures later { IsLater seat.old.known seat.new.known × (seat.new.known.own ≡ seat.old.known.own) }
     ensures locked { result ≡ true → (seat.new.known.locks ≡ seat.old.known.locks) × (seat.new.known.anchor ≡ Some root) }
-    ensures same { result ≡ false → HasTheSame seat.old.known seat.new.known }
+    ensures same { result ≡ false → KeepsLocksAndRecords seat.old.known seat.new.known }
     ensures few { seat.new.known.steps ≤ seat.old.known.steps + 3 }
     ensures spares { KeepsSpare table.now.layout seat.old seat.new }
 {
@@ -148,7 +148,7 @@ fn lock_node_with_entry<G: Gate>(
     ensures later { IsLater seat.old.known seat.new.known × (seat.new.known.own ≡ seat.old.known.own) }
     ensures locked { result ≡ true → LocksLast step.number seat.old.known.locks seat.new.known × (seat.new.known.anchor ≡ seat.old.known.anchor) ×
         ((words : List ℕ) → HasLocked seat.new.known step.number words → entry ≡ Some (entry_at (node_words_of words).subtrie step.slot)) }
-    ensures same { result ≡ false → HasTheSame seat.old.known seat.new.known }
+    ensures same { result ≡ false → KeepsLocksAndRecords seat.old.known seat.new.known }
     ensures few { seat.new.known.steps ≤ seat.old.known.steps + 3 }
     ensures spares { KeepsSpare table.now.layout seat.old seat.new }
 {

@@ -40,12 +40,12 @@ pub(crate) struct Merge<'a> {
     /// The number of the sibling's record.
     pub number: u32,
     /// What is left of the lower node.
-    pub left: &'a Left,
+    pub left: &'a Leftover,
 }
 
 /// What is left of a node that loses a leaf, where that is a node, too.
 #[derive(Drop)]
-pub(crate) struct Left {
+pub(crate) struct Leftover {
     /// The number of the record that is claimed for it, or for the node of both where it is merged with its sibling.
     pub number: u32,
     /// The words of what is left, all but its state.

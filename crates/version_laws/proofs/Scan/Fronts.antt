@@ -18,7 +18,7 @@ use Rattle.finite_map.specs.declared.Kind.TheVariants.{Added, Replaced, Removed}
 use Rattle.finite_map.specs.declared.Scan.{Scan}
 use Rattle.finite_map.specs.Maps.{Map, key_order, value_at}
 use Rattle.finite_map.specs.Fronts.{map_of, changed, changed_by}
-use Rattle.finite_map.specs.Scans.{is_within, IsHeldBetween, IsNeverRemoved as IsKeptBetween, IsUpToLast, IsLawfulScanWith}
+use Rattle.finite_map.specs.Scans.{is_within, IsHeldBetween, IsHeldThroughout as IsKeptBetween, IsUpToLast, IsLawfulScanWith}
 use Rattle.finite_map.specs.Reverse.{falling_order, IsDownToLast}
 use Rattle.tries.specs.Keys.{Key, IsBefore, IsAtMost}
 use Rattle.tries.specs.Tree.{Tree, Has}

@@ -15,7 +15,7 @@ use Rattle.hot_index_calls.specs.Asked.{HasAsked, HasLacked, HasReplied}
 use Rattle.hot_index_calls.specs.Calls.{IsTried}
 use Rattle.hot_index_calls.specs.Census.{loads_in}
 use Rattle.hot_index_calls.specs.Passes.{pass_of}
-use Rattle.hot_index_calls.specs.Refusals.{AreAllAtRest, IsLeftOne, IsShortOf, Judges, fault_in}
+use Rattle.hot_index_calls.specs.Refusals.{AreAllAtRest, HasNodeLeft, IsShortOf, Judges, fault_in}
 use Rattle.hot_index_calls.specs.Rooms.{FindsRoom, IsEarly}
 use Rattle.hot_index_calls.specs.Traces.{AreAttempts, is_full}
 use Rattle.hot_index_calls.proofs.changing.Resting.{lacked_full}
@@ -61,14 +61,14 @@ returns-in_default g c =
 pub count_records-counts-requires : goal.count_records-counts-requires
 count_records-counts-requires g c = c.in-Err.ensures.asked.replied.idle.0
 
-pub returns-then-is_left_one : goal.returns-then-is_left_one
-returns-then-is_left_one g c =
+pub returns-then-has_node_left : goal.returns-then-has_node_left
+returns-then-has_node_left g c =
     let table = c.args.table.now in
     let call = c.args.call.now in
     let asked = subst (λ (f : TryFault). HasAsked table g.G.Gate.becomes (AreAttempts table g.G.Gate.becomes call (Err f)) call (Err f) (c.args.seat.now, c.args.gate.now) (c.try_change.new.seat, c.try_change.new.gate)) c.in-Some.ensures.some c.in-Err.ensures.asked in
     let (acts, are, ends) = asked.ended in
     let finds : FindsRoom table.layout call (Err (fault_of c.in-Some.lacks)) c.args.seat.now c.try_change.new.seat = λ removal one was early is. c.in-Err.ensures.room removal one was early (ap Err c.in-Some.ensures.some ∙ is) in
-    let left = subst (λ (l : Layout). IsLeftOne l.passes call) c.layout-passes.ensures (c.is_left_one.ensures.0 c.if-is_left_one.true) in
+    let left = subst (λ (l : Layout). HasNodeLeft l.passes call) c.layout-passes.ensures (c.has_node_left.ensures.0 c.if-has_node_left.true) in
     record {
       replied = asked.replied;
       stepped = (acts, ClearPin, ends);
@@ -78,27 +78,27 @@ returns-then-is_left_one g c =
       room = finds;
     }
 
-pub returns-else-is_left_one-clause-replied : goal.returns-else-is_left_one-clause-replied
-returns-else-is_left_one-clause-replied g c =
+pub returns-else-has_node_left-clause-replied : goal.returns-else-has_node_left-clause-replied
+returns-else-has_node_left-clause-replied g c =
     let table = c.args.table.now in
     let call = c.args.call.now in
     let asked = subst (λ (f : TryFault). HasAsked table g.G.Gate.becomes (AreAttempts table g.G.Gate.becomes call (Err f)) call (Err f) (c.args.seat.now, c.args.gate.now) (c.try_change.new.seat, c.try_change.new.gate)) c.in-Some.ensures.some c.in-Err.ensures.asked in
     subst (λ (f : TryFault). HasReplied table call (Err f) c.args.seat.now c.count_records-counts.new.seat) (sym (judged_fault _ _ _ _ _ c.judge_lack.result c.judge_lack.ensures))
     (counted_replied {m = (c.try_change.new.seat, c.try_change.new.gate)} {b = (c.count_records-counts.new.seat, c.count_records-counts.new.gate)} c.count_records-counts.ensures.steps table.layout.nodes_in_range.0 c.count_records-counts.ensures.pin call c.args.seat.now c.in-Some.lacks asked.replied asked.later)
 
-pub returns-else-is_left_one-clause-stepped : goal.returns-else-is_left_one-clause-stepped
-returns-else-is_left_one-clause-stepped g c =
+pub returns-else-has_node_left-clause-stepped : goal.returns-else-has_node_left-clause-stepped
+returns-else-has_node_left-clause-stepped g c =
     let (acts, are, ends) = c.in-Err.ensures.asked.ended in
     stepped_on acts (loads_in c.args.table.now.layout c.count_records-counts.ensures.steps.0) ClearPin (c.args.seat.now, c.args.gate.now) (c.try_change.new.seat, c.try_change.new.gate) (c.count_records-counts.new.seat, c.count_records-counts.new.gate) ends
     c.count_records-counts.ensures.steps.3.steps
 
-pub returns-else-is_left_one-clause-later : goal.returns-else-is_left_one-clause-later
-returns-else-is_left_one-clause-later g c =
+pub returns-else-has_node_left-clause-later : goal.returns-else-has_node_left-clause-later
+returns-else-has_node_left-clause-later g c =
     let n : c.count_records-counts.new.seat.known.steps ≡ c.try_change.new.seat.known.steps + length (loads_in c.args.table.now.layout c.count_records-counts.ensures.steps.0) = ap (λ (z : Known). z.steps) c.count_records-counts.ensures.steps.3.rest in
     omega (arith, n, c.in-Err.ensures.asked.later)
 
-pub returns-else-is_left_one-clause-tried : goal.returns-else-is_left_one-clause-tried
-returns-else-is_left_one-clause-tried g c =
+pub returns-else-has_node_left-clause-tried : goal.returns-else-has_node_left-clause-tried
+returns-else-has_node_left-clause-tried g c =
     let table = c.args.table.now in
     let call = c.args.call.now in
     let fault = fault_of c.in-Some.lacks in
@@ -120,7 +120,7 @@ returns-else-is_left_one-clause-tried g c =
       all,
       counts_short table g.G.Gate.becomes one steps.0 (c.try_change.new.seat, c.try_change.new.gate) (c.count_records-counts.new.seat, c.count_records-counts.new.gate) steps.1 steps.3.steps (key_of call) key (nodes_among c.try_change.new.scratch.build.made.items) c.in-Some.lacks used all c.saturating_add-needs.result needs,
     ) in
-    let other = λ (left : IsLeftOne table.layout.passes call). false≢true (sym c.if-is_left_one.false ∙ c.is_left_one.ensures.1 (subst (λ (l : Layout). IsLeftOne l.passes call) (sym c.layout-passes.ensures) left)) in
+    let other = λ (left : HasNodeLeft table.layout.passes call). false≢true (sym c.if-has_node_left.false ∙ c.has_node_left.ensures.1 (subst (λ (l : Layout). HasNodeLeft l.passes call) (sym c.layout-passes.ensures) left)) in
     record {
       mid = (pass_of c.try_change.new.seat, c.try_change.new.gate);
       tried = subst (λ (f : TryFault). IsTried call (Err f) table g.G.Gate.becomes (pass_of c.args.seat.now, c.args.gate.now) (pass_of c.try_change.new.seat, c.try_change.new.gate)) (sym (judged_fault _ _ _ _ _ c.judge_lack.result c.judge_lack.ensures))
@@ -129,12 +129,12 @@ returns-else-is_left_one-clause-tried g c =
           c.try_change.new.scratch.build.made.items c.saturating_add-needs.result lacked needs other rest c.judge_lack.result judged;
     }
 
-pub returns-else-is_left_one-clause-spares : goal.returns-else-is_left_one-clause-spares
-returns-else-is_left_one-clause-spares g c = λ was.
+pub returns-else-has_node_left-clause-spares : goal.returns-else-has_node_left-clause-spares
+returns-else-has_node_left-clause-spares g c = λ was.
     counts_spare c.args.table.now g.G.Gate.becomes c.count_records-counts.ensures.steps.0 (c.try_change.new.seat, c.try_change.new.gate) (c.count_records-counts.new.seat, c.count_records-counts.new.gate) c.count_records-counts.ensures.steps.3.steps (c.in-Err.ensures.spares was)
 
-pub returns-else-is_left_one-clause-room : goal.returns-else-is_left_one-clause-room
-returns-else-is_left_one-clause-room g c = λ removal one was early is.
+pub returns-else-has_node_left-clause-room : goal.returns-else-has_node_left-clause-room
+returns-else-has_node_left-clause-room g c = λ removal one was early is.
     let longer = runs_longer c.args.table.now g.G.Gate.becomes (loads_in c.args.table.now.layout c.count_records-counts.ensures.steps.0) (c.try_change.new.seat, c.try_change.new.gate) (c.count_records-counts.new.seat, c.count_records-counts.new.gate) c.count_records-counts.ensures.steps.3.steps in
     let judged = judged_fault _ _ _ _ _ c.judge_lack.result c.judge_lack.ensures in
     let same : fault_in c.judge_lack.result ≡ FullNodes = cc in

@@ -132,63 +132,63 @@ returns-in-Some-clause-spares g c = λ had.
     let (n, at) = gone_node c.args.job.now.way.now c.args.job.now.span c.put_in_place.result (omega (arith, low, t.below.last)) (omega (arith, low)) t.below.taken.within.1 in c.publish_change.ensures.spares (by_gone n at)
 
 -- ---- a record is claimed
-pub claim_for_left-requires-clause-takes : goal.claim_for_left-requires-clause-takes
-claim_for_left-requires-clause-takes g c =
+pub claim_for_leftover-requires-clause-takes : goal.claim_for_leftover-requires-clause-takes
+claim_for_leftover-requires-clause-takes g c =
     takes_taken c.args.table.now g.G.Gate.becomes (c.args.seat.now, c.args.gate.now) (c.load_without_leaf.new.seat, c.load_without_leaf.new.gate) c.args.job.now c.load_without_leaf.ensures.reads.goes c.requires.taken c.requires.some
 
-pub claim_for_left-requires-clause-none : goal.claim_for_left-requires-clause-none
-claim_for_left-requires-clause-none g c = c.load_without_leaf.ensures.reads.own ∙ c.requires.taken.2.own
+pub claim_for_leftover-requires-clause-none : goal.claim_for_leftover-requires-clause-none
+claim_for_leftover-requires-clause-none g c = c.load_without_leaf.ensures.reads.own ∙ c.requires.taken.2.own
 
 -- none is free
 pub undo_change-requires : goal.undo_change-requires
 undo_change-requires g c = record {
-  held = holds_on c.args.table.now g.G.Gate.becomes (c.args.seat.now, c.args.gate.now) (c.claim_for_left.new.seat, c.claim_for_left.new.gate) c.args.job.now Take
-      (goes_more c.args.table.now g.G.Gate.becomes (c.args.seat.now, c.args.gate.now) (c.load_without_leaf.new.seat, c.load_without_leaf.new.gate) (c.claim_for_left.new.seat, c.claim_for_left.new.gate) c.load_without_leaf.ensures.reads.goes c.claim_for_left.ensures.goes) c.requires.taken;
-  made = c.in_default-claim_for_left.ensures.claims.not_made;
+  held = holds_on c.args.table.now g.G.Gate.becomes (c.args.seat.now, c.args.gate.now) (c.claim_for_leftover.new.seat, c.claim_for_leftover.new.gate) c.args.job.now Take
+      (goes_more c.args.table.now g.G.Gate.becomes (c.args.seat.now, c.args.gate.now) (c.load_without_leaf.new.seat, c.load_without_leaf.new.gate) (c.claim_for_leftover.new.seat, c.claim_for_leftover.new.gate) c.load_without_leaf.ensures.reads.goes c.claim_for_leftover.ensures.goes) c.requires.taken;
+  made = c.in_default-claim_for_leftover.ensures.claims.not_made;
 }
 
-pub returns-in_default-claim_for_left-clause-run : goal.returns-in_default-claim_for_left-clause-run
-returns-in_default-claim_for_left-clause-run g c =
+pub returns-in_default-claim_for_leftover-clause-run : goal.returns-in_default-claim_for_leftover-clause-run
+returns-in_default-claim_for_leftover-clause-run g c =
     let table = c.args.table.now in
     let (t, same) = is_taking table c.args.seat.now c.args.job.now c.requires.taken c.requires.some in
-    let goes = goes_more table g.G.Gate.becomes (c.args.seat.now, c.args.gate.now) (c.load_without_leaf.new.seat, c.load_without_leaf.new.gate) (c.claim_for_left.new.seat, c.claim_for_left.new.gate) c.load_without_leaf.ensures.reads.goes c.claim_for_left.ensures.goes in
-    removal_changes table g.G.Gate.becomes c.args.job.now t c.claim_for_left.new.build.left_nodes (NODE_FIELDS + 2) 84 (c.args.seat.now, c.args.gate.now) (c.claim_for_left.new.seat, c.claim_for_left.new.gate) (c.undo_change.new.seat, c.undo_change.new.gate) (omega arith)
-    (goes_run table g.G.Gate.becomes (c.args.seat.now, c.args.gate.now) (c.claim_for_left.new.seat, c.claim_for_left.new.gate) goes) (omega (arith, c.load_without_leaf.ensures.few, c.claim_for_left.ensures.walk))
-    (few_none table g.G.Gate.becomes (span_numbers c.args.job.now.way.now c.args.job.now.span) c.claim_for_left.new.build.left_nodes 84 (c.claim_for_left.new.seat, c.claim_for_left.new.gate) (c.undo_change.new.seat, c.undo_change.new.gate)
-    (works_run table g.G.Gate.becomes (c.claim_for_left.new.seat, c.claim_for_left.new.gate) (c.undo_change.new.seat, c.undo_change.new.gate) c.undo_change.ensures.works)
-    (omega (arith, c.undo_change.ensures.few, c.in_default-claim_for_left.ensures.claims.few, t.below.last)))
+    let goes = goes_more table g.G.Gate.becomes (c.args.seat.now, c.args.gate.now) (c.load_without_leaf.new.seat, c.load_without_leaf.new.gate) (c.claim_for_leftover.new.seat, c.claim_for_leftover.new.gate) c.load_without_leaf.ensures.reads.goes c.claim_for_leftover.ensures.goes in
+    removal_changes table g.G.Gate.becomes c.args.job.now t c.claim_for_leftover.new.build.left_nodes (NODE_FIELDS + 2) 84 (c.args.seat.now, c.args.gate.now) (c.claim_for_leftover.new.seat, c.claim_for_leftover.new.gate) (c.undo_change.new.seat, c.undo_change.new.gate) (omega arith)
+    (goes_run table g.G.Gate.becomes (c.args.seat.now, c.args.gate.now) (c.claim_for_leftover.new.seat, c.claim_for_leftover.new.gate) goes) (omega (arith, c.load_without_leaf.ensures.few, c.claim_for_leftover.ensures.walk))
+    (few_none table g.G.Gate.becomes (span_numbers c.args.job.now.way.now c.args.job.now.span) c.claim_for_leftover.new.build.left_nodes 84 (c.claim_for_leftover.new.seat, c.claim_for_leftover.new.gate) (c.undo_change.new.seat, c.undo_change.new.gate)
+    (works_run table g.G.Gate.becomes (c.claim_for_leftover.new.seat, c.claim_for_leftover.new.gate) (c.undo_change.new.seat, c.undo_change.new.gate) c.undo_change.ensures.works)
+    (omega (arith, c.undo_change.ensures.few, c.in_default-claim_for_leftover.ensures.claims.few, t.below.last)))
 
-pub returns-in_default-claim_for_left-clause-failed : goal.returns-in_default-claim_for_left-clause-failed
-returns-in_default-claim_for_left-clause-failed g c =
+pub returns-in_default-claim_for_leftover-clause-failed : goal.returns-in_default-claim_for_leftover-clause-failed
+returns-in_default-claim_for_leftover-clause-failed g c =
     let reads = c.load_without_leaf.ensures.reads in
-    let none = no_room c.args.table.now g.G.Gate.becomes c.args.job.now.key.now (c.load_without_leaf.new.seat, c.load_without_leaf.new.gate) (c.claim_for_left.new.seat, c.claim_for_left.new.gate) (c.undo_change.new.seat, c.undo_change.new.gate) c.claim_for_left.new.build.made.items Nodes
-    c.claim_for_left.ensures.goes c.undo_change.ensures.works c.undo_change.ensures.rest c.in_default-claim_for_left.ensures.claims.full_of in
+    let none = no_room c.args.table.now g.G.Gate.becomes c.args.job.now.key.now (c.load_without_leaf.new.seat, c.load_without_leaf.new.gate) (c.claim_for_leftover.new.seat, c.claim_for_leftover.new.gate) (c.undo_change.new.seat, c.undo_change.new.gate) c.claim_for_leftover.new.build.made.items Nodes
+    c.claim_for_leftover.ensures.goes c.undo_change.ensures.works c.undo_change.ensures.rest c.in_default-claim_for_leftover.ensures.claims.full_of in
     record {
       rest = none.rest;
       later = later_trans reads.goes.stays.0 none.later;
-      full_of = full_since c.args.table.now.layout c.args.job.now.key.now c.args.seat.now.known c.load_without_leaf.new.seat.known c.undo_change.new.seat.known c.claim_for_left.new.build.made.items Nodes
+      full_of = full_since c.args.table.now.layout c.args.job.now.key.now c.args.seat.now.known c.load_without_leaf.new.seat.known c.undo_change.new.seat.known c.claim_for_leftover.new.build.made.items Nodes
           (steps_rise c.args.table.now g.G.Gate.becomes reads.goes.acts (c.args.seat.now, c.args.gate.now) (c.load_without_leaf.new.seat, c.load_without_leaf.new.gate) reads.goes.steps) none.full_of;
     }
 
-pub returns-in_default-claim_for_left-clause-spares : goal.returns-in_default-claim_for_left-clause-spares
-returns-in_default-claim_for_left-clause-spares g c = λ had.
-    works_spare c.args.table.now g.G.Gate.becomes (c.claim_for_left.new.seat, c.claim_for_left.new.gate) (c.undo_change.new.seat, c.undo_change.new.gate) c.undo_change.ensures.works
-    (goes_spare c.args.table.now g.G.Gate.becomes (c.load_without_leaf.new.seat, c.load_without_leaf.new.gate) (c.claim_for_left.new.seat, c.claim_for_left.new.gate) c.claim_for_left.ensures.goes
+pub returns-in_default-claim_for_leftover-clause-spares : goal.returns-in_default-claim_for_leftover-clause-spares
+returns-in_default-claim_for_leftover-clause-spares g c = λ had.
+    works_spare c.args.table.now g.G.Gate.becomes (c.claim_for_leftover.new.seat, c.claim_for_leftover.new.gate) (c.undo_change.new.seat, c.undo_change.new.gate) c.undo_change.ensures.works
+    (goes_spare c.args.table.now g.G.Gate.becomes (c.load_without_leaf.new.seat, c.load_without_leaf.new.gate) (c.claim_for_leftover.new.seat, c.claim_for_leftover.new.gate) c.claim_for_leftover.ensures.goes
     (goes_spare c.args.table.now g.G.Gate.becomes (c.args.seat.now, c.args.gate.now) (c.load_without_leaf.new.seat, c.load_without_leaf.new.gate) c.load_without_leaf.ensures.reads.goes had))
 
-pub returns-in_default-claim_for_left-clause-finds : goal.returns-in_default-claim_for_left-clause-finds
-returns-in_default-claim_for_left-clause-finds g c = λ room is.
+pub returns-in_default-claim_for_leftover-clause-finds : goal.returns-in_default-claim_for_leftover-clause-finds
+returns-in_default-claim_for_leftover-clause-finds g c = λ room is.
     let reads = c.load_without_leaf.ensures.reads in
-    c.claim_for_left.ensures.finds (goes_room c.args.table.now g.G.Gate.becomes (c.args.seat.now, c.args.gate.now) (c.load_without_leaf.new.seat, c.load_without_leaf.new.gate) reads.goes (reads.own ∙ c.requires.taken.2.own) room) c.in_default-claim_for_left.is
+    c.claim_for_leftover.ensures.finds (goes_room c.args.table.now g.G.Gate.becomes (c.args.seat.now, c.args.gate.now) (c.load_without_leaf.new.seat, c.load_without_leaf.new.gate) reads.goes (reads.own ∙ c.requires.taken.2.own) room) c.in_default-claim_for_leftover.is
 
 -- one is claimed
 pub end_removal-requires-clause-takes : goal.end_removal-requires-clause-takes
 end_removal-requires-clause-takes g c =
-    takes_on c.args.table.now g.G.Gate.becomes (c.load_without_leaf.new.seat, c.load_without_leaf.new.gate) (c.claim_for_left.new.seat, c.claim_for_left.new.gate) c.args.job.now c.claim_for_left.ensures.goes
+    takes_on c.args.table.now g.G.Gate.becomes (c.load_without_leaf.new.seat, c.load_without_leaf.new.gate) (c.claim_for_leftover.new.seat, c.claim_for_leftover.new.gate) c.args.job.now c.claim_for_leftover.ensures.goes
     (takes_taken c.args.table.now g.G.Gate.becomes (c.args.seat.now, c.args.gate.now) (c.load_without_leaf.new.seat, c.load_without_leaf.new.gate) c.args.job.now c.load_without_leaf.ensures.reads.goes c.requires.taken c.requires.some)
 
 pub end_removal-requires-clause-claimed : goal.end_removal-requires-clause-claimed
-end_removal-requires-clause-claimed g c = c.in-Some-claim_for_left.ensures.claims
+end_removal-requires-clause-claimed g c = c.in-Some-claim_for_leftover.ensures.claims
 
 pub end_removal-requires-clause-left : goal.end_removal-requires-clause-left
 end_removal-requires-clause-left g c =
@@ -197,7 +197,7 @@ end_removal-requires-clause-left g c =
     let (number, value, is, b) = taken_below c.args.table.now c.args.seat.now m job aim Take tt taken planned (let w = taken.within.0 in omega (arith, w, c.requires.some)) in
     let at = low_step c.args.table.now c.args.seat.now m job number value b in
     let (words, h) = lowest_locked c.args.table.now c.args.seat.now m job number value b _ at in
-    left_on c.load_without_leaf.new.seat.known c.claim_for_left.new.seat.known job _ c.claim_for_left.ensures.goes.stays.1 (record {
+    left_on c.load_without_leaf.new.seat.known c.claim_for_leftover.new.seat.known job _ c.claim_for_leftover.ensures.goes.stays.1 (record {
       words = words;
       has = locked_on c.args.seat.now.known c.load_without_leaf.new.seat.known _ words c.load_without_leaf.ensures.reads.goes.stays.1 h;
       built = c.in_default.ensures.left job.key.now words (lowest_leads c.args.table.now c.args.seat.now m job number value b _ at) h;
@@ -205,35 +205,35 @@ end_removal-requires-clause-left g c =
 
 pub end_removal-requires-clause-loaded : goal.end_removal-requires-clause-loaded
 end_removal-requires-clause-loaded g c =
-    loaded_on c.load_without_leaf.new.seat.known c.claim_for_left.new.seat.known c.args.job.now.found c.claim_for_left.ensures.goes.stays.3
+    loaded_on c.load_without_leaf.new.seat.known c.claim_for_leftover.new.seat.known c.args.job.now.found c.claim_for_leftover.ensures.goes.stays.3
     (loaded_on c.args.seat.now.known c.load_without_leaf.new.seat.known c.args.job.now.found c.load_without_leaf.ensures.reads.goes.stays.3 c.requires.loaded)
 
 pub returns-clause-run : goal.returns-clause-run
 returns-clause-run g c =
     let table = c.args.table.now in
     let (t, same) = is_taking table c.args.seat.now c.args.job.now c.requires.taken c.requires.some in
-    let goes = goes_more table g.G.Gate.becomes (c.args.seat.now, c.args.gate.now) (c.load_without_leaf.new.seat, c.load_without_leaf.new.gate) (c.claim_for_left.new.seat, c.claim_for_left.new.gate) c.load_without_leaf.ensures.reads.goes c.claim_for_left.ensures.goes in
-    removal_changes table g.G.Gate.becomes c.args.job.now t c.claim_for_left.new.build.left_nodes (NODE_FIELDS + 2) (84 + 2 * NODE_FIELDS) (c.args.seat.now, c.args.gate.now) (c.claim_for_left.new.seat, c.claim_for_left.new.gate) (c.end_removal.new.seat, c.end_removal.new.gate) (omega arith)
-    (goes_run table g.G.Gate.becomes (c.args.seat.now, c.args.gate.now) (c.claim_for_left.new.seat, c.claim_for_left.new.gate) goes) (omega (arith, c.load_without_leaf.ensures.few, c.claim_for_left.ensures.walk)) c.end_removal.ensures.tries
+    let goes = goes_more table g.G.Gate.becomes (c.args.seat.now, c.args.gate.now) (c.load_without_leaf.new.seat, c.load_without_leaf.new.gate) (c.claim_for_leftover.new.seat, c.claim_for_leftover.new.gate) c.load_without_leaf.ensures.reads.goes c.claim_for_leftover.ensures.goes in
+    removal_changes table g.G.Gate.becomes c.args.job.now t c.claim_for_leftover.new.build.left_nodes (NODE_FIELDS + 2) (84 + 2 * NODE_FIELDS) (c.args.seat.now, c.args.gate.now) (c.claim_for_leftover.new.seat, c.claim_for_leftover.new.gate) (c.end_removal.new.seat, c.end_removal.new.gate) (omega arith)
+    (goes_run table g.G.Gate.becomes (c.args.seat.now, c.args.gate.now) (c.claim_for_leftover.new.seat, c.claim_for_leftover.new.gate) goes) (omega (arith, c.load_without_leaf.ensures.few, c.claim_for_leftover.ensures.walk)) c.end_removal.ensures.tries
 
 pub returns-clause-done : goal.returns-clause-done
 returns-clause-done g c = λ ok.
     let job = c.args.job.now in
     let (x, was, is, changed) = c.end_removal.ensures.done ok in
-    let later = later_trans c.load_without_leaf.ensures.reads.goes.stays.0 c.claim_for_left.ensures.goes.stays.0 in
-    (x, was, subst (λ q. IsTakeChange q job.key.now job.found x was) later.pass is, changed_since c.args.seat.now.known c.claim_for_left.new.seat.known c.end_removal.new.seat.known x was later changed)
+    let later = later_trans c.load_without_leaf.ensures.reads.goes.stays.0 c.claim_for_leftover.ensures.goes.stays.0 in
+    (x, was, subst (λ q. IsTakeChange q job.key.now job.found x was) later.pass is, changed_since c.args.seat.now.known c.claim_for_leftover.new.seat.known c.end_removal.new.seat.known x was later changed)
 
 pub returns-clause-failed : goal.returns-clause-failed
 returns-clause-failed g c =
-    let later = later_trans c.load_without_leaf.ensures.reads.goes.stays.0 c.claim_for_left.ensures.goes.stays.0 in
-    failed_before c.args.table.now.layout c.args.job.now c.args.seat.now.known c.claim_for_left.new.seat.known c.end_removal.new.seat.known _ c.end_removal.result later c.end_removal.ensures.failed
+    let later = later_trans c.load_without_leaf.ensures.reads.goes.stays.0 c.claim_for_leftover.ensures.goes.stays.0 in
+    failed_before c.args.table.now.layout c.args.job.now c.args.seat.now.known c.claim_for_leftover.new.seat.known c.end_removal.new.seat.known _ c.end_removal.result later c.end_removal.ensures.failed
 
 pub returns-clause-leafless : goal.returns-clause-leafless
 returns-clause-leafless g c = busy_leafless c.end_removal.result _ c.end_removal.ensures.failed
 
 pub returns-clause-spares : goal.returns-clause-spares
 returns-clause-spares g c = λ had.
-    c.end_removal.ensures.spares (goes_spare c.args.table.now g.G.Gate.becomes (c.load_without_leaf.new.seat, c.load_without_leaf.new.gate) (c.claim_for_left.new.seat, c.claim_for_left.new.gate) c.claim_for_left.ensures.goes
+    c.end_removal.ensures.spares (goes_spare c.args.table.now g.G.Gate.becomes (c.load_without_leaf.new.seat, c.load_without_leaf.new.gate) (c.claim_for_leftover.new.seat, c.claim_for_leftover.new.gate) c.claim_for_leftover.ensures.goes
     (goes_spare c.args.table.now g.G.Gate.becomes (c.args.seat.now, c.args.gate.now) (c.load_without_leaf.new.seat, c.load_without_leaf.new.gate) c.load_without_leaf.ensures.reads.goes had))
 
 pub returns-clause-finds : goal.returns-clause-finds

@@ -38,7 +38,7 @@ use Rattle.rowex_writing.specs.declared.plan.Deed.{Deed}
 use Rattle.rowex_writing.specs.declared.plan.Deed.TheVariants.{Grow, TakeTop}
 use Rattle.rowex_writing.specs.declared.plan.Full.{Full}
 use Rattle.rowex_writing.specs.declared.plan.Full.TheVariants.{Nodes, Leaves}
-use Rattle.rowex_writing.specs.locks.Locks.{AreNodes, HasLockedSpan, numbers_of, HasTheSame}
+use Rattle.rowex_writing.specs.locks.Locks.{AreNodes, HasLockedSpan, numbers_of, KeepsLocksAndRecords}
 use Rattle.rowex_writing.specs.build.Putting.{IsSpotAbove, AreInTable, IsAnchored}
 use Rattle.rowex_writing.specs.declared.plan.job.Raised.{Raised}
 use Rattle.rowex_writing.specs.declared.plan.Span.{Span}
@@ -161,7 +161,7 @@ no_leaf_free goes (building, missed) few none = record {
 pub building_same : (table : TableView) (a b : SeatView) (made : List Rec) (news : List Made) → IsSeatOf table b → IsPossible table.layout b.known → b.known.own ≡ a.known.own → IsBuilding table a made news → IsBuilding table b made news
 building_same table a b made news seat possible own was = record { seat = seat; possible = possible; holds = (own ∙ was.holds.0, was.holds.1); packed = was.packed; listed = was.listed }
 
-pub replace_later : (table : TableView) (a b : SeatView) (made after : List Rec) (job : Job) (raised : Raised) (x : Change) (was : Option ℕ) → IsSeatOf table b → IsPossible table.layout b.known → IsLater a.known b.known → HasTheSame a.known b.known →
+pub replace_later : (table : TableView) (a b : SeatView) (made after : List Rec) (job : Job) (raised : Raised) (x : Change) (was : Option ℕ) → IsSeatOf table b → IsPossible table.layout b.known → IsLater a.known b.known → KeepsLocksAndRecords a.known b.known →
     after ≡ made → MayReplace table a made job raised x was → MayReplace table b after job raised x was
 replace_later table a b made after job raised x was seat possible later (locks, anchor, own) same may = subst (λ z. MayReplace table b z job raised x was) (sym same) (record {
   from = may.from;

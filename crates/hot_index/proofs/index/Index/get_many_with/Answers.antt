@@ -3,7 +3,7 @@ use Rattle.std.proofs.Common.{rules, ◌∙◌, length, ap, subst}
 use Rattle.rowex_table.specs.Seats.{TableView}
 use Rattle.rowex_reading.proofs.Seen.Led.{looks_same}
 use Rattle.hot_index_calls.specs.Passes.{PassView, pass_of}
-use Rattle.hot_index_calls.specs.Many.{AreNoted, HasGotMany, gets}
+use Rattle.hot_index_calls.specs.Many.{AreNoted, HasMadeGetManySteps, gets}
 use Rattle.hot_index_calls.proofs.Traces.{has_got_many}
 use Rattle.hot_index.proofs.index.ManyNoted.{gets_counted, gets_noted}
 use Rattle.hot_index.proofs.Reading.{still_pinned}
@@ -31,6 +31,6 @@ returns-clause-call g c =
 
 pub returns-clause-made : goal.returns-clause-made
 returns-clause-made g c =
-    subst (λ (x : TableView). HasGotMany x g.G.Gate.becomes (length c.args.keys.now) (c.args.pass.now, c.args.gate.now) (pass_of c.end_gets.new.seat, c.end_gets.new.gate)) c.self.view_is
-    (subst (λ (z : PassView). HasGotMany c.self.inside.table g.G.Gate.becomes (length c.args.keys.now) (z, c.args.gate.now) (pass_of c.end_gets.new.seat, c.end_gets.new.gate)) c.pass.view_is
+    subst (λ (x : TableView). HasMadeGetManySteps x g.G.Gate.becomes (length c.args.keys.now) (c.args.pass.now, c.args.gate.now) (pass_of c.end_gets.new.seat, c.end_gets.new.gate)) c.self.view_is
+    (subst (λ (z : PassView). HasMadeGetManySteps c.self.inside.table g.G.Gate.becomes (length c.args.keys.now) (z, c.args.gate.now) (pass_of c.end_gets.new.seat, c.end_gets.new.gate)) c.pass.view_is
     (has_got_many c.self.inside.table g.G.Gate.becomes (length c.args.keys.now) c.pin.ensures.steps c.look_up_all.ensures.searched c.end_gets.ensures.step))

@@ -4,7 +4,7 @@ use Rattle.finite_map.specs.declared.Call.TheVariants.{Get}
 use Rattle.rowex_table.specs.Seats.{TableView}
 use Rattle.hot_index_calls.specs.Passes.{PassView, pass_of}
 use Rattle.hot_index_calls.specs.Answers.{IsNoted, got}
-use Rattle.hot_index_calls.specs.Traces.{HasGot}
+use Rattle.hot_index_calls.specs.Traces.{HasMadeGetSteps}
 use Rattle.rowex_reading.proofs.Seen.Led.{looks_same}
 use Rattle.hot_index_calls.proofs.Noting.{get_noted}
 use Rattle.hot_index_calls.proofs.Traces.{has_got}
@@ -35,6 +35,6 @@ invariant_of-pass g c =
 
 pub returns-clause-made : goal.returns-clause-made
 returns-clause-made g c =
-    subst (λ (x : TableView). HasGot x g.G.Gate.becomes (c.args.pass.now, c.args.gate.now) (pass_of c.end_get.new.seat, c.end_get.new.gate)) c.self.view_is
-    (subst (λ (z : PassView). HasGot c.self.inside.table g.G.Gate.becomes (z, c.args.gate.now) (pass_of c.end_get.new.seat, c.end_get.new.gate)) c.pass.view_is
+    subst (λ (x : TableView). HasMadeGetSteps x g.G.Gate.becomes (c.args.pass.now, c.args.gate.now) (pass_of c.end_get.new.seat, c.end_get.new.gate)) c.self.view_is
+    (subst (λ (z : PassView). HasMadeGetSteps c.self.inside.table g.G.Gate.becomes (z, c.args.gate.now) (pass_of c.end_get.new.seat, c.end_get.new.gate)) c.pass.view_is
     (has_got c.self.inside.table g.G.Gate.becomes c.pin.ensures.steps c.look_up-found.ensures.searched c.end_get.ensures.step))

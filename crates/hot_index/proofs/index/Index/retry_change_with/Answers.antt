@@ -3,7 +3,7 @@ use Rattle.hot_index_calls.proofs.Counts.{replied_cause, replied_outcome, replie
 use Rattle.std.proofs.Common.{subst, sym}
 use Rattle.rowex_table.specs.Seats.{TableView}
 use Rattle.hot_index_calls.specs.Asked.{last_try}
-use Rattle.hot_index_calls.specs.Refusals.{IsLeftOne}
+use Rattle.hot_index_calls.specs.Refusals.{HasNodeLeft}
 use Rattle.hot_index.proofs.KeyCounts.Counted.{waited_on}
 use Rattle.hot_index.proofs.index.Index.retry_change_with.Goals as goal
 
@@ -21,7 +21,7 @@ returns g c =
       call = replied_outcome c.self.view_is c.pass.view_is last o.replied;
       cause = replied_cause c.self.view_is c.pass.view_is last o.replied;
       leafless = waited_leafless c.args.call.now c.retry_change-answer.result o.replied.leafless;
-      kept = λ left. o.kept (subst (λ (i : TableView). IsLeftOne i.layout.passes c.args.call.now) (sym c.self.view_is) left);
+      kept = λ left. o.kept (subst (λ (i : TableView). HasNodeLeft i.layout.passes c.args.call.now) (sym c.self.view_is) left);
       tries = tries_seen c.self.view_is c.pass.view_is c.retry_change-answer.result o.tries;
       told = stepped_told c.self.view_is c.pass.view_is o.stepped o.replied.loaded;
       room = room_seen c.self.view_is c.pass.view_is last o.spares o.room;

@@ -5,14 +5,14 @@ use Rattle.record_words.specs.declared.layout.Layout.{Layout}
 use Rattle.rowex_table.proofs.Seats.{opens, all_new, both_ok, dealt_new}
 use Rattle.rowex_table.proofs.table.HotTable.new.Goals as goal
 
-pub found-requires-clause-ruled : goal.found-requires-clause-ruled
-found-requires-clause-ruled c = opens c.args.layout _ (search rules)
+pub make_with_seats-requires-clause-ruled : goal.make_with_seats-requires-clause-ruled
+make_with_seats-requires-clause-ruled c = opens c.args.layout _ (search rules)
 
 pub returns-clause-seats : goal.returns-clause-seats
-returns-clause-seats c = IfOk-weaker c.found.result _ _ (λ made h q s e. dealt_new made.0 q s (h q s e)) c.found.ensures.seats
+returns-clause-seats c = IfOk-weaker c.make_with_seats.result _ _ (λ made h q s e. dealt_new made.0 q s (h q s e)) c.make_with_seats.ensures.seats
 
 pub returns-clause-each : goal.returns-clause-each
 returns-clause-each c =
-    both_ok c.found.result _ _ _ (λ made long h. all_new made.0 made.1.items long (λ q s e. dealt_new made.0 q s (h q s e)))
-    (both_ok c.found.result _ _ (λ made. length made.1.items ≡ made.0.layout.passes) (λ made same long. long ∙ ap (λ (l : Layout). l.passes) (sym same)) c.found.ensures.table c.found.ensures.count)
-    c.found.ensures.seats
+    both_ok c.make_with_seats.result _ _ _ (λ made long h. all_new made.0 made.1.items long (λ q s e. dealt_new made.0 q s (h q s e)))
+    (both_ok c.make_with_seats.result _ _ (λ made. length made.1.items ≡ made.0.layout.passes) (λ made same long. long ∙ ap (λ (l : Layout). l.passes) (sym same)) c.make_with_seats.ensures.table c.make_with_seats.ensures.count)
+    c.make_with_seats.ensures.seats

@@ -19,8 +19,8 @@ cut_with_fork-cut-requires-clause-zero g c = lift_zero _ _ c.read_locked_node-no
 pub cut_with_fork-cut-requires-clause-one : goal.cut_with_fork-cut-requires-clause-one
 cut_with_fork-cut-requires-clause-one g c = lift_one _ _ c.read_locked_node-node.ensures.reads c.requires.below c.read_locked_node-node.ensures.node
 
-pub make_risen-requires-clause-building : goal.make_risen-requires-clause-building
-make_risen-requires-clause-building g c = (c.requires.below.here.raising.news, lift_building _ _ c.read_locked_node-node.ensures.reads c.requires.below c.read_locked_node-node.ensures.node)
+pub make_fork_of_cut-requires-clause-building : goal.make_fork_of_cut-requires-clause-building
+make_fork_of_cut-requires-clause-building g c = (c.requires.below.here.raising.news, lift_building _ _ c.read_locked_node-node.ensures.reads c.requires.below c.read_locked_node-node.ensures.node)
 
 pub add_fork-requires-clause-tree : goal.add_fork-requires-clause-tree
 add_fork-requires-clause-tree g c = lift_tree _ _ c.read_locked_node-node.ensures.reads c.requires.below c.read_locked_node-node.ensures.node
@@ -36,18 +36,18 @@ make_node-requires-clause-building g c = (c.requires.below.here.raising.news, li
 
 pub returns-then-count-eq-MAX_ENTRIES-clause-made : goal.returns-then-count-eq-MAX_ENTRIES-clause-made
 returns-then-count-eq-MAX_ENTRIES-clause-made g c = λ b.
-    lifted _ _ c.read_locked_node-node.ensures.reads b c.read_locked_node-node.ensures.node (c.make_risen.new.seat, c.make_risen.new.gate) c.make_risen.new.build.made.items c.node_entry-old.result (Two c.cut_with_fork-cut.result) c.make_risen.result
-    c.cut_with_fork-cut.ensures.shows c.cut_with_fork-cut.ensures.same c.make_risen.ensures.makes.goes
-    (c.make_risen.ensures.made b.here.raising.news (lift_building _ _ c.read_locked_node-node.ensures.reads b c.read_locked_node-node.ensures.node))
+    lifted _ _ c.read_locked_node-node.ensures.reads b c.read_locked_node-node.ensures.node (c.make_fork_of_cut.new.seat, c.make_fork_of_cut.new.gate) c.make_fork_of_cut.new.build.made.items c.node_entry-old.result (Two c.cut_with_fork-cut.result) c.make_fork_of_cut.result
+    c.cut_with_fork-cut.ensures.shows c.cut_with_fork-cut.ensures.same c.make_fork_of_cut.ensures.makes.goes
+    (c.make_fork_of_cut.ensures.made b.here.raising.news (lift_building _ _ c.read_locked_node-node.ensures.reads b c.read_locked_node-node.ensures.node))
 
 pub returns-then-count-eq-MAX_ENTRIES-clause-level : goal.returns-then-count-eq-MAX_ENTRIES-clause-level
 returns-then-count-eq-MAX_ENTRIES-clause-level g c = λ words h.
     let b = c.requires.below in
     let e = c.cut_with_fork-cut.ensures in
-    fork_level words c.read_locked_node-node.result c.node_entry-old.result (Two c.cut_with_fork-cut.result) c.make_risen.result _ b.here.raising.news (IsBuilding c.args.table.now c.make_risen.new.seat c.make_risen.new.build.made.items)
+    fork_level words c.read_locked_node-node.result c.node_entry-old.result (Two c.cut_with_fork-cut.result) c.make_fork_of_cut.result _ b.here.raising.news (IsBuilding c.args.table.now c.make_fork_of_cut.new.seat c.make_fork_of_cut.new.build.made.items)
     (c.read_locked_node-node.ensures.node words h) (ap height_of c.node_entry-old.ensures) e.low
     (λ t. absurd (let z : false ≡ true = t in cc), λ room. absurd (omega (arith, c.if-count-eq-MAX_ENTRIES.true, c.count.ensures.count, room)))
-    (c.make_risen.ensures.made b.here.raising.news (lift_building _ _ c.read_locked_node-node.ensures.reads b c.read_locked_node-node.ensures.node))
+    (c.make_fork_of_cut.ensures.made b.here.raising.news (lift_building _ _ c.read_locked_node-node.ensures.reads b c.read_locked_node-node.ensures.node))
 
 pub returns-clause-made : goal.returns-clause-made
 returns-clause-made g c = λ b.
@@ -69,7 +69,7 @@ pub returns-in_err-entry-clause-made : goal.returns-in_err-entry-clause-made
 returns-in_err-entry-clause-made g c = λ b. rw c.from_residual.ensures (c.in_err-entry.ensures.made b.here.raising.news (lift_building _ _ c.read_locked_node-node.ensures.reads b c.read_locked_node-node.ensures.node))
 
 pub returns-then-count-eq-MAX_ENTRIES-clause-makes : goal.returns-then-count-eq-MAX_ENTRIES-clause-makes
-returns-then-count-eq-MAX_ENTRIES-clause-makes g c = makes_after _ c.read_locked_node-node.ensures.reads.goes c.read_locked_node-node.ensures.few c.make_risen.ensures.makes (omega arith) (omega arith)
+returns-then-count-eq-MAX_ENTRIES-clause-makes g c = makes_after _ c.read_locked_node-node.ensures.reads.goes c.read_locked_node-node.ensures.few c.make_fork_of_cut.ensures.makes (omega arith) (omega arith)
 
 pub returns-in_err-entry-clause-makes : goal.returns-in_err-entry-clause-makes
 returns-in_err-entry-clause-makes g c = rw c.from_residual.ensures (makes_after _ c.read_locked_node-node.ensures.reads.goes c.read_locked_node-node.ensures.few (makes_failed c.in_err-entry.ensures.makes) (omega arith) (omega arith))

@@ -17,15 +17,15 @@ use Rattle.rowex_writing.proofs.build.taking.Taking.{IsRaised, left_raised, low_
 use Rattle.rowex_writing.proofs.build.Walks.{walk_begins}
 use Rattle.rowex_writing.proofs.build.taking.remake_without_leaf.Goals as goal
 
-pub raise_without_leaf-requires-clause-locked : goal.raise_without_leaf-requires-clause-locked
-raise_without_leaf-requires-clause-locked g c =
+pub make_entry_without_leaf-requires-clause-locked : goal.make_entry_without_leaf-requires-clause-locked
+make_entry_without_leaf-requires-clause-locked g c =
     let job = c.args.job.now in
     let (m, number, value, b) = c.requires.below in
     let at = low_step c.args.table.now c.args.seat.now m job number value b in
     lowest_locked c.args.table.now c.args.seat.now m job number value b _ at
 
-pub raise_without_leaf-requires-clause-place : goal.raise_without_leaf-requires-clause-place
-raise_without_leaf-requires-clause-place g c =
+pub make_entry_without_leaf-requires-clause-place : goal.make_entry_without_leaf-requires-clause-place
+make_entry_without_leaf-requires-clause-place g c =
     let job = c.args.job.now in
     let (m, number, value, b) = c.requires.below in
     let at = low_step c.args.table.now c.args.seat.now m job number value b in
@@ -41,9 +41,9 @@ returns-in_default-clause-full g c =
       refl,
       record {
         not_made = c.in_default.ensures.made job.key.now words (lowest_leads c.args.table.now c.args.seat.now m job number value b _ at) h;
-        few = omega (arith, ap length none, c.raise_without_leaf.ensures.makes.more);
-        full_of = lacks_nodes c.args.table.now.layout c.args.seat.now.known c.raise_without_leaf.new.seat.known job.way.now job.span c.raise_without_leaf.new.build.made.items c.args.seat.now.known.steps
-            (step_nodes c.args.table.now.layout c.args.seat.now.known m job.key.now job.way.now _ b.taken.way_of) b.taken.locked c.raise_without_leaf.ensures.makes.goes.stays.1 b.taken.within.0 b.taken.within.1 (omega (arith, b.last))
+        few = omega (arith, ap length none, c.make_entry_without_leaf.ensures.makes.more);
+        full_of = lacks_nodes c.args.table.now.layout c.args.seat.now.known c.make_entry_without_leaf.new.seat.known job.way.now job.span c.make_entry_without_leaf.new.build.made.items c.args.seat.now.known.steps
+            (step_nodes c.args.table.now.layout c.args.seat.now.known m job.key.now job.way.now _ b.taken.way_of) b.taken.locked c.make_entry_without_leaf.ensures.makes.goes.stays.1 b.taken.within.0 b.taken.within.1 (omega (arith, b.last))
             (omega (arith, ap (λ made. length (nodes_among made)) none, c.in_default.ensures.makes.nodes))
             (c.in_default.ensures.makes.walk c.args.seat.now.known.steps
             (walk_begins c.args.table.now.layout c.args.seat.now.known c.begin_claims.new.self c.layout.result c.begin_claims.ensures.left c.layout.ensures));
@@ -60,10 +60,10 @@ returns-clause-raised g c = λ m number value b.
     let (news, side, building) = c.in-Some.ensures.made job.key.now words (lowest_leads table c.args.seat.now m job number value b _ at) h in
     let low : IsRaised c.in-Some.entry = left_raised table.layout c.args.seat.now.known _ words job.key.now c.in-Some.entry news b.taken.possible h side in
     let word : HasEntryWord (Some c.in-Some.entry) = search (rules, low) in
-    subst (λ r. MayReplace table c.raise_without_leaf.new.seat c.raise_without_leaf.new.build.made.items job r (removed_change c.args.seat.now.known.pass (item number job.key.now value)) (Some value))
+    subst (λ r. MayReplace table c.make_entry_without_leaf.new.seat c.make_entry_without_leaf.new.build.made.items job r (removed_change c.args.seat.now.known.pass (item number job.key.now value)) (Some value))
     (sym (c.put_in_place.ensures.same number value b.is_found))
-    (replaces_alone table c.args.seat.now m job number value b c.raise_without_leaf.new.seat c.raise_without_leaf.new.build.made.items news words h c.in-Some.entry (let stays = c.raise_without_leaf.ensures.makes.goes.stays in (stays.0, stays.1, stays.2)) building side word
-    (omega (arith, ap length none, c.raise_without_leaf.ensures.makes.more)))
+    (replaces_alone table c.args.seat.now m job number value b c.make_entry_without_leaf.new.seat c.make_entry_without_leaf.new.build.made.items news words h c.in-Some.entry (let stays = c.make_entry_without_leaf.ensures.makes.goes.stays in (stays.0, stays.1, stays.2)) building side word
+    (omega (arith, ap length none, c.make_entry_without_leaf.ensures.makes.more)))
 
 pub put_in_place-requires : goal.put_in_place-requires
 put_in_place-requires g c = let (m, number, value, b) = c.requires.below in record { found = (number, value, b.is_found) }
@@ -71,13 +71,13 @@ put_in_place-requires g c = let (m, number, value, b) = c.requires.below in reco
 pub returns-clause-lowest : goal.returns-clause-lowest
 returns-clause-lowest g c = let (m, number, value, b) = c.requires.below in ap (λ (r : Raised). r.low) (c.put_in_place.ensures.same number value b.is_found)
 
-pub raise_without_leaf-requires-clause-building : goal.raise_without_leaf-requires-clause-building
-raise_without_leaf-requires-clause-building g c =
+pub make_entry_without_leaf-requires-clause-building : goal.make_entry_without_leaf-requires-clause-building
+make_entry_without_leaf-requires-clause-building g c =
     let (m, number, value, b) = c.requires.below in
     subst (λ z. IsBuilding c.args.table.now c.args.seat.now z []) (sym (c.begin_claims.ensures.made ∙ c.requires.made)) (building_none c.args.table.now c.args.seat.now b.taken.seat b.taken.possible b.taken.own)
 
-pub raise_without_leaf-requires-clause-room : goal.raise_without_leaf-requires-clause-room
-raise_without_leaf-requires-clause-room g c = omega (arith, ap length c.begin_claims.ensures.made, ap length c.requires.made)
+pub make_entry_without_leaf-requires-clause-room : goal.make_entry_without_leaf-requires-clause-room
+make_entry_without_leaf-requires-clause-room g c = omega (arith, ap length c.begin_claims.ensures.made, ap length c.requires.made)
 
 pub bounds-job-job : goal.bounds-job-job
 bounds-job-job g c =
@@ -91,8 +91,8 @@ offset_bounds-job-job g c =
     let (m, number, value, b) = c.requires.below in
     let h = slice_get_within job.way.now job.span.end _ (low_step c.args.table.now c.args.seat.now m job number value b) in search (rules, h)
 
-pub raise_without_leaf-requires-clause-range : goal.raise_without_leaf-requires-clause-range
-raise_without_leaf-requires-clause-range g c =
+pub make_entry_without_leaf-requires-clause-range : goal.make_entry_without_leaf-requires-clause-range
+make_entry_without_leaf-requires-clause-range g c =
     let job = c.args.job.now in
     let (m, number, value, b) = c.requires.below in
     (b.taken.way_of.nodes job.span.end _ (low_step c.args.table.now c.args.seat.now m job number value b)).2.range
@@ -101,16 +101,16 @@ pub returns-in_default-clause-walk : goal.returns-in_default-clause-walk
 returns-in_default-clause-walk g c =
     let none = c.begin_claims.ensures.made ∙ c.requires.made in
     let whole : c.begin_claims.new.self.left_nodes ≡ c.args.table.now.layout.nodes = c.begin_claims.ensures.left ∙ ap (λ (z : Layout). z.nodes) c.layout.ensures in
-    let few : c.raise_without_leaf.new.seat.known.steps + 2 * c.raise_without_leaf.new.build.left_nodes ≤ c.args.seat.now.known.steps + 2 * c.begin_claims.new.self.left_nodes + level_steps + length c.raise_without_leaf.new.build.made.items = c.in_default.ensures.makes.few in
-    omega (arith, whole, few, ap length none, c.raise_without_leaf.ensures.makes.more)
+    let few : c.make_entry_without_leaf.new.seat.known.steps + 2 * c.make_entry_without_leaf.new.build.left_nodes ≤ c.args.seat.now.known.steps + 2 * c.begin_claims.new.self.left_nodes + level_steps + length c.make_entry_without_leaf.new.build.made.items = c.in_default.ensures.makes.few in
+    omega (arith, whole, few, ap length none, c.make_entry_without_leaf.ensures.makes.more)
 
 pub returns-clause-walk : goal.returns-clause-walk
 returns-clause-walk g c =
     let whole : c.begin_claims.new.self.left_nodes ≡ c.args.table.now.layout.nodes = c.begin_claims.ensures.left ∙ ap (λ (z : Layout). z.nodes) c.layout.ensures in
-    let few : c.raise_without_leaf.new.seat.known.steps + 2 * c.raise_without_leaf.new.build.left_nodes ≤ c.args.seat.now.known.steps + 2 * c.begin_claims.new.self.left_nodes + level_steps + 0 = c.in-Some.ensures.makes.few in
+    let few : c.make_entry_without_leaf.new.seat.known.steps + 2 * c.make_entry_without_leaf.new.build.left_nodes ≤ c.args.seat.now.known.steps + 2 * c.begin_claims.new.self.left_nodes + level_steps + 0 = c.in-Some.ensures.makes.few in
     omega (arith, whole, few)
 
 pub returns-in_default-clause-finds : goal.returns-in_default-clause-finds
 returns-in_default-clause-finds g c = λ room is.
     let (m, number, value, b) = c.requires.below in
-    c.raise_without_leaf.ensures.finds (c.begin_claims.ensures.left ∙ ap (λ (z : Layout). z.nodes) c.layout.ensures) b.taken.own room c.in_default.is
+    c.make_entry_without_leaf.ensures.finds (c.begin_claims.ensures.left ∙ ap (λ (z : Layout). z.nodes) c.layout.ensures) b.taken.own room c.in_default.is

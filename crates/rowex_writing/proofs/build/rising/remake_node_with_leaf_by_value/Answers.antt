@@ -5,7 +5,7 @@ use Rattle.rowex_writing.specs.build.Building.{IsMadeFrom}
 use Rattle.rowex_writing.proofs.build.rising.Rising.{grown_for}
 use Rattle.rowex_writing.proofs.build.remaking.Remaking.{takes_read, takes_same}
 use Rattle.rowex_writing.proofs.build.Walks.{makes_as, makes_failed, makes_within}
-use Rattle.rowex_writing.proofs.build.rising.make_risen_with_leaf_by_value.Goals as goal
+use Rattle.rowex_writing.proofs.build.rising.remake_node_with_leaf_by_value.Goals as goal
 
 pub cut_with_leaf-cut-requires-clause-leads : goal.cut_with_leaf-cut-requires-clause-leads
 cut_with_leaf-cut-requires-clause-leads g c = let (node, takes) = c.requires.takes in (takes_read c.read_node-node.ensures node c.args.new.now takes).leads

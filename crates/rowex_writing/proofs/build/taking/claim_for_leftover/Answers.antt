@@ -11,7 +11,7 @@ use Rattle.rowex_writing.proofs.build.Growths.{lacks_nodes}
 use Rattle.rowex_writing.proofs.build.Changes.{step_nodes}
 use Rattle.rowex_writing.proofs.build.Building.{building_none, not_made}
 use Rattle.rowex_writing.proofs.build.Walks.{walk_begins}
-use Rattle.rowex_writing.proofs.build.taking.claim_for_left.Goals as goal
+use Rattle.rowex_writing.proofs.build.taking.claim_for_leftover.Goals as goal
 
 pub claim_node-requires : goal.claim_node-requires
 claim_node-requires g c = record {

@@ -1,7 +1,7 @@
 -- The upper half, and then the lower one.
 use Rattle.std.proofs.Common.{◌++◌, refl, arith}
 use Rattle.rowex_writing.proofs.build.Walks.{makes_as, makes_failed, makes_then, makes_within}
-use Rattle.rowex_writing.proofs.build.nodes.make_risen.Goals as goal
+use Rattle.rowex_writing.proofs.build.nodes.make_fork_of_cut.Goals as goal
 
 pub returns-clause-made : goal.returns-clause-made
 returns-clause-made g c = λ news b.

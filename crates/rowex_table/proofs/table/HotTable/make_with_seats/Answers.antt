@@ -8,23 +8,23 @@ use Rattle.rowex_table.specs.Rule.{Ruled, dealt, first_view, next_dealer, known_
 use Rattle.rowex_table.specs.Seats.{TableView, SeatView, IsDealtSeat}
 use Rattle.rowex_table.specs.declared.traces.TracedView.{TracedView}
 use Rattle.rowex_table.proofs.Seats.{deals_next, dealer_next, dealt_next, each_longer}
-use Rattle.rowex_table.proofs.table.HotTable.found.Goals as goal
+use Rattle.rowex_table.proofs.table.HotTable.make_with_seats.Goals as goal
 
 pub of_words-requires : goal.of_words-requires
 of_words-requires c =
-    let f = c.args.founding.now in
+    let f = c.args.first_words.now in
     let same : f.words.items ≡ c.as_slice.result.now = search rules in
     subst (λ (w : List ℕ). Ruled {S = Unit {0}} f.layout (first_state w [] (first_view f.layout f.loads f.words.items))) same c.requires.ruled
 
 pub split_seat-seat-requires : goal.split_seat-seat-requires
 split_seat-seat-requires c =
     let low : c.loop-number.number < c.in_ok-table.table.shared.key.layout.passes = search rules in
-    let f = c.args.founding.now in
+    let f = c.args.first_words.now in
     (search rules, search rules, deals_next c.in_ok-table.table.shared.key.layout _ _ f.layout f.loads f.words.items c.loop-number.number low (ap (λ m. m.0) c.loop-number.invariant.1))
 
 pub loop-number-preserved : goal.loop-number-preserved
 loop-number-preserved c =
-    let f = c.args.founding.now in
+    let f = c.args.first_words.now in
     let first : TracedView = first_view f.layout f.loads f.words.items in
     let was = ap (λ m. m.0) c.loop-number.invariant.1 in
     let none = ap (λ m. m.1) c.loop-number.invariant.1 in

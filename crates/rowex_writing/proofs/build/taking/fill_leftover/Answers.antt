@@ -17,7 +17,7 @@ use Rattle.publish_laws.proofs.Loops.{later_transitive}
 use Rattle.rowex_writing.proofs.locks.Going.{locked_on}
 use Rattle.rowex_writing.proofs.build.Building.{set_all_on}
 use Rattle.rowex_writing.proofs.build.taking.Taking.{word_of, claimed_filled, claimed_held, replaces_alone}
-use Rattle.rowex_writing.proofs.build.taking.fill_left.Goals as goal
+use Rattle.rowex_writing.proofs.build.taking.fill_leftover.Goals as goal
 
 pub fill_node-requires-clause-own : goal.fill_node-requires-clause-own
 fill_node-requires-clause-own g c = c.requires.still.1

@@ -6,7 +6,7 @@ use Rattle.record_words.specs.Node.{CanTakeLeaf}
 use Rattle.rowex_writing.specs.build.Remaking.{subtrie_with_leaf}
 use Rattle.rowex_writing.proofs.build.remaking.Remaking.{built_low, leaf_low}
 use Rattle.rowex_writing.proofs.build.Walks.{makes_as, makes_failed, makes_within}
-use Rattle.rowex_writing.proofs.build.rising.make_risen_with_leaf.Goals as goal
+use Rattle.rowex_writing.proofs.build.rising.remake_node_with_leaf.Goals as goal
 
 pub returns-then-can_take_leaf-clause-made : goal.returns-then-can_take_leaf-clause-made
 returns-then-can_take_leaf-clause-made g c = λ news node takes b.

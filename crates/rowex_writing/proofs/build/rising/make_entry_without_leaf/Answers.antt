@@ -7,7 +7,7 @@ use Rattle.tries.specs.Place.{subtrie_without}
 use Rattle.rowex_writing.proofs.build.rising.Rising.{left_over}
 use Rattle.rowex_writing.proofs.build.Building.{building_on}
 use Rattle.rowex_writing.proofs.build.Walks.{makes_after, makes_none}
-use Rattle.rowex_writing.proofs.build.rising.raise_without_leaf.Goals as goal
+use Rattle.rowex_writing.proofs.build.rising.make_entry_without_leaf.Goals as goal
 
 pub returns-in-Some-clause-made : goal.returns-in-Some-clause-made
 returns-in-Some-clause-made g c = λ key words leads h. (

@@ -1,6 +1,0 @@
--- The law one_pass_refuses_new_alone.
-use Rattle.hot_index.proofs.Statements.Held.{one_pass_refuses_new_alone}
-use Rattle.hot_index.proofs.laws.one_pass_refuses_new_alone.Goals as goal
-
-pub returns : goal.returns
-returns c = one_pass_refuses_new_alone
