@@ -161,7 +161,9 @@ static const hot_stock stock = {20, 40, 0, 0, 0, 10}, large_stock = {2500, 2500,
 static long resident(void) {
     char line[256];
     long bytes = 0, part;
-    FILE *file = fopen("/proc/self/smaps_rollup", "r");
+    FILE *file;
+    malloc_trim(0); /* else blocks that were freed count until malloc gives them back */
+    file = fopen("/proc/self/smaps_rollup", "r");
     CHECK(file != NULL);
     while (file != NULL && fgets(line, sizeof line, file) != NULL)
         if (sscanf(line, "Pss_Anon: %ld", &part) == 1 || sscanf(line, "Pss_Shmem: %ld", &part) == 1)
