@@ -49,7 +49,7 @@
  *
  * Memory. An index has its records from the beginning, and a handle up to 119 KB of lists from when it is first opened, so that no change asks
  * for memory. But a page of 4 KiB takes memory only once something is written there: so an index takes what its keys need, and a handle
- * some 29 KB. A page that was written stays when keys go. Tables of 16 MiB and more ask for huge pages, of 2 MiB, where the system lets
+ * some 28 KB. A page that was written stays when keys go. Tables of 16 MiB and more ask for huge pages, of 2 MiB, where the system lets
  * them: at once, but for the first 8 MiB of the records of a size, and of those that each handle claims for itself. There 2 MiB get a huge page
  * once they have been written, by an insertion that then takes some milliseconds. If memory runs out when a page is first written, the system
  * ends the program. So take a stock whose hot_stock_bytes the machine has to spare; or call mlockall once the index is made, which takes all
