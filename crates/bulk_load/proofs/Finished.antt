@@ -9,11 +9,11 @@ use Rattle.std.proofs.lemmas.List.Elements.{All-from_get_or}
 use Rattle.tries.proofs.Content.{trie_if_local}
 use Rattle.tries.proofs.Read.{some_injective}
 use Rattle.bulk_load.specs.declared.builder.Builder.{Builder}
-use Rattle.bulk_load.specs.declared.slots.Slot.{Slot}
-use Rattle.bulk_load.specs.Loading.{IsAlone, IsPiece, IsTreeOf, StandsFor}
+use Rattle.bulk_load.specs.declared.tips.Tip.{Tip}
+use Rattle.bulk_load.specs.Loading.{IsOnePiece, IsPiece, IsTreeOf, StandsFor}
 use Rattle.bulk_load.specs.Stacks.{LeftPiece, whole_of, with_right}
-use Rattle.bulk_load.proofs.Stacks.{length_slots}
-use Rattle.bulk_load.specs.Slots.{slot, slots_of}
+use Rattle.bulk_load.proofs.Stacks.{length_tips}
+use Rattle.bulk_load.specs.Tips.{tip, tips_of}
 use Rattle.compound_node.specs.declared.entries.Entry.{Entry}
 use Rattle.compound_node.specs.declared.entries.Entry.TheVariants.{Leaf, Node}
 use Rattle.key_bits.specs.declared.TheConstants.{MAX_BYTES}
@@ -149,10 +149,10 @@ module _ (layout : Layout) (old new : List ℕ) (t : Option Tree) (e : Option En
   }
 
 -- ---- the root's entry
-pub root_slot : (l : Builder) (y : Tree) → IsTreeOf l y → size (subtrie y) ≡ 1 → (s : Slot) → s ≡ get_or l.slots.items 0 s → subtrie y ≡ Place s.entry
-root_slot l y t one s is =
-    let (e, at) = one_entry y one in let same : s ≡ slot 0 e = is ∙ ap (λ ss. get_or ss 0 s) (t.slots_are ∙ ap (slots_of 0) at) in
-    at ∙ ap (λ (z : Slot). Place z.entry) (sym same)
+pub root_tip : (l : Builder) (y : Tree) → IsTreeOf l y → size (subtrie y) ≡ 1 → (s : Tip) → s ≡ get_or l.tips.items 0 s → subtrie y ≡ Place s.entry
+root_tip l y t one s is =
+    let (e, at) = one_entry y one in let same : s ≡ tip 0 e = is ∙ ap (λ ss. get_or ss 0 s) (t.tips_are ∙ ap (tips_of 0) at) in
+    at ∙ ap (λ (z : Tip). Place z.entry) (sym same)
 
 -- the words with the root's entry
 written : (layout : Layout) (old new : List ℕ) (t : Option Tree) (e : Option Entry) → HoldsTree layout old t → IsTop (heap_of (fields_in layout old)) e t →
@@ -178,13 +178,13 @@ nothing_written layout old new h is small xs none = written layout old new None 
     (0, layout.nodes_in_range.0, λ i. i)
 
 -- ---- the one piece
-pub slots_count : (l : Builder) (t : Tree) → IsTreeOf l t → length l.slots.items ≡ size (subtrie t)
-slots_count l t h = ap length h.slots_are ∙ length_slots 0 (subtrie t)
+pub tips_count : (l : Builder) (t : Tree) → IsTreeOf l t → length l.tips.items ≡ size (subtrie t)
+tips_count l t h = ap length h.tips_are ∙ length_tips 0 (subtrie t)
 
-pub lone_piece : (l : Builder) (t : Tree) → IsTreeOf l t → (count : ℕ) → count ≡ length l.slots.items → IsPiece l [] t None count 0
-lone_piece l t h count e = record { tree = h; count_is = e ∙ slots_count l t h; behind_is = refl }
+pub lone_piece : (l : Builder) (t : Tree) → IsTreeOf l t → (count : ℕ) → count ≡ length l.tips.items → IsPiece l [] t None count 0
+lone_piece l t h count e = record { tree = h; count_is = e ∙ tips_count l t h; behind_is = refl }
 
--- how many slots it has, once it is closed
+-- how many tips it has, once it is closed
 pub closed_count : (n result : ℕ) → 1 ≤ n → result ≡ (if nat_lt 1 n then 1 else n) → result ≡ 1
 closed_count n result some e = go (cases_lt 1 n)
   where
@@ -193,11 +193,11 @@ closed_count n result some e = go (cases_lt 1 n)
     go (inr h) = e ∙ (ap (λ b. if b then 1 else n) (le-ltb 1 n h) ∙ (let one : n ≡ 1 = omega (arith, h, some) in one))
 
 -- a node record is left then
-pub node_left : (l : Builder) (t : Tree) (xs : List Item) → IsAlone l t xs → (count : ℕ) → count ≡ length l.slots.items → l.nodes + (if nat_lt 1 count then 1 else 0) < l.layout.nodes
+pub node_left : (l : Builder) (t : Tree) (xs : List Item) → IsOnePiece l t xs → (count : ℕ) → count ≡ length l.tips.items → l.nodes + (if nat_lt 1 count then 1 else 0) < l.layout.nodes
 node_left l t xs a count long = go (cases_lt 1 count)
   where
     some : 1 ≤ count
-    some = omega (arith, long, slots_count l t a.tree, size_pos (subtrie t))
+    some = omega (arith, long, tips_count l t a.tree, size_pos (subtrie t))
 
     taken : Bool → ℕ
     taken closes = if closes then 1 else 0
@@ -207,9 +207,9 @@ node_left l t xs a count long = go (cases_lt 1 count)
     go (inr h) = let none = ap taken (le-ltb 1 count h) in elim a.room [ inl r ↦ omega (arith, r, none) | inr r ↦ omega (arith, r, none, long, some) ]
 
 -- the tree that stands for it then, of one entry
-pub closed_tree : (l m : Builder) (t : Tree) (xs : List Item) → IsAlone l t xs → (count result : ℕ) → count ≡ length l.slots.items → result ≡ (if nat_lt 1 count then 1 else count) →
+pub closed_tree : (l m : Builder) (t : Tree) (xs : List Item) → IsOnePiece l t xs → (count result : ℕ) → count ≡ length l.tips.items → result ≡ (if nat_lt 1 count then 1 else count) →
     ((ls : List LeftPiece) (z : Tree) (right : Option LeftPiece) → IsPiece l ls z right count 0 → (y : Tree) × StandsFor y z result × IsTreeOf m (whole_of ls (with_right y right))) →
     (y : Tree) × IsTreeOf m y × (items y ≡ xs) × (size (subtrie y) ≡ 1)
 closed_tree l m t xs a count result long is closes =
     let (y, st, ty) = closes [] t None (lone_piece l t a.tree count long) in
-    (y, ty, st.same_items ∙ a.content, st.count_is ∙ closed_count count result (omega (arith, long, slots_count l t a.tree, size_pos (subtrie t))) is)
+    (y, ty, st.same_items ∙ a.content, st.count_is ∙ closed_count count result (omega (arith, long, tips_count l t a.tree, size_pos (subtrie t))) is)

@@ -7,10 +7,10 @@ use Rattle.tries.specs.Keys.{Key, IsParted}
 use Rattle.tries.specs.Tree.{Tree}
 use Rattle.record_words.specs.declared.records.Rec.TheVariants.{Leaf as a_leaf}
 use Rattle.bulk_load.specs.declared.builder.Builder.{Builder}
-use Rattle.bulk_load.specs.Loading.{CanJoin, CanPart, EndsInLeaf, HasCursors, HasSameFields, IsEmpty, IsLoading, IsNextLeaf, IsStackOf, IsTreeOf, KeepsLeaves, KeepsNodes, MayTakeNext, items_in}
+use Rattle.bulk_load.specs.Loading.{CanJoin, CanPart, EndsInLeaf, HasCursors, HasSameFields, HasTakenNone, IsLoading, IsNextLeaf, IsStackOf, IsTreeOf, KeepsLeaves, KeepsNodes, MayTakeNext, items_in}
 use Rattle.bulk_load.specs.Stacks.{whole_of}
 use Rattle.bulk_load.specs.Tables.{AreCursors, IsCursorOf, IsRootless, leaf_class, state_in}
-use Rattle.bulk_load.proofs.Stacks.Joining.{parts_long}
+use Rattle.bulk_load.proofs.Stacks.Joining.{pieces_long}
 use Rattle.bulk_load.proofs.Views.{above_last, items_are}
 use Rattle.std.specs.declared.cmp.Ordering.TheVariants.{Less}
 use Rattle.finite_map.specs.Maps.{key_order}
@@ -55,46 +55,46 @@ rootless_then l xs p (inr s) = s.stack.tree.table.blank
 -- ---- where the leaf belongs
 pub can_join : (l : Builder) (xs : List Item) (k : Key) (p n : ℕ) → IsLoading l xs → IsNextLeaf l k p n → CanJoin l xs p
 can_join l xs k p n (c, inl e) s = inl e
-can_join l xs k p n (c, inr r) s = inr (record { stack = r.stack; above = r.alone p; zero = (s.parted (some_parts r)).1 })
+can_join l xs k p n (c, inr r) s = inr (record { stack = r.stack; above = r.alone p; zero = (s.parted (some_pieces r)).1 })
   where
-    some_parts : EndsInLeaf l xs → 0 < vec_len l.parts
-    some_parts r = omega (arith, parts_long l r.stack.levels r.stack.top r.stack.parts, l.parts.ok.0)
+    some_pieces : EndsInLeaf l xs → 0 < vec_len l.pieces
+    some_pieces r = omega (arith, pieces_long l r.stack.levels r.stack.top r.stack.pieces, l.pieces.ok.0)
 
-not_both : (l m : Builder) (xs : List Item) → IsEmpty l xs → IsStackOf m xs → ⊥
+not_both : (l m : Builder) (xs : List Item) → HasTakenNone l xs → IsStackOf m xs → ⊥
 not_both l m xs e s = let some = some_items (whole_of s.levels s.top) in let same = ap length (s.content ∙ e.none) in omega (arith, some, same)
 
 pub may_take : (l new : Builder) (xs : List Item) (k : Key) (p n : ℕ) → IsLoading l xs → IsNextLeaf l k p n → new.last ≡ l.last → CanPart new xs p → MayTakeNext new xs p k
-may_take l new xs k p n (c, inl e) s last (inl f) = inl (f, s.first (let none = ap length e.no_parts in omega (arith, none, l.parts.ok.0)))
+may_take l new xs k p n (c, inl e) s last (inl f) = inl (f, s.first (let none = ap length e.no_pieces in omega (arith, none, l.pieces.ok.0)))
 may_take l new xs k p n (c, inl e) s last (inr t) = absurd (not_both l new xs e t.stack)
 may_take l new xs k p n (c, inr r) s last (inl f) = absurd (not_both new l xs f r.stack)
 may_take l new xs k p n (c, inr r) s last (inr t) =
-    inr (t, subst (λ key. IsParted p key k) (sym last) (s.parted (omega (arith, parts_long l r.stack.levels r.stack.top r.stack.parts, l.parts.ok.0))))
+    inr (t, subst (λ key. IsParted p key k) (sym last) (s.parted (omega (arith, pieces_long l r.stack.levels r.stack.top r.stack.pieces, l.pieces.ok.0))))
 
 -- ---- that the keys rise
-pub rises : (l : Builder) (xs : List Item) (k : Key) → IsLoading l xs → (0 < vec_len l.parts → key_order l.last k ≡ Less) → IsAboveLast xs k
+pub rises : (l : Builder) (xs : List Item) (k : Key) → IsLoading l xs → (0 < vec_len l.pieces → key_order l.last k ≡ Less) → IsAboveLast xs k
 rises l xs k (c, inl e) h = subst (λ ys. IsAboveLast ys k) (sym e.none) tt
-rises l xs k (c, inr r) h = (above_last l xs k r).0 (h (omega (arith, parts_long l r.stack.levels r.stack.top r.stack.parts, l.parts.ok.0)))
+rises l xs k (c, inr r) h = (above_last l xs k r).0 (h (omega (arith, pieces_long l r.stack.levels r.stack.top r.stack.pieces, l.pieces.ok.0)))
 
-pub falls : (l : Builder) (xs : List Item) (k : Key) → IsLoading l xs → 0 < vec_len l.parts → key_order l.last k ≢ Less → ¬ (IsAboveLast xs k)
-falls l xs k (c, inl e) some h = absurd (let none = ap length e.no_parts in omega (arith, none, some, l.parts.ok.0))
+pub falls : (l : Builder) (xs : List Item) (k : Key) → IsLoading l xs → 0 < vec_len l.pieces → key_order l.last k ≢ Less → ¬ (IsAboveLast xs k)
+falls l xs k (c, inl e) some h = absurd (let none = ap length e.no_pieces in omega (arith, none, some, l.pieces.ok.0))
 falls l xs k (c, inr r) some h = λ a. h ((above_last l xs k r).1 a)
 
 -- ---- vectors with more room
 module _ (l m : Builder) (s : HasSameFields l m) where
   same_tree : (t : Tree) → IsTreeOf l t → IsTreeOf m t
-  same_tree t h = record { table = rw (s.layout, s.words) h.table; ordered = h.ordered; built = h.built; slots_are = s.slots ∙ h.slots_are; taken = λ n i. rw s.nodes (h.taken n i) }
+  same_tree t h = record { table = rw (s.layout, s.words) h.table; ordered = h.ordered; built = h.built; tips_are = s.tips ∙ h.tips_are; taken = λ n i. rw s.nodes (h.taken n i) }
 
   same_stack : (xs : List Item) → IsStackOf l xs → IsStackOf m xs
   same_stack xs h = record {
     levels = h.levels;
     top = h.top;
     tree = same_tree (whole_of h.levels h.top) h.tree;
-    parts = record { counts_are = rw s.parts h.parts.counts_are; few = h.parts.few };
+    pieces = record { counts_are = rw s.pieces h.pieces.counts_are; few = h.pieces.few };
     content = h.content;
     last = s.last ∙ h.last;
-    room = rw (s.nodes, s.parts, s.slots, s.layout) h.room;
-    few = rw (s.nodes, s.slots) h.few;
-    low = rw (s.nodes, s.parts) h.low;
+    room = rw (s.nodes, s.pieces, s.tips, s.layout) h.room;
+    few = rw (s.nodes, s.tips) h.few;
+    low = rw (s.nodes, s.pieces) h.low;
     bare = rw s.nodes h.bare;
   }
 
@@ -105,8 +105,8 @@ module _ (l m : Builder) (s : HasSameFields l m) where
     inl (record {
       none = e.none;
       table = rw (s.layout, s.words) e.table;
-      no_parts = s.parts ∙ e.no_parts;
-      no_slots = s.slots ∙ e.no_slots;
+      no_pieces = s.pieces ∙ e.no_pieces;
+      no_tips = s.tips ∙ e.no_tips;
       no_nodes = s.nodes ∙ e.no_nodes;
     }),
   )

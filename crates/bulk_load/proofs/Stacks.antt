@@ -11,8 +11,8 @@ use Rattle.tries.specs.Tree.{Tree, fork, subtrie, IsBuilt}
 use Rattle.versions.specs.Heap.{Heap, IsShown}
 use Rattle.versions.specs.State.{Links}
 use Rattle.record_words.specs.declared.records.Rec.{Rec}
-use Rattle.bulk_load.specs.Slots.{slots_of}
-use Rattle.bulk_load.specs.Stacks.{LeftPiece, whole_of, position_of, front_slots}
+use Rattle.bulk_load.specs.Tips.{tips_of}
+use Rattle.bulk_load.specs.Stacks.{LeftPiece, whole_of, position_of, front_tips}
 use Rattle.bulk_load.specs.Loading.{greatest_key}
 
 -- ---- content
@@ -29,15 +29,15 @@ pub last_joined : (ls : List LeftPiece) (t : Tree) → greatest_key (whole_of ls
 last_joined [] t = refl
 last_joined (l ∷ ls) t = last_joined ls (fork l.position l.tree t)
 
--- ---- slots
-pub slots_joined : (ls : List LeftPiece) (t : Tree) → slots_of 0 (subtrie (whole_of ls t)) ≡ front_slots ls ++ slots_of (position_of ls) (subtrie t)
-slots_joined [] t = refl
-slots_joined (l ∷ ls) t =
-    slots_joined ls (fork l.position l.tree t) ∙ sym (append_assoc (front_slots ls) (slots_of (position_of ls) (subtrie l.tree)) (slots_of l.position (subtrie t)))
+-- ---- tips
+pub tips_joined : (ls : List LeftPiece) (t : Tree) → tips_of 0 (subtrie (whole_of ls t)) ≡ front_tips ls ++ tips_of (position_of ls) (subtrie t)
+tips_joined [] t = refl
+tips_joined (l ∷ ls) t =
+    tips_joined ls (fork l.position l.tree t) ∙ sym (append_assoc (front_tips ls) (tips_of (position_of ls) (subtrie l.tree)) (tips_of l.position (subtrie t)))
 
-pub length_slots : (p : ℕ) (x : Piece Entry) → length (slots_of p x) ≡ size x
-length_slots p (Place e) = refl
-length_slots p (Fork q a b) = rw (length-append (slots_of p a) (slots_of q b), length_slots p a, length_slots q b) refl
+pub length_tips : (p : ℕ) (x : Piece Entry) → length (tips_of p x) ≡ size x
+length_tips p (Place e) = refl
+length_tips p (Fork q a b) = rw (length-append (tips_of p a) (tips_of q b), length_tips p a, length_tips q b) refl
 
 -- ---- heights and words
 pub built_inner : (ls : List LeftPiece) (t : Tree) → IsBuilt (whole_of ls t) → IsBuilt t

@@ -1,4 +1,4 @@
--- The leaves that the slots show are those of the tree.
+-- The leaves that the tips show are those of the tree.
 use Rattle.std.proofs.Common.{◌≡◌, ◌≢◌, ◌⊎◌, inl, inr, ℕ, ◌<◌, List, [], ◌∷◌, ◌++◌, Some, length, refl, ap, sym, subst, ◌∙◌, arith}
 use Rattle.std.proofs.lemmas.List.{append-nil, append_assoc}
 use Rattle.std.specs.declared.cmp.Ordering.TheVariants.{Less}
@@ -22,36 +22,36 @@ use Rattle.versions.proofs.Loads.{some_items}
 use Rattle.rowex_core.specs.Cores.{heap_of, fields_in}
 use Rattle.rowex_core.specs.Events.{tree_of}
 use Rattle.bulk_load.specs.declared.builder.Builder.{Builder}
-use Rattle.bulk_load.specs.declared.slots.Slot.{Slot}
-use Rattle.bulk_load.specs.Loading.{EndsInLeaf, IsEmpty, IsLoading, greatest_key, items_in, items_under}
-use Rattle.bulk_load.specs.Slots.{slot, slots_of}
+use Rattle.bulk_load.specs.declared.tips.Tip.{Tip}
+use Rattle.bulk_load.specs.Loading.{EndsInLeaf, HasTakenNone, IsLoading, greatest_key, items_in, items_under}
+use Rattle.bulk_load.specs.Tips.{tip, tips_of}
 use Rattle.bulk_load.specs.Stacks.{whole_of}
 use Rattle.bulk_load.specs.Tables.{state_in}
 use Rattle.bulk_load.specs.Views.{IsAboveLast, IsTakenLeaf}
 
-under_append : (heap : Heap) (ss ts : List Slot) → items_under heap (ss ++ ts) ≡ items_under heap ss ++ items_under heap ts
+under_append : (heap : Heap) (ss ts : List Tip) → items_under heap (ss ++ ts) ≡ items_under heap ss ++ items_under heap ts
 under_append heap [] ts = refl
 under_append heap (s ∷ ss) ts =
     ap (λ xs. items_of (tree_of heap (Some s.entry)) ++ xs) (under_append heap ss ts) ∙
     sym (append_assoc (items_of (tree_of heap (Some s.entry))) (items_under heap ss) (items_under heap ts))
 
 -- the one tree below an entry
-under_one : (heap : Heap) (p : ℕ) (e : Entry) (t : Tree) → IsBuilt t → IsShown heap t → subtrie t ≡ Place e → items_under heap (slot p e ∷ []) ≡ items t
+under_one : (heap : Heap) (p : ℕ) (e : Entry) (t : Tree) → IsBuilt t → IsShown heap t → subtrie t ≡ Place e → items_under heap (tip p e ∷ []) ≡ items t
 under_one heap p e t b s h = append-nil (items_of (tree_of heap (Some e))) ∙ ap items_of (read_exact heap e t b s h)
 
-pub under_slots : (heap : Heap) (p : ℕ) (t : Tree) → IsBuilt t → IsShown heap t → items_under heap (slots_of p (subtrie t)) ≡ items t
-under_slots heap p (leaf n k v) b s = under_one heap p (Leaf n) (leaf n k v) b s refl
-under_slots heap p (node n x c) b s = under_one heap p (Node n x.height) (node n x c) b s refl
-under_slots heap p (fork q a c) b s =
-    under_append heap (slots_of p (subtrie a)) (slots_of q (subtrie c)) ∙
-    (ap (λ xs. xs ++ items_under heap (slots_of q (subtrie c))) (under_slots heap p a b.0 s.0) ∙ ap (λ xs. items a ++ xs) (under_slots heap q c b.1 s.1))
+pub under_tips : (heap : Heap) (p : ℕ) (t : Tree) → IsBuilt t → IsShown heap t → items_under heap (tips_of p (subtrie t)) ≡ items t
+under_tips heap p (leaf n k v) b s = under_one heap p (Leaf n) (leaf n k v) b s refl
+under_tips heap p (node n x c) b s = under_one heap p (Node n x.height) (node n x c) b s refl
+under_tips heap p (fork q a c) b s =
+    under_append heap (tips_of p (subtrie a)) (tips_of q (subtrie c)) ∙
+    (ap (λ xs. xs ++ items_under heap (tips_of q (subtrie c))) (under_tips heap p a b.0 s.0) ∙ ap (λ xs. items a ++ xs) (under_tips heap q c b.1 s.1))
 
--- what the loader's words and slots show are the leaves that were taken
+-- what the loader's words and tips show are the leaves that were taken
 pub items_are : (l : Builder) (xs : List Item) → IsLoading l xs → items_in l ≡ xs
-items_are l xs (c, inl e) = ap (items_under (heap_of (fields_in l.layout l.words.items))) e.no_slots ∙ sym e.none
+items_are l xs (c, inl e) = ap (items_under (heap_of (fields_in l.layout l.words.items))) e.no_tips ∙ sym e.none
 items_are l xs (c, inr r) =
     let s = r.stack in let t = s.tree in let heap = heap_of (fields_in l.layout l.words.items) in
-    ap (items_under heap) t.slots_are ∙ (under_slots heap 0 (whole_of s.levels s.top) t.built (t.table.shows (whole_of s.levels s.top) refl) ∙ s.content)
+    ap (items_under heap) t.tips_are ∙ (under_tips heap 0 (whole_of s.levels s.top) t.built (t.table.shows (whole_of s.levels s.top) refl) ∙ s.content)
 
 -- ---- leaf records that were taken
 taken_left : (n : ℕ) (xs ys : List Item) → IsTakenLeaf xs n → IsTakenLeaf (xs ++ ys) n
@@ -71,7 +71,7 @@ taken_if_linked (fork p a b) n (inl h) = taken_left n (items a) (items b) (taken
 taken_if_linked (fork p a b) n (inr h) = taken_right n (items a) (items b) (taken_if_linked b n h)
 
 -- a record that is not free is in the tree
-pub taken_if_used : (l : Builder) (xs : List Item) (n : ℕ) → IsEmpty l xs ⊎ EndsInLeaf l xs → n < l.layout.leaves → state_in l.layout l.words.items (a_leaf n) ≢ state_word Free → IsTakenLeaf xs n
+pub taken_if_used : (l : Builder) (xs : List Item) (n : ℕ) → HasTakenNone l xs ⊎ EndsInLeaf l xs → n < l.layout.leaves → state_in l.layout l.words.items (a_leaf n) ≢ state_word Free → IsTakenLeaf xs n
 taken_if_used l xs n (inl e) low used = absurd (used (e.table.free (a_leaf n) low (λ h. h)))
 taken_if_used l xs n (inr r) low used =
     let t = whole_of r.stack.levels r.stack.top in

@@ -1,6 +1,6 @@
 -- The definitions of the crate.
 pub mod Views
-pub mod Slots
+pub mod Tips
 pub mod Tables
 pub mod Stacks
 pub mod Loading

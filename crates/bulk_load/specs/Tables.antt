@@ -27,13 +27,13 @@ leaf_class layout n =
 
 -- the state word of a record in a table's words
 abbrev pub state_in : Layout → List ℕ → Rec → ℕ
-state_in layout table r = get_or table (start_of layout r) 0
+state_in layout table rec = get_or table (start_of layout rec) 0
 
 -- one record is written and live, and the words of all others are as before
-pub record IsPut (layout : Layout) (old new : List ℕ) (r : Rec) : Type 0 where
+pub record IsPut (layout : Layout) (old new : List ℕ) (rec : Rec) : Type 0 where
   pub size : length new ≡ length old
-  pub state : state_in layout new r ≡ state_word Live
-  pub others : (k : ℕ) → (k < start_of layout r) ⊎ (start_of layout r + size_of layout r ≤ k) → get_or new k 0 ≡ get_or old k 0
+  pub state : state_in layout new rec ≡ state_word Live
+  pub others : (k : ℕ) → (k < start_of layout rec) ⊎ (start_of layout rec + size_of layout rec ≤ k) → get_or new k 0 ≡ get_or old k 0
 
 -- the words that belong to no record are those of a table without keys, and the root has no entry yet
 pub record IsRootless (layout : Layout) (table : List ℕ) : Type 0 where
@@ -41,19 +41,20 @@ pub record IsRootless (layout : Layout) (table : List ℕ) : Type 0 where
   pub epoch : get_or table EPOCH_WORD 0 ≡ 1
   pub root : get_or table ROOT_WORD 0 ≡ entry_word None
   pub anchor : get_or table ANCHOR_WORD 0 ≡ state_word Live
-  pub pins : (q : ℕ) → q < layout.passes → get_or table (FIRST_PIN + LINE_WORDS * q) 0 ≡ NO_PIN
+  pub pins : (pass : ℕ) → pass < layout.passes → get_or table (FIRST_PIN + LINE_WORDS * pass) 0 ≡ NO_PIN
 
 -- the words show the tree
 abbrev pub WordsShow : Layout → List ℕ → Option Tree → Type 0
-WordsShow layout table t = (u : Tree) → t ≡ Some u → IsShown (heap_of (fields_in layout table)) u
+WordsShow layout table tree = (u : Tree) → tree ≡ Some u → IsShown (heap_of (fields_in layout table)) u
 
 -- The table holds just the records of the tree. They stand in the table, and their words spell values for which it has room.
-pub record HoldsTree (layout : Layout) (table : List ℕ) (t : Option Tree) : Type 0 where
+pub record HoldsTree (layout : Layout) (table : List ℕ) (tree : Option Tree) : Type 0 where
   pub blank : IsRootless layout table
-  pub live : (r : Rec) → IsLinked t r → state_in layout table r ≡ state_word Live
-  pub free : (r : Rec) → HasRecord layout r → ¬ (IsLinked t r) → state_in layout table r ≡ state_word Free
-  pub records : (r : Rec) → IsLinked t r → HasRecord layout r × IsPacked r (fields_in layout table r) × FitsIn layout r (fields_in layout table r)
-  pub shows : WordsShow layout table t
+  pub live : (rec : Rec) → IsLinked tree rec → state_in layout table rec ≡ state_word Live
+  pub free : (rec : Rec) → HasRecord layout rec → ¬ (IsLinked tree rec) → state_in layout table rec ≡ state_word Free
+  pub records : (rec : Rec) → IsLinked tree rec → HasRecord layout rec × IsPacked rec (fields_in layout table rec) ×
+      FitsIn layout rec (fields_in layout table rec)
+  pub shows : WordsShow layout table tree
 
 -- The records of a class that were taken are those below its cursor. The cursor stands in the class as long as one is left.
 pub record IsCursorOf (layout : Layout) (table : List ℕ) (next n : ℕ) : Type 0 where

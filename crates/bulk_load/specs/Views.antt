@@ -21,13 +21,13 @@ no_items layout = record { layout = layout; items = [] }
 
 -- a load that was given one more pair
 abbrev pub with_item : LoadView → Item → LoadView
-with_item v x = record { layout = v.layout; items = v.items ++ x ∷ [] }
+with_item load item = record { layout = load.layout; items = load.items ++ item ∷ [] }
 
 -- the key is above the last one, where there is one
 abbrev pub IsAboveLast : List Item → Key → Type 0
-IsAboveLast [] k = Unit {0}
-IsAboveLast (x ∷ []) k = key_order x.key k ≡ Less
-IsAboveLast (x ∷ (y ∷ ys)) k = IsAboveLast (y ∷ ys) k
+IsAboveLast [] key = Unit {0}
+IsAboveLast (x ∷ []) key = key_order x.key key ≡ Less
+IsAboveLast (x ∷ (y ∷ ys)) key = IsAboveLast (y ∷ ys) key
 
 -- the leaf record of this number was taken
 abbrev pub IsTakenLeaf : List Item → ℕ → Type 0
@@ -36,7 +36,7 @@ IsTakenLeaf (x ∷ xs) n = (n ≡ x.number) ⊎ IsTakenLeaf xs n
 
 -- each leaf record with room for the key was taken
 abbrev pub HasNoRoomFor : LoadView → Key → Type 0
-HasNoRoomFor v k = (n : ℕ) → n < v.layout.leaves → words_for (length k) ≤ leaf_size v.layout n → IsTakenLeaf v.items n
+HasNoRoomFor load key = (n : ℕ) → n < load.layout.leaves → words_for (length key) ≤ leaf_size load.layout n → IsTakenLeaf load.items n
 
 -- the load of these words of a table
 abbrev pub load_act : List ℕ → Act

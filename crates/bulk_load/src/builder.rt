@@ -8,7 +8,7 @@ ghost use Rattle.record_words.specs.State.{state_word};
 ghost use Rattle.std.specs.Prelude.{ℕ, ◌≡◌, ◌≢◌, ◌↔◌, ◌+◌, ◌≤◌, ◌<◌, ◌++◌, ◌∷◌, [], if◌then◌else◌, get_or, Err, IfOk, IfSome, IsNone, IsTrue, false, List, OnOk, OnErr, Option as Maybe, Some, length};
 ghost use Rattle.std.specs.Vec.{vec_len};
 ghost use Rattle.bulk_load.specs.Finished.{IsFinished};
-ghost use Rattle.bulk_load.specs.Loading.{CanJoin, CanPart, HasCursors, HasNodesFor, HasSameFields, HasSpace, EndsInLeaf, FitsOneNode, IsAlone, IsJoined, IsLow, IsLoading, IsPiece, IsNextLeaf, IsStackOf, IsTreeOf, KeepsLeaves, KeepsNodes, MayTakeNext, StandsFor};
+ghost use Rattle.bulk_load.specs.Loading.{CanJoin, CanPart, HasCursors, HasNodesFor, HasSameFields, HasSpace, EndsInLeaf, FitsOneNode, IsOnePiece, IsJoined, IsOfLeaves, IsLoading, IsPiece, IsNextLeaf, IsStackOf, IsTreeOf, KeepsLeaves, KeepsNodes, MayTakeNext, StandsFor};
 ghost use Rattle.bulk_load.specs.Stacks.{LeftPiece, whole_of, with_right};
 ghost use Rattle.bulk_load.specs.Tables.{IsRootless, leaf_class, state_in};
 ghost use Rattle.bulk_load.specs.Views.{IsAboveLast, IsTakenLeaf};
@@ -22,7 +22,7 @@ ghost use Rattle.tries.specs.Tree.{Tree, subtrie};
 ghost use Rattle.record_words.specs.declared.records.Rec.TheVariants.{Leaf as a_leaf};
 
 use crate::records::{put_leaf, put_node, put_root};
-use crate::slots::{Slot, build_node, merge_slots};
+use crate::tips::{Tip, build_node, merge_tips};
 use compound_node::Entry;
 use key_bits::{Key, mismatch};
 use record_words::{
@@ -43,9 +43,9 @@ pub enum LoadFault {
     Memory,
 }
 
-/// A piece of the tree, whose slots stand together: how many they are, and the height that a node of them has.
+/// A piece of the tree, whose tips stand together: how many they are, and the height that a node of them has.
 #[derive(Clone, Copy)]
-pub(crate) struct Part {
+pub(crate) struct StackedPiece {
     pub(crate) count: usize,
     pub(crate) height: u16,
 }
@@ -61,7 +61,7 @@ pub(crate) struct NextLeaf {
 
 /// How two pieces become one: which of them is closed before, and the height of a node of all.
 #[derive(Clone, Copy)]
-struct Plan {
+struct JoinPlan {
     closes_left: bool,
     closes_right: bool,
     height: u16,
@@ -73,8 +73,8 @@ pub(crate) struct Builder {
     pub(crate) layout: Layout,
     pub(crate) words: Vec<u64>,
     last: Key,
-    slots: Vec<Slot>,
-    parts: Vec<Part>,
+    tips: Vec<Tip>,
+    pieces: Vec<StackedPiece>,
     /// How many node records are taken: those with the lowest numbers.
     nodes: u32,
     /// The number of the first leaf record of each class that is not taken, or of where that would be.
@@ -93,8 +93,8 @@ impl Builder {
             layout,
             words,
             last: Key::empty(),
-            slots: Vec::new(alloc),
-            parts: Vec::new(alloc),
+            tips: Vec::new(alloc),
+            pieces: Vec::new(alloc),
             nodes: 0,
             leaves: [
                 0,
@@ -130,22 +130,22 @@ impl Builder {
         })
     }
 
-    /// Makes room for one slot more, and one piece more. `Memory` if memory is refused.
+    /// Makes room for one tip more, and one piece more. `Memory` if memory is refused.
     pub(crate) fn reserve(&mut self) -> Result<(), LoadFault>
         ensures same { HasSameFields self.old self.new }
         ensures ok { OnOk result (HasSpace self.new) }
         ensures err { OnErr result (result ≡ Err LoadFault.Memory) }
     {
-        if self.slots.reserve(1).is_err() {
+        if self.tips.reserve(1).is_err() {
             return Err(LoadFault::Memory);
         }
-        if self.parts.reserve(1).is_err() {
+        if self.pieces.reserve(1).is_err() {
             return Err(LoadFault::Memory);
         }
         Ok(())
     }
 
-    /// Takes `key` with `value` as the last pair so far. `next_leaf` is what `find_next_leaf` returns for `key`. There is room for one slot
+    /// Takes `key` with `value` as the last pair so far. `next_leaf` is what `find_next_leaf` returns for `key`. There is room for one tip
     /// more and one piece more, as `reserve` makes it. The pieces at forks behind the leaf's fork are joined first.
     pub(crate) fn take(&mut self, next_leaf: NextLeaf, key: &Key, value: u64)
         requires next_leaf { IsNextLeaf self.old key.now next_leaf.fork_position next_leaf.record_number }
@@ -163,7 +163,7 @@ impl Builder {
         requires { (xs : List Item) × IsLoading self.old xs }
         ensures finished { (xs : List Item) → IsLoading self.old xs → IsFinished self.old.layout self.new.words.items xs }
     {
-        if self.parts.is_empty() {
+        if self.pieces.is_empty() {
             put_root(self.words.as_mut_slice(), None);
             return;
         }
@@ -180,19 +180,19 @@ impl Builder {
         ensures layout { self.new.layout ≡ self.old.layout }
     {
         self.join_all();
-        let count = self.slots.len();
+        let count = self.tips.len();
         self.close_piece(0, count, count > 1);
-        self.slots[0].entry
+        self.tips[0].entry
     }
 
     /// The position of the fork between the last key and `key`; 0 for the first key. An error exactly if `key` is not above the last one.
     fn fork_before(&self, key: &Key) -> Result<u16, LoadFault>
-        ensures first { IfOk result (λ p. vec_len self.now.parts ≡ 0 → p ≡ 0) }
-        ensures parted { IfOk result (λ p. 0 < vec_len self.now.parts → IsParted p self.now.last key.now) }
-        ensures above { OnOk result (0 < vec_len self.now.parts → key_order self.now.last key.now ≡ Less) }
-        ensures fault { OnErr result ((result ≡ Err LoadFault.NotRising) × (0 < vec_len self.now.parts) × (key_order self.now.last key.now ≢ Less)) }
+        ensures first { IfOk result (λ p. vec_len self.now.pieces ≡ 0 → p ≡ 0) }
+        ensures parted { IfOk result (λ p. 0 < vec_len self.now.pieces → IsParted p self.now.last key.now) }
+        ensures above { OnOk result (0 < vec_len self.now.pieces → key_order self.now.last key.now ≡ Less) }
+        ensures fault { OnErr result ((result ≡ Err LoadFault.NotRising) × (0 < vec_len self.now.pieces) × (key_order self.now.last key.now ≢ Less)) }
     {
-        if self.parts.is_empty() {
+        if self.pieces.is_empty() {
             return Ok(0);
         }
         let Some(position) = mismatch(&self.last, key) else {
@@ -233,20 +233,20 @@ impl Builder {
             && self.words[self.layout.leaf(number)] == pack_state(Tag::Free)
     }
 
-    /// Whether enough node records are left for one leaf more, which is one slot and one piece more. They are two for each piece, or one
-    /// for each slot, or one for all. Closing all pieces takes no more, and leaves one.
+    /// Whether enough node records are left for one leaf more, which is one tip and one piece more. They are two for each piece, or one
+    /// for each tip, or one for all. Closing all pieces takes no more, and leaves one.
     fn has_nodes(&self) -> bool
         ensures { IsTrue result ↔ HasNodesFor self.now 1 }
     {
         let left = self.layout.nodes.saturating_sub(self.nodes) as usize;
-        left / 2 > self.parts.len() || left > self.slots.len() || self.fits_one_node()
+        left / 2 > self.pieces.len() || left > self.tips.len() || self.fits_one_node()
     }
 
-    /// Whether no node is taken, and one has room for all slots and one more, and one is left then.
+    /// Whether no node is taken, and one has room for all tips and one more, and one is left then.
     fn fits_one_node(&self) -> bool
         ensures { IsTrue result ↔ FitsOneNode self.now 1 }
     {
-        self.nodes == 0 && self.slots.len() < MAX_ENTRIES && self.layout.nodes > 1
+        self.nodes == 0 && self.tips.len() < MAX_ENTRIES && self.layout.nodes > 1
     }
 
     /// Puts a leaf on top, as a piece of its own, behind a fork at `fork`. Its record is `leaf`.
@@ -262,11 +262,11 @@ impl Builder {
         ensures layout { self.new.layout ≡ self.old.layout }
     {
         put_leaf(self.words.as_mut_slice(), &self.layout, leaf, key, value);
-        self.slots.push_reserved(Slot {
+        self.tips.push_reserved(Tip {
             fork,
             entry: Entry::Leaf(leaf),
         });
-        self.parts.push_reserved(Part {
+        self.pieces.push_reserved(StackedPiece {
             count: 1,
             height: 0,
         });
@@ -280,9 +280,9 @@ impl Builder {
         ensures behind { (xs : List Item) → CanJoin self.old xs position → CanPart self.new xs position }
         ensures kept { KeepsNodes self.old self.new }
     {
-        'joins: while self.parts.len() > 1 {
-            let count = self.parts[self.parts.len() - 1].count;
-            if self.slots[self.slots.len() - count].fork < position {
+        'joins: while self.pieces.len() > 1 {
+            let count = self.pieces[self.pieces.len() - 1].count;
+            if self.tips[self.tips.len() - count].fork < position {
                 return;
             }
             self.join_last();
@@ -292,46 +292,46 @@ impl Builder {
     /// Joins all pieces, of which there is one at least, into one. The loop's label names it for the proof.
     fn join_all(&mut self)
         requires { (xs : List Item) × IsStackOf self.old xs }
-        ensures alone { (xs : List Item) → IsStackOf self.old xs → (t : Tree) × IsAlone self.new t xs }
+        ensures alone { (xs : List Item) → IsStackOf self.old xs → (t : Tree) × IsOnePiece self.new t xs }
         ensures layout { self.new.layout ≡ self.old.layout }
     {
-        'joins: while self.parts.len() > 1 {
+        'joins: while self.pieces.len() > 1 {
             self.join_last();
         }
     }
 
     /// Makes one piece of the last two, at the fork between them.
     fn join_last(&mut self)
-        requires several { 2 ≤ vec_len self.old.parts }
+        requires several { 2 ≤ vec_len self.old.pieces }
         requires stack { (xs : List Item) × IsStackOf self.old xs }
         ensures joined { (xs : List Item) (s : IsStackOf self.old xs) → IsJoined self.new xs s.levels }
-        ensures parts { vec_len self.new.parts + 1 ≡ vec_len self.old.parts }
+        ensures pieces { vec_len self.new.pieces + 1 ≡ vec_len self.old.pieces }
         ensures kept { KeepsNodes self.old self.new }
     {
-        let top = self.parts.len() - 1;
-        let (left, right) = (self.parts[top - 1], self.parts[top]);
+        let top = self.pieces.len() - 1;
+        let (left, right) = (self.pieces[top - 1], self.pieces[top]);
         let plan = plan_join(left, right);
         let behind = self.close_piece(0, right.count, plan.closes_right);
         let count = self.close_piece(behind, left.count, plan.closes_left) + behind;
-        let _ = self.parts.pop();
-        self.parts[top - 1] = Part {
+        let _ = self.pieces.pop();
+        self.pieces[top - 1] = StackedPiece {
             count,
             height: plan.height,
         };
     }
 
-    /// Closes the piece of `count` slots before the last `behind` ones, if `closes` is true. Then a node of them is written, and its entry
-    /// replaces them. Returns how many slots the piece has then.
+    /// Closes the piece of `count` tips before the last `behind` ones, if `closes` is true. Then a node of them is written, and its entry
+    /// replaces them. Returns how many tips the piece has then.
     fn close_piece(&mut self, behind: usize, count: usize, closes: bool) -> usize
-        requires fits { behind + count ≤ vec_len self.old.slots }
+        requires fits { behind + count ≤ vec_len self.old.tips }
         requires room { IsTrue closes → (2 ≤ count) × (count ≤ 32) × (self.old.nodes < self.old.layout.nodes) }
         requires piece { (ls : List LeftPiece) × (z : Tree) × (right : Maybe LeftPiece) × IsPiece self.old ls z right count behind }
         ensures closed { (ls : List LeftPiece) (z : Tree) (right : Maybe LeftPiece) → IsPiece self.old ls z right count behind →
             (y : Tree) × StandsFor y z result × IsTreeOf self.new (whole_of ls (with_right y right)) }
-        ensures parts { self.new.parts ≡ self.old.parts }
+        ensures pieces { self.new.pieces ≡ self.old.pieces }
         ensures nodes { self.new.nodes ≡ self.old.nodes + (if closes then 1 else 0) }
         ensures count { result ≡ (if closes then 1 else count) }
-        ensures slots { vec_len self.new.slots + count ≡ vec_len self.old.slots + result }
+        ensures tips { vec_len self.new.tips + count ≡ vec_len self.old.tips + result }
         ensures kept { KeepsLeaves self.old self.new }
     {
         if !closes {
@@ -341,32 +341,27 @@ impl Builder {
         1
     }
 
-    /// Writes a node of the `count` slots before the last `behind` ones, and replaces them by its entry. Never inline: the memory of its
+    /// Writes a node of the `count` tips before the last `behind` ones, and replaces them by its entry. Never inline: the memory of its
     /// locals is cleared at each call.
     #[inline(never)]
     fn write_piece(&mut self, behind: usize, count: usize)
-        requires fits { behind + count ≤ vec_len self.old.slots }
+        requires fits { behind + count ≤ vec_len self.old.tips }
         requires room { (2 ≤ count) × (count ≤ 32) × (self.old.nodes < self.old.layout.nodes) }
         requires piece { (ls : List LeftPiece) × (z : Tree) × (right : Maybe LeftPiece) × IsPiece self.old ls z right count behind }
         ensures closed { (ls : List LeftPiece) (z : Tree) (right : Maybe LeftPiece) → IsPiece self.old ls z right count behind →
             (y : Tree) × StandsFor y z 1 × IsTreeOf self.new (whole_of ls (with_right y right)) }
-        ensures parts { self.new.parts ≡ self.old.parts }
+        ensures pieces { self.new.pieces ≡ self.old.pieces }
         ensures nodes { self.new.nodes ≡ self.old.nodes + 1 }
-        ensures slots { vec_len self.new.slots + count ≡ vec_len self.old.slots + 1 }
+        ensures tips { vec_len self.new.tips + count ≡ vec_len self.old.tips + 1 }
         ensures kept { KeepsLeaves self.old self.new }
     {
-        let start = self.slots.len() - behind - count;
-        let node = build_node(&self.slots[start..start + count]);
+        let start = self.tips.len() - behind - count;
+        let node = build_node(&self.tips[start..start + count]);
         let number = self.nodes;
         put_node(self.words.as_mut_slice(), &self.layout, number, &node);
         self.nodes = number + 1;
         let height = node.height();
-        merge_slots(
-            &mut self.slots,
-            start,
-            count,
-            Entry::Node { number, height },
-        );
+        merge_tips(&mut self.tips, start, count, Entry::Node { number, height });
     }
 }
 
@@ -389,14 +384,14 @@ fn class_number(layout: &Layout, number: u32) -> usize
 }
 
 /// How `left` and `right` become one piece. The lower one is closed, so that it stands in a node as high as the other. Both are closed if
-/// they have too many slots for one node.
-fn plan_join(left: Part, right: Part) -> Plan
+/// they have too many tips for one node.
+fn plan_join(left: StackedPiece, right: StackedPiece) -> JoinPlan
     requires { (left.count ≤ 32) × (right.count ≤ 32) }
     ensures few { (if result.closes_left then 1 else left.count) + (if result.closes_right then 1 else right.count) ≤ 32 }
     ensures left { IsTrue result.closes_left → 2 ≤ left.count }
     ensures right { IsTrue result.closes_right → 2 ≤ right.count }
-    ensures even { IsLow left → IsLow right → left.count + right.count ≤ 32 → (result.closes_left ≡ false) × (result.closes_right ≡ false) }
-    ensures low { IsLow left → IsLow right → result.closes_left ≡ false → result.closes_right ≡ false → result.height ≡ 1 }
+    ensures even { IsOfLeaves left → IsOfLeaves right → left.count + right.count ≤ 32 → (result.closes_left ≡ false) × (result.closes_right ≡ false) }
+    ensures low { IsOfLeaves left → IsOfLeaves right → result.closes_left ≡ false → result.closes_right ≡ false → result.height ≡ 1 }
 {
     let height = left.height.max(right.height).max(1);
     let closes_left = left.height < height && left.count > 1;
@@ -404,13 +399,13 @@ fn plan_join(left: Part, right: Part) -> Plan
     let left_count = if closes_left { 1 } else { left.count };
     let right_count = if closes_right { 1 } else { right.count };
     if left_count + right_count <= MAX_ENTRIES {
-        return Plan {
+        return JoinPlan {
             closes_left,
             closes_right,
             height,
         };
     }
-    Plan {
+    JoinPlan {
         closes_left: left.count > 1,
         closes_right: right.count > 1,
         height: height.saturating_add(1),

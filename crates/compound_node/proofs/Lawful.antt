@@ -102,14 +102,14 @@ leads_to-lt bit (Place x) = omega arith
 leads_to-lt bit (Fork p a b) = elim (bit p) as (λ v. cond v (size a + leads_to bit b) (leads_to bit a) < size a + size b)
     [ true ↦ omega (arith, leads_to-lt bit b) | false ↦ omega (arith, leads_to-lt bit a) ]
 
-module _ (head : HeadView) (sparse : List ℕ) (bit : ℕ → Bool) (dense i : ℕ) (padded : sparse ≡ with_unused head.rows) (gathered : dense ≡ dense_of head.columns bit)
-    (highest : IsHighest sparse dense i) (node : NodeView) (lawful : IsLawfulNode node) (same : head_of node ≡ head) where
+module _ (head : HeadView) (padded_rows : List ℕ) (bit : ℕ → Bool) (dense i : ℕ) (padded : padded_rows ≡ with_unused head.rows) (gathered : dense ≡ dense_of head.columns bit)
+    (highest : IsHighest padded_rows dense i) (node : NodeView) (lawful : IsLawfulNode node) (same : head_of node ≡ head) where
   pub head_leads : i ≡ leads_to bit (piece node)
   head_leads =
       let columns : head.columns ≡ node.columns = sym (ap (λ (h : HeadView). h.columns) same) in
       let rows : head.rows ≡ node.rows = sym (ap (λ (h : HeadView). h.rows) same) in
       let at_node : IsHighest (with_unused node.rows) (dense_of node.columns bit) i =
-      subst (λ xs. IsHighest xs (dense_of node.columns bit) i) (padded ∙ ap with_unused rows) (subst (λ d. IsHighest sparse d i) (gathered ∙ ap (λ cs. dense_of cs bit) columns) highest) in
+      subst (λ xs. IsHighest xs (dense_of node.columns bit) i) (padded ∙ ap with_unused rows) (subst (λ d. IsHighest padded_rows d i) (gathered ∙ ap (λ cs. dense_of cs bit) columns) highest) in
       highest_leads node.columns node.rows node.entries (piece node) lawful.shows bit i at_node
 
   pub head_leads-fits : i < length head.rows
@@ -128,12 +128,12 @@ affected_range_is node lawful position found n first last here below start end =
     (subst (IsPlaceOf node.columns position) (sym below) (front_below-place position node.columns)) (omega arith) start end
 
 -- ---- fields that make a node
-module _ (count height : ℕ) (columns sparse : List ℕ) where
-  pub fits_head : 0 < height → height ≤ 65535 → length sparse ≡ 32 → ((i : ℕ) → get_or sparse i 0 < 2 ^ 32) → FitsWords count columns sparse →
-      FitsHead count sparse (record { height = height; columns = columns; rows = take count sparse })
+module _ (count height : ℕ) (columns padded_rows : List ℕ) where
+  pub fits_head : 0 < height → height ≤ 65535 → length padded_rows ≡ 32 → ((i : ℕ) → get_or padded_rows i 0 < 2 ^ 32) → FitsWords count columns padded_rows →
+      FitsHead count padded_rows (record { height = height; columns = columns; rows = take count padded_rows })
   fits_head high bound long fits words =
-      let rows : List ℕ = take count sparse in
-      let n : length rows ≡ count = length-take-le count sparse (omega (arith, words.room)) in
+      let rows : List ℕ = take count padded_rows in
+      let n : length rows ≡ count = length-take-le count padded_rows (omega (arith, words.room)) in
       let m : length (leaves count) ≡ count = length-replicate count (Leaf 0) in
       let positions : IsColumns columns = words.positions in
       record {
@@ -144,7 +144,7 @@ module _ (count height : ℕ) (columns sparse : List ℕ) where
           room = omega (arith, words.room);
           positions = positions;
           shows = sparse_keys-shown (Leaf 0) columns rows (leaves count) positions.rise positions.few (omega (arith, words.several)) (omega arith)
-              (λ k l. rw (get_or-take count sparse k 0 (omega arith)) (fits k)) words.keys;
+              (λ k l. rw (get_or-take count padded_rows k 0 (omega arith)) (fits k)) words.keys;
           children = λ k d l. leaf_at IsEntry k d (omega arith) tt;
           above = λ k d l. leaf_at (λ entry. height_of entry < height) k d (omega arith) high;
           bound = bound;
@@ -155,52 +155,52 @@ module _ (count height : ℕ) (columns sparse : List ℕ) where
       leaf_at P k d l p = subst P (sym (get_or-replicate count k (Leaf 0) d l)) p
 
   -- what fits is the head of a node of leaves
-  pub some_node : FitsHead count sparse (record { height = height; columns = columns; rows = take count sparse }) → IsHead count height columns sparse
+  pub some_node : FitsHead count padded_rows (record { height = height; columns = columns; rows = take count padded_rows }) → IsHead count height columns padded_rows
   some_node fits =
       let m : length (leaves count) ≡ count = length-replicate count (Leaf 0) in (
         leaves count,
         m,
         record {
-          padded = subst (λ n. sparse ≡ with_unused (take n sparse)) (sym m) fits.padded;
-          lawful = subst (λ n. IsLawfulNode (record { height = height; columns = columns; rows = take n sparse; entries = leaves count })) (sym m) fits.lawful;
+          padded = subst (λ n. padded_rows ≡ with_unused (take n padded_rows)) (sym m) fits.padded;
+          lawful = subst (λ n. IsLawfulNode (record { height = height; columns = columns; rows = take n padded_rows; entries = leaves count })) (sym m) fits.lawful;
         },
       )
 
   -- the words of a node's head fit
-  pub fits_words : IsHead count height columns sparse → FitsWords count columns sparse
+  pub fits_words : IsHead count height columns padded_rows → FitsWords count columns padded_rows
   fits_words head =
       let entries : List Entry = head.0 in
-      let node : IsNode height columns sparse entries = head.2 in
-      let lawful : IsLawfulNode (node_from height columns sparse entries) = node.lawful in
-      subst (λ n. FitsWords n columns sparse) head.1 (record {
+      let node : IsNode height columns padded_rows entries = head.2 in
+      let lawful : IsLawfulNode (node_from height columns padded_rows entries) = node.lawful in
+      subst (λ n. FitsWords n columns padded_rows) head.1 (record {
         several = lawful.several;
         room = lawful.room;
         positions = lawful.positions;
         padded = node.padded;
-        keys = shown-sparse_keys columns (take (length entries) sparse) entries (piece (node_from height columns sparse entries)) lawful.shows;
+        keys = shown-sparse_keys columns (take (length entries) padded_rows) entries (piece (node_from height columns padded_rows entries)) lawful.shows;
       })
 
   -- a head's fields fit together
-  pub head_fits : IsHead count height columns sparse → FitsHead count sparse (record { height = height; columns = columns; rows = take count sparse })
+  pub head_fits : IsHead count height columns padded_rows → FitsHead count padded_rows (record { height = height; columns = columns; rows = take count padded_rows })
   head_fits head =
       let entries : List Entry = head.0 in
-      let node : IsNode height columns sparse entries = head.2 in
-      subst (λ n. FitsHead n sparse (record { height = height; columns = columns; rows = take n sparse })) head.1 (record {
+      let node : IsNode height columns padded_rows entries = head.2 in
+      subst (λ n. FitsHead n padded_rows (record { height = height; columns = columns; rows = take n padded_rows })) head.1 (record {
         padded = node.padded;
-        counted = same_count (node_from height columns sparse entries) node.lawful;
-        lawful = with_leaves (node_from height columns sparse entries) node.lawful (length entries) refl;
+        counted = same_count (node_from height columns padded_rows entries) node.lawful;
+        lawful = with_leaves (node_from height columns padded_rows entries) node.lawful (length entries) refl;
       })
 
-  pub head_height : IsHead count height columns sparse → 0 < height
-  head_height head = height_positive (node_from height columns sparse head.0) (head.2).lawful
+  pub head_height : IsHead count height columns padded_rows → 0 < height
+  head_height head = height_positive (node_from height columns padded_rows head.0) (head.2).lawful
 
   -- the head of a node, with other entries that can stand there
-  pub other_node : IsHead count height columns sparse → (entries : List Entry) → length entries ≡ count → All (StandsBelow height) entries → IsNode height columns sparse entries
+  pub other_node : IsHead count height columns padded_rows → (entries : List Entry) → length entries ≡ count → All (StandsBelow height) entries → IsNode height columns padded_rows entries
   other_node head entries e stand =
       let old : List Entry = head.0 in
       let same : length old ≡ length entries = head.1 ∙ sym e in
       record {
-        padded = subst (λ n. sparse ≡ with_unused (take n sparse)) same (head.2).padded;
-        lawful = subst (λ n. IsLawfulNode (record { height = height; columns = columns; rows = take n sparse; entries = entries })) same
-            (other_entries (node_from height columns sparse old) (head.2).lawful entries (sym same) stand);
+        padded = subst (λ n. padded_rows ≡ with_unused (take n padded_rows)) same (head.2).padded;
+        lawful = subst (λ n. IsLawfulNode (record { height = height; columns = columns; rows = take n padded_rows; entries = entries })) same
+            (other_entries (node_from height columns padded_rows old) (head.2).lawful entries (sym same) stand);
       }

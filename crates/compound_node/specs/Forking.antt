@@ -6,7 +6,7 @@ use Rattle.node_tries.specs.Growth.{edited}
 use Rattle.node_tries.specs.Positions.{front_below, has, with_position}
 
 -- the head with a fork at the position over the rows from first to last, and with this height
-abbrev pub forked_head : ℕ → ℕ → ℕ → ℕ → Bool → HeadView → HeadView
+abbrev pub forked_head : (height position first last : ℕ) → Bool → HeadView → HeadView
 forked_head height position first last bit head =
     let at = front_below position head.columns in
     let is_column = has head.columns position in

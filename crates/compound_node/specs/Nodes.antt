@@ -75,12 +75,12 @@ AgreeBefore node position i k =
 
 -- the node of these fields, without the rows behind those of its entries
 abbrev pub node_from : ℕ → List ℕ → List ℕ → List Entry → NodeView
-node_from height columns sparse entries = record { height = height; columns = columns; rows = take (length entries) sparse; entries = entries }
+node_from height columns padded_rows entries = record { height = height; columns = columns; rows = take (length entries) padded_rows; entries = entries }
 
 -- the fields are those of a lawful node, with 4,294,967,295 as each unused row
-pub record IsNode (height : ℕ) (columns sparse : List ℕ) (entries : List Entry) : Type 0 where
-  pub padded : sparse ≡ with_unused (take (length entries) sparse)
-  pub lawful : IsLawfulNode (node_from height columns sparse entries)
+pub record IsNode (height : ℕ) (columns padded_rows : List ℕ) (entries : List Entry) : Type 0 where
+  pub padded : padded_rows ≡ with_unused (take (length entries) padded_rows)
+  pub lawful : IsLawfulNode (node_from height columns padded_rows entries)
 
 -- ---- heads
 -- what contracts see of a head: a node's stored height, columns and rows
@@ -102,23 +102,23 @@ abbrev pub node_of : HeadView → List Entry → NodeView
 node_of head entries = record { height = head.height; columns = head.columns; rows = head.rows; entries = entries }
 
 -- some node of so many entries has this head
-abbrev pub IsHead : ℕ → ℕ → List ℕ → List ℕ → Type 0
-IsHead count height columns sparse = (entries : List Entry) × (length entries ≡ count) × IsNode height columns sparse entries
+abbrev pub IsHead : (count height : ℕ) → List ℕ → List ℕ → Type 0
+IsHead count height columns padded_rows = (entries : List Entry) × (length entries ≡ count) × IsNode height columns padded_rows entries
 
 -- so many leaves, as entries whose numbers don't matter
 abbrev pub leaves : ℕ → List Entry
 leaves count = replicate count (Leaf 0)
 
 -- the fields of a head fit together: a node of so many leaves has them
-pub record FitsHead (count : ℕ) (sparse : List ℕ) (head : HeadView) : Type 0 where
-  pub padded : sparse ≡ with_unused head.rows
+pub record FitsHead (count : ℕ) (padded_rows : List ℕ) (head : HeadView) : Type 0 where
+  pub padded : padded_rows ≡ with_unused head.rows
   pub counted : length head.rows ≡ count
   pub lawful : IsLawfulNode (node_of head (leaves count))
 
 -- columns and words of a head, apart from its height
-pub record FitsWords (count : ℕ) (columns sparse : List ℕ) : Type 0 where
+pub record FitsWords (count : ℕ) (columns padded_rows : List ℕ) : Type 0 where
   pub several : 2 ≤ count
   pub room : count ≤ 32
   pub positions : IsColumns columns
-  pub padded : sparse ≡ with_unused (take count sparse)
-  pub keys : AreSparseKeys (length columns) (take count sparse)
+  pub padded : padded_rows ≡ with_unused (take count padded_rows)
+  pub keys : AreSparseKeys (length columns) (take count padded_rows)

@@ -18,7 +18,7 @@ pub struct Head {
     height: u16,
     count: u8,
     columns: Columns,
-    sparse: [u32; MAX_ENTRIES],
+    padded_rows: [u32; MAX_ENTRIES],
 }
 
 impl Model for Head {
@@ -27,9 +27,9 @@ impl Model for Head {
 
     ghost Value = { HeadView };
 
-    ghost view = { λ h. record { height = h.height; columns = h.columns; rows = take h.count h.sparse } };
+    ghost view = { λ h. record { height = h.height; columns = h.columns; rows = take h.count h.padded_rows } };
 
-    ghost invariant = { λ h. FitsHead h.count h.sparse (record { height = h.height; columns = h.columns; rows = take h.count h.sparse }) };
+    ghost invariant = { λ h. FitsHead h.count h.padded_rows (record { height = h.height; columns = h.columns; rows = take h.count h.padded_rows }) };
 }
 
 impl Head {
@@ -43,39 +43,39 @@ impl Head {
     ghost use Rattle.node_tries.specs.Piece.{leads_to};
 
     /// The head of a node of `count` entries with these fields; `None` exactly if no node has them. `columns` has the positions of the
-    /// forks, each once, in rising order. `sparse` has the row of each entry at its slot, and 4,294,967,295 at each unused slot.
+    /// forks, each once, in rising order. `padded_rows` has the row of each entry at its slot, and 4,294,967,295 at each unused slot.
     pub fn from_parts(
         count: u8,
         height: u16,
         columns: &[u16],
-        sparse: &[u32; MAX_ENTRIES],
+        padded_rows: &[u32; MAX_ENTRIES],
     ) -> Option<Head>
-        ensures some { IsSome result ↔ IsHead count height columns.now sparse.now }
-        ensures head { IfSome result (λ head. head ≡ record { height = height; columns = columns.now; rows = take count sparse.now }) }
+        ensures some { IsSome result ↔ IsHead count height columns.now padded_rows.now }
+        ensures head { IfSome result (λ head. head ≡ record { height = height; columns = columns.now; rows = take count padded_rows.now }) }
     {
-        if height > 0 && fit_a_node(count, columns, sparse) {
+        if height > 0 && fit_a_node(count, columns, padded_rows) {
             Some(Head {
                 height,
                 count,
                 columns: Columns::of(columns),
-                sparse: *sparse,
+                padded_rows: *padded_rows,
             })
         } else {
             None
         }
     }
 
-    /// The head of a node of `count` entries with these fields, which some node has. `sparse` has the row of each entry at its slot, and
-    /// 4,294,967,295 at each unused slot.
-    pub fn of(count: u8, height: u16, columns: Columns, sparse: [u32; MAX_ENTRIES]) -> Head
-        requires { IsHead count height columns sparse }
-        ensures { result ≡ record { height = height; columns = columns; rows = take count sparse } }
+    /// The head of a node of `count` entries with these fields, which some node has. `padded_rows` has the row of each entry at its slot,
+    /// and 4,294,967,295 at each unused slot.
+    pub fn of(count: u8, height: u16, columns: Columns, padded_rows: [u32; MAX_ENTRIES]) -> Head
+        requires { IsHead count height columns padded_rows }
+        ensures { result ≡ record { height = height; columns = columns; rows = take count padded_rows } }
     {
         Head {
             height,
             count,
             columns,
-            sparse,
+            padded_rows,
         }
     }
 
@@ -101,7 +101,7 @@ impl Head {
         ensures leads { InEachNode self.now (λ node. result ≡ leads_to (bit_of key.now) (piece node)) }
         ensures in_range { result < length self.now.rows }
     {
-        search_lanes(&self.sparse, self.columns.extract(key))
+        search_lanes(&self.padded_rows, self.columns.extract(key))
     }
 
     /// The position of the root fork, the lowest of all columns, in each node that has this head.
@@ -141,7 +141,7 @@ impl Head {
             height,
             count: rows.len() as u8,
             columns,
-            sparse: pad(rows, u32::MAX),
+            padded_rows: pad(rows, u32::MAX),
         }
     }
 
@@ -163,9 +163,9 @@ impl Head {
         ensures { self.new ≡ forked_head height position first last bit self.old }
     {
         let count = self.count as usize;
-        let below = ensure_column(&mut self.columns, &mut self.sparse, count, position);
-        let rows = u32x32::from_array(self.sparse);
-        self.sparse = fork_rows(rows, first, last, 1 << (31 - below), bit).to_array();
+        let below = ensure_column(&mut self.columns, &mut self.padded_rows, count, position);
+        let rows = u32x32::from_array(self.padded_rows);
+        self.padded_rows = fork_rows(rows, first, last, 1 << (31 - below), bit).to_array();
         self.count += 1;
         self.height = height;
     }
@@ -178,7 +178,7 @@ impl Head {
             height: self.height,
             count: self.count,
             columns: self.columns,
-            sparse: self.sparse,
+            padded_rows: self.padded_rows,
         }
     }
 
@@ -193,14 +193,14 @@ impl Head {
     pub(crate) fn rows(&self) -> &[u32]
         ensures { result.now ≡ self.now.rows }
     {
-        &self.sparse[..self.count as usize]
+        &self.padded_rows[..self.count as usize]
     }
 
     /// The rows of the entries, and 4,294,967,295 for the unused ones of 32 slots.
     pub fn padded_rows(&self) -> &[u32; MAX_ENTRIES]
         ensures { result.now ≡ with_unused self.now.rows }
     {
-        &self.sparse
+        &self.padded_rows
     }
 
     /// The row of `slot`; 4,294,967,295 if the slot is unused.
@@ -209,7 +209,7 @@ impl Head {
         ensures used { slot < length self.now.rows → result ≡ slice_index self.now.rows slot }
         ensures unused { length self.now.rows ≤ slot → result ≡ 4294967295 }
     {
-        self.sparse[slot as usize]
+        self.padded_rows[slot as usize]
     }
 }
 
@@ -237,16 +237,16 @@ pub(crate) fn ensure_column(
     below
 }
 
-/// Whether some node of `count` entries has `columns`, and `sparse` has its rows, with 4,294,967,295 at each unused slot.
-fn fit_a_node(count: u8, columns: &[u16], sparse: &[u32; MAX_ENTRIES]) -> bool
-    ensures { IsTrue result ↔ FitsWords count columns.now sparse.now }
+/// Whether some node of `count` entries has `columns`, and `padded_rows` has its rows, with 4,294,967,295 at each unused slot.
+fn fit_a_node(count: u8, columns: &[u16], padded_rows: &[u32; MAX_ENTRIES]) -> bool
+    ensures { IsTrue result ↔ FitsWords count columns.now padded_rows.now }
 {
     let used = count as usize;
     2 <= used
         && used <= MAX_ENTRIES
         && are_columns(columns)
-        && is_padded(sparse, used)
-        && are_sparse_keys(&sparse[..used], columns.len())
+        && is_padded(padded_rows, used)
+        && are_sparse_keys(&padded_rows[..used], columns.len())
 }
 
 /// Whether `positions` are 1 to 31 positions that rise strictly, each below 65,535.

@@ -39,21 +39,21 @@ impl Node {
     ghost use Rattle.node_tries.specs.Growth.{IsAffected, affected_count, affected_first, grown};
     ghost use Rattle.node_tries.specs.Piece.{leads_to};
 
-    /// The node with these fields; `None` exactly if no node has them. A node has 2 to 32 entries, each lower than `height`. `sparse` has
-    /// their rows, those of one piece that uses each of `columns`, and 4,294,967,295 at each unused slot.
+    /// The node with these fields; `None` exactly if no node has them. A node has 2 to 32 entries, each lower than `height`. `padded_rows`
+    /// has their rows, those of one piece that uses each of `columns`, and 4,294,967,295 at each unused slot.
     pub fn from_parts(
         height: u16,
         columns: &[u16],
-        sparse: &[u32; MAX_ENTRIES],
+        padded_rows: &[u32; MAX_ENTRIES],
         entries: &[Entry],
     ) -> Option<Node>
-        ensures some { IsSome result ↔ IsNode height columns.now sparse.now entries.now }
-        ensures node { IfSome result (λ node. node ≡ node_from height columns.now sparse.now entries.now) }
+        ensures some { IsSome result ↔ IsNode height columns.now padded_rows.now entries.now }
+        ensures node { IfSome result (λ node. node ≡ node_from height columns.now padded_rows.now entries.now) }
     {
         if entries.len() > MAX_ENTRIES || !all_stand_below(entries, height) {
             return None;
         }
-        let head = Head::from_parts(entries.len() as u8, height, columns, sparse)?;
+        let head = Head::from_parts(entries.len() as u8, height, columns, padded_rows)?;
         Some(Node::of(head, list_items(entries)))
     }
 

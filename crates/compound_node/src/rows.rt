@@ -20,13 +20,13 @@ use arrayvec::ArrayVec;
 use partial_keys::MAX_ENTRIES;
 use std::simd::prelude::*;
 
-/// Whether 4,294,967,295 stands in `sparse` at each index from `count` on, so that these slots are unused.
-pub(crate) fn is_padded(sparse: &[u32; MAX_ENTRIES], count: usize) -> bool
+/// Whether 4,294,967,295 stands in `padded_rows` at each index from `count` on, so that these slots are unused.
+pub(crate) fn is_padded(padded_rows: &[u32; MAX_ENTRIES], count: usize) -> bool
     requires { count ≤ 32 }
-    ensures { IsTrue result ↔ (sparse.now ≡ with_unused (take count sparse.now)) }
+    ensures { IsTrue result ↔ (padded_rows.now ≡ with_unused (take count padded_rows.now)) }
 {
     for i in count..MAX_ENTRIES {
-        if sparse[i] != u32::MAX {
+        if padded_rows[i] != u32::MAX {
             return false;
         }
     }

@@ -9,8 +9,10 @@ use Rattle.rowex_core.specs.Cores.{Core}
 
 -- the record stood in the tree in a version since the pin of some pass
 abbrev pub IsInReach : Core → Rec → Type 0
-IsInReach c r = (q : ℕ) × (p : Pin) × (n : ℕ) × (u : Tree) × (c.pins q ≡ Some p) × (p.version ≤ n) × (n ≤ c.past.now) × Stands c.past n r u
+IsInReach core rec =
+    (pass : ℕ) × (pin : Pin) × (n : ℕ) × (tree : Tree) × (core.pins pass ≡ Some pin) × (pin.version ≤ n) × (n ≤ core.past.now) ×
+    Stands core.past n rec tree
 
 -- no record in a pinned pass's reach is free or held
 abbrev pub IsReachKept : Core → Type 0
-IsReachKept c = (r : Rec) → IsInReach c r → (c.fate r ≢ Free) × ((o : ℕ) → c.fate r ≢ Held o)
+IsReachKept core = (rec : Rec) → IsInReach core rec → (core.fate rec ≢ Free) × ((o : ℕ) → core.fate rec ≢ Held o)

@@ -17,7 +17,7 @@ use Rattle.epochs.specs.declared.limbo.Visited.{Visited}
 use Rattle.epochs.specs.declared.limbo.Visited.TheVariants.{Given}
 
 -- the exchange that raises an epoch by one; at the last epoch there is none
-abbrev pub advance_steps : ℕ → ℕ → List Act
+abbrev pub advance_steps : (epoch found : ℕ) → List Act
 advance_steps epoch found = if nat_lt (epoch + 1) EPOCHS then Advance epoch found ∷ [] else []
 
 -- the act is a load of the pin of pass o, and no other
@@ -25,9 +25,10 @@ abbrev pub LoadsPin : ℕ → List Act → Type 0
 LoadsPin o acts = (word : ℕ) × (acts ≡ LoadPin o word ∷ [])
 
 -- A visit of a record: its state is loaded. If that is obsolete in an epoch below the bound, one exchange follows.
-pub data Visits (bound : ℕ) (r : Rec) : List Act → Type 0 where
-  passes : (word : ℕ) → ((epoch : ℕ) → 1 ≤ epoch → epoch < bound → word ≢ state_word (Obsolete epoch)) → Visits bound r (LoadState r word ∷ [])
-  tries : (epoch found : ℕ) → 1 ≤ epoch → epoch < bound → Visits bound r (LoadState r (state_word (Obsolete epoch)) ∷ GiveBack r epoch found ∷ [])
+pub data Visits (bound : ℕ) (rec : Rec) : List Act → Type 0 where
+  passes : (word : ℕ) → ((epoch : ℕ) → 1 ≤ epoch → epoch < bound → word ≢ state_word (Obsolete epoch)) → Visits bound rec (LoadState rec word ∷ [])
+  tries : (epoch found : ℕ) → 1 ≤ epoch → epoch < bound →
+      Visits bound rec (LoadState rec (state_word (Obsolete epoch)) ∷ GiveBack rec epoch found ∷ [])
 
 -- the acts are visits of these records, one after the other
 abbrev pub VisitEach : ℕ → List Rec → List Act → Type 0
@@ -41,56 +42,58 @@ has_given act = false
 
 -- A round of collection. The pass loads the epoch, raises it, loads it again and loads each pin. The least of that epoch and of the pins
 -- that are set is its bound. Then it visits each record, nodes first, and gives so many nodes and leaves back.
-pub record IsRound {G : Type 0} (table : TableView) (becomes : G → Event → G → Type 0) (a b : SeatView × G) (given_nodes given_leaves : ℕ) : Type 0 where
+pub record IsRound {G : Type 0} (table : TableView) (becomes : G → Event → G → Type 0) (old new : SeatView × G) (given_nodes given_leaves : ℕ) : Type 0 where
   pub epoch : ℕ
   pub found : ℕ
   pub next : ℕ
   pub pins : List Act
   pub nodes : List Act
   pub leaves : List Act
-  pub does : Does table becomes collecting (LoadEpoch epoch ∷ advance_steps epoch found ++ LoadEpoch next ∷ pins ++ nodes ++ leaves) a b
+  pub does : Does table becomes collecting (LoadEpoch epoch ∷ advance_steps epoch found ++ LoadEpoch next ∷ pins ++ nodes ++ leaves) old new
   pub loads_pins : InTurn LoadsPin table.layout.passes pins
-  pub visits_nodes : InTurn (λ n. Visits b.0.known.round.bound (a_node n)) table.layout.nodes nodes
-  pub visits_leaves : InTurn (λ n. Visits b.0.known.round.bound (a_leaf n)) table.layout.leaves leaves
+  pub visits_nodes : InTurn (λ n. Visits new.0.known.round.bound (a_node n)) table.layout.nodes nodes
+  pub visits_leaves : InTurn (λ n. Visits new.0.known.round.bound (a_leaf n)) table.layout.leaves leaves
   pub nodes_given : given_nodes ≡ count_by has_given nodes
   pub leaves_given : given_leaves ≡ count_by has_given leaves
 
 -- A small round: it begins as a round does, and then the pass visits at most so many records.
-pub record IsSmallRound {G : Type 0} (table : TableView) (becomes : G → Event → G → Type 0) (most : ℕ) (a b : SeatView × G) : Type 0 where
+pub record IsSmallRound {G : Type 0} (table : TableView) (becomes : G → Event → G → Type 0) (most : ℕ) (old new : SeatView × G) : Type 0 where
   pub epoch : ℕ
   pub found : ℕ
   pub next : ℕ
   pub pins : List Act
   pub recs : List Rec
   pub visits : List Act
-  pub does : Does table becomes collecting (LoadEpoch epoch ∷ advance_steps epoch found ++ LoadEpoch next ∷ pins ++ visits) a b
+  pub does : Does table becomes collecting (LoadEpoch epoch ∷ advance_steps epoch found ++ LoadEpoch next ∷ pins ++ visits) old new
   pub loads_pins : InTurn LoadsPin table.layout.passes pins
-  pub visits_each : VisitEach b.0.known.round.bound recs visits
+  pub visits_each : VisitEach new.0.known.round.bound recs visits
   pub few : length recs ≤ most
 
 -- A round that is spared: it begins as a round does, and then the pass visits no record.
 abbrev pub IsSparedRound : {G : Type 0} → TableView → (G → Event → G → Type 0) → SeatView × G → SeatView × G → Type 0
-IsSparedRound table becomes a b = IsSmallRound table becomes 0 a b
+IsSparedRound table becomes old new = IsSmallRound table becomes 0 old new
 
 -- The parts of a round
 
 -- The pass has loaded the first n pins since it last loaded the epoch. The bound is the least of that epoch and of those pins that were
 -- set.
-pub record HasBound (n bound : ℕ) (k : Known) : Type 0 where
-  pub least : k.round.bound ≡ bound
-  pub seen : (o : ℕ) → o < n → has_seen k.round.seen o ≡ true
+pub record HasBound (n bound : ℕ) (known : Known) : Type 0 where
+  pub least : known.round.bound ≡ bound
+  pub seen : (o : ℕ) → o < n → has_seen known.round.seen o ≡ true
 
 -- the pass loads the epoch, and raises it by one
 abbrev pub AdvancesEpoch : {G : Type 0} → TableView → (G → Event → G → Type 0) → SeatView × G → SeatView × G → Type 0
-AdvancesEpoch table becomes a b = (epoch : ℕ) × (found : ℕ) × Does table becomes paced (LoadEpoch epoch ∷ advance_steps epoch found) a b
+AdvancesEpoch table becomes old new = (epoch : ℕ) × (found : ℕ) × Does table becomes paced (LoadEpoch epoch ∷ advance_steps epoch found) old new
 
 -- the pass loads the epoch, and then the first n pins
 abbrev pub FindsBound : {G : Type 0} → TableView → (G → Event → G → Type 0) → ℕ → SeatView × G → SeatView × G → Type 0
-FindsBound table becomes n a b = (next : ℕ) × (pins : List Act) × InTurn LoadsPin n pins × Does table becomes paced (LoadEpoch next ∷ pins) a b
+FindsBound table becomes n old new =
+    (next : ℕ) × (pins : List Act) × InTurn LoadsPin n pins × Does table becomes paced (LoadEpoch next ∷ pins) old new
 
 -- the pass raises the epoch, loads it and then each pin, as each round begins
 abbrev pub BeginsRound : {G : Type 0} → TableView → (G → Event → G → Type 0) → SeatView × G → SeatView × G → Type 0
-BeginsRound {G = G} table becomes a b = (m : SeatView × G) × AdvancesEpoch table becomes a m × FindsBound table becomes table.layout.passes m b
+BeginsRound {G = G} table becomes old new =
+    (middle : SeatView × G) × AdvancesEpoch table becomes old middle × FindsBound table becomes table.layout.passes middle new
 
 -- whether the visit gave its record back
 abbrev pub is_given : Visited → Bool
@@ -99,26 +102,27 @@ is_given seen = false
 
 -- the pass visits a record, and gives it back or not
 abbrev pub VisitsOne : {G : Type 0} → TableView → (G → Event → G → Type 0) → ℕ → Rec → Bool → SeatView × G → SeatView × G → Type 0
-VisitsOne table becomes bound r given a b =
-    (acts : List Act) × Visits bound r acts × Does table becomes collecting acts a b × (count_by has_given acts ≡ if given then 1 else 0)
+VisitsOne table becomes bound rec given old new =
+    (acts : List Act) × Visits bound rec acts × Does table becomes collecting acts old new × (count_by has_given acts ≡ if given then 1 else 0)
 
 -- the pass visits the first n records of a kind, and gives so many of them back
-abbrev pub VisitsAll : {G : Type 0} → TableView → (G → Event → G → Type 0) → ℕ → (ℕ → Rec) → ℕ → ℕ → SeatView × G → SeatView × G → Type 0
-VisitsAll table becomes bound kind n given a b =
-    (acts : List Act) × InTurn (λ m. Visits bound (kind m)) n acts × Does table becomes collecting acts a b × (given ≡ count_by has_given acts)
+abbrev pub VisitsFirst : {G : Type 0} → TableView → (G → Event → G → Type 0) → ℕ → (ℕ → Rec) → ℕ → ℕ → SeatView × G → SeatView × G → Type 0
+VisitsFirst table becomes bound kind n given old new =
+    (acts : List Act) × InTurn (λ m. Visits bound (kind m)) n acts × Does table becomes collecting acts old new × (given ≡ count_by has_given acts)
 
 -- the pass visits each record of the table, nodes first, and gives so many nodes and so many leaves back
 abbrev pub VisitsTable : {G : Type 0} → TableView → (G → Event → G → Type 0) → (bound given_nodes given_leaves : ℕ) → SeatView × G → SeatView × G → Type 0
-VisitsTable {G = G} table becomes bound given_nodes given_leaves a b =
-    (m : SeatView × G) × VisitsAll table becomes bound a_node table.layout.nodes given_nodes a m ×
-    VisitsAll table becomes bound a_leaf table.layout.leaves given_leaves m b
+VisitsTable {G = G} table becomes bound given_nodes given_leaves old new =
+    (middle : SeatView × G) × VisitsFirst table becomes bound a_node table.layout.nodes given_nodes old middle ×
+    VisitsFirst table becomes bound a_leaf table.layout.leaves given_leaves middle new
 
 -- If the pass had visited `before.0` records of a kind and given `before.1` back, it has visited `after.0` now and given `after.1` back.
 abbrev pub GoesOnVisiting : {G : Type 0} → TableView → (G → Event → G → Type 0) → ℕ → (ℕ → Rec) → ℕ × ℕ → ℕ × ℕ → SeatView × G → SeatView × G → Type 0
-GoesOnVisiting {G = G} table becomes bound kind before after b c =
-    (a : SeatView × G) → VisitsAll table becomes bound kind before.0 before.1 a b → VisitsAll table becomes bound kind after.0 after.1 a c
+GoesOnVisiting {G = G} table becomes bound kind before after old new =
+    (first : SeatView × G) → VisitsFirst table becomes bound kind before.0 before.1 first old →
+    VisitsFirst table becomes bound kind after.0 after.1 first new
 
 -- the pass visits some records, at most so many
-abbrev pub VisitsSome : {G : Type 0} → TableView → (G → Event → G → Type 0) → ℕ → ℕ → SeatView × G → SeatView × G → Type 0
-VisitsSome table becomes bound most a b =
-    (recs : List Rec) × (acts : List Act) × VisitEach bound recs acts × Does table becomes collecting acts a b × (length recs ≤ most)
+abbrev pub VisitsSome : {G : Type 0} → TableView → (G → Event → G → Type 0) → (bound most : ℕ) → SeatView × G → SeatView × G → Type 0
+VisitsSome table becomes bound most old new =
+    (recs : List Rec) × (acts : List Act) × VisitEach bound recs acts × Does table becomes collecting acts old new × (length recs ≤ most)

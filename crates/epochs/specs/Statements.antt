@@ -17,21 +17,24 @@ use Rattle.epochs.specs.Reach.{IsInReach, IsReachKept}
 
 -- before and after each step of any pass, no record of a pinned pass's reach is free or held
 abbrev pub ReachIsKept : Type 0
-ReachIsKept = (layout : Layout) (act : Act) (said : Known → List Note) (k j : Known) (event : IsEvent layout act said k j) →
-    IsReachKept event.core × IsReachKept (after event.core k.pass act)
+ReachIsKept = (layout : Layout) (act : Act) (said : Known → List Note) (old new : Known) (event : IsEvent layout act said old new) →
+    IsReachKept event.core × IsReachKept (after event.core old.pass act)
 
 -- before and after each step of a run, no record in a pinned pass's reach is free or held
-abbrev pub KeepsReach : {G : Type 0} (table : TableView) (becomes : G → Event → G → Type 0) (acts : List Act) (a b : SeatView × G) → Runs table becomes acts a b → Type 0
+abbrev pub KeepsReach : {G : Type 0} (table : TableView) (becomes : G → Event → G → Type 0) (acts : List Act) (old new : SeatView × G) →
+    Runs table becomes acts old new → Type 0
 KeepsReach table becomes [] a b run = Unit {0}
 KeepsReach table becomes (act ∷ acts) a b run =
     IsReachKept run.1.event.core × IsReachKept (after run.1.event.core a.0.known.pass act) × KeepsReach table becomes acts run.0 b run.2
 
 -- each run of steps keeps all records in reach
 abbrev pub RunsKeepReach : {G : Type 0} → (G → Event → G → Type 0) → Type 0
-RunsKeepReach {G = G} becomes = (table : TableView) (acts : List Act) (a b : SeatView × G) (run : Runs table becomes acts a b) → KeepsReach table becomes acts a b run
+RunsKeepReach {G = G} becomes =
+    (table : TableView) (acts : List Act) (old new : SeatView × G) (run : Runs table becomes acts old new) → KeepsReach table becomes acts old new run
 
 -- a record that an exchange gives back is then in no pinned pass's reach
 abbrev pub GivenIsOutOfReach : Type 0
 GivenIsOutOfReach =
-    (layout : Layout) (r : Rec) (epoch : ℕ) (said : Known → List Note) (k j : Known) (event : IsEvent layout (GiveBack r epoch (state_word (Obsolete epoch))) said k j) →
-    ¬ IsInReach event.core r
+    (layout : Layout) (rec : Rec) (epoch : ℕ) (said : Known →
+    List Note) (old new : Known) (event : IsEvent layout (GiveBack rec epoch (state_word (Obsolete epoch))) said old new) →
+    ¬ IsInReach event.core rec

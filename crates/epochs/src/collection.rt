@@ -9,7 +9,7 @@ ghost use Rattle.record_words.specs.declared.records.Rec.TheVariants.{Node as a_
 ghost use Rattle.rowex_core.specs.Cores.{HasRecord};
 ghost use Rattle.rowex_table.specs.Rule.{IsStartOf};
 ghost use Rattle.rowex_table.specs.Seats.{IsSeatOf};
-ghost use Rattle.epochs.specs.Rounds.{AdvancesEpoch, BeginsRound, FindsBound, HasBound, IsRound, IsSmallRound, IsSparedRound, VisitsAll, GoesOnVisiting, VisitsOne, VisitsSome, VisitsTable, is_given};
+ghost use Rattle.epochs.specs.Rounds.{AdvancesEpoch, BeginsRound, FindsBound, HasBound, IsRound, IsSmallRound, IsSparedRound, VisitsFirst, GoesOnVisiting, VisitsOne, VisitsSome, VisitsTable, is_given};
 ghost use Rattle.epochs.specs.declared.limbo.Visited.TheVariants.{Free, Waits};
 
 use crate::limbo::{Limbo, MOST_VISITED, Visited};
@@ -203,7 +203,7 @@ fn visit_node_records<G: Gate>(
     requires own { IsSeatOf table.now seat.old }
     requires bound { HasBound table.now.layout.passes bound seat.old.known }
     ensures same { (seat.new.known.pin ≡ seat.old.known.pin) × (seat.new.known.round ≡ seat.old.known.round) }
-    ensures steps { VisitsAll table.now G.becomes bound a_node table.now.layout.nodes result.given (seat.old, gate.old) (seat.new, gate.new) }
+    ensures steps { VisitsFirst table.now G.becomes bound a_node table.now.layout.nodes result.given (seat.old, gate.old) (seat.new, gate.new) }
 {
     let mut tally = NO_VISITS;
     for number in 0..table.layout().nodes {
@@ -225,7 +225,7 @@ fn visit_leaf_records<G: Gate>(
     requires own { IsSeatOf table.now seat.old }
     requires bound { HasBound table.now.layout.passes bound seat.old.known }
     ensures same { (seat.new.known.pin ≡ seat.old.known.pin) × (seat.new.known.round ≡ seat.old.known.round) }
-    ensures steps { VisitsAll table.now G.becomes bound a_leaf table.now.layout.leaves result.given (seat.old, gate.old) (seat.new, gate.new) }
+    ensures steps { VisitsFirst table.now G.becomes bound a_leaf table.now.layout.leaves result.given (seat.old, gate.old) (seat.new, gate.new) }
 {
     let mut tally = NO_VISITS;
     let layout = table.layout();

@@ -1,4 +1,5 @@
--- Legal calls of a pass, after Herlihy and Wing: where its answered calls stand in a front, and that each was answered as a finite map would.
+-- Legal calls of a pass, after Herlihy and Wing: where its answered calls stand in a front, and that each was answered as a finite map
+-- would.
 use Rattle.std.specs.Prelude.{◌≡◌, ℕ, ◌+◌, ◌≤◌, List, [], ◌∷◌, length, take, slice_get, filter, filter_map, map, All, Option, Some, None, Bool, is_some, option_map, nat_eq, if◌then◌else◌}
 use Rattle.finite_map.specs.declared.Call.{Call}
 use Rattle.finite_map.specs.declared.Call.TheVariants.{Insert, Upsert, Exchange, Add, Remove, RemoveIf}
@@ -24,22 +25,23 @@ effect_of _ _ = None
 
 -- whether the call of a note changed the map
 abbrev pub is_change : Note → Bool
-is_change n = is_some (effect_of n.call n.reply)
+is_change note = is_some (effect_of note.call note.reply)
 
 -- the change that a note of pass q tells of, if its call changed the map
 abbrev pub change_of : ℕ → Note → Option Change
-change_of q n = option_map (λ effect. record { pass = q; key = key_of n.call; value = effect.1; kind = effect.0 }) (effect_of n.call n.reply)
+change_of q note =
+    option_map (λ effect. record { pass = q; key = key_of note.call; value = effect.1; kind = effect.0 }) (effect_of note.call note.reply)
 
 -- the first place at which the pass's next call may stand
 abbrev pub place_after : Note → ℕ
-place_after n = if is_change n then n.place + 1 else n.place
+place_after note = if is_change note then note.place + 1 else note.place
 
 -- The note stands in the front. Its place is one of the front, and its reply is the map's after the first `place` changes. Where its call
 -- changed the map, that is the change of number `place`.
-pub record StandsIn (front : List Change) (q : ℕ) (n : Note) : Type 0 where
-  pub place : n.place ≤ length front
-  pub reply : n.reply ≡ reply_of (map_of (take n.place front)) n.call
-  pub change : (c : Change) → change_of q n ≡ Some c → slice_get front n.place ≡ Some c
+pub record StandsIn (front : List Change) (pass : ℕ) (note : Note) : Type 0 where
+  pub place : note.place ≤ length front
+  pub reply : note.reply ≡ reply_of (map_of (take note.place front)) note.call
+  pub change : (c : Change) → change_of pass note ≡ Some c → slice_get front note.place ≡ Some c
 
 -- the notes' places begin at `low` at least, never fall, and rise after a call that changed the map
 abbrev pub RisesFrom : ℕ → List Note → Type 0
@@ -52,7 +54,7 @@ changes_of q notes = filter_map (change_of q) notes
 
 -- the changes of a front that are pass q's, in order
 abbrev pub own_changes : ℕ → List Change → List Change
-own_changes q front = filter (λ c. nat_eq c.pass q) front
+own_changes pass front = filter (λ c. nat_eq c.pass pass) front
 
 -- The answered calls of pass q are legal in the front.
 pub record LegalCalls (front : List Change) (q : ℕ) (notes : List Note) : Type 0 where

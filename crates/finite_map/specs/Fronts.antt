@@ -7,13 +7,13 @@ use Rattle.finite_map.specs.Maps.{Map, value_at, with_value, without}
 
 -- what a change of this kind makes of a map
 abbrev pub changed_by : Kind → Map → List ℕ → ℕ → Map
-changed_by Added m key value = with_value m key value
-changed_by Replaced m key value = with_value m key value
-changed_by Removed m key value = without m key
+changed_by Added pairs key value = with_value pairs key value
+changed_by Replaced pairs key value = with_value pairs key value
+changed_by Removed pairs key value = without pairs key
 
 -- the map after a change
 abbrev pub changed : Map → Change → Map
-changed m c = changed_by c.kind m c.key c.value
+changed pairs change = changed_by change.kind pairs change.key change.value
 
 -- the map that a front leads to, from the empty map
 abbrev pub map_of : List Change → Map
@@ -28,7 +28,7 @@ FitsKind Removed held value = held ≡ Some value
 
 -- the change is legal on this map
 abbrev pub Fits : Map → Change → Type 0
-Fits m c = FitsKind c.kind (value_at m c.key) c.value
+Fits pairs change = FitsKind change.kind (value_at pairs change.key) change.value
 
 -- each change is legal on the map that those before it lead to, from the map m
 abbrev pub LegalFrom : Map → List Change → Type 0

@@ -21,19 +21,19 @@ Map = List (List ℕ × ℕ)
 
 -- each key is below those after it, as in every map that calls and changes lead to
 abbrev pub IsRising : Map → Type 0
-IsRising m = IsStrictlySortedBy key_order (keys_of m)
+IsRising pairs = IsStrictlySortedBy key_order (keys_of pairs)
 
 -- the value that the map holds for the key
 abbrev pub value_at : Map → List ℕ → Option ℕ
-value_at m key = lookup (is_at (key_order key)) m
+value_at pairs key = lookup (is_at (key_order key)) pairs
 
 -- the map in which the key has the value
 abbrev pub with_value : Map → List ℕ → ℕ → Map
-with_value m key value = insert_entry key_order m key value
+with_value pairs key value = insert_entry key_order pairs key value
 
 -- the map in which the key is absent
 abbrev pub without : Map → List ℕ → Map
-without m key = remove_entry (is_at (key_order key)) m
+without pairs key = remove_entry (is_at (key_order key)) pairs
 
 -- the key that a call is about
 abbrev pub key_of : Call → List ℕ
@@ -46,42 +46,42 @@ key_of (Remove key) = key
 key_of (RemoveIf key expected) = key
 
 -- the sum of two values, which goes on from 0 behind the greatest one
-abbrev pub wrapped_sum : ℕ → ℕ → ℕ
+abbrev pub wrapped_sum : (held delta : ℕ) → ℕ
 wrapped_sum held delta = (held + delta) % 2 ^ 64
 
 -- What a call that expects a value makes of a map and replies, if its key has that value. If it has another, the map stays.
 abbrev pub step_if : Bool → Map → ℕ → Map × Reply → Map × Reply
-step_if true m held expected = expected
-step_if false m held expected = (m, Differs held)
+step_if true pairs held expected = expected
+step_if false pairs held expected = (pairs, Differs held)
 
 -- a call on a map which holds this value for its key, or none: the map after it, and the reply
 abbrev pub step_where : Option ℕ → Map → Call → Map × Reply
-step_where None m (Insert key value) = (with_value m key value, Inserted)
-step_where (Some held) m (Insert key value) = (m, Exists held)
-step_where None m (Upsert key value) = (with_value m key value, New)
-step_where (Some held) m (Upsert key value) = (with_value m key value, Was held)
-step_where None m (Exchange key expected value) = (m, Absent)
-step_where (Some held) m (Exchange key expected value) = step_if (nat_eq held expected) m held (with_value m key value, Exchanged)
-step_where None m (Add key delta) = (m, Absent)
-step_where (Some held) m (Add key delta) = (with_value m key (wrapped_sum held delta), Was held)
-step_where None m (Get key) = (m, Absent)
-step_where (Some held) m (Get key) = (m, Value held)
-step_where None m (Remove key) = (m, Absent)
-step_where (Some held) m (Remove key) = (without m key, Removed held)
-step_where None m (RemoveIf key expected) = (m, Absent)
-step_where (Some held) m (RemoveIf key expected) = step_if (nat_eq held expected) m held (without m key, Removed held)
+step_where None pairs (Insert key value) = (with_value pairs key value, Inserted)
+step_where (Some held) pairs (Insert key value) = (pairs, Exists held)
+step_where None pairs (Upsert key value) = (with_value pairs key value, New)
+step_where (Some held) pairs (Upsert key value) = (with_value pairs key value, Was held)
+step_where None pairs (Exchange key expected value) = (pairs, Absent)
+step_where (Some held) pairs (Exchange key expected value) = step_if (nat_eq held expected) pairs held (with_value pairs key value, Exchanged)
+step_where None pairs (Add key delta) = (pairs, Absent)
+step_where (Some held) pairs (Add key delta) = (with_value pairs key (wrapped_sum held delta), Was held)
+step_where None pairs (Get key) = (pairs, Absent)
+step_where (Some held) pairs (Get key) = (pairs, Value held)
+step_where None pairs (Remove key) = (pairs, Absent)
+step_where (Some held) pairs (Remove key) = (without pairs key, Removed held)
+step_where None pairs (RemoveIf key expected) = (pairs, Absent)
+step_where (Some held) pairs (RemoveIf key expected) = step_if (nat_eq held expected) pairs held (without pairs key, Removed held)
 
 -- one call on a map: the map after it, and the reply
 abbrev pub step : Map → Call → Map × Reply
-step m call = step_where (value_at m (key_of call)) m call
+step pairs call = step_where (value_at pairs (key_of call)) pairs call
 
 -- the map after a call
 abbrev pub map_after : Map → Call → Map
-map_after m call = (step m call).0
+map_after pairs call = (step pairs call).0
 
 -- what a call returns on a map
 abbrev pub reply_of : Map → Call → Reply
-reply_of m call = (step m call).1
+reply_of pairs call = (step pairs call).1
 
 -- what calls return one after the other, the first on the map m
 abbrev pub replies_of : Map → List Call → List Reply
@@ -94,10 +94,10 @@ map_after_all m calls = fold map_after m calls
 
 -- the call gives an absent key a value
 abbrev pub AddsKey : Map → Call → Type 0
-AddsKey m (Insert key value) = value_at m key ≡ None
-AddsKey m (Upsert key value) = value_at m key ≡ None
-AddsKey m (Exchange key expected value) = ⊥
-AddsKey m (Add key delta) = ⊥
-AddsKey m (Get key) = ⊥
-AddsKey m (Remove key) = ⊥
-AddsKey m (RemoveIf key expected) = ⊥
+AddsKey pairs (Insert key value) = value_at pairs key ≡ None
+AddsKey pairs (Upsert key value) = value_at pairs key ≡ None
+AddsKey pairs (Exchange key expected value) = ⊥
+AddsKey pairs (Add key delta) = ⊥
+AddsKey pairs (Get key) = ⊥
+AddsKey pairs (Remove key) = ⊥
+AddsKey pairs (RemoveIf key expected) = ⊥

@@ -16,7 +16,7 @@ falling_order a b = key_order b a
 
 -- each key is above those after it
 abbrev pub HasFallingKeys : Map → Type 0
-HasFallingKeys m = IsStrictlySortedBy falling_order (keys_of m)
+HasFallingKeys pairs = IsStrictlySortedBy falling_order (keys_of pairs)
 
 -- The scan gives the last `limit` pairs of the map in the range, the last one first. It says `more` exactly where there is a further one.
 pub record IsReverseScanOf (m : Map) (from upto : List ℕ) (limit : ℕ) (scan : Scan) : Type 0 where

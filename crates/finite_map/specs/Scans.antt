@@ -16,7 +16,7 @@ is_within from upto key = range_contains key_order (Included from) (Included upt
 
 -- the part of the map in the range
 abbrev pub range_of : Map → List ℕ → List ℕ → Map
-range_of m from upto = filter (λ e. is_within from upto e.0) m
+range_of pairs from upto = filter (λ e. is_within from upto e.0) pairs
 
 -- The scan gives the first `limit` pairs of the map in the range. It says `more` exactly where there is a further one.
 pub record IsScanOf (m : Map) (from upto : List ℕ) (limit : ℕ) (scan : Scan) : Type 0 where

@@ -27,8 +27,8 @@ calls_of notes = map (λ n. answered n.call n.reply) notes
 
 -- the call that made a change, if one of the notes tells of it, or else the change alone
 abbrev pub made_by : Change → List Note → List Event
-made_by c [] = only c ∷ []
-made_by c (n ∷ ns) = calls_of (n ∷ ns)
+made_by change [] = only change ∷ []
+made_by change (n ∷ ns) = calls_of (n ∷ ns)
 
 -- The changes as a history, the first of number `place`. Before each stand the calls of its place that changed nothing.
 abbrev pub weave_from : ℕ → List Change → List Note → List Event

@@ -33,7 +33,7 @@ use Rattle.hot_index_calls.specs.declared.refusals.Refusal.{Refusal}
 use Rattle.hot_index.specs.Handles.{HandleView, Stays}
 use Rattle.hot_index.specs.Loads.{IsLoaderPass, pairs_noted}
 use Rattle.linearizability.specs.Histories.{answers}
-use Rattle.linearizability.specs.Moments.{Happening, responds, shows, steps}
+use Rattle.linearizability.specs.Configurations.{Happening, responds, shows, steps}
 use Rattle.index_laws.specs.Executions.{insertion_notes}
 use Rattle.index_laws.specs.Joined.{HandleHasDone, HasEndedAs, HasGoneThrough, HasSeenLeader, call_of, called, load_call, loader, looked_up as many_ended, new, notes_of_end, quiet, shown, stamped, steps_of}
 use Rattle.index_laws.proofs.Joined.{handles_are_linearizable, seeing_is_done, silent_steps_end}

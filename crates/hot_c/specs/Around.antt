@@ -6,7 +6,7 @@ use Rattle.hot_c.specs.declared.around.KeyRoom.{KeyRoom}
 use Rattle.hot_c.specs.declared.status.TheConstants.{ABSENT, DONE, KEY_TOO_LONG}
 
 -- The status tells whether a key was found. C's room has it and its length, or both are as they were.
-abbrev pub IsKeyTold : Option (List ℕ) → KeyRoom → ℕ → KeyRoom → ℕ → ℕ → Type 0
+abbrev pub IsKeyTold : Option (List ℕ) → KeyRoom → (old : ℕ) → KeyRoom → (new status : ℕ) → Type 0
 IsKeyTold None before old after new status = (status ≡ ABSENT) × (after ≡ before) × (new ≡ old)
 IsKeyTold (Some key) before old after new status = (status ≡ DONE) × (take new after.bytes ≡ key) × (new ≡ length key)
 

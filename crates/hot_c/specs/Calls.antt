@@ -41,8 +41,9 @@ pub record StaysOpen (Became : TableView → PassView → PassView → Type 0) (
 -- A call had this outcome, by its steps. It was noted with the reply, or refused for the cause. If a change found no record free, all
 -- records were counted, and the refusal says what the count says.
 abbrev pub HasOutcome : Call → Result Reply Refusal → TableView → PassView → PassView → Type 0
-HasOutcome call outcome index k j =
-    IsOutcome call (as_tried outcome) index k j × HasCause call (as_tried outcome) index k j × GetsOrCounts call outcome index untold (k, tt) (j, tt)
+HasOutcome call outcome index old new =
+    IsOutcome call (as_tried outcome) index old new × HasCause call (as_tried outcome) index old new ×
+    GetsOrCounts call outcome index untold (old, tt) (new, tt)
 
 -- the call with this key in place of its own
 abbrev pub for_key : List ℕ → Call → Call
@@ -56,12 +57,12 @@ for_key key (RemoveIf own expected) = RemoveIf key expected
 
 -- a count of all records gave these numbers
 abbrev pub HasCountedRecords : RecordCounts → TableView → PassView → PassView → Type 0
-HasCountedRecords counts index k j = IsUnnoted index.layout k j × HasCounted index untold (k, tt) (j, tt) counts
+HasCountedRecords counts index old new = IsUnnoted index.layout old new × HasCounted index untold (old, tt) (new, tt) counts
 
 -- A call for a key of this length was made, and the status tells its outcome.
-abbrev pub TellsOutcome : ℕ → Call → ℕ → Result Reply Refusal → TableView → PassView → PassView → Type 0
-TellsOutcome size call status outcome index k j =
-    HasOutcome call outcome index k j × MatchResult outcome (λ reply. status ≡ reply_status reply) (λ refusal. TellsRefusal size refusal status)
+abbrev pub TellsOutcome : (size : ℕ) → Call → (status : ℕ) → Result Reply Refusal → TableView → PassView → PassView → Type 0
+TellsOutcome size call status outcome index old new =
+    HasOutcome call outcome index old new × MatchResult outcome (λ reply. status ≡ reply_status reply) (λ refusal. TellsRefusal size refusal status)
 
 -- A call for a key through a handle. C wants a value at a word that has `before`, and then has `after`. A closed handle and a key that is
 -- too long are told as such, and nothing has changed. Else the call is made, and its outcome told.
@@ -72,8 +73,8 @@ pub record Answers (key : List ℕ) (call : Call) (old new : Option Opened) (bef
       (outcome : Result Reply Refusal) × StaysOpen (TellsOutcome (length key) call status outcome) old new × (after ≡ value_after before outcome)
 
 -- a round of collection gave back so many nodes and leaves
-abbrev pub HasGivenBack : ℕ → ℕ → TableView → PassView → PassView → Type 0
-HasGivenBack nodes leaves index k j = IsUnnoted index.layout k j × HasCollected index untold (k, tt) (j, tt) nodes leaves
+abbrev pub HasGivenBack : (nodes leaves : ℕ) → TableView → PassView → PassView → Type 0
+HasGivenBack nodes leaves index old new = IsUnnoted index.layout old new × HasCollected index untold (old, tt) (new, tt) nodes leaves
 
 -- all of these handles are closed
 abbrev pub AreClosed : List IndexHandle → Type 0
@@ -84,7 +85,7 @@ abbrev pub places_of : List IndexHandle → List ℕ
 places_of = map (λ h. h.place)
 
 -- an index can have so many passes, nodes and leaves
-abbrev pub IsSize : ℕ → ℕ → ℕ → Type 0
+abbrev pub IsSize : (passes nodes leaves : ℕ) → Type 0
 IsSize passes nodes leaves = IsPassCount passes × IsNodeCount nodes × IsLeafCount leaves
 
 -- an index can have so many passes and this stock
@@ -93,25 +94,25 @@ IsStockSize passes stock = IsStockPassCount passes × IsRecordCount stock.nodes 
 
 -- a share of the index with the new pass of this number, which keeps no closed handles
 abbrev pub IsNewShare : TableView → ℕ → Opened → Type 0
-IsNewShare index q o = (o.handle.index ≡ index) × IsNewPass q o.handle.pass × (o.kept.items ≡ [])
+IsNewShare index pass opened = (opened.handle.index ≡ index) × IsNewPass pass opened.handle.pass × (opened.kept.items ≡ [])
 
 -- The new passes of one index with so many passes and such records, in the order of their numbers. Each has a share of the index.
 pub record AreNew (passes : ℕ) (HasRecords : Layout → Type 0) (opened : List Opened) : Type 0 where
   pub index : TableView
   pub layout : (index.layout.passes ≡ passes) × HasRecords index.layout
   pub count : length opened ≡ passes
-  pub each : (q : ℕ) (o : Opened) → slice_get opened q ≡ Some o → IsNewShare index q o
+  pub each : (pass : ℕ) (o : Opened) → slice_get opened pass ≡ Some o → IsNewShare index pass o
 
 -- the handles are open on one new index with such records, and have its passes in the order of their numbers
 abbrev pub HaveOpenedOn : (Layout → Type 0) → List IndexHandle → Type 0
 HaveOpenedOn HasRecords handles = (opened : List Opened) × (map (λ h. h.cell.opened) handles ≡ map Some opened) × AreNew (length handles) HasRecords opened
 
 -- so many nodes, one more that is kept, and so many leaves, which are all long
-abbrev pub HasCounts : ℕ → ℕ → Layout → Type 0
+abbrev pub HasCounts : (nodes leaves : ℕ) → Layout → Type 0
 HasCounts nodes leaves layout = (layout.nodes ≡ with_one_kept nodes) × (layout.leaves ≡ leaves) × (layout.long_from ≡ 0)
 
 -- the handles are open on one new index with this number of nodes and of leaves, which are all long
-abbrev pub HaveOpened : ℕ → ℕ → List IndexHandle → Type 0
+abbrev pub HaveOpened : (nodes leaves : ℕ) → List IndexHandle → Type 0
 HaveOpened nodes leaves = HaveOpenedOn (HasCounts nodes leaves)
 
 -- the handles are open on one new index with this stock, and the node record that is kept
@@ -123,8 +124,8 @@ HaveOpenedStock stock = HaveOpenedOn (λ layout. HasStock layout (kept_stock sto
 pub record KeepsPasses (IsPass : TableView → ℕ → PassView → Type 0) (passes : ℕ) (HasRecords : Layout → Type 0) (opened : Opened) : Type 0 where
   pub layout : (opened.handle.index.layout.passes ≡ passes) × HasRecords opened.handle.index.layout
   pub count : length opened.kept.items + 1 ≡ passes
-  pub each : (q : ℕ) (h : HandleView) → slice_get (reverse opened.kept.items ++ opened.handle ∷ []) q ≡ Some h →
-      (h.index ≡ opened.handle.index) × IsPass opened.handle.index q h.pass
+  pub each : (pass : ℕ) (handle : HandleView) → slice_get (reverse opened.kept.items ++ opened.handle ∷ []) pass ≡ Some handle →
+      (handle.index ≡ opened.handle.index) × IsPass opened.handle.index pass handle.pass
 
 -- the first handle of a new index with so many passes, which keeps all others
 abbrev pub IsKeeper : ℕ → (Layout → Type 0) → Opened → Type 0

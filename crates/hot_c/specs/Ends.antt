@@ -23,20 +23,20 @@ pub record FindsBy (Fits : Type 0) (IsFound : Layout → PassView → PassView �
   pub closed : old ≡ None → (status ≡ CLOSED) × (new ≡ old) × (after ≡ before)
   pub long : IsSome old → ¬ Fits → (status ≡ KEY_TOO_LONG) × (new ≡ old) × (after ≡ before)
   pub made : IsSome old → Fits →
-      ((found : Option (List ℕ × ℕ)) × StaysOpen (λ index k j. IsFound index.layout k j found) old new × IsPairTold found before after status)
-      ⊎ ((status ≡ NO_MEMORY) × StaysOpen (λ index k j. IsUnnoted index.layout k j × HasPair index.layout k j) old new × (after ≡ before))
-  pub read : IsSome old → Fits → StaysOpen (λ index k j. HasMadeScanSteps index untold 1 (k, tt) (j, tt)) old new
+      ((found : Option (List ℕ × ℕ)) × StaysOpen (λ index was now. IsFound index.layout was now found) old new × IsPairTold found before after status)
+      ⊎ ((status ≡ NO_MEMORY) × StaysOpen (λ index was now. IsUnnoted index.layout was now × HasPair index.layout was now) old new × (after ≡ before))
+  pub read : IsSome old → Fits → StaysOpen (λ index was now. HasMadeScanSteps index untold 1 (was, tt) (now, tt)) old new
 
 -- the call found the first pair from a key on, or that there is none
 abbrev pub FindsFirst : List ℕ → Option Opened → Option Opened → Pair → Pair → ℕ → Type 0
-FindsFirst from = FindsBy (FitsInKey from) (λ layout k j. IsFirstFound layout k j from) (λ layout k j. HasFoundPair layout k j (range_from from (last_with []) 1))
+FindsFirst from = FindsBy (FitsInKey from) (λ layout was now. IsFirstFound layout was now from) (λ layout was now. HasFoundPair layout was now (range_from from (last_with []) 1))
 
 -- the call found the last pair up to a key, or that there is none
 abbrev pub FindsLast : List ℕ → Option Opened → Option Opened → Pair → Pair → ℕ → Type 0
-FindsLast upto = FindsBy (FitsInKey upto) (λ layout k j. IsLastFound layout k j upto) (λ layout k j. HasFoundPair layout k j (range_from [] upto 1))
+FindsLast upto = FindsBy (FitsInKey upto) (λ layout was now. IsLastFound layout was now upto) (λ layout was now. HasFoundPair layout was now (range_from [] upto 1))
 
 -- the call found the pair that a scan of the range in this order finds first, or that there is none
 abbrev pub FindsFirstIn : Order → List ℕ → List ℕ → Option Opened → Option Opened → Pair → Pair → ℕ → Type 0
 FindsFirstIn order from upto = FindsBy (FitsInKey from × FitsInKey upto)
     (λ layout k j found. (is_more : Bool) × IsFilledIn order layout k j (range_from from upto 1) (option_to_list found) is_more)
-    (λ layout k j. HasFoundPair layout k j (range_from from upto 1))
+    (λ layout was now. HasFoundPair layout was now (range_from from upto 1))

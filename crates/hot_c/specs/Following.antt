@@ -9,19 +9,21 @@ use Rattle.hot_c.specs.declared.status.TheConstants.{CLOSED, DONE}
 
 -- both handles, if they are open, are at the same index
 abbrev pub AreAtOneIndex : Option Opened → Option Opened → Type 0
-AreAtOneIndex one other = (o p : Opened) → one ≡ Some o → other ≡ Some p → p.handle.index ≡ o.handle.index
+AreAtOneIndex one other = (old new : Opened) → one ≡ Some old → other ≡ Some new → new.handle.index ≡ old.handle.index
 
 -- All that calls tell of the pass is as it was: its number, its front, its answered calls, and its steps.
 abbrev pub IsAsTold : PassView → PassView → Type 0
-IsAsTold k j = (j.number ≡ k.number) × (j.front ≡ k.front) × (j.fresh ≡ k.fresh) × (j.notes ≡ k.notes) × (j.steps ≡ k.steps) × (j.failed ≡ k.failed)
+IsAsTold old new =
+    (new.number ≡ old.number) × (new.front ≡ old.front) × (new.fresh ≡ old.fresh) × (new.notes ≡ old.notes) × (new.steps ≡ old.steps) ×
+    (new.failed ≡ old.failed)
 
 -- A handle sees what its leader has seen. It has now seen all changes that the leader has seen, beside its own, and no call of it is noted.
 -- All that calls tell of the leader is as it was. If either is closed, that is told and nothing has changed.
 pub record SeesLeader (old new old_leader new_leader : Option Opened) (status : ℕ) : Type 0 where
   pub closed : (old ≡ None) ⊎ (old_leader ≡ None) → (status ≡ CLOSED) × (new ≡ old) × (new_leader ≡ old_leader)
   pub seen : (leader : Opened) → IsSome old → old_leader ≡ Some leader →
-      (status ≡ DONE) × StaysOpen (λ index k j. HasCaughtUp index.layout leader.handle.pass.front k j) old new
-      × StaysOpen (λ index k j. IsAsTold k j) old_leader new_leader
+      (status ≡ DONE) × StaysOpen (λ index was now. HasCaughtUp index.layout leader.handle.pass.front was now) old new
+      × StaysOpen (λ index was now. IsAsTold was now) old_leader new_leader
 
 -- A handle has seen a leader. The steps that it knows now begin with those that the leader knew. The leader has made one stamp, and nothing
 -- else.

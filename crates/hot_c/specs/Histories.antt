@@ -19,10 +19,10 @@ use Rattle.hot_index_calls.specs.declared.census.RecordCounts.{RecordCounts}
 use Rattle.hot_index.specs.Handles.{HandleView}
 use Rattle.hot_index.specs.Loads.{IsLoaderPass}
 use Rattle.linearizability.specs.Histories.{answers}
-use Rattle.linearizability.specs.Moments.{Happening}
+use Rattle.linearizability.specs.Configurations.{Happening}
 use Rattle.linearizability.specs.Statements.{IsLinearizable}
 use Rattle.index_laws.specs.Joined.{IsExecutionOf}
-use Rattle.index_laws.specs.Traced.{Instant, moment_of}
+use Rattle.index_laws.specs.Traced.{Instant, configuration_of}
 use Rattle.hot_c.specs.Calls.{Answers, FitsInKey, HasGivenBack, HasCountedRecords, StaysOpen}
 use Rattle.hot_c.specs.Counting.{CountsRange}
 use Rattle.hot_c.specs.Ends.{FindsFirst, FindsFirstIn, FindsLast}
@@ -41,7 +41,7 @@ use Rattle.hot_c.specs.declared.status.TheConstants.{ABSENT, BUSY, DIFFERS, DONE
 -- What a call has told
 
 -- the reply that a status tells, where C's value is this one; none if the call was refused, or wasn't made
-abbrev pub told_reply : ℕ → ℕ → Option Reply
+abbrev pub told_reply : (status value : ℕ) → Option Reply
 told_reply status value =
     if nat_eq status FOUND then Some (Value value) else (if nat_eq status ABSENT then Some Absent else (if nat_eq status INSERTED then Some Inserted else
     (if nat_eq status EXISTS then Some (Exists value) else (if nat_eq status NEW then Some New else (if nat_eq status WAS then Some (Was value) else
@@ -49,7 +49,7 @@ told_reply status value =
     (if nat_eq status REMOVED then Some (Removed value) else None))))))))
 
 -- the call with the reply that it was told, if any
-abbrev pub told_of : Call → ℕ → ℕ → List (Call × Reply)
+abbrev pub told_of : Call → (status value : ℕ) → List (Call × Reply)
 told_of call status value = map (λ reply. (call, reply)) (option_to_list (told_reply status value))
 
 -- each of many look-ups, so
@@ -64,25 +64,27 @@ loaded_each = map (λ x. (Insert x.0 x.1, Inserted))
 -- What the calls of a handle have told
 
 -- The handle is at this index, with a pass of it, as the invariants of a handle and of a pass say.
-pub record IsAt (index : TableView) (h : HandleView) : Type 0 where
-  pub index_is : h.index ≡ index
-  pub own : Owns index h.pass
-  pub seat : h.pass ≡ pass_of h.pass.seat
+pub record IsAt (index : TableView) (handle : HandleView) : Type 0 where
+  pub index_is : handle.index ≡ index
+  pub own : Owns index handle.pass
+  pub seat : handle.pass ≡ pass_of handle.pass.seat
 
 -- The call asked nothing of the map: it read a range, collected or counted records, and noted nothing.
-pub record AsksNothing (index : TableView) (k j : PassView) : Type 0 where
-  pub same : j.notes ≡ k.notes
-  pub legal : LegalCalls j.front j.number j.notes
-  pub made : ((limit : ℕ) × HasMadeScanSteps index untold limit (k, tt) (j, tt))
-      ⊎ (((nodes : ℕ) × (leaves : ℕ) × HasCollected index untold (k, tt) (j, tt) nodes leaves) ⊎ ((counts : RecordCounts) × HasCounted index untold (k, tt) (j, tt) counts))
+pub record AsksNothing (index : TableView) (old new : PassView) : Type 0 where
+  pub same : new.notes ≡ old.notes
+  pub legal : LegalCalls new.front new.number new.notes
+  pub made : ((limit : ℕ) × HasMadeScanSteps index untold limit (old, tt) (new, tt))
+      ⊎ (((nodes : ℕ) × (leaves : ℕ) × HasCollected index untold (old, tt) (new, tt) nodes leaves) ⊎
+      ((counts : RecordCounts) × HasCounted index untold (old, tt) (new, tt) counts))
 
 -- The one handle saw what the other had seen.
 pub record HasSeenAnother (old new leader led : Opened) : Type 0 where
   pub sees : SeesLeader (Some old) (Some new) (Some leader) (Some led) DONE
   pub steps : SeesSteps (Some old) (Some new) (Some leader) (Some led)
 
--- The handle with pass q of the index has come to this, and its calls have told so much since its pass was new: of each call that asked the map, what
--- it asked, with the reply that its status and value tell; nothing of one that was refused. A look-up is never refused as busy (`hot_get`).
+-- The handle with pass q of the index has come to this, and its calls have told so much since its pass was new: of each call that asked the
+-- map, what it asked, with the reply that its status and value tell; nothing of one that was refused. A look-up is never refused as busy
+-- (`hot_get`).
 pub data HaveTold (index : TableView) : ℕ → List (List (Call × Reply)) → HandleView → Type 0 where
   opened : {q : ℕ} {h : HandleView} → IsNewPass q h.pass → IsAt index h → HaveTold index q [] h
   loaded : {q : ℕ} {h : HandleView} → q ≡ 0 → (pairs : List (Key × ℕ)) → IsLoaderPass index pairs h.pass → IsAt index h → HaveTold index q (loaded_each pairs ∷ []) h
@@ -134,10 +136,10 @@ pub data AreNotesOf : List (List (Call × Reply)) → List Note → Type 0 where
 abbrev pub steps_known : Opened → List Event
 steps_known o = o.handle.pass.seat.trace
 
--- Each pass of an index has an open handle, whose calls have told a program this. Some handle of the index, of pass p, knew of all steps of which
--- these knew, as where it saw each of them, or one that had. Then each saw a handle that knew of all that this one had known. So there is one
--- execution in which each pass made the calls that its handle told of, with these replies, and no others; and it is linearizable: they
--- have one order that a map could have run, and of two calls that don't overlap the earlier stands first.
+-- Each pass of an index has an open handle, whose calls have told a program this. Some handle of the index, of pass p, knew of all steps of
+-- which these knew, as where it saw each of them, or one that had. Then each saw a handle that knew of all that this one had known. So
+-- there is one execution in which each pass made the calls that its handle told of, with these replies, and no others; and it is
+-- linearizable: they have one order that a map could have run, and of two calls that don't overlap the earlier stands first.
 abbrev pub CallsAreLinearizable : Type 0
 CallsAreLinearizable =
     (index : TableView) (told : ℕ → List (List (Call × Reply))) (was now leader led : ℕ → Opened) →
@@ -148,4 +150,4 @@ CallsAreLinearizable =
     ((q : ℕ) → q < index.layout.passes → RunBeginsWith (steps_known (leader q)) (steps_known all)) →
     (done : ℕ → List Happening) × (last : ℕ) × (at : ℕ → Instant) × (happens : ℕ → Happening) ×
     ((q : ℕ) → q < index.layout.passes → AreNotesOf (told q) (answered_notes (done q))) ×
-    IsExecutionOf index (steps_known all) done (λ q. (was q).handle.pass.seat) last at happens × IsLinearizable index.layout last (λ t. moment_of index.layout (at t)) happens
+    IsExecutionOf index (steps_known all) done (λ q. (was q).handle.pass.seat) last at happens × IsLinearizable index.layout last (λ t. configuration_of index.layout (at t)) happens

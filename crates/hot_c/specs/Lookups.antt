@@ -29,6 +29,6 @@ pub record LooksUpAll (old new : Option Opened) (before after : List Lookup) (st
   pub long : IsSome old → ¬ All (λ it. FitsInKey (key_in it)) before → (status ≡ KEY_TOO_LONG) × (new ≡ old) × (after ≡ before)
   pub made : IsSome old → All (λ it. FitsInKey (key_in it)) before →
       ((status ≡ DONE) × (found : List (Option ℕ)) × (length found ≡ length before) ×
-      StaysOpen (λ index k j. AreNoted index.layout k j (gets (map key_in before) found)
-      × HasMadeGetManySteps index untold (length before) (k, tt) (j, tt)) old new × (after ≡ are_answered before found))
+      StaysOpen (λ index was now. AreNoted index.layout was now (gets (map key_in before) found)
+      × HasMadeGetManySteps index untold (length before) (was, tt) (now, tt)) old new × (after ≡ are_answered before found))
       ⊎ ((status ≡ NO_MEMORY) × (new ≡ old) × (after ≡ before))

@@ -16,7 +16,7 @@ Answer = Layout → PassView → PassView → Range → List (List ℕ × ℕ) �
 
 -- A scan of the last pairs in rising order was answered. A scan downwards lists them from the last one on.
 abbrev pub IsLastListed : Answer
-IsLastListed layout k j range pairs is_more = IsReverseListed layout k j range (reverse pairs) is_more
+IsLastListed layout old new range pairs is_more = IsReverseListed layout old new range (reverse pairs) is_more
 
 -- a scan in this order was answered
 abbrev pub IsListedIn : Order → Answer

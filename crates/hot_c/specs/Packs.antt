@@ -21,7 +21,7 @@ pub record Packing : Type 0 where
   pub more : ℕ
 
 -- these values as what C sees of a packed scan
-abbrev pub packing : List ℕ → List PairHead → ℕ → ℕ → Packing
+abbrev pub packing : List ℕ → List PairHead → (count more : ℕ) → Packing
 packing bytes heads count more = record { bytes = bytes; heads = heads; count = count; more = more }
 
 -- The arrays begin with the keys and the heads of the first pairs, as many as have keys that fit into the bytes. They are otherwise as they
@@ -36,9 +36,9 @@ pub record IsPackListed (pairs : List (List ℕ × ℕ)) (is_more : Bool) (befor
   pub more : after.more ≡ from_bool (is_more || nat_lt (length written) (length pairs))
 
 -- A scan was answered. So are the scans that are cut after any of its first pairs, and have more.
-pub record IsListedByParts (IsMade : Answer) (layout : Layout) (k j : PassView) (range : Range) (pairs : List (List ℕ × ℕ)) (is_more : Bool) : Type 0 where
-  pub whole : IsMade layout k j range pairs is_more
-  pub parts : (n : ℕ) → n < length pairs → IsMade layout k j (limited range n) (take n pairs) true
+pub record IsListedByParts (IsMade : Answer) (layout : Layout) (old new : PassView) (range : Range) (pairs : List (List ℕ × ℕ)) (is_more : Bool) : Type 0 where
+  pub whole : IsMade layout old new range pairs is_more
+  pub parts : (n : ℕ) → n < length pairs → IsMade layout old new (limited range n) (take n pairs) true
 
 -- a packed scan of as many pairs as there is room for heads
 abbrev pub ListsPackedBy : Answer → List ℕ → List ℕ → Option Opened → Option Opened → Packing → Packing → ℕ → Type 0

@@ -4,11 +4,11 @@ use Rattle.hot_c.specs.declared.pairs.Pair.{Pair}
 use Rattle.hot_c.specs.declared.status.TheConstants.{ABSENT, FOUND}
 
 -- C's pair becomes this key with its value. Its first bytes are the key's, and those behind the key stay.
-pub record Spells (e : List ℕ × ℕ) (before after : Pair) : Type 0 where
-  pub key : take (length e.0) after.key ≡ e.0
-  pub behind : drop (length e.0) after.key ≡ drop (length e.0) before.key
-  pub count : after.length ≡ length e.0
-  pub value : after.value ≡ e.1
+pub record Spells (pair : List ℕ × ℕ) (before after : Pair) : Type 0 where
+  pub key : take (length pair.0) after.key ≡ pair.0
+  pub behind : drop (length pair.0) after.key ≡ drop (length pair.0) before.key
+  pub count : after.length ≡ length pair.0
+  pub value : after.value ≡ pair.1
 
 -- the pair with this index in C's array becomes this key with its value
 abbrev pub BecomesAt : List Pair → ℕ → List ℕ × ℕ → Pair → Type 0

@@ -24,7 +24,7 @@ pub record TellsOfLeaves (length : ℕ) (counts : RecordCounts) (status : ℕ) :
   pub taken : ¬ OfLeaves AreNone length counts → status ≡ FULL_LEAVES
 
 -- The status says why a call for a key of this length was refused.
-abbrev pub TellsRefusal : ℕ → Refusal → ℕ → Type 0
+abbrev pub TellsRefusal : (length : ℕ) → Refusal → (status : ℕ) → Type 0
 TellsRefusal length Busy status = status ≡ BUSY
 TellsRefusal length (HeldBack lacks) status = status ≡ HELD_BACK
 TellsRefusal length (Full Nodes counts) status = status ≡ FULL_NODES

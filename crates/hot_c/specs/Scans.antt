@@ -32,8 +32,8 @@ pub record ListsNothing (range : Range) (old new : Option Opened) (status : ℕ)
   pub closed : old ≡ None → (status ≡ CLOSED) × (new ≡ old)
   pub long : IsSome old → ¬ (FitsInKey range.from × FitsInKey range.upto) → (status ≡ KEY_TOO_LONG) × (new ≡ old)
   pub full : IsSome old → FitsInKey range.from → FitsInKey range.upto →
-      (status ≡ NO_MEMORY) × StaysOpen (λ index k j. IsUnnoted index.layout k j × HasFoundPair index.layout k j range) old new
-  pub read : IsSome old → FitsInKey range.from → FitsInKey range.upto → StaysOpen (λ index k j. HasMadeScanSteps index untold range.limit (k, tt) (j, tt)) old new
+      (status ≡ NO_MEMORY) × StaysOpen (λ index was now. IsUnnoted index.layout was now × HasFoundPair index.layout was now range) old new
+  pub read : IsSome old → FitsInKey range.from → FitsInKey range.upto → StaysOpen (λ index was now. HasMadeScanSteps index untold range.limit (was, tt) (now, tt)) old new
 
 -- A scan through a handle, of at most so many pairs. A closed handle and a key that is too long are told as such, and nothing has changed.
 -- Else its pairs are written where C has room for them. Or there is no memory for a pair that it found, and nothing is written. Either way
@@ -44,10 +44,10 @@ pub record ListsInto {Room : Type 0} (IsWritten : List (List ℕ × ℕ) → Boo
   pub long : IsSome old → ¬ (FitsInKey range.from × FitsInKey range.upto) → (status ≡ KEY_TOO_LONG) × (new ≡ old) × (after ≡ before)
   pub made : IsSome old → FitsInKey range.from → FitsInKey range.upto →
       ((status ≡ DONE) × (pairs : List (List ℕ × ℕ)) × (is_more : Bool) ×
-      StaysOpen (λ index k j. IsMade index.layout k j range pairs is_more) old new × IsWritten pairs is_more before after)
-      ⊎ ((status ≡ NO_MEMORY) × StaysOpen (λ index k j. IsUnnoted index.layout k j × HasFoundPair index.layout k j range) old new
+      StaysOpen (λ index was now. IsMade index.layout was now range pairs is_more) old new × IsWritten pairs is_more before after)
+      ⊎ ((status ≡ NO_MEMORY) × StaysOpen (λ index was now. IsUnnoted index.layout was now × HasFoundPair index.layout was now range) old new
       × (after ≡ before))
-  pub read : IsSome old → FitsInKey range.from → FitsInKey range.upto → StaysOpen (λ index k j. HasMadeScanSteps index untold range.limit (k, tt) (j, tt)) old new
+  pub read : IsSome old → FitsInKey range.from → FitsInKey range.upto → StaysOpen (λ index was now. HasMadeScanSteps index untold range.limit (was, tt) (now, tt)) old new
 
 -- what C sees of a scan: its array, the count of pairs, and whether there is a further one
 pub record Listing : Type 0 where
@@ -56,7 +56,7 @@ pub record Listing : Type 0 where
   pub more : ℕ
 
 -- these values as what C sees of a scan
-abbrev pub listing : List Pair → ℕ → ℕ → Listing
+abbrev pub listing : List Pair → (count more : ℕ) → Listing
 listing room count more = record { room = room; count = count; more = more }
 
 -- The array begins with the scan's pairs, for which it has room. Behind them, and behind the key of each, it is as it was.

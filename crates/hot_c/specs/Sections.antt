@@ -18,11 +18,11 @@ pub record KeepsSection (Became : SectionView → SectionView → Type 0) (old n
 
 -- the handle is open, with a section that is open
 abbrev pub HoldsInside : Option OpenSection → Type 0
-HoldsInside held = (o : OpenSection) × (held ≡ Some o) × IsInside o.section
+HoldsInside held = (section : OpenSection) × (held ≡ Some section) × IsInside section.section
 
 -- the handle is open, with a section that is not
 abbrev pub HoldsOutside : Option OpenSection → Type 0
-HoldsOutside held = (o : OpenSection) × (held ≡ Some o) × ¬ IsInside o.section
+HoldsOutside held = (section : OpenSection) × (held ≡ Some section) × ¬ IsInside section.section
 
 -- A section is entered. A closed handle and a section that is open already are told as such, and nothing has changed.
 pub record EntersSection (old new : Option OpenSection) (status : ℕ) : Type 0 where
@@ -50,11 +50,11 @@ pub record TellsMoment (old new : Option OpenSection) (before after status : ℕ
 
 -- the owner of a section has looked, and found that the moment is past
 abbrev pub FindsPast : ℕ → SectionView → SectionView → Type 0
-FindsPast moment s t = SeesOthers s t × IsPast moment t.known.run
+FindsPast moment old new = SeesOthers old new × IsPast moment new.known.run
 
 -- the owner of a section has looked, and found what may hold the moment
 abbrev pub FindsHeld : ℕ → SectionView → SectionView → Type 0
-FindsHeld moment s t = SeesOthers s t × IsHeld moment t.known.run
+FindsHeld moment old new = SeesOthers old new × IsHeld moment new.known.run
 
 -- The call tells whether the moment of this number is past. A closed handle is told as such, and nothing has changed.
 pub record TellsPast (moment : ℕ) (old new : Option OpenSection) (status : ℕ) : Type 0 where

@@ -14,7 +14,7 @@ pub record ValueListing : Type 0 where
   pub more : ℕ
 
 -- these values as what C sees of a scan of values
-abbrev pub value_listing : List ℕ → ℕ → ℕ → ValueListing
+abbrev pub value_listing : List ℕ → (count more : ℕ) → ValueListing
 value_listing room count more = record { room = room; count = count; more = more }
 
 -- The array begins with these values, for which it has room, and is otherwise as it was.
@@ -32,8 +32,8 @@ pub record ListsValues (from upto : List ℕ) (old new : Option Opened) (before 
   pub long : IsSome old → ¬ (FitsInKey from × FitsInKey upto) → (status ≡ KEY_TOO_LONG) × (new ≡ old) × (after ≡ before)
   pub made : IsSome old → FitsInKey from → FitsInKey upto →
       ((status ≡ DONE) × (values : List ℕ) × (is_more : Bool) ×
-      StaysOpen (λ index k j. AreValuesListed index.layout k j (range_from from upto (length before.room)) values is_more) old new
+      StaysOpen (λ index was now. AreValuesListed index.layout was now (range_from from upto (length before.room)) values is_more) old new
       × AreWritten values is_more before after)
-      ⊎ ((status ≡ NO_MEMORY) × StaysOpen (λ index k j. IsUnnoted index.layout k j × HasFoundPair index.layout k j (range_from from upto (length before.room))) old new
+      ⊎ ((status ≡ NO_MEMORY) × StaysOpen (λ index was now. IsUnnoted index.layout was now × HasFoundPair index.layout was now (range_from from upto (length before.room))) old new
       × (after ≡ before))
-  pub read : IsSome old → FitsInKey from → FitsInKey upto → StaysOpen (λ index k j. HasMadeScanSteps index untold (length before.room) (k, tt) (j, tt)) old new
+  pub read : IsSome old → FitsInKey from → FitsInKey upto → StaysOpen (λ index was now. HasMadeScanSteps index untold (length before.room) (was, tt) (now, tt)) old new

@@ -15,7 +15,7 @@ use Rattle.hot_index_calls.specs.Passes.{IsNewPass, Owns, PassView, pass_of}
 use Rattle.hot_index_calls.specs.Traces.{HasMadeCallSteps, untold}
 use Rattle.index_laws.specs.Joined.{HasGoneThrough, HasEndedAs, answered, call_of, called, new, notes_of_end, refused, steps_of}
 use Rattle.index_laws.proofs.Joined.{two_that_meet_have_ended}
-use Rattle.linearizability.specs.Moments.{Happening, invokes, refuses, responds, shows, steps}
+use Rattle.linearizability.specs.Configurations.{Happening, invokes, refuses, responds, shows, steps}
 use Rattle.rowex_core.specs.declared.event.Act.{Act}
 use Rattle.rowex_table.specs.Seats.{IsShownAll, TableView}
 use Rattle.rowex_writing.specs.declared.plan.Full.{Full}

@@ -5,13 +5,13 @@ use Rattle.hot_index.specs.Handles.{HandleView}
 use Rattle.hot_index.specs.Stamps.{HasSeenMore}
 use Rattle.hot_index_calls.specs.Passes.{pass_of}
 use Rattle.index_laws.specs.Joined.{HasGoneThrough, HaveEndedInOneRun, of_two}
-use Rattle.linearizability.specs.Moments.{Happening, invokes}
+use Rattle.linearizability.specs.Configurations.{Happening, invokes}
 use Rattle.rowex_table.specs.Seats.{SeatView, TableView}
 
 -- the calls of the map that these happenings ask, in their order
 abbrev pub asked_in : List Happening → List Call
 asked_in [] = []
-asked_in (invokes q calls ∷ happenings) = calls ++ asked_in happenings
+asked_in (invokes pass calls ∷ happenings) = calls ++ asked_in happenings
 asked_in (happening ∷ happenings) = asked_in happenings
 
 -- Since it was new, pass q, which is the handle's, has asked these calls, and each has ended.

@@ -26,14 +26,14 @@ takes_of TakenAway = 1
 
 -- how many keys a change puts in: 1 or 0
 abbrev pub puts : Change → ℕ
-puts c = puts_of c.kind
+puts change = puts_of change.kind
 
 -- how many keys a change takes out: 1 or 0
 abbrev pub takes : Change → ℕ
-takes c = takes_of c.kind
+takes change = takes_of change.kind
 
 -- `net` is `more` less `less`, modulo 2^64
-abbrev pub IsDifference : ℕ → ℕ → ℕ → Type 0
+abbrev pub IsDifference : (more less net : ℕ) → Type 0
 IsDifference more less net = (a : ℕ) × (b : ℕ) × (net + less + a * 2 ^ 64 ≡ more + b * 2 ^ 64)
 
 -- `net` is how many keys the changes put in, less how many they take out
@@ -46,12 +46,12 @@ IsCountOf q notes count = IsNet (changes_of q notes) count.keys
 
 -- on some map the call has this reply
 abbrev pub MayReply : Call → Reply → Type 0
-MayReply call reply = (m : Map) × (reply ≡ reply_of m call)
+MayReply call reply = (pairs : Map) × (reply ≡ reply_of pairs call)
 
 -- the count was that of a pass's calls, and is now that of one call more, with this reply
 abbrev pub CountsReply : Reply → KeyCount → KeyCount → Type 0
-CountsReply reply old new = (q place : ℕ) (notes : List Note) (call : Call) → MayReply call reply → IsCountOf q notes old →
-    IsCountOf q (notes ++ record { place = place; call = call; reply = reply } ∷ []) new
+CountsReply reply old new = (pass place : ℕ) (notes : List Note) (call : Call) → MayReply call reply → IsCountOf pass notes old →
+    IsCountOf pass (notes ++ record { place = place; call = call; reply = reply } ∷ []) new
 
 -- An answered call, with this reply, is counted. A refused one leaves the count.
 abbrev pub CountsAnswer : {F : Type 0} → Result Reply F → KeyCount → KeyCount → Type 0
@@ -68,4 +68,5 @@ net_of _ = 0
 pub record AreCounts (front : List Change) (counts : List KeyCount) : Type 0 where
   pub legal : LegalFront front
   pub makers : All (λ c. c.pass < length counts) front
-  pub each : (q : ℕ) (count : KeyCount) → slice_get counts q ≡ Some count → (notes : List Note) × LegalCalls front q notes × IsCountOf q notes count
+  pub each : (pass : ℕ) (count : KeyCount) → slice_get counts pass ≡ Some count → (notes : List Note) × LegalCalls front pass notes ×
+      IsCountOf pass notes count

@@ -33,11 +33,11 @@ HasNoLeafFor layout key = (n : ℕ) → n < layout.leaves → leaf_size layout n
 
 -- the count is that of a pass that has inserted these pairs
 abbrev pub CountsItems : List Item → KeyCount → Type 0
-CountsItems items count = (q : ℕ) → IsCountOf q (added_notes 0 items) count
+CountsItems items count = (pass : ℕ) → IsCountOf pass (added_notes 0 items) count
 
 -- the change by which pass 0 inserts a pair
 abbrev pub inserted_pair : Key × ℕ → Change
-inserted_pair x = record { pass = 0; key = x.0; value = x.1; kind = Added }
+inserted_pair pair = record { pass = 0; key = pair.0; value = pair.1; kind = Added }
 
 -- the notes of answered insertions of these pairs, one after the other, at places from `place` on
 abbrev pub pairs_noted : ℕ → List (Key × ℕ) → List Note
@@ -47,19 +47,19 @@ pairs_noted place (x ∷ xs) = record { place = place; call = Insert x.0 x.1; re
 -- Pass 0 of an index that was made of these pairs. It has inserted each of them, in their order, and has seen nothing else. Its calls are
 -- legal, and the map has just these pairs. Its seat is that of a load, its one step. If it is the only pass, some node record is spare, as
 -- in a new index.
-pub record IsLoaderPass (index : TableView) (xs : List (Key × ℕ)) (p : PassView) : Type 0 where
-  pub number : p.number ≡ 0
-  pub front : p.front ≡ map inserted_pair xs
-  pub notes : p.notes ≡ pairs_noted 0 xs
-  pub legal : LegalCalls p.front p.number p.notes
-  pub content : map_of p.front ≡ xs
+pub record IsLoaderPass (index : TableView) (xs : List (Key × ℕ)) (pass : PassView) : Type 0 where
+  pub number : pass.number ≡ 0
+  pub front : pass.front ≡ map inserted_pair xs
+  pub notes : pass.notes ≡ pairs_noted 0 xs
+  pub legal : LegalCalls pass.front pass.number pass.notes
+  pub content : map_of pass.front ≡ xs
   pub words : List ℕ
   pub load : IsLoad index.layout words
-  pub seat : IsLoaderSeat index words p.seat
+  pub seat : IsLoaderSeat index words pass.seat
   pub out : (n : ℕ) × (n < index.layout.nodes) × ¬ IsLinked (loaded_tree index.layout words) (a_node n)
-  pub spare : HasSpare index.layout p.seat
+  pub spare : HasSpare index.layout pass.seat
 
 -- the pass of this number of an index that was made of these pairs; all but pass 0 are new
 abbrev pub IsPassOfLoad : TableView → List (Key × ℕ) → ℕ → PassView → Type 0
-IsPassOfLoad index xs zero p = IsLoaderPass index xs p
-IsPassOfLoad index xs (suc q) p = IsNewPass (suc q) p
+IsPassOfLoad index xs zero pass = IsLoaderPass index xs pass
+IsPassOfLoad index xs (suc q) pass = IsNewPass (suc q) pass

@@ -7,13 +7,13 @@ use Rattle.rowex_table.specs.Seats.{SeatView}
 use Rattle.hot_index_calls.specs.Passes.{IsSettled}
 
 -- The pass is between two calls, and the count is that of its answered calls.
-pub record IsSettledWith (k : Known) (count : KeyCount) : Type 0 where
-  pub settled : IsSettled k
-  pub counts : IsCountOf k.pass k.notes count
+pub record IsSettledWith (known : Known) (count : KeyCount) : Type 0 where
+  pub settled : IsSettled known
+  pub counts : IsCountOf known.pass known.notes count
 
 -- the pass is between two calls, and has no answered one
 abbrev pub HasNoCall : SeatView → Type 0
-HasNoCall s = IsSettled s.known × (s.known.notes ≡ [])
+HasNoCall seat = IsSettled seat.known × (seat.known.notes ≡ [])
 
 -- The passes of these seats are between two calls. The count is that of the first one's calls. No other has an answered call.
 abbrev pub AreSettled : KeyCount → List SeatView → Type 0

@@ -9,4 +9,4 @@ use Rattle.tries.specs.Keys.{Key}
 
 -- The first pair from the key on was asked for. A scan of one pair, from this key to the last key of all, has found it, or none.
 abbrev pub IsFirstFound : Layout → PassView → PassView → Key → Option (Key × ℕ) → Type 0
-IsFirstFound layout k j from found = IsFoundBy IsLawfulScan layout k j from (last_with []) found
+IsFirstFound layout old new from found = IsFoundBy IsLawfulScan layout old new from (last_with []) found

@@ -14,16 +14,16 @@ IsStampFrom index stamp = stamp.table ≡ index.id
 
 -- the pass has made one stamp more, and nothing else of it has changed
 abbrev pub HasStamped : PassView → PassView → Type 0
-HasStamped k j = j ≡ record k { seat = record k.seat { asides = suc k.seat.asides } }
+HasStamped old new = new ≡ record old { seat = record old.seat { asides = suc old.seat.asides } }
 
 -- the pass has seen more changes, and knows the same otherwise
 abbrev pub HasSeenMore : PassView → PassView → Type 0
-HasSeenMore k j = j.seat.known ≡ with_front j.front k.seat.known
+HasSeenMore old new = new.seat.known ≡ with_front new.front old.seat.known
 
 -- The pass has seen the stamp's changes, beside those that it had seen before, and knows the steps that made them. It has made no step, and
 -- no call of it is noted. Nothing else of its seat has changed but that this is counted.
-pub record HasCaughtUp (layout : Layout) (stamp : List Change) (k j : PassView) : Type 0 where
-  pub unnoted : IsUnnoted layout k j
-  pub told : BeginsWith j.front stamp
-  pub shown : IsShownAll layout k.seat j.seat
-  pub rest : j ≡ pass_of (record k.seat { known = with_front j.front k.seat.known; trace = j.seat.trace; asides = suc k.seat.asides })
+pub record HasCaughtUp (layout : Layout) (stamp : List Change) (old new : PassView) : Type 0 where
+  pub unnoted : IsUnnoted layout old new
+  pub told : BeginsWith new.front stamp
+  pub shown : IsShownAll layout old.seat new.seat
+  pub rest : new ≡ pass_of (record old.seat { known = with_front new.front old.seat.known; trace = new.seat.trace; asides = suc old.seat.asides })

@@ -11,33 +11,33 @@ use Rattle.rowex_table.specs.Traces.{OthersStepOn, RunBeginsWith}
 use Rattle.rowex_writing.specs.locks.Others.{HoldsLock, HasMetOther}
 
 -- In this core pass p has no lock, no record of its own, claimed or unlinked, and no pin.
-pub record HoldsNone (c : Core) (p : ℕ) : Type 0 where
-  pub locks : ¬ (HoldsLock c p)
-  pub own : (r : Rec) → holder_of (c.fate r) ≢ Some p
-  pub pin : c.pins p ≡ None
+pub record HoldsNone (core : Core) (p : ℕ) : Type 0 where
+  pub locks : ¬ (HoldsLock core p)
+  pub own : (rec : Rec) → holder_of (core.fate rec) ≢ Some p
+  pub pin : core.pins p ≡ None
 
 -- A call of pass q, between these views of its seat, was alone. When it began, the steps `before` had been made, and no other pass held
 -- anything. The steps behind them are the pass's own.
-pub record RunsAlone (layout : Layout) (q : ℕ) (s t : SeatView) : Type 0 where
+pub record RunsAlone (layout : Layout) (q : ℕ) (old new : SeatView) : Type 0 where
   pub before : List Event
-  pub others : OthersStepOn q s.trace before
+  pub others : OthersStepOn q old.trace before
   pub core : Core
   pub led : EventsLead (opening layout) before core
   pub none : (p : ℕ) → p ≢ q → HoldsNone core p
   pub own : List Event
-  pub until : t.trace ≡ before ++ own
+  pub until : new.trace ≡ before ++ own
   pub each : All (λ x. x.pass ≡ q) own
 
 -- In a call of pass q, between these views of its seat, another pass was in the way. The call had made its first step, and then set its pin
 -- in the core `pinned`. At a moment since, the other pass had a lock, or had made a change that is not among those of `pinned`.
-pub record HasBeenHindered (layout : Layout) (q : ℕ) (s t : SeatView) : Type 0 where
+pub record HasBeenHindered (layout : Layout) (q : ℕ) (old new : SeatView) : Type 0 where
   pub before : List Event
   pub first : Event
   pub own : first.pass ≡ q
-  pub behind : RunBeginsWith before s.trace
+  pub behind : RunBeginsWith before old.trace
   pub at : SeatView
   pub pass : at.known.pass ≡ q
   pub within : RunBeginsWith at.trace (before ++ first ∷ [])
   pub pinned : Core
   pub led : EventsLead (opening layout) at.trace pinned
-  pub met : HasMetOther layout (length pinned.changes) at t
+  pub met : HasMetOther layout (length pinned.changes) at new

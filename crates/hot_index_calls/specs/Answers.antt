@@ -34,50 +34,52 @@ got None = Absent
 got (Some value) = Value value
 
 -- the pass's front has grown by changes of the index's passes, and its last load of the root was in this call
-pub record GoesOn (layout : Layout) (k j : PassView) : Type 0 where
-  pub number : j.number ≡ k.number
-  pub front : BeginsWith j.front k.front
-  pub fresh : BeginsWith j.fresh.front k.front
-  pub seen : BeginsWith j.front j.fresh.front
-  pub now : (k.steps ≤ j.fresh.step) × (j.fresh.step < j.steps)
-  pub makers : AreByPasses layout j.front
+pub record GoesOn (layout : Layout) (old new : PassView) : Type 0 where
+  pub number : new.number ≡ old.number
+  pub front : BeginsWith new.front old.front
+  pub fresh : BeginsWith new.fresh.front old.front
+  pub seen : BeginsWith new.front new.fresh.front
+  pub now : (old.steps ≤ new.fresh.step) × (new.fresh.step < new.steps)
+  pub makers : AreByPasses layout new.front
 
 -- A call of the pass was answered, and its calls are legal. There is one note more, of this call and this reply. Its place is from what the
 -- pass had seen at its last load of the root up to what it has seen now.
-pub record IsNoted (layout : Layout) (k j : PassView) (call : Call) (reply : Reply) : Type 0 where
-  pub on : GoesOn layout k j
+pub record IsNoted (layout : Layout) (old new : PassView) (call : Call) (reply : Reply) : Type 0 where
+  pub on : GoesOn layout old new
   pub place : ℕ
-  pub notes : j.notes ≡ k.notes ++ record { place = place; call = call; reply = reply } ∷ []
-  pub low : length j.fresh.front ≤ place
-  pub high : place ≤ length j.front
-  pub legal : LegalCalls j.front j.number j.notes
+  pub notes : new.notes ≡ old.notes ++ record { place = place; call = call; reply = reply } ∷ []
+  pub low : length new.fresh.front ≤ place
+  pub high : place ≤ length new.front
+  pub legal : LegalCalls new.front new.number new.notes
 
 -- the range from one key to another, of which a scan lists so many pairs at most
 abbrev pub range_from : Key → Key → ℕ → Range
 range_from from upto limit = record { from = from; upto = upto; limit = limit }
 
 -- A scan was answered: it is lawful from the last load of the root to what the pass has seen now, and adds no note.
-pub record IsScannedBy (IsLawful : ScanLaw) (layout : Layout) (k j : PassView) (range : Range) (scan : Scan) : Type 0 where
-  pub on : GoesOn layout k j
-  pub notes : j.notes ≡ k.notes
-  pub lawful : IsLawful j.fresh.front j.front range.from range.upto range.limit scan
-  pub legal : LegalCalls j.front j.number j.notes
+pub record IsScannedBy (IsLawful : ScanLaw) (layout : Layout) (old new : PassView) (range : Range) (scan : Scan) : Type 0 where
+  pub on : GoesOn layout old new
+  pub notes : new.notes ≡ old.notes
+  pub lawful : IsLawful new.fresh.front new.front range.from range.upto range.limit scan
+  pub legal : LegalCalls new.front new.number new.notes
 
 -- A scan into a list was answered, with whether there is a further key. It adds no note. A scan with these pairs is lawful from the last
 -- load of the root to what the pass has seen now.
-pub record IsListedBy (IsLawful : ScanLaw) (layout : Layout) (k j : PassView) (range : Range) (pairs : List (Key × ℕ)) (more : Bool) : Type 0 where
-  pub on : GoesOn layout k j
-  pub notes : j.notes ≡ k.notes
-  pub lawful : (scan : Scan) → scan.pairs.items ≡ pairs → scan.more ≡ more → IsLawful j.fresh.front j.front range.from range.upto range.limit scan
-  pub legal : LegalCalls j.front j.number j.notes
+pub record IsListedBy (IsLawful : ScanLaw) (layout : Layout) (old new : PassView) (range : Range) (pairs : List (Key × ℕ)) (more : Bool) : Type 0 where
+  pub on : GoesOn layout old new
+  pub notes : new.notes ≡ old.notes
+  pub lawful : (scan : Scan) → scan.pairs.items ≡ pairs → scan.more ≡ more → IsLawful new.fresh.front new.front range.from range.upto range.limit scan
+  pub legal : LegalCalls new.front new.number new.notes
 
 -- A scan into a list was refused memory. It is answered as one that was cut at the number of its pairs, which is below the limit.
 abbrev pub IsListedInPartBy : ScanLaw → Layout → PassView → PassView → Range → List (Key × ℕ) → Type 0
-IsListedInPartBy IsLawful layout k j range pairs = (length pairs < range.limit) × IsListedBy IsLawful layout k j (limited range (length pairs)) pairs true
+IsListedInPartBy IsLawful layout old new range pairs =
+    (length pairs < range.limit) × IsListedBy IsLawful layout old new (limited range (length pairs)) pairs true
 
 -- a scan for one pair found this one, or found none
 abbrev pub IsFoundBy : ScanLaw → Layout → PassView → PassView → Key → Key → Option (Key × ℕ) → Type 0
-IsFoundBy IsLawful layout k j from upto found = (more : Bool) × IsListedBy IsLawful layout k j (range_from from upto 1) (option_to_list found) more
+IsFoundBy IsLawful layout old new from upto found =
+    (more : Bool) × IsListedBy IsLawful layout old new (range_from from upto 1) (option_to_list found) more
 
 -- A scan upwards was answered, and adds no note. It is lawful from the last load of the root to what the pass has seen now.
 abbrev pub IsScanned : Layout → PassView → PassView → Range → Scan → Type 0
@@ -88,24 +90,25 @@ abbrev pub IsListed : Layout → PassView → PassView → Range → List (Key �
 IsListed = IsListedBy IsLawfulScan
 
 -- A range was counted, which adds no note. The number is that of the pairs of some list that a lawful scan gives. It is at most the limit.
-pub record IsRangeCounted (layout : Layout) (k j : PassView) (range : Range) (number : ℕ) : Type 0 where
+pub record IsRangeCounted (layout : Layout) (old new : PassView) (range : Range) (number : ℕ) : Type 0 where
   pub few : number ≤ range.limit
   pub pairs : List (Key × ℕ)
   pub number_is : number ≡ length pairs
   pub more : Bool
-  pub listed : IsListed layout k j range pairs more
+  pub listed : IsListed layout old new range pairs more
 
 -- The values of a range were listed, with whether there is a further one, which adds no note. They are those of the pairs of some list that
 -- a lawful scan gives. They are at most as many as the limit.
-pub record AreValuesListed (layout : Layout) (k j : PassView) (range : Range) (values : List ℕ) (more : Bool) : Type 0 where
+pub record AreValuesListed (layout : Layout) (old new : PassView) (range : Range) (values : List ℕ) (more : Bool) : Type 0 where
   pub few : length values ≤ range.limit
   pub pairs : List (Key × ℕ)
-  pub values_are : values ≡ map (λ (e : Key × ℕ). e.1) pairs
-  pub listed : IsListed layout k j range pairs more
+  pub values_are : values ≡ map (λ (pair : Key × ℕ). pair.1) pairs
+  pub listed : IsListed layout old new range pairs more
 
 -- A list of a range's values was refused memory. It is as one that was cut at the number of its values, which is below the limit.
 abbrev pub AreValuesListedInPart : Layout → PassView → PassView → Range → List ℕ → Type 0
-AreValuesListedInPart layout k j range values = (length values < range.limit) × AreValuesListed layout k j (limited range (length values)) values true
+AreValuesListedInPart layout old new range values =
+    (length values < range.limit) × AreValuesListed layout old new (limited range (length values)) values true
 
 -- A scan upwards into a list ran out of memory: it is as one that was cut at the number of its pairs.
 abbrev pub IsListedInPart : Layout → PassView → PassView → Range → List (Key × ℕ) → Type 0
@@ -113,74 +116,74 @@ IsListedInPart = IsListedInPartBy IsLawfulScan
 
 -- A scan was refused memory that it needed for a pair, which its limit allows. Some key of the range was in the index in a version since
 -- its last load of the root.
-pub record HasFoundPair (layout : Layout) (k j : PassView) (range : Range) : Type 0 where
-  pub on : GoesOn layout k j
+pub record HasFoundPair (layout : Layout) (old new : PassView) (range : Range) : Type 0 where
+  pub on : GoesOn layout old new
   pub room : 0 < range.limit
   pub key : Key
   pub value : ℕ
   pub within : IsTrue (is_within range.from range.upto key)
-  pub held : IsHeldBetween j.fresh.front j.front key value
+  pub held : IsHeldBetween new.fresh.front new.front key value
 
 -- A call was refused or asked nothing of the map, and no note is added.
-pub record IsUnnoted (layout : Layout) (k j : PassView) : Type 0 where
-  pub number : j.number ≡ k.number
-  pub front : BeginsWith j.front k.front
-  pub notes : j.notes ≡ k.notes
-  pub legal : LegalCalls j.front j.number j.notes
-  pub makers : AreByPasses layout j.front
+pub record IsUnnoted (layout : Layout) (old new : PassView) : Type 0 where
+  pub number : new.number ≡ old.number
+  pub front : BeginsWith new.front old.front
+  pub notes : new.notes ≡ old.notes
+  pub legal : LegalCalls new.front new.number new.notes
+  pub makers : AreByPasses layout new.front
 
 -- The pass has seen a change by another pass of the index, which was made since a pin of this call. That is the pin that it had at its last
 -- load of the root, a step of this call.
-pub record IsOvertaken (layout : Layout) (k j : PassView) : Type 0 where
-  pub loaded : k.steps ≤ j.fresh.step
+pub record IsOvertaken (layout : Layout) (old new : PassView) : Type 0 where
+  pub loaded : old.steps ≤ new.fresh.step
   pub change : Change
   pub place : ℕ
-  pub is : slice_get j.front place ≡ Some change
-  pub since : j.fresh.pinned ≤ place
-  pub another : change.pass ≢ j.number
+  pub is : slice_get new.front place ≡ Some change
+  pub since : new.fresh.pinned ≤ place
+  pub another : change.pass ≢ new.number
   pub below : change.pass < layout.passes
 
 -- Another pass of the index stood in the way. A lock of this call found its target locked or retired by it. Or it made a change since the
 -- pin under which the call loaded the root last. In the run of the call, another pass has hindered it.
-pub record HasConflict (layout : Layout) (k j : PassView) : Type 0 where
-  pub pass : j.number < layout.passes
-  pub met : HasMetTaken layout j.number k.steps j.failed ⊎ IsOvertaken layout k j
-  pub hindered : HasBeenHindered layout j.number k.seat j.seat
+pub record HasConflict (layout : Layout) (old new : PassView) : Type 0 where
+  pub pass : new.number < layout.passes
+  pub met : HasMetTaken layout new.number old.steps new.failed ⊎ IsOvertaken layout old new
+  pub hindered : HasBeenHindered layout new.number old.seat new.seat
 
 -- Why a call was refused. As busy, another pass stood in its way. As full, each node record, or each leaf record with room for its key, was
 -- found not free. No leaf record was the pass's own, and of the node records at most two for each node that it had locked, and one.
 abbrev pub IsCause : Layout → Key → PassView → PassView → TryFault → Type 0
-IsCause layout key k j Busy = HasConflict layout k j
-IsCause layout key k j FullNodes = (own : List Rec) × LacksNodes layout j.number j.failed k.steps own
-IsCause layout key k j FullLeaves = LacksLeaves layout key j.number j.failed k.steps
+IsCause layout key old new Busy = HasConflict layout old new
+IsCause layout key old new FullNodes = (own : List Rec) × LacksNodes layout new.number new.failed old.steps own
+IsCause layout key old new FullLeaves = LacksLeaves layout key new.number new.failed old.steps
 
 -- The key had this value, or none, after some of the changes that the pass has seen. These have all that it had seen before the call, and
 -- all that were made before the pin of its last load of the root.
-pub record WasFound (key : Key) (held : Option ℕ) (k j : PassView) : Type 0 where
+pub record WasFound (key : Key) (held : Option ℕ) (old new : PassView) : Type 0 where
   pub place : ℕ
-  pub begun : length k.front ≤ place
-  pub since : j.fresh.pinned ≤ place
-  pub upto : place ≤ length j.front
-  pub found : value_at (map_of (take place j.front)) key ≡ held
+  pub begun : length old.front ≤ place
+  pub since : new.fresh.pinned ≤ place
+  pub upto : place ≤ length new.front
+  pub found : value_at (map_of (take place new.front)) key ≡ held
 
 -- A call may lack a record. An insertion or an upsert may whose search found its key absent. A removal may whose search found its key, with
 -- the value that it expects. No other call takes one, since the new value of a held key needs none.
 abbrev pub MayTake : Call → PassView → PassView → Type 0
-MayTake (Insert key value) k j = WasFound key None k j
-MayTake (Upsert key value) k j = WasFound key None k j
-MayTake (Remove key) k j = (value : ℕ) × WasFound key (Some value) k j
-MayTake (RemoveIf key expected) k j = WasFound key (Some expected) k j
-MayTake call k j = ⊥
+MayTake (Insert key value) old new = WasFound key None old new
+MayTake (Upsert key value) old new = WasFound key None old new
+MayTake (Remove key) old new = (value : ℕ) × WasFound key (Some value) old new
+MayTake (RemoveIf key expected) old new = WasFound key (Some expected) old new
+MayTake call old new = ⊥
 
 -- A call was refused. It has changed nothing and adds no note. It was full only if it may lack a record.
-pub record IsRefused (layout : Layout) (call : Call) (k j : PassView) (fault : TryFault) : Type 0 where
-  pub unnoted : IsUnnoted layout k j
-  pub full : IsFullFault fault → MayTake call k j
+pub record IsRefused (layout : Layout) (call : Call) (old new : PassView) (fault : TryFault) : Type 0 where
+  pub unnoted : IsUnnoted layout old new
+  pub full : IsFullFault fault → MayTake call old new
 
 -- A call was refused as `IsRefused` says, and has the cause of its fault.
-pub record IsRefusedFor (layout : Layout) (call : Call) (k j : PassView) (fault : TryFault) : Type 0 where
-  pub refused : IsRefused layout call k j fault
-  pub cause : IsCause layout (key_of call) k j fault
+pub record IsRefusedFor (layout : Layout) (call : Call) (old new : PassView) (fault : TryFault) : Type 0 where
+  pub refused : IsRefused layout call old new fault
+  pub cause : IsCause layout (key_of call) old new fault
 
 -- the fault of a try for which no record of the kind was free
 abbrev pub fault_of : Full → TryFault

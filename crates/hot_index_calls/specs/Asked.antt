@@ -20,35 +20,36 @@ use Rattle.hot_index_calls.specs.Traces.{HasEnded, IsAttempt}
 
 -- the seat is one of the table's, and its pass is between two calls
 abbrev pub IsIdle : TableView → SeatView → Type 0
-IsIdle table s = IsSeatOf table s × IsSettled s.known
+IsIdle table seat = IsSeatOf table seat × IsSettled seat.known
 
 -- The pass is between two calls again, and has loaded the root. This call was answered and noted, or refused.
-pub record HasReplied (table : TableView) (call : Call) (result : Result Reply TryFault) (s t : SeatView) : Type 0 where
-  pub idle : IsIdle table t
-  pub noted : IfOk result (IsNoted table.layout (pass_of s) (pass_of t) call)
-  pub refused : IfErr result (IsRefusedFor table.layout call (pass_of s) (pass_of t))
+pub record HasReplied (table : TableView) (call : Call) (result : Result Reply TryFault) (old new : SeatView) : Type 0 where
+  pub idle : IsIdle table new
+  pub noted : IfOk result (IsNoted table.layout (pass_of old) (pass_of new) call)
+  pub refused : IfErr result (IsRefusedFor table.layout call (pass_of old) (pass_of new))
   pub leafless : LacksNoLeaf FullLeaves call result
-  pub loaded : s.known.steps ≤ t.known.fresh.step
+  pub loaded : old.known.steps ≤ new.known.fresh.step
 
 -- if the call was refused for want of a node record, the pass lacks one beside those that it had made
 abbrev pub HasLacked : TableView → List Rec → Result Reply TryFault → SeatView → SeatView → Type 0
-HasLacked table made result s t = result ≡ Err FullNodes → LacksNodes table.layout t.known.pass t.known.failed s.known.steps (nodes_among made)
+HasLacked table made result old new =
+    result ≡ Err FullNodes → LacksNodes table.layout new.known.pass new.known.failed old.known.steps (nodes_among made)
 
 -- The pass has made a call with this result, by steps of this sort. With the last one comes its note, if it was answered.
 pub record HasAsked {G : Type 0} (table : TableView) (becomes : G → Event → G → Type 0) (Are : SeatView × G → SeatView × G → List Act → Type 0)
-    (call : Call) (result : Result Reply TryFault) (a b : SeatView × G) : Type 0 where
-  pub replied : HasReplied table call result a.0 b.0
-  pub ended : HasEnded table becomes (Are a b) (change_notes call result) a b
-  pub later : a.0.known.steps ≤ b.0.known.steps
+    (call : Call) (result : Result Reply TryFault) (old new : SeatView × G) : Type 0 where
+  pub replied : HasReplied table call result old.0 new.0
+  pub ended : HasEnded table becomes (Are old new) (change_notes call result) old new
+  pub later : old.0.known.steps ≤ new.0.known.steps
 
 -- An attempt that does nothing. The pass sets its pin and clears it, and is as it was.
-pub record HasRested {G : Type 0} (table : TableView) (becomes : G → Event → G → Type 0) (a b : SeatView × G) : Type 0 where
-  pub idle : IsIdle table b.0
-  pub unnoted : IsUnnoted table.layout (pass_of a.0) (pass_of b.0)
-  pub failed : b.0.known.failed ≡ a.0.known.failed
-  pub fresh : b.0.known.fresh ≡ a.0.known.fresh
-  pub ended : HasEnded table becomes (IsAttempt table.layout) silent a b
-  pub steps : b.0.known.steps ≡ a.0.known.steps + 3
+pub record HasRested {G : Type 0} (table : TableView) (becomes : G → Event → G → Type 0) (old new : SeatView × G) : Type 0 where
+  pub idle : IsIdle table new.0
+  pub unnoted : IsUnnoted table.layout (pass_of old.0) (pass_of new.0)
+  pub failed : new.0.known.failed ≡ old.0.known.failed
+  pub fresh : new.0.known.fresh ≡ old.0.known.fresh
+  pub ended : HasEnded table becomes (IsAttempt table.layout) silent old new
+  pub steps : new.0.known.steps ≡ old.0.known.steps + 3
 
 -- the result of the last try of a call that waits
 abbrev pub last_try : Result Reply Full → Result Reply TryFault

@@ -1,4 +1,5 @@
--- What calls of an index ensure: what the map says of a call, and by which steps; and of a read of a range both, each clause a field by its name.
+-- What calls of an index ensure: what the map says of a call, and by which steps; and of a read of a range both, each clause a field by its
+-- name.
 use Rattle.std.specs.Prelude.{◌≡◌, ◌+◌, ◌≤◌, ℕ, Bool, List, [], ◌∷◌, Result, Ok, Err, MatchResult, IfOk, IfErr, IsOk, OnErr}
 use Rattle.finite_map.specs.declared.Call.{Call}
 use Rattle.finite_map.specs.declared.Call.TheVariants.{Get}
@@ -32,21 +33,21 @@ use Rattle.hot_index_calls.specs.Traces.{HasMadeGetSteps, HasMadeScanSteps, HasM
 
 -- What the map says of a call with this result. It was answered, and is noted with this reply. Or it was refused, and has changed nothing.
 abbrev pub IsOutcome : Call → Result Reply TryFault → TableView → PassView → PassView → Type 0
-IsOutcome asked result index k j = MatchResult result (IsNoted index.layout k j asked) (IsRefused index.layout asked k j)
+IsOutcome asked result index old new = MatchResult result (IsNoted index.layout old new asked) (IsRefused index.layout asked old new)
 
 -- the call, if it was refused, has the cause of its fault
 abbrev pub HasCause : Call → Result Reply TryFault → TableView → PassView → PassView → Type 0
-HasCause asked result index k j = IfErr result (IsCause index.layout (key_of asked) k j)
+HasCause asked result index old new = IfErr result (IsCause index.layout (key_of asked) old new)
 
 -- What a change that doesn't wait ensures. Each of its clauses is a field of that name.
 pub record IsTried {G : Type 0} (asked : Call) (result : Result Reply TryFault) (index : TableView) (becomes : G → Event → G → Type 0)
-    (a b : PassView × G) : Type 0 where
-  pub own : Owns index b.0
-  pub call : IsOutcome asked result index a.0 b.0
-  pub cause : HasCause asked result index a.0 b.0
+    (old new : PassView × G) : Type 0 where
+  pub own : Owns index new.0
+  pub call : IsOutcome asked result index old.0 new.0
+  pub cause : HasCause asked result index old.0 new.0
   pub leafless : LacksNoLeaf FullLeaves asked result
-  pub made : HasMadeChangeSteps index becomes asked result a b
-  pub room : LeavesRoom index.layout asked result a.0.seat b.0.seat
+  pub made : HasMadeChangeSteps index becomes asked result old new
+  pub room : LeavesRoom index.layout asked result old.0.seat new.0.seat
 
 -- the first holds of a get, the second of each other call
 abbrev pub GetsOr : Call → Type 0 → Type 0 → Type 0
@@ -56,21 +57,23 @@ GetsOr asked Gets Changes = Changes
 -- The steps of a call with this outcome, whose number is bounded: those of a get, or of a change's attempts and rounds. The gate was told
 -- each.
 abbrev pub GetsOrMakes : {G : Type 0} → Call → Result Reply TryFault → TableView → (G → Event → G → Type 0) → PassView × G → PassView × G → Type 0
-GetsOrMakes asked result index becomes a b = GetsOr asked (HasMadeGetSteps index becomes a b) (HasMadeChangeSteps index becomes asked result a b)
+GetsOrMakes asked result index becomes old new =
+    GetsOr asked (HasMadeGetSteps index becomes old new) (HasMadeChangeSteps index becomes asked result old new)
 
 -- A change was tried once, by a call that doesn't wait. If no record was free, all records were counted then. The result is what the count
 -- says.
 pub record IsTriedAndCounted {G : Type 0} (asked : Call) (result : Result Reply Refusal) (index : TableView) (becomes : G → Event → G → Type 0)
-    (a b : PassView × G) : Type 0 where
+    (old new : PassView × G) : Type 0 where
   pub mid : PassView × G
-  pub tried : IsTried asked (as_tried result) index becomes a mid
-  pub told : IsCountTold asked result index becomes a mid b
+  pub tried : IsTried asked (as_tried result) index becomes old mid
+  pub told : IsCountTold asked result index becomes old mid new
 
 -- Tries of a change were refused, one after the other, for these reasons. None of them is final.
 abbrev pub AreTriesRefused : {G : Type 0} → Call → List Refusal → TableView → (G → Event → G → Type 0) → PassView × G → PassView × G → Type 0
-AreTriesRefused asked [] index becomes a b = b ≡ a
-AreTriesRefused {G = G} asked (refusal ∷ refusals) index becomes a b =
-    (m : PassView × G) × IsTriedAndCounted asked (Err refusal) index becomes a m × IsPassing refusal × AreTriesRefused asked refusals index becomes m b
+AreTriesRefused asked [] index becomes old new = new ≡ old
+AreTriesRefused {G = G} asked (refusal ∷ refusals) index becomes old new =
+    (middle : PassView × G) × IsTriedAndCounted asked (Err refusal) index becomes old middle × IsPassing refusal ×
+    AreTriesRefused asked refusals index becomes middle new
 
 -- A change that waits returns what its last try came to: the reply, or a refusal that is final.
 abbrev pub IsOfLast : Result Reply Full → Result Reply Refusal → Type 0
@@ -80,100 +83,101 @@ IsOfLast (Err full) last = (counts : RecordCounts) × (last ≡ Err (IsFull full
 -- A change that waits makes tries, with a count after each that found no record free, and no other step. It goes on after one that was busy
 -- or held back, and ends with any other. So in an index of one pass it makes one try. The cause of a refusal lies in the last try alone.
 pub record MakesTries {G : Type 0} (asked : Call) (result : Result Reply Full) (index : TableView) (becomes : G → Event → G → Type 0)
-    (a b : PassView × G) : Type 0 where
+    (old new : PassView × G) : Type 0 where
   pub refusals : List Refusal
   pub last : PassView × G
-  pub refused : AreTriesRefused asked refusals index becomes a last
+  pub refused : AreTriesRefused asked refusals index becomes old last
   pub alone : index.layout.passes ≡ 1 → refusals ≡ []
   pub outcome : Result Reply Refusal
-  pub tried : IsTriedAndCounted asked outcome index becomes last b
+  pub tried : IsTriedAndCounted asked outcome index becomes last new
   pub is_last : IsOfLast result outcome
 
 -- A change was made by a whole call that waits, or refused by its last try: all that such a call ensures, each clause a field by its name.
 pub record IsWaitedFor {G : Type 0} (asked : Call) (result : Result Reply Full) (index : TableView) (becomes : G → Event → G → Type 0)
-    (a b : PassView × G) : Type 0 where
-  pub own : Owns index b.0
-  pub call : IsOutcome asked (last_try result) index a.0 b.0
-  pub cause : HasCause asked (last_try result) index a.0 b.0
+    (old new : PassView × G) : Type 0 where
+  pub own : Owns index new.0
+  pub call : IsOutcome asked (last_try result) index old.0 new.0
+  pub cause : HasCause asked (last_try result) index old.0 new.0
   pub leafless : LacksNoLeaf Leaves asked result
   pub kept : HasNodeLeft index.layout.passes asked → IsOk result
-  pub tries : MakesTries asked result index becomes a b
-  pub told : HasMadeCallSteps index becomes a b
-  pub room : LeavesRoom index.layout asked (last_try result) a.0.seat b.0.seat
+  pub tries : MakesTries asked result index becomes old new
+  pub told : HasMadeCallSteps index becomes old new
+  pub room : LeavesRoom index.layout asked (last_try result) old.0.seat new.0.seat
 
 -- The steps of a call that waits and has this outcome: those of a get, or of a change's tries.
 abbrev pub GetsOrTries : {G : Type 0} → Call → Result Reply Full → TableView → (G → Event → G → Type 0) → PassView × G → PassView × G → Type 0
-GetsOrTries asked result index becomes a b = GetsOr asked (HasMadeGetSteps index becomes a b) (MakesTries asked result index becomes a b)
+GetsOrTries asked result index becomes old new = GetsOr asked (HasMadeGetSteps index becomes old new) (MakesTries asked result index becomes old new)
 
 -- The steps of a call that doesn't wait and counts. They are those of a get or of a change, with a count of all records if it found none
 -- free.
 abbrev pub GetsOrCounts : {G : Type 0} → Call → Result Reply Refusal → TableView → (G → Event → G → Type 0) → PassView × G → PassView × G → Type 0
-GetsOrCounts asked result index becomes a b = GetsOr asked (HasMadeGetSteps index becomes a b) (IsTriedAndCounted asked result index becomes a b)
+GetsOrCounts asked result index becomes old new =
+    GetsOr asked (HasMadeGetSteps index becomes old new) (IsTriedAndCounted asked result index becomes old new)
 
 -- A range was read, with an answer of this kind. Or memory was refused for a pair that it had found, and such a part is left. The number of
 -- its steps is bounded, and the gate was told each.
 pub record IsRangeReadWith {A E G : Type 0} (IsAnswer : Layout → PassView → PassView → A → Type 0) (IsPart : Layout → PassView → PassView → Type 0)
-    (range : Range) (result : Result A E) (index : TableView) (becomes : G → Event → G → Type 0) (a b : PassView × G) : Type 0 where
-  pub own : Owns index b.0
-  pub ok : IfOk result (IsAnswer index.layout a.0 b.0)
-  pub err : OnErr result (IsUnnoted index.layout a.0 b.0)
-  pub part : OnErr result (IsPart index.layout a.0 b.0)
-  pub memory : OnErr result (HasFoundPair index.layout a.0 b.0 range)
-  pub steps : b.0.steps ≤ a.0.steps + scan_steps range.limit
-  pub read : HasMadeScanSteps index becomes range.limit a b
+    (range : Range) (result : Result A E) (index : TableView) (becomes : G → Event → G → Type 0) (old new : PassView × G) : Type 0 where
+  pub own : Owns index new.0
+  pub ok : IfOk result (IsAnswer index.layout old.0 new.0)
+  pub err : OnErr result (IsUnnoted index.layout old.0 new.0)
+  pub part : OnErr result (IsPart index.layout old.0 new.0)
+  pub memory : OnErr result (HasFoundPair index.layout old.0 new.0 range)
+  pub steps : new.0.steps ≤ old.0.steps + scan_steps range.limit
+  pub read : HasMadeScanSteps index becomes range.limit old new
 
 -- of a part that is left out of memory nothing is said
 abbrev pub no_part : Layout → PassView → PassView → Type 0
-no_part layout k j = Unit {0}
+no_part layout old new = Unit {0}
 
 -- A range was read, with no gate. Of a part that is left out of memory nothing is said.
 abbrev pub IsRangeRead : {A E : Type 0} → (Layout → PassView → PassView → A → Type 0) → Range → Result A E → TableView → PassView → PassView → Type 0
-IsRangeRead IsAnswer range result index k j = IsRangeReadWith IsAnswer no_part range result index untold (k, tt) (j, tt)
+IsRangeRead IsAnswer range result index old new = IsRangeReadWith IsAnswer no_part range result index untold (old, tt) (new, tt)
 
 -- a scan was made that is lawful in this sense, and a gate was told its steps
 abbrev pub IsScanReadBy : {E G : Type 0} → ScanLaw → Range → Result Scan E → TableView → (G → Event → G → Type 0) → PassView × G → PassView × G → Type 0
-IsScanReadBy IsLawful range result index becomes a b =
-    IsRangeReadWith (λ layout k j. IsScannedBy IsLawful layout k j range) no_part range result index becomes a b
+IsScanReadBy IsLawful range result index becomes old new =
+    IsRangeReadWith (λ layout was now. IsScannedBy IsLawful layout was now range) no_part range result index becomes old new
 
 -- a lawful scan upwards was made, and a gate was told its steps
 abbrev pub IsScanReadWith : {E G : Type 0} → Range → Result Scan E → TableView → (G → Event → G → Type 0) → PassView × G → PassView × G → Type 0
-IsScanReadWith range result index becomes a b = IsScanReadBy IsLawfulScan range result index becomes a b
+IsScanReadWith range result index becomes old new = IsScanReadBy IsLawfulScan range result index becomes old new
 
 -- a lawful scan upwards was made
 abbrev pub IsScanRead : {E : Type 0} → Range → Result Scan E → TableView → PassView → PassView → Type 0
-IsScanRead range result index k j = IsScanReadWith range result index untold (k, tt) (j, tt)
+IsScanRead range result index old new = IsScanReadWith range result index untold (old, tt) (new, tt)
 
 -- a scan into a list was made that is lawful in this sense, and a gate was told its steps
 abbrev pub IsListReadBy : {E G : Type 0} → ScanLaw → Range → List (Key × ℕ) → Result Bool E → TableView → (G → Event → G → Type 0) → PassView × G → PassView × G → Type 0
-IsListReadBy IsLawful range pairs result index becomes a b =
-    IsRangeReadWith (λ layout k j. IsListedBy IsLawful layout k j range pairs) (λ layout k j. IsListedInPartBy IsLawful layout k j range pairs)
-    range result index becomes a b
+IsListReadBy IsLawful range pairs result index becomes old new =
+    IsRangeReadWith (λ layout was now. IsListedBy IsLawful layout was now range pairs) (λ layout was now. IsListedInPartBy IsLawful layout was now range pairs)
+    range result index becomes old new
 
 -- a lawful scan upwards into a list was made, and a gate was told its steps
 abbrev pub IsListReadWith : {E G : Type 0} → Range → List (Key × ℕ) → Result Bool E → TableView → (G → Event → G → Type 0) → PassView × G → PassView × G → Type 0
-IsListReadWith range pairs result index becomes a b = IsListReadBy IsLawfulScan range pairs result index becomes a b
+IsListReadWith range pairs result index becomes old new = IsListReadBy IsLawfulScan range pairs result index becomes old new
 
 -- a lawful scan upwards into a list was made
 abbrev pub IsListRead : {E : Type 0} → Range → List (Key × ℕ) → Result Bool E → TableView → PassView → PassView → Type 0
-IsListRead range pairs result index k j = IsListReadWith range pairs result index untold (k, tt) (j, tt)
+IsListRead range pairs result index old new = IsListReadWith range pairs result index untold (old, tt) (new, tt)
 
 -- A range was counted, which needs no memory, and a gate was told its steps. They are at most those of a scan for 16 pairs more than it
 -- counted, or for the range's limit, if that is less.
 abbrev pub IsCountReadWith : {G : Type 0} → Range → ℕ → TableView → (G → Event → G → Type 0) → PassView × G → PassView × G → Type 0
-IsCountReadWith range number index becomes a b =
-    IsRangeReadWith (λ layout k j. IsRangeCounted layout k j range) no_part (limited range (limit_by range.limit number))
-    (let counted : Result ℕ (Unit {0}) = Ok number in counted) index becomes a b
+IsCountReadWith range number index becomes old new =
+    IsRangeReadWith (λ layout was now. IsRangeCounted layout was now range) no_part (limited range (limit_by range.limit number))
+    (let counted : Result ℕ (Unit {0}) = Ok number in counted) index becomes old new
 
 -- a range was counted, as `IsCountReadWith` says, with no gate
 abbrev pub IsCountRead : Range → ℕ → TableView → PassView → PassView → Type 0
-IsCountRead range number index k j = IsCountReadWith range number index untold (k, tt) (j, tt)
+IsCountRead range number index old new = IsCountReadWith range number index untold (old, tt) (new, tt)
 
 -- the values of a range were listed, and a gate was told the steps
 abbrev pub IsValuesReadWith : {E G : Type 0} → Range → List ℕ → Result Bool E → TableView → (G → Event → G → Type 0) → PassView × G → PassView × G → Type 0
-IsValuesReadWith range values result index becomes a b =
-    IsRangeReadWith (λ layout k j. AreValuesListed layout k j range values) (λ layout k j. AreValuesListedInPart layout k j range values)
-    range result index becomes a b
+IsValuesReadWith range values result index becomes old new =
+    IsRangeReadWith (λ layout was now. AreValuesListed layout was now range values) (λ layout was now. AreValuesListedInPart layout was now range values)
+    range result index becomes old new
 
 -- the values of a range were listed, with no gate
 abbrev pub IsValuesRead : {E : Type 0} → Range → List ℕ → Result Bool E → TableView → PassView → PassView → Type 0
-IsValuesRead range values result index k j = IsValuesReadWith range values result index untold (k, tt) (j, tt)
+IsValuesRead range values result index old new = IsValuesReadWith range values result index untold (old, tt) (new, tt)

@@ -86,16 +86,16 @@ counts_in layout tags = record {
 
 -- All records were counted. The pass loads the state of each once, in the order of their numbers and nodes first, and makes no other step.
 -- The counts are of the states that these loads find, each at its own moment. The gate is told each load, and the pass sees no change.
-pub record HasCounted {G : Type 0} (index : TableView) (becomes : G → Event → G → Type 0) (a b : PassView × G) (counts : RecordCounts) : Type 0 where
+pub record HasCounted {G : Type 0} (index : TableView) (becomes : G → Event → G → Type 0) (old new : PassView × G) (counts : RecordCounts) : Type 0 where
   pub tags : FoundTags
-  pub begins : a.0 ≡ pass_of a.0.seat
-  pub ends : b.0 ≡ pass_of b.0.seat
+  pub begins : old.0 ≡ pass_of old.0.seat
+  pub ends : new.0 ≡ pass_of new.0.seat
   pub each : OneForEach index.layout tags
   pub counts_are : counts ≡ counts_in index.layout tags
-  pub steps : Runs index becomes (loads_in index.layout tags) (a.0.seat, a.1) (b.0.seat, b.1)
-  pub told : IsTold becomes (events_of a.0.number (loads_in index.layout tags)) a.1 b.1
-  pub front : b.0.front ≡ a.0.front
-  pub many : b.0.steps ≡ a.0.steps + (index.layout.nodes + index.layout.leaves)
+  pub steps : Runs index becomes (loads_in index.layout tags) (old.0.seat, old.1) (new.0.seat, new.1)
+  pub told : IsTold becomes (events_of old.0.number (loads_in index.layout tags)) old.1 new.1
+  pub front : new.0.front ≡ old.0.front
+  pub many : new.0.steps ≡ old.0.steps + (index.layout.nodes + index.layout.leaves)
 
 -- On a seat
 
@@ -108,11 +108,12 @@ with_tag Locked counts = record counts { live = counts.live + 1 }
 with_tag (Obsolete epoch) counts = record counts { obsolete = counts.obsolete + 1 }
 
 -- The records of one kind from `first` to before `behind` were counted. So many were in each state.
-abbrev pub CountsFrom : {G : Type 0} → TableView → (G → Event → G → Type 0) → (ℕ → Rec) → ℕ → ℕ → StateCounts → SeatView × G → SeatView × G → Type 0
-CountsFrom table becomes kind first behind counts a b =
-    (tags : List Tag) × (behind ≡ first + length tags) × (counts ≡ counts_of tags) × Does table becomes collecting (loads_of kind first tags) a b
+abbrev pub CountsFrom : {G : Type 0} → TableView → (G → Event → G → Type 0) → (ℕ → Rec) → (first behind : ℕ) → StateCounts → SeatView × G → SeatView × G → Type 0
+CountsFrom table becomes kind first behind counts old new =
+    (tags : List Tag) × (behind ≡ first + length tags) × (counts ≡ counts_of tags) × Does table becomes collecting (loads_of kind first tags) old new
 
 -- all records were counted
 abbrev pub CountsAll : {G : Type 0} → TableView → (G → Event → G → Type 0) → RecordCounts → SeatView × G → SeatView × G → Type 0
-CountsAll table becomes counts a b =
-    (tags : FoundTags) × OneForEach table.layout tags × (counts ≡ counts_in table.layout tags) × Does table becomes collecting (loads_in table.layout tags) a b
+CountsAll table becomes counts old new =
+    (tags : FoundTags) × OneForEach table.layout tags × (counts ≡ counts_in table.layout tags) ×
+    Does table becomes collecting (loads_in table.layout tags) old new

@@ -17,18 +17,18 @@ use Rattle.rowex_writing.specs.declared.attempts.TryFault.TheVariants.{FullLeave
 -- a record of this fate is in the tree, or retired
 abbrev pub IsUsed : Fate → Type 0
 IsUsed (InTree since) = Unit {0}
-IsUsed (Unlinked since last q) = Unit {0}
+IsUsed (Unlinked since last pass) = Unit {0}
 IsUsed (Marked since last epoch) = Unit {0}
-IsUsed f = ⊥
+IsUsed fate = ⊥
 
 -- The record is in the tree or retired after the steps that the table's only pass knows.
 abbrev pub IsUsedAt : Layout → SeatView → Rec → Type 0
-IsUsedAt layout s r = (c : Core) → IsLone layout s c → IsUsed (c.fate r)
+IsUsedAt layout seat rec = (core : Core) → IsLone layout seat core → IsUsed (core.fate rec)
 
 -- In an index of one pass, the records that a call lacked are in the tree or retired after it. They are the node records but its own, or
 -- the leaf records with room for its key.
-pub record LeavesUsed (layout : Layout) (key : Key) (own : List Rec) (result : Result Reply TryFault) (t : SeatView) : Type 0 where
+pub record LeavesUsed (layout : Layout) (key : Key) (own : List Rec) (result : Result Reply TryFault) (seat : SeatView) : Type 0 where
   pub nodes : layout.passes ≡ 1 → result ≡ Err FullNodes → (n : ℕ) → n < layout.nodes → ¬ (Contains own (a_node n)) →
-      IsUsedAt layout t (a_node n)
+      IsUsedAt layout seat (a_node n)
   pub leaves : layout.passes ≡ 1 → result ≡ Err FullLeaves → (n : ℕ) → n < layout.leaves → words_for (length key) ≤ leaf_size layout n →
-      IsUsedAt layout t (a_leaf n)
+      IsUsedAt layout seat (a_leaf n)

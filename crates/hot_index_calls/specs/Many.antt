@@ -24,18 +24,18 @@ gets (key ∷ keys) (value ∷ found) = (Get key, got value) ∷ gets keys found
 
 -- Calls of the pass were answered, in some order, and its calls are legal. There is one note more for each, of the call and its reply. Its
 -- place is from what the pass had seen at its last load of the root up to what it has seen now.
-pub record AreNoted (layout : Layout) (k j : PassView) (calls : List (Call × Reply)) : Type 0 where
-  pub on : GoesOn layout k j
+pub record AreNoted (layout : Layout) (old new : PassView) (calls : List (Call × Reply)) : Type 0 where
+  pub on : GoesOn layout old new
   pub added : List Note
-  pub notes : j.notes ≡ k.notes ++ added
+  pub notes : new.notes ≡ old.notes ++ added
   pub calls_are : IsPermutation calls (map (λ n. (n.call, n.reply)) added)
-  pub low : All (λ n. length j.fresh.front ≤ n.place) added
-  pub legal : LegalCalls j.front j.number j.notes
+  pub low : All (λ n. length new.fresh.front ≤ n.place) added
+  pub legal : LegalCalls new.front new.number new.notes
 
 -- The pass reads once for so many keys: it loads the root once, and one entry in each node on a key's path. It makes at most 26 steps for
 -- each entry, 32 for each key, and 4 others. It touches at most eleven words for each entry. Which loads serve which key isn't said.
-pub record HasMadeGetManySteps {G : Type 0} (index : TableView) (becomes : G → Event → G → Type 0) (count : ℕ) (a b : PassView × G) : Type 0 where
-  pub read : HasRead index becomes a b
+pub record HasMadeGetManySteps {G : Type 0} (index : TableView) (becomes : G → Event → G → Type 0) (count : ℕ) (old new : PassView × G) : Type 0 where
+  pub read : HasRead index becomes old new
   pub depth : entries_in read.loads ≤ count * (9 * MAX_BYTES)
-  pub few : b.0.steps ≤ a.0.steps + 4 + 32 * count + 26 * entries_in read.loads
-  pub touched : b.0.touches ≤ a.0.touches + entry_touches * entries_in read.loads
+  pub few : new.0.steps ≤ old.0.steps + 4 + 32 * count + 26 * entries_in read.loads
+  pub touched : new.0.touches ≤ old.0.touches + entry_touches * entries_in read.loads

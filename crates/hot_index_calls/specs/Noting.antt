@@ -44,5 +44,5 @@ place_by false call reply k = place_of k.front (since k) call reply
 
 -- the note of a call that may change the map, if it was answered
 abbrev pub change_notes : {F : Type 0} → Call → Result Reply F → Known → List Note
-change_notes call (Ok reply) k = record { place = place_by (is_some (effect_of call reply)) call reply k; call = call; reply = reply } ∷ []
-change_notes call (Err fault) k = []
+change_notes call (Ok reply) known = record { place = place_by (is_some (effect_of call reply)) call reply known; call = call; reply = reply } ∷ []
+change_notes call (Err fault) known = []

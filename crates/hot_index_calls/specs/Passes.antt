@@ -28,16 +28,16 @@ pub record PassView : Type 0 where
 
 -- the pass of a seat
 abbrev pub pass_of : SeatView → PassView
-pass_of s = record {
-  seat = s;
-  table = s.table;
-  number = s.known.pass;
-  front = s.known.front;
-  fresh = s.known.fresh;
-  notes = s.known.notes;
-  steps = s.known.steps;
-  touches = s.touches;
-  failed = s.known.failed;
+pass_of seat = record {
+  seat = seat;
+  table = seat.table;
+  number = seat.known.pass;
+  front = seat.known.front;
+  fresh = seat.known.fresh;
+  notes = seat.known.notes;
+  steps = seat.known.steps;
+  touches = seat.touches;
+  failed = seat.known.failed;
 }
 
 -- the pass belongs to this index
@@ -50,14 +50,14 @@ AreByPasses layout changes = All (λ x. x.pass < layout.passes) changes
 
 -- The pass is between two calls: it has no record of its own, no lock and no pin. Its last load of the root was in an earlier call, or is
 -- still to come. Its calls are legal in its front.
-pub record IsSettled (k : Known) : Type 0 where
-  pub own : k.own ≡ []
-  pub locks : k.locks ≡ []
-  pub anchor : k.anchor ≡ None
-  pub pin : k.pin ≡ None
-  pub fresh : BeginsWith k.front k.fresh.front
-  pub loaded : k.fresh.step < k.steps
-  pub legal : LegalCalls k.front k.pass k.notes
+pub record IsSettled (known : Known) : Type 0 where
+  pub own : known.own ≡ []
+  pub locks : known.locks ≡ []
+  pub anchor : known.anchor ≡ None
+  pub pin : known.pin ≡ None
+  pub fresh : BeginsWith known.front known.fresh.front
+  pub loaded : known.fresh.step < known.steps
+  pub legal : LegalCalls known.front known.pass known.notes
 
 -- a pass that has made no call or step, and knows no step of any pass
 abbrev pub IsNewPass : ℕ → PassView → Type 0

@@ -86,8 +86,8 @@ as_tried (Err refusal) = Err (fault_in refusal)
 
 -- how many records of the kind a try needs that lacks one: of the nodes one more than its own
 abbrev pub NeedsBeside : Layout → PassView → PassView → Full → ℕ → Type 0
-NeedsBeside layout k j Nodes needs = (own : List Rec) × LacksNodes layout j.number j.failed k.steps own × (needs ≡ suc (length own))
-NeedsBeside layout k j Leaves needs = Unit {0}
+NeedsBeside layout old new Nodes needs = (own : List Rec) × LacksNodes layout new.number new.failed old.steps own × (needs ≡ suc (length own))
+NeedsBeside layout old new Leaves needs = Unit {0}
 
 -- After the try, from a to m, all records were counted, and the count judges what it lacked. In an index of one pass it finds no record
 -- claimed or retired, and fewer free than the try needs. That asks for fewer steps so far than there are epochs.
@@ -108,14 +108,14 @@ HasNodeLeft passes call = (1 < passes) × IsRemoval call
 
 -- What follows a refused try. If it was busy, nothing is counted. So it is if a removal lacked the node record that is left for it: that is
 -- held back, and never full.
-abbrev pub IsToldAfter : {G : Type 0} → Call → TableView → (G → Event → G → Type 0) → (a m b : PassView × G) → Refusal → Type 0
-IsToldAfter call index becomes a m b IsBusy = b ≡ m
-IsToldAfter call index becomes a m b (HeldBack lacks) =
-    (HasNodeLeft index.layout.passes call × (b ≡ m)) ⊎ IsCountedAfter call lacks (HeldBack lacks) index becomes a m b
-IsToldAfter call index becomes a m b (IsFull lacks counts) =
-    ¬ (HasNodeLeft index.layout.passes call) × IsCountedAfter call lacks (IsFull lacks counts) index becomes a m b
+abbrev pub IsToldAfter : {G : Type 0} → Call → TableView → (G → Event → G → Type 0) → (old middle new : PassView × G) → Refusal → Type 0
+IsToldAfter call index becomes old middle new IsBusy = new ≡ middle
+IsToldAfter call index becomes old middle new (HeldBack lacks) =
+    (HasNodeLeft index.layout.passes call × (new ≡ middle)) ⊎ IsCountedAfter call lacks (HeldBack lacks) index becomes old middle new
+IsToldAfter call index becomes old middle new (IsFull lacks counts) =
+    ¬ (HasNodeLeft index.layout.passes call) × IsCountedAfter call lacks (IsFull lacks counts) index becomes old middle new
 
 -- what follows a try: a count if it was refused for want of a record
-abbrev pub IsCountTold : {G : Type 0} → Call → Result Reply Refusal → TableView → (G → Event → G → Type 0) → (a m b : PassView × G) → Type 0
-IsCountTold call (Ok reply) index becomes a m b = b ≡ m
-IsCountTold call (Err refusal) index becomes a m b = IsToldAfter call index becomes a m b refusal
+abbrev pub IsCountTold : {G : Type 0} → Call → Result Reply Refusal → TableView → (G → Event → G → Type 0) → (old middle new : PassView × G) → Type 0
+IsCountTold call (Ok reply) index becomes old middle new = new ≡ middle
+IsCountTold call (Err refusal) index becomes old middle new = IsToldAfter call index becomes old middle new refusal

@@ -13,4 +13,4 @@ IsReverseListed = IsListedBy IsLawfulReverseScan
 
 -- The last pair up to the key was asked for. A scan downwards of one pair, from this key to the first key of all, has found it, or none.
 abbrev pub IsLastFound : Layout → PassView → PassView → Key → Option (Key × ℕ) → Type 0
-IsLastFound layout k j upto found = IsFoundBy IsLawfulReverseScan layout k j [] upto found
+IsLastFound layout old new upto found = IsFoundBy IsLawfulReverseScan layout old new [] upto found

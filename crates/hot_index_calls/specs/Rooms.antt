@@ -16,31 +16,31 @@ use Rattle.hot_index_calls.specs.Traces.{is_full}
 
 -- the table's passes have made fewer steps than there are epochs, by two at least
 abbrev pub IsEarly : SeatView → Type 0
-IsEarly s = length s.trace + 2 < EPOCHS
+IsEarly seat = length seat.trace + 2 < EPOCHS
 
 -- In an index of one pass with a spare node record, a removal is not refused for want of a node record.
 abbrev pub FindsRoom : Layout → Call → Result Reply TryFault → SeatView → SeatView → Type 0
-FindsRoom layout call result s t = IsRemoval call → layout.passes ≡ 1 → HasSpare layout s → IsEarly t → result ≢ Err FullNodes
+FindsRoom layout call result old new = IsRemoval call → layout.passes ≡ 1 → HasSpare layout old → IsEarly new → result ≢ Err FullNodes
 
 -- If a node record stood in no tree before the call, one stands in none after it. With one pass, a removal finds one.
-pub record LeavesRoom (layout : Layout) (call : Call) (result : Result Reply TryFault) (s t : SeatView) : Type 0 where
-  pub spares : KeepsSpare layout s t
-  pub finds : FindsRoom layout call result s t
+pub record LeavesRoom (layout : Layout) (call : Call) (result : Result Reply TryFault) (old new : SeatView) : Type 0 where
+  pub spares : KeepsSpare layout old new
+  pub finds : FindsRoom layout call result old new
 
 -- a record of this fate is not retired: it is free, claimed, or in the tree
 abbrev pub IsUnretired : Fate → Type 0
-IsUnretired (Unlinked since last q) = ⊥
+IsUnretired (Unlinked since last pass) = ⊥
 IsUnretired (Marked since last epoch) = ⊥
-IsUnretired f = Unit {0}
+IsUnretired fate = Unit {0}
 
 -- The record is not retired after the steps that the table's only pass knows.
 abbrev pub IsUnretiredAt : Layout → SeatView → Rec → Type 0
-IsUnretiredAt layout s r = (c : Core) → IsLone layout s c → IsUnretired (c.fate r)
+IsUnretiredAt layout seat rec = (core : Core) → IsLone layout seat core → IsUnretired (core.fate rec)
 
 -- No record is retired after the steps that the table's only pass knows.
 abbrev pub HasNoneRetired : Layout → SeatView → Type 0
-HasNoneRetired layout s = (r : Rec) → HasRecord layout r → IsUnretiredAt layout s r
+HasNoneRetired layout seat = (rec : Rec) → HasRecord layout rec → IsUnretiredAt layout seat rec
 
 -- In an index of one pass, no record is retired after a call that was refused as full.
 abbrev pub LeavesNoneRetired : Layout → Result Reply TryFault → SeatView → Type 0
-LeavesNoneRetired layout result t = layout.passes ≡ 1 → is_full result ≡ true → IsEarly t → HasNoneRetired layout t
+LeavesNoneRetired layout result seat = layout.passes ≡ 1 → is_full result ≡ true → IsEarly seat → HasNoneRetired layout seat

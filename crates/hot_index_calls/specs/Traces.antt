@@ -34,38 +34,38 @@ abbrev pub untold : Unit {0} → Event → Unit {0} → Type 0
 untold g event h = Unit {0}
 
 -- the acts of a call that only reads, but for its last one: it sets the pin, loads the root, and then words below it
-abbrev pub reading : ℕ → ℕ → List Act → List Act
+abbrev pub reading : (epoch root : ℕ) → List Act → List Act
 reading epoch root loads = LoadEpoch epoch ∷ SetPin epoch ∷ LoadRef Root root ∷ loads
 
 -- The call sets the pass's pin, loads the root and then words below it, and clears the pin. It makes no other step. The gate is told each,
 -- and with the last come the call's notes. The load of the root shows the pass all changes made by then, and so all that any pass had seen.
-pub record HasRead {G : Type 0} (index : TableView) (becomes : G → Event → G → Type 0) (a b : PassView × G) : Type 0 where
+pub record HasRead {G : Type 0} (index : TableView) (becomes : G → Event → G → Type 0) (old new : PassView × G) : Type 0 where
   pub epoch : ℕ
   pub root : ℕ
   pub loads : List Act
   pub said : Known → List Note
-  pub begins : a.0 ≡ pass_of a.0.seat
-  pub ends : b.0 ≡ pass_of b.0.seat
+  pub begins : old.0 ≡ pass_of old.0.seat
+  pub ends : new.0 ≡ pass_of new.0.seat
   pub below : All IsBelowRoot loads
-  pub steps : Ends index becomes (reading epoch root loads) ClearPin said (a.0.seat, a.1) (b.0.seat, b.1)
-  pub sees : SeesAllOfRun index.layout a.0.seat b.0.seat
-  pub told : IsTold becomes (events_of a.0.number (reading epoch root loads ++ ClearPin ∷ [])) a.1 b.1
+  pub steps : Ends index becomes (reading epoch root loads) ClearPin said (old.0.seat, old.1) (new.0.seat, new.1)
+  pub sees : SeesAllOfRun index.layout old.0.seat new.0.seat
+  pub told : IsTold becomes (events_of old.0.number (reading epoch root loads ++ ClearPin ∷ [])) old.1 new.1
 
 -- What a get does. It loads one entry in each node on its key's path. It makes at most 26 steps for each entry, and 36 others. It touches
 -- at most four words for each.
-pub record HasMadeGetSteps {G : Type 0} (index : TableView) (becomes : G → Event → G → Type 0) (a b : PassView × G) : Type 0 where
-  pub read : HasRead index becomes a b
+pub record HasMadeGetSteps {G : Type 0} (index : TableView) (becomes : G → Event → G → Type 0) (old new : PassView × G) : Type 0 where
+  pub read : HasRead index becomes old new
   pub depth : entries_in read.loads ≤ 9 * MAX_BYTES
-  pub few : b.0.steps ≤ a.0.steps + 36 + 26 * entries_in read.loads
-  pub touched : b.0.touches ≤ a.0.touches + search_touches * entries_in read.loads
+  pub few : new.0.steps ≤ old.0.steps + 36 + 26 * entries_in read.loads
+  pub touched : new.0.touches ≤ old.0.touches + search_touches * entries_in read.loads
 
 -- What a scan does. It loads one entry for each node to which it goes, and one for each leaf. It makes at most 26 steps for each entry, 8
 -- for each pair of its limit, and 101 others. It touches at most eleven words for each entry.
-pub record HasMadeScanSteps {G : Type 0} (index : TableView) (becomes : G → Event → G → Type 0) (limit : ℕ) (a b : PassView × G) : Type 0 where
-  pub read : HasRead index becomes a b
+pub record HasMadeScanSteps {G : Type 0} (index : TableView) (becomes : G → Event → G → Type 0) (limit : ℕ) (old new : PassView × G) : Type 0 where
+  pub read : HasRead index becomes old new
   pub most : entries_in read.loads ≤ scan_entries limit
-  pub few : b.0.steps ≤ a.0.steps + 101 + 26 * entries_in read.loads + 8 * limit
-  pub touched : b.0.touches ≤ a.0.touches + entry_touches * entries_in read.loads
+  pub few : new.0.steps ≤ old.0.steps + 101 + 26 * entries_in read.loads + 8 * limit
+  pub touched : new.0.touches ≤ old.0.touches + entry_touches * entries_in read.loads
 
 -- The steps of an attempt, but for the last, which clears the pin. It sets the pin, and tries each lock once at most. Their number is
 -- bounded by the entries that its search loads, the locks that it tries, and the records of the table.
@@ -122,17 +122,18 @@ GiveNoneBetween layout kind acts =
 -- What a call returned follows from what its pass has done between these views of its seat. It was answered and is noted with its reply, or
 -- refused, for a cause found since.
 abbrev pub StandsSince : Layout → Call → Result Reply TryFault → SeatView → SeatView → Type 0
-StandsSince layout call result s t = IfOk result (IsNoted layout (pass_of s) (pass_of t) call) × IfErr result (IsRefusedFor layout call (pass_of s) (pass_of t))
+StandsSince layout call result old new =
+    IfOk result (IsNoted layout (pass_of old) (pass_of new) call) × IfErr result (IsRefusedFor layout call (pass_of old) (pass_of new))
 
 -- the steps are those of one attempt
 abbrev pub IsOneAttempt : {G : Type 0} → TableView → SeatView × G → SeatView × G → List Act → Type 0
-IsOneAttempt table a b acts = IsAttempt table.layout acts
+IsOneAttempt table old new acts = IsAttempt table.layout acts
 
 -- Two attempts, with a round of collection between them, whole or spared. The first was full. The call's notes come with the last step. The
 -- call returns what the second attempt alone came to. But if the round gave back no record of the kind that the first lacked, it returns
 -- what both came to.
 pub record AreTwoAttempts {G : Type 0} (table : TableView) (becomes : G → Event → G → Type 0) (call : Call) (result : Result Reply TryFault)
-    (a b : SeatView × G) (acts : List Act) : Type 0 where
+    (old new : SeatView × G) (acts : List Act) : Type 0 where
   pub first : List Act
   pub between : List Act
   pub second : List Act
@@ -141,13 +142,13 @@ pub record AreTwoAttempts {G : Type 0} (table : TableView) (becomes : G → Even
   pub round : AreStepsBetween table.layout between
   pub tries_again : IsAttempt table.layout second
   pub refused : SeatView × G
-  pub tried : Ends table becomes first ClearPin silent a refused
+  pub tried : Ends table becomes first ClearPin silent old refused
   pub full : Full
-  pub lacked : IsRefusedFor table.layout call (pass_of a.0) (pass_of refused.0) (fault_of full)
+  pub lacked : IsRefusedFor table.layout call (pass_of old.0) (pass_of refused.0) (fault_of full)
   pub rounded : SeatView × G
   pub collected : Runs table becomes between refused rounded
-  pub goes_on : Ends table becomes second ClearPin (change_notes call result) rounded b
-  pub stands : StandsSince table.layout call result rounded.0 b.0 ⊎ GiveNoneBetween table.layout full between
+  pub goes_on : Ends table becomes second ClearPin (change_notes call result) rounded new
+  pub stands : StandsSince table.layout call result rounded.0 new.0 ⊎ GiveNoneBetween table.layout full between
 
 -- whether the call was refused as full
 abbrev pub is_full : Result Reply TryFault → Bool
@@ -158,74 +159,76 @@ is_full (Err FullLeaves) = true
 
 -- One attempt, whose answer stands unless it is full. Or two, with a round between them, if the first was full.
 abbrev pub AreTries : {G : Type 0} → TableView → (G → Event → G → Type 0) → Call → Result Reply TryFault → SeatView × G → SeatView × G → List Act → Type 0
-AreTries table becomes call result a b acts = (IsAttempt table.layout acts × (is_full result ≡ false)) ⊎ AreTwoAttempts table becomes call result a b acts
+AreTries table becomes call result old new acts =
+    (IsAttempt table.layout acts × (is_full result ≡ false)) ⊎ AreTwoAttempts table becomes call result old new acts
 
 -- The attempts of a change, and before them a small round or nothing.
 pub record AreAttempts {G : Type 0} (table : TableView) (becomes : G → Event → G → Type 0) (call : Call) (result : Result Reply TryFault)
-    (a b : SeatView × G) (acts : List Act) : Type 0 where
+    (old new : SeatView × G) (acts : List Act) : Type 0 where
   pub before : List Act
   pub rest : List Act
   pub acts_are : acts ≡ before ++ rest
   pub tidies : (before ≡ []) ⊎ AreSmallSteps table.layout MOST_VISITED before
   pub tidied : SeatView × G
-  pub steps : Runs table becomes before a tidied
-  pub tries : AreTries table becomes call result tidied b rest
+  pub steps : Runs table becomes before old tidied
+  pub tries : AreTries table becomes call result tidied new rest
 
 -- the pass makes a small round, or no step
 abbrev pub Tidies : {G : Type 0} → TableView → (G → Event → G → Type 0) → SeatView × G → SeatView × G → Type 0
-Tidies table becomes a b = (b ≡ a) ⊎ IsSmallRound table becomes MOST_VISITED a b
+Tidies table becomes old new = (new ≡ old) ⊎ IsSmallRound table becomes MOST_VISITED old new
 
 -- the pass makes a round of collection or, with several passes, one that is spared
 abbrev pub Collects : {G : Type 0} → TableView → (G → Event → G → Type 0) → SeatView × G → SeatView × G → Type 0
-Collects table becomes a b = ((nodes : ℕ) × (leaves : ℕ) × IsRound table becomes a b nodes leaves) ⊎ ((1 < table.layout.passes) × IsSparedRound table becomes a b)
+Collects table becomes old new =
+    ((nodes : ℕ) × (leaves : ℕ) × IsRound table becomes old new nodes leaves) ⊎ ((1 < table.layout.passes) × IsSparedRound table becomes old new)
 
 -- the pass makes a round of collection that gives back no record of this kind or, with several passes, one that is spared
 abbrev pub CollectsNone : {G : Type 0} → TableView → (G → Event → G → Type 0) → Full → SeatView × G → SeatView × G → Type 0
-CollectsNone table becomes kind a b =
-    ((nodes : ℕ) × (leaves : ℕ) × IsRound table becomes a b nodes leaves × (of_kind kind nodes leaves ≡ 0)) ⊎
-    ((1 < table.layout.passes) × IsSparedRound table becomes a b)
+CollectsNone table becomes kind old new =
+    ((nodes : ℕ) × (leaves : ℕ) × IsRound table becomes old new nodes leaves × (of_kind kind nodes leaves ≡ 0)) ⊎
+    ((1 < table.layout.passes) × IsSparedRound table becomes old new)
 
 -- The call makes steps of this sort, and then clears its pass's pin, with these notes.
 abbrev pub HasEnded : {G : Type 0} → TableView → (G → Event → G → Type 0) → (List Act → Type 0) → (Known → List Note) → SeatView × G → SeatView × G → Type 0
-HasEnded table becomes Are said a b = (acts : List Act) × Are acts × Ends table becomes acts ClearPin said a b
+HasEnded table becomes Are said old new = (acts : List Act) × Are acts × Ends table becomes acts ClearPin said old new
 
 -- What a change does: one attempt, or two with a round of collection between them, and before them a small round or nothing. A second
 -- attempt follows only a first that was full. The last step clears the pin, with the call's note, if it was answered. The gate is told each
 -- step, and their number is bounded. For each entry loaded it touches at most eleven words. Its last load of the root has shown the pass
 -- all changes made by then, and so all that any pass had seen.
 pub record HasMadeChangeSteps {G : Type 0} (index : TableView) (becomes : G → Event → G → Type 0) (call : Call) (result : Result Reply TryFault)
-    (a b : PassView × G) : Type 0 where
+    (old new : PassView × G) : Type 0 where
   pub acts : List Act
-  pub begins : a.0 ≡ pass_of a.0.seat
-  pub ends : b.0 ≡ pass_of b.0.seat
-  pub tries : AreAttempts index becomes call result (a.0.seat, a.1) (b.0.seat, b.1) acts
-  pub steps : Ends index becomes acts ClearPin (change_notes call result) (a.0.seat, a.1) (b.0.seat, b.1)
-  pub sees : SeesAllOfRun index.layout a.0.seat b.0.seat
-  pub told : IsTold becomes (events_of a.0.number (acts ++ ClearPin ∷ [])) a.1 b.1
-  pub few : b.0.steps ≤ a.0.steps + try_steps call index.layout
-  pub touched : b.0.touches ≤ a.0.touches + entry_touches * entries_in acts
+  pub begins : old.0 ≡ pass_of old.0.seat
+  pub ends : new.0 ≡ pass_of new.0.seat
+  pub tries : AreAttempts index becomes call result (old.0.seat, old.1) (new.0.seat, new.1) acts
+  pub steps : Ends index becomes acts ClearPin (change_notes call result) (old.0.seat, old.1) (new.0.seat, new.1)
+  pub sees : SeesAllOfRun index.layout old.0.seat new.0.seat
+  pub told : IsTold becomes (events_of old.0.number (acts ++ ClearPin ∷ [])) old.1 new.1
+  pub few : new.0.steps ≤ old.0.steps + try_steps call index.layout
+  pub touched : new.0.touches ≤ old.0.touches + entry_touches * entries_in acts
 
 -- the call makes some steps, one after the other, and these notes come with the last
 abbrev pub HasStepped : {G : Type 0} → TableView → (G → Event → G → Type 0) → (Known → List Note) → SeatView × G → SeatView × G → Type 0
-HasStepped table becomes said a b = (acts : List Act) × (last : Act) × Ends table becomes acts last said a b
+HasStepped table becomes said old new = (acts : List Act) × (last : Act) × Ends table becomes acts last said old new
 
 -- A call that loads the root makes these steps and no other, and its notes come with the last. The gate is told each of them, in order, and
 -- nothing else. Its last load of the root has shown the pass all changes made by then, and so all that any pass had seen.
-pub record HasMadeCallSteps {G : Type 0} (index : TableView) (becomes : G → Event → G → Type 0) (a b : PassView × G) : Type 0 where
+pub record HasMadeCallSteps {G : Type 0} (index : TableView) (becomes : G → Event → G → Type 0) (old new : PassView × G) : Type 0 where
   pub acts : List Act
   pub last : Act
   pub said : Known → List Note
-  pub begins : a.0 ≡ pass_of a.0.seat
-  pub ends : b.0 ≡ pass_of b.0.seat
-  pub steps : Ends index becomes acts last said (a.0.seat, a.1) (b.0.seat, b.1)
-  pub sees : SeesAllOfRun index.layout a.0.seat b.0.seat
-  pub told : IsTold becomes (events_of a.0.number (acts ++ last ∷ [])) a.1 b.1
+  pub begins : old.0 ≡ pass_of old.0.seat
+  pub ends : new.0 ≡ pass_of new.0.seat
+  pub steps : Ends index becomes acts last said (old.0.seat, old.1) (new.0.seat, new.1)
+  pub sees : SeesAllOfRun index.layout old.0.seat new.0.seat
+  pub told : IsTold becomes (events_of old.0.number (acts ++ last ∷ [])) old.1 new.1
 
 -- The pass makes one round of collection, whose own exchanges give back so many nodes and leaves. It sees no change by it. The gate is told
 -- each step, and their number is bounded.
-pub record HasCollected {G : Type 0} (index : TableView) (becomes : G → Event → G → Type 0) (a b : PassView × G) (nodes leaves : ℕ) : Type 0 where
-  pub begins : a.0 ≡ pass_of a.0.seat
-  pub ends : b.0 ≡ pass_of b.0.seat
-  pub round : IsRound index becomes (a.0.seat, a.1) (b.0.seat, b.1) nodes leaves
-  pub front : b.0.front ≡ a.0.front
-  pub few : b.0.steps ≤ a.0.steps + round_steps index.layout
+pub record HasCollected {G : Type 0} (index : TableView) (becomes : G → Event → G → Type 0) (old new : PassView × G) (nodes leaves : ℕ) : Type 0 where
+  pub begins : old.0 ≡ pass_of old.0.seat
+  pub ends : new.0 ≡ pass_of new.0.seat
+  pub round : IsRound index becomes (old.0.seat, old.1) (new.0.seat, new.1) nodes leaves
+  pub front : new.0.front ≡ old.0.front
+  pub few : new.0.steps ≤ old.0.steps + round_steps index.layout

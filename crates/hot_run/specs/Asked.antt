@@ -14,7 +14,7 @@ use Rattle.script_runs.specs.Scripts.{LawfulScripts, MayEndScriptsBy}
 
 -- The text answers the script alone if no files are named, or else the scripts in the files and the script after them. `bytes` are those of
 -- the file of a name, if they are known.
-abbrev pub AnswersAll : (List ℕ → Option (List ℕ)) → List (List ℕ) → ℕ → ℕ → List ℕ → List ℕ → Type 0
+abbrev pub AnswersAll : (List ℕ → Option (List ℕ)) → List (List ℕ) → (nodes leaves : ℕ) → List ℕ → List ℕ → Type 0
 AnswersAll bytes [] nodes leaves script text = IsAnsweredScript nodes leaves script text
 AnswersAll bytes (name ∷ names) nodes leaves script text =
     (files : List (List ℕ)) × AreFileStarts bytes (name ∷ names) files × LawfulScripts nodes leaves untold (map (λ f. (tt, tt)) files) files script text

@@ -48,14 +48,14 @@ scan_lines pairs more = flat_map pair_line pairs ++ line (with_number (if more t
 
 -- the answer to a scan, which gives the first `limit` pairs of the map in the range
 abbrev pub scan_text : Map → KeyRange → List ℕ
-scan_text m r =
-    let found = range_of m r.from r.upto in scan_lines (take r.limit found) (nat_lt r.limit (length found))
+scan_text pairs range =
+    let found = range_of pairs range.from range.upto in scan_lines (take range.limit found) (nat_lt range.limit (length found))
 
 -- the answers to commands, on the map as each finds it
 abbrev pub text_from : Map → List Command → List ℕ
-text_from m [] = []
-text_from m (Asks call ∷ commands) = line (reply_text (reply_of m call)) ++ text_from (map_after m call) commands
-text_from m (Scan range ∷ commands) = scan_text m range ++ text_from m commands
+text_from pairs [] = []
+text_from pairs (Asks call ∷ commands) = line (reply_text (reply_of pairs call)) ++ text_from (map_after pairs call) commands
+text_from pairs (Scan range ∷ commands) = scan_text pairs range ++ text_from pairs commands
 
 -- what is printed for commands that begin with an empty map, or the fault of the script
 abbrev pub text_or_fault : Result (List Command) (ℕ × Reason) → Result (List ℕ) RunFault

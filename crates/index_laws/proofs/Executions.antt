@@ -17,8 +17,8 @@ use Rattle.rowex_table.specs.Seats.{SeatView}
 use Rattle.rowex_table.proofs.Seats.{new_knows}
 use Rattle.hot_index_calls.specs.Answers.{IsNoted}
 use Rattle.hot_index_calls.specs.Passes.{pass_of}
-use Rattle.linearizability.specs.Moments.{Continues, Happening, IsNotedBetween, IsResponse, IsWholeRun, Moment, Pending, invokes, refuses, responds, shows, steps}
-use Rattle.linearizability.proofs.Moments.Completing.{linearizable}
+use Rattle.linearizability.specs.Configurations.{Continues, Happening, IsNotedBetween, IsResponse, IsWholeRun, Configuration, Pending, invokes, refuses, responds, shows, steps}
+use Rattle.linearizability.proofs.Configurations.Completing.{linearizable}
 use Rattle.index_laws.specs.Executions.{HasAnsweredMany, HasBulkLoaded, LeadsOn, IsExecution, IsQuiet, IsReturning, insertions}
 use Rattle.index_laws.specs.Statements.{ExecutionsAreLinearizable, ExecutionsAreRuns, LackMayRefuse, OpeningIsNew, RefusedIsRefused, Responses, ReturnedResponds}
 use Rattle.index_laws.proofs.Executions.Loaded.{insertion_calls, loader_legal}
@@ -43,7 +43,7 @@ noted_now : (k l j i : Known) (notes : List Note) → j ≡ k → i ≡ l → j.
 noted_now k l j i notes now before h = sym (ap (λ (z : Known). z.notes) now) ∙ h ∙ ap (λ (z : Known). z.notes ++ notes) before
 
 -- a note's place is no lower than what a load of the root showed in the call
-placed_since : (at : ℕ → Moment) (q t : ℕ) (call : Pending) (s e : SeatView) → IsReturning at q t call s e → s.known.steps ≤ e.known.fresh.step → (n : Note) → length e.known.fresh.front ≤ n.place →
+placed_since : (at : ℕ → Configuration) (q t : ℕ) (call : Pending) (s e : SeatView) → IsReturning at q t call s e → s.known.steps ≤ e.known.fresh.step → (n : Note) → length e.known.fresh.front ≤ n.place →
     IsNotedBetween at q call.since t n
 placed_since at q t call s e ends loaded n low = record {
   shown = t;
@@ -53,11 +53,11 @@ placed_since at q t call s e ends loaded n low = record {
   low = subst (λ (z : Known). length z.fresh.front ≤ n.place) ends.now low;
 }
 
-pub noted_placed : (layout : Layout) (at : ℕ → Moment) (q t : ℕ) (call : Pending) (s e : SeatView) → IsReturning at q t call s e → (asked : Call) (reply : Reply) →
+pub noted_placed : (layout : Layout) (at : ℕ → Configuration) (q t : ℕ) (call : Pending) (s e : SeatView) → IsReturning at q t call s e → (asked : Call) (reply : Reply) →
     (noted : IsNoted layout (pass_of s) (pass_of e) asked reply) → IsNotedBetween at q call.since t (record { place = noted.place; call = asked; reply = reply })
 noted_placed layout at q t call s e ends asked reply noted = placed_since at q t call s e ends noted.on.now.0 (record { place = noted.place; call = asked; reply = reply }) noted.low
 
-noted_is_response : (layout : Layout) (at : ℕ → Moment) (q t : ℕ) (call : Pending) (s e : SeatView) → IsReturning at q t call s e → (asked : Call) (reply : Reply) → call.calls ≡ asked ∷ [] →
+noted_is_response : (layout : Layout) (at : ℕ → Configuration) (q t : ℕ) (call : Pending) (s e : SeatView) → IsReturning at q t call s e → (asked : Call) (reply : Reply) → call.calls ≡ asked ∷ [] →
     (noted : IsNoted layout (pass_of s) (pass_of e) asked reply) → IsResponse at t q call (record { place = noted.place; call = asked; reply = reply } ∷ [])
 noted_is_response layout at q t call s e ends asked reply calls noted =
     let n : Note = record { place = noted.place; call = asked; reply = reply } in
@@ -74,7 +74,7 @@ calls_of : (ns : List Note) → map (λ (x : Call × Reply). x.0) (map (λ (n : 
 calls_of [] = refl
 calls_of (n ∷ ns) = ap (λ z. n.call ∷ z) (calls_of ns)
 
-many_are_response : (layout : Layout) (at : ℕ → Moment) (q t : ℕ) (call : Pending) (s e : SeatView) → IsReturning at q t call s e → (notes : List Note) →
+many_are_response : (layout : Layout) (at : ℕ → Configuration) (q t : ℕ) (call : Pending) (s e : SeatView) → IsReturning at q t call s e → (notes : List Note) →
     HasAnsweredMany layout call (pass_of s) (pass_of e) notes → IsResponse at t q call notes
 many_are_response layout at q t call s e ends notes x =
     let noted = x.noted in
@@ -88,7 +88,7 @@ many_are_response layout at q t call s e ends notes x =
       legal = legal_now q ((at t).known q) e.known ends.now ends.pass noted.legal;
     })
 
-quiet_is_response : (layout : Layout) (at : ℕ → Moment) (q t : ℕ) (call : Pending) (s e : SeatView) → IsReturning at q t call s e → (notes : List Note) →
+quiet_is_response : (layout : Layout) (at : ℕ → Configuration) (q t : ℕ) (call : Pending) (s e : SeatView) → IsReturning at q t call s e → (notes : List Note) →
     IsQuiet call (pass_of s) (pass_of e) notes → IsResponse at t q call []
 quiet_is_response layout at q t call s e ends notes x = record {
   called = ends.pending;
@@ -98,7 +98,7 @@ quiet_is_response layout at q t call s e ends notes x = record {
   legal = legal_now q ((at t).known q) e.known ends.now ends.pass x.legal;
 }
 
-loaded_is_response : (layout : Layout) (at : ℕ → Moment) (q t : ℕ) (call : Pending) (s e : SeatView) → IsReturning at q t call s e → (notes : List Note) →
+loaded_is_response : (layout : Layout) (at : ℕ → Configuration) (q t : ℕ) (call : Pending) (s e : SeatView) → IsReturning at q t call s e → (notes : List Note) →
     HasBulkLoaded layout call.calls s.known e.known notes → IsResponse at t q call notes
 loaded_is_response layout at q t call s e ends notes x = record {
   called = ends.pending;
@@ -134,7 +134,7 @@ lack_may_refuse call full lack = lack
 
 -- Executions
 
-module _ (layout : Layout) (at : ℕ → Moment) (happens : ℕ → Happening) where
+module _ (layout : Layout) (at : ℕ → Configuration) (happens : ℕ → Happening) where
   continues : (t : ℕ) → IsWholeRun layout t at happens → (h : Happening) → LeadsOn layout at t h → Continues layout at t h
   continues t run (steps q act notes) x = x
   continues t run (shows q front) x = x

@@ -47,7 +47,7 @@ use Rattle.hot_index.proofs.Statements.Alone.{one_pass_full_means_taken, one_pas
 use Rattle.hot_index.proofs.KeyCounts.Counted.{counts_add_up}
 use Rattle.hot_index.proofs.Statements.Held.{absent_is_never_full, held_is_never_full, one_pass_refuses_only_new_keys}
 use Rattle.hot_index.proofs.Stamps.{returned_before_begun}
-use Rattle.linearizability.specs.Moments.{Happening, IsWholeRun, Moment}
+use Rattle.linearizability.specs.Configurations.{Happening, IsWholeRun, Configuration}
 use Rattle.linearizability.specs.Scanning.{IsScanInTime}
 use Rattle.linearizability.proofs.Statements.Replies.{behind, effect, replies_in_time}
 use Rattle.linearizability.proofs.Scanning.{scans_in_time}
@@ -112,7 +112,7 @@ freshness_of_many layout last at happens run q t below within call s e ends note
 
 -- what is lawful by one of the two laws shows the maps of the run
 module _ (IsLawful : ScanLaw) (IsReached : Map → List ℕ → Type 0)
-    (shows : (layout : Layout) (last : ℕ) (at : ℕ → Moment) (happens : ℕ → Happening) → IsWholeRun layout last at happens → (q since until : ℕ) → q < layout.passes → since ≤ until →
+    (shows : (layout : Layout) (last : ℕ) (at : ℕ → Configuration) (happens : ℕ → Happening) → IsWholeRun layout last at happens → (q since until : ℕ) → q < layout.passes → since ≤ until →
     until ≤ last → ((at since).known q).steps ≤ ((at until).known q).fresh.step → (from upto : List ℕ) (limit : ℕ) (scan : Scan) →
     IsLawful ((at until).known q).fresh.front ((at until).known q).front from upto limit scan → IsScanInTime IsReached at since until from upto scan) where
   scans_show : ScansShow IsLawful IsReached

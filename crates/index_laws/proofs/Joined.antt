@@ -20,11 +20,11 @@ use Rattle.hot_index.specs.Stamps.{HasCaughtUp, HasStamped}
 use Rattle.hot_index_calls.specs.Passes.{PassView, pass_of}
 use Rattle.hot_index_calls.specs.Traces.{untold}
 use Rattle.linearizability.specs.Histories.{PendingEndOrChangeAsAsked}
-use Rattle.linearizability.specs.Moments.{Happening, Moment}
-use Rattle.linearizability.proofs.Moments.Completing.{none_some}
+use Rattle.linearizability.specs.Configurations.{Happening, Configuration}
+use Rattle.linearizability.proofs.Configurations.Completing.{none_some}
 use Rattle.hot_index_calls.proofs.Traces.{ends_untold, runs_untold}
 use Rattle.index_laws.specs.Joined.{HandlesAreLinearizable, HasGoneThrough, HasSeenLeader, LoadedHaveEnded, OneRunIsAnExecution, SeeingIsDone, ShownHaveEnded, SilentStepsEnd, StepsNeedNoGate, TwoThatMeetHaveEnded, load_call, loader, new, of_two, shown as is_shown, stamped as has_stamped}
-use Rattle.index_laws.specs.Traced.{moment_of}
+use Rattle.index_laws.specs.Traced.{configuration_of}
 use Rattle.rowex_table.proofs.Onward.{begins_on, others_none}
 use Rattle.index_laws.proofs.Joined.Interleaving.{named_by, one_execution}
 use Rattle.index_laws.proofs.Joined.Placing.{others_between}
@@ -35,7 +35,7 @@ pub one_run_is_an_execution : OneRunIsAnExecution
 one_run_is_an_execution table run done seat x =
     let r = one_execution table run done seat x in
     let last : ℕ = r.0 in
-    let moments : ℕ → Moment = λ t. moment_of table.layout (r.1 t) in
+    let moments : ℕ → Configuration = λ t. configuration_of table.layout (r.1 t) in
     let ends : PendingEndOrChangeAsAsked table.layout last last moments = λ q low call is. none_some call _ (sym (r.3.idle q low) ∙ is) in
     (last, r.1, r.2, r.3, executions_are_linearizable table.layout last last moments r.2 (le_refl last) (traced_are_executions table last r.1 r.2 r.3.traced) ends)
 

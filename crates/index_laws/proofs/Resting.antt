@@ -45,11 +45,11 @@ use Rattle.hot_index_calls.specs.Passes.{IsSettled, PassView}
 use Rattle.hot_index_calls.specs.Traces.{HasCollected}
 use Rattle.hot_index_calls.specs.declared.census.RecordCounts.{RecordCounts}
 use Rattle.hot_index_calls.proofs.Rooms.{round_acts, step_here}
-use Rattle.linearizability.specs.Moments.{Happening, Moment}
-use Rattle.linearizability.proofs.Moments.{runs_stay_sound}
+use Rattle.linearizability.specs.Configurations.{Happening, Configuration}
+use Rattle.linearizability.proofs.Configurations.{runs_stay_sound}
 use Rattle.index_laws.specs.Joined.{HasGoneThrough, new}
 use Rattle.index_laws.specs.Rest.{AreAllIdle, CountsKeys, CountsNoneLost, GoesOnAlone, HasNoneAtWork, NoRecordIsLost, OnePassLosesNone, StepsAlone, number_of_keys, with_seat}
-use Rattle.index_laws.specs.Traced.{core_led_to, moment_of}
+use Rattle.index_laws.specs.Traced.{core_led_to, configuration_of}
 use Rattle.index_laws.proofs.Counting.{HaveFound, count_finds, counts_keys, counts_none_lost}
 use Rattle.index_laws.proofs.Joined.Interleaving.{named_by}
 use Rattle.index_laws.proofs.Joined.{one_run_is_an_execution}
@@ -94,7 +94,7 @@ module _ (table : TableView) (run : List Event) (seat : ℕ → SeatView) (rest 
   true_there : (q : ℕ) → q < table.layout.passes → Knows c (seat q).known
   true_there q low =
       let (last, at, happens, of, lin) = one_run_is_an_execution table run rest.done seat rest.ended in
-      let moments : ℕ → Moment = λ t. moment_of table.layout (at t) in
+      let moments : ℕ → Configuration = λ t. configuration_of table.layout (at t) in
       let whole = executions_are_runs table.layout last moments happens (traced_are_executions table last at happens of.traced) in
       let sound = runs_stay_sound table.layout last moments happens whole last (le_refl last) in
       let core : core_led_to (opening table.layout) (at last).run ≡ c = ap (core_led_to (opening table.layout)) of.run_is ∙

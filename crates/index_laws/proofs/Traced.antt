@@ -38,10 +38,10 @@ use Rattle.rowex_table.proofs.Runs.{runs_same}
 use Rattle.hot_index_calls.specs.Traces.{untold}
 use Rattle.hot_index.proofs.KeyCounts.Counted.{last_of}
 use Rattle.hot_index_calls.proofs.Noting.{longer}
-use Rattle.linearizability.specs.Moments.{Happening, IsCallTurn, IsMomentStep, IsNewIndex, IsShowing, IsSoundMoment, Moment, Pending, invokes, refuses, responds, shows, steps}
-use Rattle.linearizability.proofs.Moments.{runs_stay_sound}
+use Rattle.linearizability.specs.Configurations.{Happening, IsCallTurn, IsConfigurationStep, IsNewIndex, IsShowing, IsSoundConfiguration, Configuration, Pending, invokes, refuses, responds, shows, steps}
+use Rattle.linearizability.proofs.Configurations.{runs_stay_sound}
 use Rattle.index_laws.specs.Executions.{IsExecution, LeadsOn}
-use Rattle.index_laws.specs.Traced.{CallsMakeNoAsides, ContractsLeadOn, EndedBeforeLoaded, EndedOrLoadedBefore, EndedOrShownBefore, Instant, IsSeatShowing, IsSeatStep, IsSeatTurn, IsShownItself, IsShownSteps, IsTracedExecution, LoadsRootBehind, LoadsSeeAll, MetAreOfOneRun, TracedAreExecutions, core_led_to, moment_of}
+use Rattle.index_laws.specs.Traced.{CallsMakeNoAsides, ContractsLeadOn, EndedBeforeLoaded, EndedOrLoadedBefore, EndedOrShownBefore, Instant, IsSeatShowing, IsSeatStep, IsSeatTurn, IsShownItself, IsShownSteps, IsTracedExecution, LoadsRootBehind, LoadsSeeAll, MetAreOfOneRun, TracedAreExecutions, core_led_to, configuration_of}
 use Rattle.index_laws.proofs.Executions.{executions_are_runs, opening_is_new}
 
 -- The core to which steps lead
@@ -63,7 +63,7 @@ nobodys : (front : List Change) (xs : List Event) → AreOthers (Witness front) 
 nobodys front [] = tt
 nobodys front (x ∷ xs) = ((λ h. h), nobodys front xs)
 
--- From moment to moment
+-- From time to time
 
 module _ (table : TableView) (at : ℕ → Instant) (t : ℕ) where
   abbrev layout : Layout
@@ -75,7 +75,7 @@ module _ (table : TableView) (at : ℕ → Instant) (t : ℕ) where
   abbrev b : Instant
   b = at (suc t)
 
-  step_leads : (q : ℕ) (act : Act) (notes : List Note) → IsSeatStep table a b q act notes → IsMomentStep (moment_of layout a) (moment_of layout b) q act notes
+  step_leads : (q : ℕ) (act : Act) (notes : List Note) → IsSeatStep table a b q act notes → IsConfigurationStep (configuration_of layout a) (configuration_of layout b) q act notes
   step_leads q act notes x =
       let k : Known = (a.seat q).known in
       let event = x.step.event in
@@ -105,17 +105,17 @@ module _ (table : TableView) (at : ℕ → Instant) (t : ℕ) where
       subst (BeginsWith now.changes) (run.changes ∙ ap (λ (z : Known). z.front) x.known) grows
 
   -- and so has what the pass knows
-  itself_made : (q : ℕ) (s e : SeatView) (front : List Change) → IsSoundMoment layout (moment_of layout a) → s ≡ a.seat q → IsShownItself layout q s e front → BeginsWith now.changes front
+  itself_made : (q : ℕ) (s e : SeatView) (front : List Change) → IsSoundConfiguration layout (configuration_of layout a) → s ≡ a.seat q → IsShownItself layout q s e front → BeginsWith now.changes front
   itself_made q s e front sound is x =
       let knows : Knows now (a.seat q).known = sound.knows q x.pass in
       let seen : BeginsWith now.changes (a.seat q).known.front = others_begin (a.seat q).known.pass (a.seat q).known.front now.changes knows.seen.front in
       subst (BeginsWith now.changes) (ap (λ (z : SeatView). z.known.front) (sym is) ∙ sym x.front_is) seen
 
-  showing_leads : (q : ℕ) (front : List Change) → IsLed layout a.run → IsSoundMoment layout (moment_of layout a) → IsSeatShowing table a b q front →
-      IsShowing (moment_of layout a) (moment_of layout b) q front
+  showing_leads : (q : ℕ) (front : List Change) → IsLed layout a.run → IsSoundConfiguration layout (configuration_of layout a) → IsSeatShowing table a b q front →
+      IsShowing (configuration_of layout a) (configuration_of layout b) q front
   showing_leads q front led sound x = go x.seat
     where
-      shows_so : BeginsWith front (a.seat q).known.front → BeginsWith now.changes front → (b.seat q).known ≡ with_front front (a.seat q).known → IsShowing (moment_of layout a) (moment_of layout b) q front
+      shows_so : BeginsWith front (a.seat q).known.front → BeginsWith now.changes front → (b.seat q).known ≡ with_front front (a.seat q).known → IsShowing (configuration_of layout a) (configuration_of layout b) q front
       shows_so more made own = record {
         core = ap (core_led_to (opening layout)) x.run;
         more = more;
@@ -125,12 +125,12 @@ module _ (table : TableView) (at : ℕ → Instant) (t : ℕ) where
         pending = x.pending;
       }
 
-      go : IsShownSteps layout a.run (a.seat q) (b.seat q) front ⊎ IsShownItself layout q (a.seat q) (b.seat q) front → IsShowing (moment_of layout a) (moment_of layout b) q front
+      go : IsShownSteps layout a.run (a.seat q) (b.seat q) front ⊎ IsShownItself layout q (a.seat q) (b.seat q) front → IsShowing (configuration_of layout a) (configuration_of layout b) q front
       go (inl s) = shows_so s.more (shown_made (a.seat q) (b.seat q) front led s) s.known
       go (inr s) = shows_so (subst (λ l. BeginsWith l (a.seat q).known.front) (sym s.front_is) (begins_itself (a.seat q).known.front))
           (itself_made q (a.seat q) (b.seat q) front sound refl s) (s.known ∙ ap (λ (l : List Change). with_front l (a.seat q).known) (sym s.front_is))
 
-  turn_leads : (q : ℕ) (call : Option Pending) → IsSeatTurn layout a b q call → IsCallTurn layout (moment_of layout a) (moment_of layout b) q call
+  turn_leads : (q : ℕ) (call : Option Pending) → IsSeatTurn layout a b q call → IsCallTurn layout (configuration_of layout a) (configuration_of layout b) q call
   turn_leads q call x = record {
     pass = x.pass;
     core = ap (core_led_to (opening layout)) x.run;
@@ -139,14 +139,14 @@ module _ (table : TableView) (at : ℕ → Instant) (t : ℕ) where
     others = x.others;
   }
 
-  contracts_lead : (h : Happening) → IsLed layout a.run → IsSoundMoment layout (moment_of layout a) → ContractsLeadOn table at t h → LeadsOn layout (λ i. moment_of layout (at i)) t h
+  contracts_lead : (h : Happening) → IsLed layout a.run → IsSoundConfiguration layout (configuration_of layout a) → ContractsLeadOn table at t h → LeadsOn layout (λ i. configuration_of layout (at i)) t h
   contracts_lead (steps q act notes) led sound x = step_leads q act notes x
   contracts_lead (shows q front) led sound x = showing_leads q front led sound x
   contracts_lead (invokes q calls) led sound x = (x.0, turn_leads q _ x.1)
   contracts_lead (responds q notes) led sound x = (x.0, x.1, turn_leads q None x.2)
   contracts_lead (refuses q) led sound x = (x.0, x.1, turn_leads q None x.2)
 
-  -- the steps up to the next moment are legal, too
+  -- the steps up to the next time are legal, too
   led_on : (h : Happening) → IsLed layout a.run → ContractsLeadOn table at t h → IsLed layout b.run
   led_on (steps q act notes) led x =
       let e : Event = record { pass = q; act = act } in
@@ -157,11 +157,11 @@ module _ (table : TableView) (at : ℕ → Instant) (t : ℕ) where
   led_on (responds q notes) led x = subst (IsLed layout) (sym x.2.run) led
   led_on (refuses q) led x = subst (IsLed layout) (sym x.2.run) led
 
--- From the first moment on
+-- From the first time on
 
 module _ (table : TableView) (last : ℕ) (at : ℕ → Instant) (happens : ℕ → Happening) (x : IsTracedExecution table last at happens) where
-  abbrev moments : ℕ → Moment
-  moments t = moment_of table.layout (at t)
+  abbrev moments : ℕ → Configuration
+  moments t = configuration_of table.layout (at t)
 
   led_to : (n : ℕ) → n ≤ last → IsLed table.layout (at n).run
   led_to zero low = subst (IsLed table.layout) (sym x.run) refl
@@ -174,7 +174,7 @@ module _ (table : TableView) (last : ℕ) (at : ℕ → Instant) (happens : ℕ 
   }
   execution_to (suc n) low =
       let before : IsExecution table.layout n moments happens = execution_to n (omega (arith, low)) in
-      let sound : IsSoundMoment table.layout (moments n) = runs_stay_sound table.layout n moments happens (executions_are_runs table.layout n moments happens before) n (omega arith) in
+      let sound : IsSoundConfiguration table.layout (moments n) = runs_stay_sound table.layout n moments happens (executions_are_runs table.layout n moments happens before) n (omega arith) in
       let here : LeadsOn table.layout moments n (happens n) = contracts_lead table at n (happens n) (led_to n (omega (arith, low))) sound (x.next n (omega (arith, low))) in
       record {
         new = before.new;

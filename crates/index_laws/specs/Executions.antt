@@ -15,10 +15,10 @@ use Rattle.rowex_writing.specs.declared.attempts.TryFault.{TryFault}
 use Rattle.hot_index_calls.specs.Answers.{IsNoted, IsRefusedFor, MayRefuse}
 use Rattle.hot_index_calls.specs.Many.{AreNoted}
 use Rattle.hot_index_calls.specs.Passes.{PassView, pass_of}
-use Rattle.linearizability.specs.Moments.{Continues, Happening, IsCallTurn, IsNewIndex, Moment, Pending, invokes, refuses, responds, shows, steps}
+use Rattle.linearizability.specs.Configurations.{Continues, Happening, IsCallTurn, IsNewIndex, Configuration, Pending, invokes, refuses, responds, shows, steps}
 
--- Pass q's call is pending at moment t. The seat s knows what the pass knew when it invoked the call, and e what it knows now.
-pub record IsReturning (at : ℕ → Moment) (q t : ℕ) (call : Pending) (s e : SeatView) : Type 0 where
+-- Pass q's call is pending at time t. The seat s knows what the pass knew when it invoked the call, and e what it knows now.
+pub record IsReturning (at : ℕ → Configuration) (q t : ℕ) (call : Pending) (s e : SeatView) : Type 0 where
   pub pending : (at t).pending q ≡ Some call
   pub before : s.known ≡ (at call.since).known q
   pub now : e.known ≡ (at t).known q
@@ -26,26 +26,26 @@ pub record IsReturning (at : ℕ → Moment) (q t : ℕ) (call : Pending) (s e :
   pub later : call.since ≤ t
 
 -- The call asked one call of the map, which was noted.
-pub record IsAnswered (layout : Layout) (call : Pending) (k j : PassView) (notes : List Note) : Type 0 where
+pub record IsAnswered (layout : Layout) (call : Pending) (old new : PassView) (notes : List Note) : Type 0 where
   pub asked : Call
   pub reply : Reply
   pub calls : call.calls ≡ asked ∷ []
-  pub noted : IsNoted layout k j asked reply
+  pub noted : IsNoted layout old new asked reply
   pub notes_are : notes ≡ record { place = noted.place; call = asked; reply = reply } ∷ []
 
 -- The call asked look-ups, which were noted in some order.
-pub record HasAnsweredMany (layout : Layout) (call : Pending) (k j : PassView) (notes : List Note) : Type 0 where
+pub record HasAnsweredMany (layout : Layout) (call : Pending) (old new : PassView) (notes : List Note) : Type 0 where
   pub asked : List (Call × Reply)
   pub calls : map (λ x. x.0) asked ≡ call.calls
-  pub noted : AreNoted layout k j asked
+  pub noted : AreNoted layout old new asked
   pub notes_are : notes ≡ noted.added
 
 -- The call asked nothing of the map, and added no note. `IsScannedBy` and `IsListedBy` say so of scans, `IsUnnoted` of collections and
 -- counts.
-pub record IsQuiet (call : Pending) (k j : PassView) (notes : List Note) : Type 0 where
+pub record IsQuiet (call : Pending) (old new : PassView) (notes : List Note) : Type 0 where
   pub calls : call.calls ≡ []
-  pub same : j.notes ≡ k.notes
-  pub legal : LegalCalls j.front j.number j.notes
+  pub same : new.notes ≡ old.notes
+  pub legal : LegalCalls new.front new.number new.notes
   pub notes_are : notes ≡ []
 
 -- the insertions of the pairs that these words of a table show, in the order of their keys
@@ -57,38 +57,39 @@ abbrev pub insertion_notes : Layout → List ℕ → List Note
 insertion_notes layout words = added_notes 0 (items_of (loaded_tree layout words))
 
 -- The call was the bulk load with which the table was made (`IsLoaderSeat`). Pass 0 was new, and asked for these insertions.
-pub record HasBulkLoaded (layout : Layout) (calls : List Call) (k j : Known) (notes : List Note) : Type 0 where
+pub record HasBulkLoaded (layout : Layout) (calls : List Call) (before later : Known) (notes : List Note) : Type 0 where
   pub words : List ℕ
   pub load : IsLoad layout words
-  pub new : k ≡ opening_of 0
-  pub loader : j ≡ loader_of layout words
+  pub new : before ≡ opening_of 0
+  pub loader : later ≡ loader_of layout words
   pub calls_are : calls ≡ insertions layout words
   pub notes_are : notes ≡ insertion_notes layout words
 
--- The call returns at moment t with these notes.
-abbrev pub HasReturned : Layout → (ℕ → Moment) → ℕ → ℕ → Pending → List Note → Type 0
-HasReturned layout at q t call notes =
-    (s : SeatView) × (e : SeatView) × IsReturning at q t call s e ×
-    (IsAnswered layout call (pass_of s) (pass_of e) notes ⊎
-    (HasAnsweredMany layout call (pass_of s) (pass_of e) notes ⊎
-    (IsQuiet call (pass_of s) (pass_of e) notes ⊎ HasBulkLoaded layout call.calls s.known e.known notes)))
+-- The call returns at time t with these notes.
+abbrev pub HasReturned : Layout → (ℕ → Configuration) → ℕ → ℕ → Pending → List Note → Type 0
+HasReturned layout at pass t call notes =
+    (start : SeatView) × (end : SeatView) × IsReturning at pass t call start end ×
+    (IsAnswered layout call (pass_of start) (pass_of end) notes ⊎
+    (HasAnsweredMany layout call (pass_of start) (pass_of end) notes ⊎
+    (IsQuiet call (pass_of start) (pass_of end) notes ⊎ HasBulkLoaded layout call.calls start.known end.known notes)))
 
--- The call asked one of the map, and is refused at moment t.
-abbrev pub HasBeenRefused : Layout → (ℕ → Moment) → ℕ → ℕ → Pending → Type 0
-HasBeenRefused layout at q t call =
-    (s : SeatView) × (e : SeatView) × (asked : Call) × (fault : TryFault) × IsReturning at q t call s e × (call.calls ≡ asked ∷ []) ×
-    IsRefusedFor layout asked (pass_of s) (pass_of e) fault × MayRefuse asked fault
+-- The call asked one of the map, and is refused at time t.
+abbrev pub HasBeenRefused : Layout → (ℕ → Configuration) → ℕ → ℕ → Pending → Type 0
+HasBeenRefused layout at pass t call =
+    (start : SeatView) × (end : SeatView) × (asked : Call) × (fault : TryFault) × IsReturning at pass t call start end × (call.calls ≡ asked ∷ []) ×
+    IsRefusedFor layout asked (pass_of start) (pass_of end) fault × MayRefuse asked fault
 
--- What happens at moment t of an execution leads to the next moment. It does as in a run, and each call that ends has ended as its contract
+-- What happens at time t of an execution leads to the next time. It does as in a run, and each call that ends has ended as its contract
 -- says.
-abbrev pub LeadsOn : Layout → (ℕ → Moment) → ℕ → Happening → Type 0
-LeadsOn layout at t (steps q act notes) = Continues layout at t (steps q act notes)
-LeadsOn layout at t (shows q front) = Continues layout at t (shows q front)
-LeadsOn layout at t (invokes q calls) = Continues layout at t (invokes q calls)
-LeadsOn layout at t (responds q notes) = (call : Pending) × HasReturned layout at q t call notes × IsCallTurn layout (at t) (at (suc t)) q None
-LeadsOn layout at t (refuses q) = (call : Pending) × HasBeenRefused layout at q t call × IsCallTurn layout (at t) (at (suc t)) q None
+abbrev pub LeadsOn : Layout → (ℕ → Configuration) → ℕ → Happening → Type 0
+LeadsOn layout at t (steps pass act notes) = Continues layout at t (steps pass act notes)
+LeadsOn layout at t (shows pass front) = Continues layout at t (shows pass front)
+LeadsOn layout at t (invokes pass calls) = Continues layout at t (invokes pass calls)
+LeadsOn layout at t (responds pass notes) =
+    (call : Pending) × HasReturned layout at pass t call notes × IsCallTurn layout (at t) (at (suc t)) pass None
+LeadsOn layout at t (refuses pass) = (call : Pending) × HasBeenRefused layout at pass t call × IsCallTurn layout (at t) (at (suc t)) pass None
 
--- An execution: the index is new at first, and what happens at each moment before the last leads to the next one.
-pub record IsExecution (layout : Layout) (last : ℕ) (at : ℕ → Moment) (happens : ℕ → Happening) : Type 0 where
+-- An execution: the index is new at first, and what happens at each time before the last leads to the next one.
+pub record IsExecution (layout : Layout) (last : ℕ) (at : ℕ → Configuration) (happens : ℕ → Happening) : Type 0 where
   pub new : IsNewIndex layout (at 0)
   pub next : (t : ℕ) → t < last → LeadsOn layout at t (happens t)

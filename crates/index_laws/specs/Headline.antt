@@ -46,7 +46,7 @@ use Rattle.hot_index_calls.specs.Many.{HasMadeGetManySteps}
 use Rattle.hot_index_calls.specs.Passes.{PassView, pass_of}
 use Rattle.hot_index_calls.specs.Traces.{HasCollected, HasMadeGetSteps, HasMadeScanSteps, HasMadeChangeSteps, untold}
 use Rattle.hot_index.specs.Statements.{AbsentIsNeverFull, CountsAddUp, HeldIsNeverFull, OnePassFullMeansTaken, OnePassRefusesOnlyNewKeys, ReturnedBeforeBegun}
-use Rattle.linearizability.specs.Moments.{Happening, IsWholeRun, Moment, Pending}
+use Rattle.linearizability.specs.Configurations.{Happening, IsWholeRun, Configuration, Pending}
 use Rattle.linearizability.specs.Scanning.{IsScanInTime, map_at}
 use Rattle.index_laws.specs.Lives.{OneHistoryOfAll}
 use Rattle.index_laws.specs.Executions.{HasAnsweredMany, IsReturning}
@@ -58,8 +58,9 @@ use Rattle.index_laws.specs.Traced.{EndedBeforeLoaded, TracedAreExecutions}
 -- once, in the order in which they were made. A call that is noted comes last.
 abbrev pub History : Type 0
 History =
-    (layout : Layout) (k j : PassView) (call : Call) (reply : Reply) → IsNoted layout k j call reply →
-    LegalHistory (weave j.front j.notes) × (calls_in (weave j.front j.notes) ≡ calls_of j.notes) × (calls_of j.notes ≡ calls_of k.notes ++ answered call reply ∷ [])
+    (layout : Layout) (old new : PassView) (call : Call) (reply : Reply) → IsNoted layout old new call reply →
+    LegalHistory (weave new.front new.notes) × (calls_in (weave new.front new.notes) ≡ calls_of new.notes) ×
+    (calls_of new.notes ≡ calls_of old.notes ++ answered call reply ∷ [])
 
 -- Passes that have met share one legal history, which has the calls of both.
 abbrev pub OneHistory : Type 0
@@ -67,51 +68,53 @@ OneHistory =
     (layout : Layout) (j k j' k' : PassView) → HaveMet layout j k j' k' →
     LegalHistory (weave j'.front (j'.notes ++ k'.notes)) × AreWoven (calls_of j'.notes) (calls_of k'.notes) (calls_in (weave j'.front (j'.notes ++ k'.notes)))
 
--- Once a bulk load has made the table, the calls of pass 0 are the insertions of its pairs, in the order of their keys. Each returned `Inserted`,
--- and they are a legal history. The words show the pairs.
+-- Once a bulk load has made the table, the calls of pass 0 are the insertions of its pairs, in the order of their keys. Each returned
+-- `Inserted`, and they are a legal history. The words show the pairs.
 abbrev pub LoadedHistory : Type 0
 LoadedHistory =
-    (table : TableView) (words : List ℕ) (s : SeatView) → IsLoad table.layout words → IsLoaderSeat table words s →
-    LegalHistory (weave (pass_of s).front (pass_of s).notes) ×
-    (calls_in (weave (pass_of s).front (pass_of s).notes) ≡ map (λ x. answered (Insert x.key x.value) Inserted) (items_of (loaded_tree table.layout words))) ×
+    (table : TableView) (words : List ℕ) (seat : SeatView) → IsLoad table.layout words → IsLoaderSeat table words seat →
+    LegalHistory (weave (pass_of seat).front (pass_of seat).notes) ×
+    (calls_in (weave (pass_of seat).front (pass_of seat).notes) ≡ map (λ x. answered (Insert x.key x.value) Inserted) (items_of (loaded_tree table.layout words))) ×
     IsRising (content (loaded_tree table.layout words))
 
--- The reply to a call, made from its invocation to moment t of a run, is the map's at some moment in between. So it misses nothing that had
+-- The reply to a call, made from its invocation to time t of a run, is the map's at some time in between. So it misses nothing that had
 -- been changed before it began.
 abbrev pub Freshness : Type 0
 Freshness =
-    (layout : Layout) (last : ℕ) (at : ℕ → Moment) (happens : ℕ → Happening) → IsWholeRun layout last at happens →
-    (q t : ℕ) → q < layout.passes → t ≤ last → (call : Pending) (s e : SeatView) → IsReturning at q t call s e →
-    (asked : Call) (reply : Reply) → IsNoted layout (pass_of s) (pass_of e) asked reply →
+    (layout : Layout) (last : ℕ) (at : ℕ → Configuration) (happens : ℕ → Happening) → IsWholeRun layout last at happens →
+    (pass t : ℕ) → pass < layout.passes → t ≤ last → (call : Pending) (start end : SeatView) → IsReturning at pass t call start end →
+    (asked : Call) (reply : Reply) → IsNoted layout (pass_of start) (pass_of end) asked reply →
     (m : ℕ) × (call.since ≤ m) × (m ≤ t) × (reply ≡ reply_of (map_at at m) asked)
 
--- The replies to look-ups of many keys by one call are the map's at moments of the call, one for each. So they miss nothing that had been
+-- The replies to look-ups of many keys by one call are the map's at times of the call, one for each. So they miss nothing that had been
 -- changed before it began.
 abbrev pub FreshnessOfMany : Type 0
 FreshnessOfMany =
-    (layout : Layout) (last : ℕ) (at : ℕ → Moment) (happens : ℕ → Happening) → IsWholeRun layout last at happens →
-    (q t : ℕ) → q < layout.passes → t ≤ last → (call : Pending) (s e : SeatView) → IsReturning at q t call s e →
-    (notes : List Note) → HasAnsweredMany layout call (pass_of s) (pass_of e) notes →
+    (layout : Layout) (last : ℕ) (at : ℕ → Configuration) (happens : ℕ → Happening) → IsWholeRun layout last at happens →
+    (pass t : ℕ) → pass < layout.passes → t ≤ last → (call : Pending) (start end : SeatView) → IsReturning at pass t call start end →
+    (notes : List Note) → HasAnsweredMany layout call (pass_of start) (pass_of end) notes →
     All (λ n. (m : ℕ) × (call.since ≤ m) × (m ≤ t) × (n.reply ≡ reply_of (map_at at m) n.call)) notes
 
--- A scan of a run is lawful from its last load of the root to what its pass has seen by its end. Each pair was in the map at a moment of
+-- A scan of a run is lawful from its last load of the root to what its pass has seen by its end. Each pair was in the map at a time of
 -- the scan. No key of its range is missing that was there all the while, up to the last pair, if there are more. `IsListedBy` says it of
 -- scans into a list, also of one cut for want of memory.
 abbrev pub ScansShow : ScanLaw → (Map → List ℕ → Type 0) → Type 0
 ScansShow IsLawful IsReached =
-    (layout : Layout) (last : ℕ) (at : ℕ → Moment) (happens : ℕ → Happening) → IsWholeRun layout last at happens →
-    (q t : ℕ) → q < layout.passes → t ≤ last → (call : Pending) (s e : SeatView) → IsReturning at q t call s e →
-    (from upto : List ℕ) (limit : ℕ) (scan : Scan) → IsScannedBy IsLawful layout (pass_of s) (pass_of e) (range_from from upto limit) scan ⊎
-    IsListedBy IsLawful layout (pass_of s) (pass_of e) (range_from from upto limit) scan.pairs.items scan.more →
-    IsLawful (pass_of e).fresh.front (pass_of e).front from upto limit scan × IsScanInTime IsReached at call.since t from upto scan
+    (layout : Layout) (last : ℕ) (at : ℕ → Configuration) (happens : ℕ → Happening) → IsWholeRun layout last at happens →
+    (pass t : ℕ) → pass < layout.passes → t ≤ last → (call : Pending) (start end : SeatView) → IsReturning at pass t call start end →
+    (from upto : List ℕ) (limit : ℕ) (scan : Scan) → IsScannedBy IsLawful layout (pass_of start) (pass_of end) (range_from from upto limit) scan ⊎
+    IsListedBy IsLawful layout (pass_of start) (pass_of end) (range_from from upto limit) scan.pairs.items scan.more →
+    IsLawful (pass_of end).fresh.front (pass_of end).front from upto limit scan × IsScanInTime IsReached at call.since t from upto scan
 
 -- A refused call has changed nothing. One that is busy found that another pass stood in its way, and with one pass it is never busy. One
 -- that is full found each record not free that would have served. Its own were only some node records: at most two for each node that it
 -- had locked, and one.
 abbrev pub Refusals : Type 0
 Refusals =
-    (layout : Layout) (call : Call) (k j : PassView) (fault : TryFault) → IsRefusedFor layout call k j fault → LegalCalls k.front k.number k.notes →
-    (j.notes ≡ k.notes) × (own_changes j.number j.front ≡ own_changes k.number k.front) × IsCause layout (key_of call) k j fault × (layout.passes ≡ 1 → fault ≢ Busy)
+    (layout : Layout) (call : Call) (old new : PassView) (fault : TryFault) → IsRefusedFor layout call old new fault →
+    LegalCalls old.front old.number old.notes →
+    (new.notes ≡ old.notes) × (own_changes new.number new.front ≡ own_changes old.number old.front) × IsCause layout (key_of call) old new fault ×
+    (layout.passes ≡ 1 → fault ≢ Busy)
 
 -- A call that gives its key a value is full only if its key was absent. It is never full if the key was held all the while. In an index of
 -- one pass it is never full if the key is held. A removal is never full if its key was absent all the while.
@@ -131,36 +134,41 @@ FaultsByCall =
 -- The steps of calls that wait for no other pass are bounded. These are a get, gets of many keys, a try of a change, a scan, a round of
 -- collection, and a count of all records.
 pub record BoundedSteps : Type 0 where
-  pub get : (index : TableView) (k j : PassView) → HasMadeGetSteps index untold (k, tt) (j, tt) → j.steps ≤ k.steps + 36 + 26 * (9 * MAX_BYTES)
-  pub get_many : (index : TableView) (count : ℕ) (k j : PassView) → HasMadeGetManySteps index untold count (k, tt) (j, tt) →
-      j.steps ≤ k.steps + 4 + 32 * count + 26 * (count * (9 * MAX_BYTES))
-  pub change : (index : TableView) (call : Call) (result : Result Reply TryFault) (k j : PassView) → HasMadeChangeSteps index untold call result (k, tt) (j, tt) →
-      j.steps ≤ k.steps + try_steps call index.layout
-  pub scan : (index : TableView) (limit : ℕ) (k j : PassView) → HasMadeScanSteps index untold limit (k, tt) (j, tt) →
-      j.steps ≤ k.steps + 101 + 26 * scan_entries limit + 8 * limit
-  pub collect : (index : TableView) (nodes leaves : ℕ) (k j : PassView) → HasCollected index untold (k, tt) (j, tt) nodes leaves →
-      j.steps ≤ k.steps + round_steps index.layout
-  pub count : (index : TableView) (counts : RecordCounts) (k j : PassView) → HasCounted index untold (k, tt) (j, tt) counts →
-      j.steps ≤ k.steps + (index.layout.nodes + index.layout.leaves)
+  pub get : (index : TableView) (old new : PassView) → HasMadeGetSteps index untold (old, tt) (new, tt) →
+      new.steps ≤ old.steps + 36 + 26 * (9 * MAX_BYTES)
+  pub get_many : (index : TableView) (count : ℕ) (old new : PassView) → HasMadeGetManySteps index untold count (old, tt) (new, tt) →
+      new.steps ≤ old.steps + 4 + 32 * count + 26 * (count * (9 * MAX_BYTES))
+  pub change : (index : TableView) (call : Call) (result : Result Reply TryFault) (old new : PassView) →
+      HasMadeChangeSteps index untold call result (old, tt) (new, tt) →
+      new.steps ≤ old.steps + try_steps call index.layout
+  pub scan : (index : TableView) (limit : ℕ) (old new : PassView) → HasMadeScanSteps index untold limit (old, tt) (new, tt) →
+      new.steps ≤ old.steps + 101 + 26 * scan_entries limit + 8 * limit
+  pub collect : (index : TableView) (nodes leaves : ℕ) (old new : PassView) → HasCollected index untold (old, tt) (new, tt) nodes leaves →
+      new.steps ≤ old.steps + round_steps index.layout
+  pub count : (index : TableView) (counts : RecordCounts) (old new : PassView) → HasCounted index untold (old, tt) (new, tt) counts →
+      new.steps ≤ old.steps + (index.layout.nodes + index.layout.leaves)
 
 -- The words that a call touches beside its steps are bounded. A get touches four for each node on its key's path, and gets of many keys
 -- eleven for each on theirs. A path has at most 2,160 nodes. A scan touches eleven for each entry that it loads, and a try of a change at
 -- most eleven for each step.
 pub record BoundedTouches : Type 0 where
-  pub get : (index : TableView) (k j : PassView) → HasMadeGetSteps index untold (k, tt) (j, tt) → j.touches ≤ k.touches + 4 * (9 * MAX_BYTES)
-  pub get_many : (index : TableView) (count : ℕ) (k j : PassView) → HasMadeGetManySteps index untold count (k, tt) (j, tt) →
-      j.touches ≤ k.touches + 11 * (count * (9 * MAX_BYTES))
-  pub change : (index : TableView) (call : Call) (result : Result Reply TryFault) (k j : PassView) → HasMadeChangeSteps index untold call result (k, tt) (j, tt) →
-      j.touches ≤ k.touches + 11 * try_steps call index.layout
-  pub scan : (index : TableView) (limit : ℕ) (k j : PassView) → HasMadeScanSteps index untold limit (k, tt) (j, tt) →
-      j.touches ≤ k.touches + 11 * scan_entries limit
+  pub get : (index : TableView) (old new : PassView) → HasMadeGetSteps index untold (old, tt) (new, tt) →
+      new.touches ≤ old.touches + 4 * (9 * MAX_BYTES)
+  pub get_many : (index : TableView) (count : ℕ) (old new : PassView) → HasMadeGetManySteps index untold count (old, tt) (new, tt) →
+      new.touches ≤ old.touches + 11 * (count * (9 * MAX_BYTES))
+  pub change : (index : TableView) (call : Call) (result : Result Reply TryFault) (old new : PassView) →
+      HasMadeChangeSteps index untold call result (old, tt) (new, tt) →
+      new.touches ≤ old.touches + 11 * try_steps call index.layout
+  pub scan : (index : TableView) (limit : ℕ) (old new : PassView) → HasMadeScanSteps index untold limit (old, tt) (new, tt) →
+      new.touches ≤ old.touches + 11 * scan_entries limit
 
 -- Let a leaf have stood in a version m since a pass's pin. Its value is the one that it had when it stood last, which is now or in a
 -- version since m.
 abbrev pub ValuesInReach : Type 0
 ValuesInReach =
-    (c : Core) → IsLawful c → (q : ℕ) (p : Pin) → c.pins q ≡ Some p → (m l : ℕ) (u : Tree) → p.version ≤ m → m ≤ c.past.now → Stands c.past m (a_leaf l) u →
-    (o : ℕ) × (v : Tree) × (m ≤ o) × StoodLast c.past o (a_leaf l) v × (head_value v ≡ Some (record_word c (a_leaf l) VALUE_OFFSET))
+    (core : Core) → IsLawful core → (pass : ℕ) (pin : Pin) → core.pins pass ≡ Some pin → (m l : ℕ) (u : Tree) → pin.version ≤ m → m ≤ core.past.now →
+    Stands core.past m (a_leaf l) u →
+    (o : ℕ) × (v : Tree) × (m ≤ o) × StoodLast core.past o (a_leaf l) v × (head_value v ≡ Some (record_word core (a_leaf l) VALUE_OFFSET))
 
 -- Most promises of the project, each as a field.
 pub record Headline : Type 0 where

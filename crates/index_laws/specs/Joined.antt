@@ -25,32 +25,33 @@ use Rattle.hot_index_calls.specs.Passes.{pass_of}
 use Rattle.hot_index_calls.specs.Traces.{untold}
 use Rattle.hot_index.specs.Handles.{HandleView, Stays}
 use Rattle.hot_index.specs.Stamps.{HasCaughtUp, HasStamped}
-use Rattle.linearizability.specs.Moments.{Happening, invokes, refuses, responds, shows, steps}
+use Rattle.linearizability.specs.Configurations.{Happening, invokes, refuses, responds, shows, steps}
 use Rattle.linearizability.specs.Statements.{IsLinearizable}
 use Rattle.index_laws.specs.Executions.{HasBulkLoaded, insertion_notes, insertions}
-use Rattle.index_laws.specs.Traced.{Instant, IsTracedExecution, moment_of}
+use Rattle.index_laws.specs.Traced.{Instant, IsTracedExecution, configuration_of}
 
 -- What one pass has done
 
 -- How pass q's call, which asks these calls of the map, ended. Its seat was s when it began, and is e now. It was answered as one call, or
 -- as look-ups, with the notes added. Or it asked nothing of the map, was the load of the table, or was refused.
-pub data HasEndedAs (layout : Layout) (q : ℕ) (calls : List Call) (s e : SeatView) : Happening → Type 0 where
+pub data HasEndedAs (layout : Layout) (pass : ℕ) (calls : List Call) (s e : SeatView) : Happening → Type 0 where
   answered : (asked : Call) (reply : Reply) → calls ≡ asked ∷ [] → (noted : IsNoted layout (pass_of s) (pass_of e) asked reply) →
-      HasEndedAs layout q calls s e (responds q (record { place = noted.place; call = asked; reply = reply } ∷ []))
+      HasEndedAs layout pass calls s e (responds pass (record { place = noted.place; call = asked; reply = reply } ∷ []))
   looked_up : (asked : List (Call × Reply)) → map (λ x. x.0) asked ≡ calls → (noted : AreNoted layout (pass_of s) (pass_of e) asked) →
-      HasEndedAs layout q calls s e (responds q noted.added)
-  quiet : calls ≡ [] → e.known.notes ≡ s.known.notes → LegalCalls e.known.front e.known.pass e.known.notes → HasEndedAs layout q calls s e (responds q [])
-  loaded : {notes : List Note} → HasBulkLoaded layout calls s.known e.known notes → HasEndedAs layout q calls s e (responds q notes)
+      HasEndedAs layout pass calls s e (responds pass noted.added)
+  quiet : calls ≡ [] → e.known.notes ≡ s.known.notes → LegalCalls e.known.front e.known.pass e.known.notes →
+      HasEndedAs layout pass calls s e (responds pass [])
+  loaded : {notes : List Note} → HasBulkLoaded layout calls s.known e.known notes → HasEndedAs layout pass calls s e (responds pass notes)
   refused : (asked : Call) (fault : TryFault) → calls ≡ asked ∷ [] → IsRefusedFor layout asked (pass_of s) (pass_of e) fault → MayRefuse asked fault →
-      HasEndedAs layout q calls s e (refuses q)
+      HasEndedAs layout pass calls s e (refuses pass)
 
 -- these steps of pass q, with no notes, as happenings
 abbrev pub steps_of : ℕ → List Act → List Happening
 steps_of q acts = map (λ act. steps q act []) acts
 
 -- the notes with which a call's last step comes
-abbrev pub notes_of_end : (table : TableView) (acts : List Act) (last : Act) (said : Known → List Note) (s e : SeatView) →
-    Ends table untold acts last said (s, tt) (e, tt) → List Note
+abbrev pub notes_of_end : (table : TableView) (acts : List Act) (last : Act) (said : Known → List Note) (start end : SeatView) →
+    Ends table untold acts last said (start, tt) (end, tt) → List Note
 notes_of_end table acts last said s e ends = said (learned ends.2.event.core last ends.0.0.known)
 
 -- a call of pass q: it is invoked, makes these steps, the last one with these notes, and ends
@@ -62,9 +63,9 @@ abbrev pub load_call : Layout → ℕ → List ℕ → List Happening
 load_call layout q words =
     let notes = insertion_notes layout words in invokes q (insertions layout words) ∷ steps q (load_of words) notes ∷ responds q notes ∷ []
 
--- What pass q of the table has done since it was new, up to this seat. Pass 0 of a table that was loaded has made this load first. Its calls
--- are made by their steps (`HasRead`, `HasMadeChangeSteps`, `HasMadeCallSteps`), and ended as their contracts say. It may have met another pass (`IsShownAll`,
--- `HasSeenMore`), followed a stamp (`HasCaughtUp`) or made one (`HasStamped`).
+-- What pass q of the table has done since it was new, up to this seat. Pass 0 of a table that was loaded has made this load first. Its
+-- calls are made by their steps (`HasRead`, `HasMadeChangeSteps`, `HasMadeCallSteps`), and ended as their contracts say. It may have met
+-- another pass (`IsShownAll`, `HasSeenMore`), followed a stamp (`HasCaughtUp`) or made one (`HasStamped`).
 pub data HasGoneThrough (table : TableView) (q : ℕ) : List Happening → SeatView → Type 0 where
   new : {s : SeatView} → IsNewSeatOf table q s → HasGoneThrough table q [] s
   loader : {s : SeatView} → q ≡ 0 → (words : List ℕ) → IsLoad table.layout words → IsLoaderSeat table words s →
@@ -83,18 +84,18 @@ pub data HasGoneThrough (table : TableView) (q : ℕ) : List Happening → SeatV
 -- and goes on by steps of others. So all steps of the passes stand in it.
 pub record HaveEndedInOneRun (table : TableView) (run : List Event) (done : ℕ → List Happening) (seat : ℕ → SeatView) : Type 0 where
   pub led : IsTableRun table.layout run
-  pub each : (q : ℕ) → q < table.layout.passes → HasGoneThrough table q (done q) (seat q)
-  pub others : (q : ℕ) → q < table.layout.passes → OthersStepOn q (seat q).trace run
+  pub each : (pass : ℕ) → pass < table.layout.passes → HasGoneThrough table pass (done pass) (seat pass)
+  pub others : (pass : ℕ) → pass < table.layout.passes → OthersStepOn pass (seat pass).trace run
 
 -- the pass whose happening it is
 abbrev pub pass_in : Happening → ℕ
-pass_in (steps q act notes) = q
-pass_in (shows q front) = q
-pass_in (invokes q calls) = q
-pass_in (responds q notes) = q
-pass_in (refuses q) = q
+pass_in (steps pass act notes) = pass
+pass_in (shows pass front) = pass
+pass_in (invokes pass calls) = pass
+pass_in (responds pass notes) = pass
+pass_in (refuses pass) = pass
 
--- the happenings of pass q before moment t, in their order
+-- the happenings of pass q before time t, in their order
 abbrev pub happenings_of : ℕ → (ℕ → Happening) → ℕ → List Happening
 happenings_of q happens zero = []
 happenings_of q happens (suc t) = if nat_eq (pass_in (happens t)) q then happenings_of q happens t ++ happens t ∷ [] else happenings_of q happens t
@@ -106,10 +107,10 @@ IsStepOf q _ = ⊥
 
 -- If the first invokes a call, the second is a step of its pass. If the second ends a call, the first is a step of its pass.
 abbrev pub KeepCallsWhole : Happening → Happening → Type 0
-KeepCallsWhole (invokes q calls) y = IsStepOf q y
-KeepCallsWhole x (responds q notes) = IsStepOf q x
-KeepCallsWhole x (refuses q) = IsStepOf q x
-KeepCallsWhole x y = Unit {0}
+KeepCallsWhole (invokes pass calls) happening = IsStepOf pass happening
+KeepCallsWhole happening (responds pass notes) = IsStepOf pass happening
+KeepCallsWhole happening (refuses pass) = IsStepOf pass happening
+KeepCallsWhole happening y = Unit {0}
 
 -- The execution is of this run. In it each pass has done just this, up to this seat, and no call is pending at last. Each call is invoked
 -- right before its first step, and ends right after its last. So the order of calls in time is that of their steps.
@@ -117,9 +118,9 @@ pub record IsExecutionOf (table : TableView) (run : List Event) (done : ℕ → 
     (last : ℕ) (at : ℕ → Instant) (happens : ℕ → Happening) : Type 0 where
   pub traced : IsTracedExecution table last at happens
   pub run_is : (at last).run ≡ run
-  pub does : (q : ℕ) → q < table.layout.passes → happenings_of q happens last ≡ done q
-  pub seats : (q : ℕ) → q < table.layout.passes → (at last).seat q ≡ seat q
-  pub idle : (q : ℕ) → q < table.layout.passes → (at last).pending q ≡ None
+  pub does : (pass : ℕ) → pass < table.layout.passes → happenings_of pass happens last ≡ done pass
+  pub seats : (pass : ℕ) → pass < table.layout.passes → (at last).seat pass ≡ seat pass
+  pub idle : (pass : ℕ) → pass < table.layout.passes → (at last).pending pass ≡ None
   pub next_to : (t : ℕ) → suc t < last → KeepCallsWhole (happens t) (happens (suc t))
 
 -- Calls of passes whose traces have ended in one run are an execution, and linearizable. No premise about executions is needed.
@@ -127,7 +128,7 @@ abbrev pub OneRunIsAnExecution : Type 0
 OneRunIsAnExecution =
     (table : TableView) (run : List Event) (done : ℕ → List Happening) (seat : ℕ → SeatView) → HaveEndedInOneRun table run done seat →
     (last : ℕ) × (at : ℕ → Instant) × (happens : ℕ → Happening) ×
-    IsExecutionOf table run done seat last at happens × IsLinearizable table.layout last (λ t. moment_of table.layout (at t)) happens
+    IsExecutionOf table run done seat last at happens × IsLinearizable table.layout last (λ t. configuration_of table.layout (at t)) happens
 
 -- Where passes have ended in one run
 
@@ -137,20 +138,23 @@ OneRunIsAnExecution =
 abbrev pub ShownHaveEnded : Type 0
 ShownHaveEnded =
     (table : TableView) (run : List Event) (done : ℕ → List Happening) (seat shown : ℕ → SeatView) → IsTableRun table.layout run →
-    ((q : ℕ) → q < table.layout.passes → HasGoneThrough table q (done q) (seat q)) → ((q : ℕ) → q < table.layout.passes → RunBeginsWith run (seat q).trace) →
-    ((q : ℕ) → q < table.layout.passes → IsShownAll table.layout (seat q) (shown q)) → ((q : ℕ) → q < table.layout.passes → RunBeginsWith (shown q).trace run) →
+    ((pass : ℕ) → pass < table.layout.passes → HasGoneThrough table pass (done pass) (seat pass)) →
+    ((pass : ℕ) → pass < table.layout.passes → RunBeginsWith run (seat pass).trace) →
+    ((pass : ℕ) → pass < table.layout.passes → IsShownAll table.layout (seat pass) (shown pass)) →
+    ((pass : ℕ) → pass < table.layout.passes → RunBeginsWith (shown pass).trace run) →
     HaveEndedInOneRun table run done seat
 
 -- Handles of one index
 
 -- The handle is at this index, and its pass, of this number, is that of its seat. The pass has done this.
 abbrev pub HandleHasDone : TableView → ℕ → List Happening → HandleView → Type 0
-HandleHasDone index q done h = (h.index ≡ index) × (h.pass ≡ pass_of h.pass.seat) × HasGoneThrough index q done h.pass.seat
+HandleHasDone index pass done handle =
+    (handle.index ≡ index) × (handle.pass ≡ pass_of handle.pass.seat) × HasGoneThrough index pass done handle.pass.seat
 
 -- A handle has seen what its leader had, as `hot_see` of C and `stamp` with `follow` say. The leader has made a stamp, and the handle has
 -- followed it.
 pub record HasSeenLeader (was now leader led : HandleView) : Type 0 where
-  pub follows : Stays (λ index k j. HasCaughtUp index.layout leader.pass.front k j) was now
+  pub follows : Stays (λ index before later. HasCaughtUp index.layout leader.pass.front before later) was now
   pub traced : RunBeginsWith now.pass.seat.trace leader.pass.seat.trace
   pub stamped : Stays (λ index k j. HasStamped k j) leader led
 
@@ -173,11 +177,11 @@ HandlesAreLinearizable =
     ((q : ℕ) → q < index.layout.passes → HasSeenLeader (was q) (now q) (leader q) (led q)) →
     ((q : ℕ) → q < index.layout.passes → RunBeginsWith (leader q).pass.seat.trace run) →
     (last : ℕ) × (at : ℕ → Instant) × (happens : ℕ → Happening) ×
-    IsExecutionOf index run done (λ q. (was q).pass.seat) last at happens × IsLinearizable index.layout last (λ t. moment_of index.layout (at t)) happens
+    IsExecutionOf index run done (λ q. (was q).pass.seat) last at happens × IsLinearizable index.layout last (λ t. configuration_of index.layout (at t)) happens
 
 -- what is said of pass 0, and of every other
 abbrev pub of_two : {A : Type 0} → A → A → ℕ → A
-of_two x y q = if nat_eq q 0 then x else y
+of_two x y pass = if nat_eq pass 0 then x else y
 
 -- Two passes of a table that has no other meet, as the clauses `shown` and `traces` of a meeting say. They have ended in the run that both
 -- know then.
@@ -191,14 +195,14 @@ TwoThatMeetHaveEnded =
 abbrev pub LoadedHaveEnded : Type 0
 LoadedHaveEnded =
     (table : TableView) (words : List ℕ) (seat : ℕ → SeatView) → 0 < table.layout.passes → IsLoad table.layout words → IsLoaderSeat table words (seat 0) →
-    ((q : ℕ) → 1 ≤ q → q < table.layout.passes → IsNewSeatOf table q (seat q)) →
+    ((pass : ℕ) → 1 ≤ pass → pass < table.layout.passes → IsNewSeatOf table pass (seat pass)) →
     HaveEndedInOneRun table (load_trace words).events (of_two (load_call table.layout 0 words) []) seat
 
 -- Steps with no notes, as those of a round of collection and of a count, are the steps of a call. The last one is its end.
 abbrev pub SilentStepsEnd : Type 0
 SilentStepsEnd =
-    (table : TableView) (act : Act) (acts : List Act) (s e : SeatView) → Runs table untold (act ∷ acts) (s, tt) (e, tt) →
-    (before : List Act) × (last : Act) × (act ∷ acts ≡ before ++ last ∷ []) × Ends table untold before last silent (s, tt) (e, tt)
+    (table : TableView) (act : Act) (acts : List Act) (start end : SeatView) → Runs table untold (act ∷ acts) (start, tt) (end, tt) →
+    (before : List Act) × (last : Act) × (act ∷ acts ≡ before ++ last ∷ []) × Ends table untold before last silent (start, tt) (end, tt)
 
 -- There are two passes that end in one run: pass 0 inserts the key of no bytes, with any value, and pass 1 finds it.
 abbrev pub AnInsertIsFound : Type 0
@@ -211,5 +215,7 @@ AnInsertIsFound =
 -- Steps of which a gate is told are steps with no gate, too. So what contracts say of calls with a gate is what `HasGoneThrough` asks.
 abbrev pub StepsNeedNoGate : {G : Type 0} → (G → Event → G → Type 0) → Type 0
 StepsNeedNoGate {G = G} becomes =
-    (table : TableView) (acts : List Act) (a b : SeatView × G) → (Runs table becomes acts a b → Runs table untold acts (a.0, tt) (b.0, tt)) ×
-    ((last : Act) (said : Known → List Note) → Ends table becomes acts last said a b → Ends table untold acts last said (a.0, tt) (b.0, tt))
+    (table : TableView) (acts : List Act) (before later : SeatView × G) →
+    (Runs table becomes acts before later → Runs table untold acts (before.0, tt) (later.0, tt)) ×
+    ((last : Act) (said : Known → List Note) → Ends table becomes acts last said before later →
+    Ends table untold acts last said (before.0, tt) (later.0, tt))

@@ -11,7 +11,7 @@ use Rattle.rowex_table.specs.Rule.{opening_of}
 use Rattle.rowex_writing.specs.declared.plan.Full.{Full}
 use Rattle.hot_index_calls.specs.Answers.{MayLack, MayRefuse, fault_of}
 use Rattle.linearizability.specs.Histories.{PendingEndOrChangeAsAsked, complete_calls}
-use Rattle.linearizability.specs.Moments.{Happening, IsNewIndex, IsRefusal, IsResponse, IsWholeRun, Moment, Pending}
+use Rattle.linearizability.specs.Configurations.{Happening, IsNewIndex, IsRefusal, IsResponse, IsWholeRun, Configuration, Pending}
 use Rattle.linearizability.specs.Statements.{IsLinearizable}
 use Rattle.index_laws.specs.Executions.{HasBeenRefused, HasReturned, IsExecution}
 
@@ -22,28 +22,29 @@ OpeningIsNew = (layout : Layout) → IsNewIndex layout (record { core = opening 
 -- A call that has returned as its contract says responds in the run, with these notes.
 abbrev pub ReturnedResponds : Type 0
 ReturnedResponds =
-    (layout : Layout) (last : ℕ) (at : ℕ → Moment) (happens : ℕ → Happening) → IsWholeRun layout last at happens → (q t : ℕ) → q < layout.passes → t ≤ last →
-    (call : Pending) (notes : List Note) → HasReturned layout at q t call notes → IsResponse at t q call notes
+    (layout : Layout) (last : ℕ) (at : ℕ → Configuration) (happens : ℕ → Happening) → IsWholeRun layout last at happens → (pass t : ℕ) →
+    pass < layout.passes → t ≤ last →
+    (call : Pending) (notes : List Note) → HasReturned layout at pass t call notes → IsResponse at t pass call notes
 
 -- A call that was refused as its contract says is refused in the run.
 abbrev pub RefusedIsRefused : Type 0
 RefusedIsRefused =
-    (layout : Layout) (at : ℕ → Moment) (q t : ℕ) (call : Pending) → HasBeenRefused layout at q t call → IsRefusal at t q call
+    (layout : Layout) (at : ℕ → Configuration) (pass t : ℕ) (call : Pending) → HasBeenRefused layout at pass t call → IsRefusal at t pass call
 
--- A call that waits, and is refused for want of records, is one that may be refused so.
+-- A call that may find no record of a kind free may be refused with the fault of that kind.
 abbrev pub LackMayRefuse : Type 0
 LackMayRefuse = (call : Call) (full : Full) → MayLack call full → MayRefuse call (fault_of full)
 
 -- An execution is a run, by what contracts say of calls that have ended.
 abbrev pub ExecutionsAreRuns : Type 0
 ExecutionsAreRuns =
-    (layout : Layout) (last : ℕ) (at : ℕ → Moment) (happens : ℕ → Happening) → IsExecution layout last at happens → IsWholeRun layout last at happens
+    (layout : Layout) (last : ℕ) (at : ℕ → Configuration) (happens : ℕ → Happening) → IsExecution layout last at happens → IsWholeRun layout last at happens
 
--- Executions are linearizable (Herlihy and Wing, 1990) up to any moment. The calls that are pending then must end later, or change the map
+-- Executions are linearizable (Herlihy and Wing, 1990) up to any time. The calls that are pending then must end later, or change the map
 -- as they ask.
 abbrev pub ExecutionsAreLinearizable : Type 0
 ExecutionsAreLinearizable =
-    (layout : Layout) (last later : ℕ) (at : ℕ → Moment) (happens : ℕ → Happening) → last ≤ later → IsExecution layout later at happens →
+    (layout : Layout) (last later : ℕ) (at : ℕ → Configuration) (happens : ℕ → Happening) → last ≤ later → IsExecution layout later at happens →
     PendingEndOrChangeAsAsked layout last later at → IsLinearizable layout last at happens
 
 -- The laws of calls and their responses, one by one.
@@ -58,5 +59,5 @@ pub record Responses : Type 0 where
 -- empty index. The call responds that the key is absent.
 abbrev pub AGetReturns : Type 0
 AGetReturns =
-    (layout : Layout) → 0 < layout.passes → (table : TableId) (key : List ℕ) → (at : ℕ → Moment) × (happens : ℕ → Happening) ×
+    (layout : Layout) → 0 < layout.passes → (table : TableId) (key : List ℕ) → (at : ℕ → Configuration) × (happens : ℕ → Happening) ×
     IsExecution layout 6 at happens × (complete_calls happens 6 ≡ (5, record { place = 0; call = Get key; reply = Absent }) ∷ [])

@@ -1,4 +1,4 @@
--- Executions as contracts tell of them: each pass's seat at each moment, and the run of the table. No core is named: the traces of the seats
+-- Executions as contracts tell of them: each pass's seat at each time, and the run of the table. No core is named: the traces of the seats
 -- link the steps.
 use Rattle.std.specs.Prelude.{◌≡◌, ◌≢◌, ◌⊎◌, ℕ, suc, ◌<◌, ◌≤◌, List, [], ◌∷◌, ◌++◌, Option, None, Some}
 use Rattle.finite_map.specs.declared.Call.{Call}
@@ -27,10 +27,10 @@ use Rattle.hot_index_calls.specs.Answers.{IsNoted}
 use Rattle.hot_index_calls.specs.Passes.{pass_of}
 use Rattle.hot_index_calls.specs.Traces.{untold}
 use Rattle.linearizability.specs.Histories.{complete_calls}
-use Rattle.linearizability.specs.Moments.{Happening, Moment, Pending, invokes, refuses, responds, shows, steps}
+use Rattle.linearizability.specs.Configurations.{Happening, Configuration, Pending, invokes, refuses, responds, shows, steps}
 use Rattle.index_laws.specs.Executions.{HasBeenRefused, HasReturned, IsExecution}
 
--- The index at a moment, as contracts see it: the steps so far, the seat of each pass, and its pending call, if any.
+-- The index at a time, as contracts see it: the steps so far, the seat of each pass, and its pending call, if any.
 pub record Instant : Type 0 where
   pub run : List Event
   pub seat : ℕ → SeatView
@@ -38,87 +38,91 @@ pub record Instant : Type 0 where
 
 -- The pass of the seat makes this event, as the contract of a step says (`StepsWith`), or that of a bulk load (`IsLoaderSeat`). It is the
 -- next one of a run, and `said` are the notes that come with it.
-pub record MakesEvent (table : TableView) (act : Act) (said : Known → List Note) (s t : SeatView) : Type 0 where
-  pub seat : MakesNoAside s t
-  pub event : IsEvent table.layout act said s.known t.known
-  pub next : IsNextStep table.layout s.known.pass act event.core s.trace t.trace
+pub record MakesEvent (table : TableView) (act : Act) (said : Known → List Note) (old new : SeatView) : Type 0 where
+  pub seat : MakesNoAside old new
+  pub event : IsEvent table.layout act said old.known new.known
+  pub next : IsNextStep table.layout old.known.pass act event.core old.trace new.trace
 
 -- Pass q, which has a call pending, makes the step with these notes, as the contract of a step says. It comes behind all steps so far. That
 -- the steps of all passes have one order is a premise here, which no contract gives.
-pub record IsSeatStep (table : TableView) (a b : Instant) (q : ℕ) (act : Act) (notes : List Note) : Type 0 where
+pub record IsSeatStep (table : TableView) (old new : Instant) (q : ℕ) (act : Act) (notes : List Note) : Type 0 where
   pub said : Known → List Note
-  pub step : MakesEvent table act said (a.seat q) (b.seat q)
-  pub pass : (a.seat q).known.pass ≡ q
-  pub notes_are : notes ≡ said (learned step.event.core act (a.seat q).known)
-  pub behind : step.next.before ≡ a.run
-  pub run : b.run ≡ a.run ++ record { pass = q; act = act } ∷ []
-  pub others : (o : ℕ) → o ≢ q → b.seat o ≡ a.seat o
+  pub step : MakesEvent table act said (old.seat q) (new.seat q)
+  pub pass : (old.seat q).known.pass ≡ q
+  pub notes_are : notes ≡ said (learned step.event.core act (old.seat q).known)
+  pub behind : step.next.before ≡ old.run
+  pub run : new.run ≡ old.run ++ record { pass = q; act = act } ∷ []
+  pub others : (other : ℕ) → other ≢ q → new.seat other ≡ old.seat other
   pub call : Pending
-  pub called : a.pending q ≡ Some call
-  pub pending : b.pending ≡ a.pending
+  pub called : old.pending q ≡ Some call
+  pub pending : new.pending ≡ old.pending
 
 -- A pass is shown steps, with which the run begins, and the changes that they have made. It is so where it follows a stamp (`HasCaughtUp`)
 -- or meets another pass (`IsShownAll`, `HasSeenMore`).
-pub record IsShownSteps (layout : Layout) (run : List Event) (s t : SeatView) (front : List Change) : Type 0 where
-  pub shown : IsShownAll layout s t
-  pub known : t.known ≡ with_front front s.known
-  pub more : BeginsWith front s.known.front
-  pub begins : RunBeginsWith run t.trace
+pub record IsShownSteps (layout : Layout) (run : List Event) (old new : SeatView) (front : List Change) : Type 0 where
+  pub shown : IsShownAll layout old new
+  pub known : new.known ≡ with_front front old.known
+  pub more : BeginsWith front old.known.front
+  pub begins : RunBeginsWith run new.trace
 
 -- A pass of the index makes a stamp (`HasStamped`), so it is shown what it knows.
-pub record IsShownItself (layout : Layout) (q : ℕ) (s t : SeatView) (front : List Change) : Type 0 where
+pub record IsShownItself (layout : Layout) (q : ℕ) (old new : SeatView) (front : List Change) : Type 0 where
   pub pass : q < layout.passes
-  pub known : t.known ≡ s.known
-  pub trace : t.trace ≡ s.trace
-  pub front_is : front ≡ s.known.front
+  pub known : new.known ≡ old.known
+  pub trace : new.trace ≡ old.trace
+  pub front_is : front ≡ old.known.front
 
 -- Pass q follows a stamp, meets another pass, or makes a stamp.
-pub record IsSeatShowing (table : TableView) (a b : Instant) (q : ℕ) (front : List Change) : Type 0 where
-  pub seat : IsShownSteps table.layout a.run (a.seat q) (b.seat q) front ⊎ IsShownItself table.layout q (a.seat q) (b.seat q) front
-  pub run : b.run ≡ a.run
-  pub others : (o : ℕ) → o ≢ q → b.seat o ≡ a.seat o
-  pub pending : b.pending ≡ a.pending
+pub record IsSeatShowing (table : TableView) (old new : Instant) (q : ℕ) (front : List Change) : Type 0 where
+  pub seat : IsShownSteps table.layout old.run (old.seat q) (new.seat q) front ⊎ IsShownItself table.layout q (old.seat q) (new.seat q) front
+  pub run : new.run ≡ old.run
+  pub others : (other : ℕ) → other ≢ q → new.seat other ≡ old.seat other
+  pub pending : new.pending ≡ old.pending
 
--- The two moments have the same run and the same seats. At the second, pass q's pending call is this one, if any.
-pub record IsSeatTurn (layout : Layout) (a b : Instant) (q : ℕ) (call : Option Pending) : Type 0 where
+-- The two configurations have the same run and the same seats. At the second, pass q's pending call is this one, if any.
+pub record IsSeatTurn (layout : Layout) (old new : Instant) (q : ℕ) (call : Option Pending) : Type 0 where
   pub pass : q < layout.passes
-  pub run : b.run ≡ a.run
-  pub seats : b.seat ≡ a.seat
-  pub own : b.pending q ≡ call
-  pub others : (o : ℕ) → o ≢ q → b.pending o ≡ a.pending o
+  pub run : new.run ≡ old.run
+  pub seats : new.seat ≡ old.seat
+  pub own : new.pending q ≡ call
+  pub others : (other : ℕ) → other ≢ q → new.pending other ≡ old.pending other
 
 -- the core to which steps lead
 abbrev pub core_led_to : Core → List Event → Core
-core_led_to c [] = c
-core_led_to c (x ∷ xs) = core_led_to (after c x.pass x.act) xs
+core_led_to core [] = core
+core_led_to core (x ∷ xs) = core_led_to (after core x.pass x.act) xs
 
--- The moment of an execution, whose core is the one to which the run has led from the new table.
-abbrev pub moment_of : Layout → Instant → Moment
-moment_of layout a = record { core = core_led_to (opening layout) a.run; known = λ q. (a.seat q).known; pending = a.pending }
+-- The configuration of an execution, whose core is the one to which the run has led from the new table.
+abbrev pub configuration_of : Layout → Instant → Configuration
+configuration_of layout instant =
+    record { core = core_led_to (opening layout) instant.run; known = λ pass. (instant.seat pass).known; pending = instant.pending }
 
--- What happens at moment t leads to the next moment, by the contracts of steps, of stamps and meetings, and of calls that end.
+-- What happens at time t leads to the next time, by the contracts of steps, of stamps and meetings, and of calls that end.
 abbrev pub ContractsLeadOn : TableView → (ℕ → Instant) → ℕ → Happening → Type 0
-ContractsLeadOn table at t (steps q act notes) = IsSeatStep table (at t) (at (suc t)) q act notes
-ContractsLeadOn table at t (shows q front) = IsSeatShowing table (at t) (at (suc t)) q front
-ContractsLeadOn table at t (invokes q calls) = ((at t).pending q ≡ None) × IsSeatTurn table.layout (at t) (at (suc t)) q (Some (record { since = t; calls = calls }))
-ContractsLeadOn table at t (responds q notes) =
-    (call : Pending) × HasReturned table.layout (λ i. moment_of table.layout (at i)) q t call notes × IsSeatTurn table.layout (at t) (at (suc t)) q None
-ContractsLeadOn table at t (refuses q) =
-    (call : Pending) × HasBeenRefused table.layout (λ i. moment_of table.layout (at i)) q t call × IsSeatTurn table.layout (at t) (at (suc t)) q None
+ContractsLeadOn table at t (steps pass act notes) = IsSeatStep table (at t) (at (suc t)) pass act notes
+ContractsLeadOn table at t (shows pass front) = IsSeatShowing table (at t) (at (suc t)) pass front
+ContractsLeadOn table at t (invokes pass calls) =
+    ((at t).pending pass ≡ None) × IsSeatTurn table.layout (at t) (at (suc t)) pass (Some (record { since = t; calls = calls }))
+ContractsLeadOn table at t (responds pass notes) =
+    (call : Pending) × HasReturned table.layout (λ i. configuration_of table.layout (at i)) pass t call notes ×
+    IsSeatTurn table.layout (at t) (at (suc t)) pass None
+ContractsLeadOn table at t (refuses pass) =
+    (call : Pending) × HasBeenRefused table.layout (λ i. configuration_of table.layout (at i)) pass t call ×
+    IsSeatTurn table.layout (at t) (at (suc t)) pass None
 
--- An execution by contracts alone. At first all seats are new, no step has been made, and no call is pending. What happens at each moment
+-- An execution by contracts alone. At first all seats are new, no step has been made, and no call is pending. What happens at each time
 -- before the last leads to the next one.
 pub record IsTracedExecution (table : TableView) (last : ℕ) (at : ℕ → Instant) (happens : ℕ → Happening) : Type 0 where
   pub run : (at 0).run ≡ []
-  pub seats : (q : ℕ) → IsNewSeatOf table q ((at 0).seat q)
-  pub pending : (q : ℕ) → (at 0).pending q ≡ None
+  pub seats : (pass : ℕ) → IsNewSeatOf table pass ((at 0).seat pass)
+  pub pending : (pass : ℕ) → (at 0).pending pass ≡ None
   pub next : (t : ℕ) → t < last → ContractsLeadOn table at t (happens t)
 
 -- An execution by contracts alone is an execution: its cores follow one another.
 abbrev pub TracedAreExecutions : Type 0
 TracedAreExecutions =
     (table : TableView) (last : ℕ) (at : ℕ → Instant) (happens : ℕ → Happening) → IsTracedExecution table last at happens →
-    IsExecution table.layout last (λ t. moment_of table.layout (at t)) happens
+    IsExecution table.layout last (λ t. configuration_of table.layout (at t)) happens
 
 -- There are executions by contracts alone in which a call returns. That of `AGetReturns` is one.
 abbrev pub AGetIsTraced : Type 0
@@ -126,14 +130,14 @@ AGetIsTraced =
     (table : TableView) → 0 < table.layout.passes → (key : List ℕ) → (at : ℕ → Instant) × (happens : ℕ → Happening) ×
     IsTracedExecution table 6 at happens × (complete_calls happens 6 ≡ (5, record { place = 0; call = Get key; reply = Absent }) ∷ [])
 
--- In an execution by contracts alone, let a pass have loaded the root between two moments. It did so at one moment between them, when the
+-- In an execution by contracts alone, let a pass have loaded the root between two times. It did so at one time between them, when the
 -- steps so far were just those before the load. It was shown all that any pass had seen by then.
 abbrev pub LoadsAreMoments : Type 0
 LoadsAreMoments =
     (table : TableView) (last : ℕ) (at : ℕ → Instant) (happens : ℕ → Happening) → IsTracedExecution table last at happens →
-    (q i j : ℕ) → q < table.layout.passes → i ≤ j → j ≤ last → (loads : SeesAllOfRun table.layout ((at i).seat q) ((at j).seat q)) →
-    (m : ℕ) × (notes : List Note) × (i ≤ m) × (m < j) × (happens m ≡ steps q (LoadRef Root loads.root) notes) × ((at m).run ≡ loads.run) ×
-    ((o : ℕ) → o < table.layout.passes → BeginsWith ((at j).seat q).known.fresh.front ((at m).seat o).known.front)
+    (pass i j : ℕ) → pass < table.layout.passes → i ≤ j → j ≤ last → (loads : SeesAllOfRun table.layout ((at i).seat pass) ((at j).seat pass)) →
+    (m : ℕ) × (notes : List Note) × (i ≤ m) × (m < j) × (happens m ≡ steps pass (LoadRef Root loads.root) notes) × ((at m).run ≡ loads.run) ×
+    ((o : ℕ) → o < table.layout.passes → BeginsWith ((at j).seat pass).known.fresh.front ((at m).seat o).known.front)
 
 -- one of these steps is a load of the root by pass q, right behind the steps `before`
 abbrev pub LoadsRootBehind : ℕ → List Event → List Event → Type 0
@@ -188,5 +192,6 @@ MetAreOfOneRun =
 -- A call whose steps end in one, as those of one key and scans do, makes or follows no stamp, and meets no other pass.
 abbrev pub CallsMakeNoAsides : Type 0
 CallsMakeNoAsides =
-    (index : TableView) (acts : List Act) (last : Act) (said : Known → List Note) (s t : SeatView) → Ends index untold acts last said (s, tt) (t, tt) →
-    t.asides ≡ s.asides
+    (index : TableView) (acts : List Act) (last : Act) (said : Known → List Note) (old new : SeatView) →
+    Ends index untold acts last said (old, tt) (new, tt) →
+    new.asides ≡ old.asides

@@ -30,8 +30,8 @@ pub fn allowed_steps_are_legal()
     ensures { StepsFollow }
 {}
 
-/// Let a moment of a run have the core that shows the table's state. Let it know of a pass what its seat knows, and have its call pending.
-/// Then a step that the pass may make is a step of the run, to a moment of which the same is true in the table's next state.
+/// Let a configuration of a run have the core that shows the table's state. Let it know of a pass what its seat knows, and have its call
+/// pending. Then a step that the pass may make is a step of the run, to a time of which the same is true in the table's next state.
 pub fn allowed_steps_are_steps_of_the_run()
     ensures { StepsAreMoments }
 {}
@@ -54,14 +54,14 @@ pub fn shown_passes_have_ended_in_one_run()
     ensures { ShownHaveEnded }
 {}
 
-/// Let one handle of an index see what another has seen, as `hot_see` of C says. It is one thing more that each has done, and the handle knows
-/// of the leader's steps then.
+/// Let one handle of an index see what another has seen, as `hot_see` of C says. It is one thing more that each has done, and the handle
+/// knows of the leader's steps then.
 pub fn seeing_is_done()
     ensures { SeeingIsDone }
 {}
 
-/// Let each pass of an index have a handle, from Rattle or from C. Let a run begin with the steps of which each knew, and let each then see what a
-/// leader has seen that knows of this run. The calls of all handles are linearizable.
+/// Let each pass of an index have a handle, from Rattle or from C. Let a run begin with the steps of which each knew, and let each then see
+/// what a leader has seen that knows of this run. The calls of all handles are linearizable.
 pub fn handles_that_see_are_linearizable()
     ensures { HandlesAreLinearizable }
 {}
@@ -96,7 +96,7 @@ pub fn a_get_returns_by_contracts_alone()
     ensures { AGetIsTraced }
 {}
 
-/// In an execution by contracts alone, a load of the root is the step of one moment. It shows its pass all that any had seen by then.
+/// In an execution by contracts alone, a load of the root is the step of one time. It shows its pass all that any had seen by then.
 pub fn a_root_load_has_its_moment()
     ensures { LoadsAreMoments }
 {}

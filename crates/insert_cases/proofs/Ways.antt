@@ -195,7 +195,7 @@ affected_range k l p d b trie has part first last from upto =
     }
 
 -- a body whose first fork is not before p is affected whole
-pub record IsWhole (k : Key) (p : ℕ) (b : Tree) : Type 0 where
+pub record MustSpellValue (k : Key) (p : ℕ) (b : Tree) : Type 0 where
   pub whole : affected p k b ≡ b
   pub part : IsPart b
   pub plain : is_leaf b ≡ false
@@ -203,7 +203,7 @@ pub record IsWhole (k : Key) (p : ℕ) (b : Tree) : Type 0 where
   pub counts : (i : ℕ) → affected_count p i (subtrie b) ≡ size (subtrie b)
   pub fresh : FirstForkIsNot p (subtrie b) → IsFresh p 0 (subtrie b)
 
-is_whole : (k : Key) (p : ℕ) (b : Tree) → IsFork b → p ≤ first_position (subtrie b) → IsWhole k p b
+is_whole : (k : Key) (p : ℕ) (b : Tree) → IsFork b → p ≤ first_position (subtrie b) → MustSpellValue k p b
 is_whole k p (leaf n l v) f h = elim f [ ]
 is_whole k p (node n x b) f h = elim f [ ]
 is_whole k p (fork q a c) f h =

@@ -7,20 +7,20 @@ use Rattle.insert_cases.specs.Ways.{case_of}
 -- the level is that of the last step whose first position is below p, or of the first step
 pub record IsLevel (way : List PathNode) (p level : ℕ) : Type 0 where
   pub within : level < length way
-  pub low : 0 < level → (s : PathNode) → slice_get way level ≡ Some s → s.first_position < p
-  pub rest : (k : ℕ) (s : PathNode) → level < k → slice_get way k ≡ Some s → p ≤ s.first_position
+  pub low : 0 < level → (node : PathNode) → slice_get way level ≡ Some node → node.first_position < p
+  pub rest : (k : ℕ) (node : PathNode) → level < k → slice_get way k ≡ Some node → p ≤ node.first_position
 
 -- the choice is the node at the level with several affected entries, or the next one with all of its entries
-pub record IsChosen (way : List PathNode) (level first last : ℕ) (c : Choice) : Type 0 where
-  pub several : first < last → (s : PathNode) → slice_get way level ≡ Some s →
-      c ≡ record { level = level; first = first; last = last; case = case_of s.height s.count false }
-  pub next : last ≤ first → (s : PathNode) → slice_get way (level + 1) ≡ Some s →
-      c ≡ record { level = level + 1; first = 0; last = s.count - 1; case = case_of s.height s.count false }
-  pub leaf : last ≤ first → length way ≤ level + 1 → (s : PathNode) → slice_get way level ≡ Some s →
-      c ≡ record { level = level; first = first; last = last; case = case_of s.height s.count true }
+pub record IsChosen (way : List PathNode) (level first last : ℕ) (choice : Choice) : Type 0 where
+  pub several : first < last → (node : PathNode) → slice_get way level ≡ Some node →
+      choice ≡ record { level = level; first = first; last = last; case = case_of node.height node.count false }
+  pub next : last ≤ first → (node : PathNode) → slice_get way (level + 1) ≡ Some node →
+      choice ≡ record { level = level + 1; first = 0; last = node.count - 1; case = case_of node.height node.count false }
+  pub leaf : last ≤ first → length way ≤ level + 1 → (node : PathNode) → slice_get way level ≡ Some node →
+      choice ≡ record { level = level; first = first; last = last; case = case_of node.height node.count true }
 
 -- What rises from a node of height `child` is pulled up into its parent of height `parent`. The parent is just one higher.
-abbrev pub IsPullUp : ℕ → ℕ → Type 0
+abbrev pub IsPullUp : (child parent : ℕ) → Type 0
 IsPullUp child parent = parent ≡ child + 1
 
 -- The chain of pull ups from the node at `level` ends at `end`; both are indices on the path, the topmost node first. Each node of the

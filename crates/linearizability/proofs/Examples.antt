@@ -10,8 +10,8 @@ use Rattle.finite_map.specs.declared.Note.{Note}
 use Rattle.finite_map.specs.declared.Reply.TheVariants.{Inserted, New, Value}
 use Rattle.linearizability.specs.Effects.{makers}
 use Rattle.linearizability.specs.Histories.{ChangesAsAsked, complete_calls, replied}
-use Rattle.linearizability.specs.Moments.{Happening, invokes, responds, shows}
-use Rattle.linearizability.proofs.Moments.Completing.{no_change}
+use Rattle.linearizability.specs.Configurations.{Happening, invokes, responds, shows}
+use Rattle.linearizability.proofs.Configurations.Completing.{no_change}
 
 -- Pass 0 inserts a key, and is answered; then pass 1, which it never meets, gets it.
 

@@ -18,31 +18,31 @@ use Rattle.plain_index.proofs.Times.{woven-in_time}
 use Rattle.record_words.specs.declared.layout.Layout.{Layout}
 use Rattle.rowex_core.proofs.Knowing.Keeping.{seen_by}
 use Rattle.linearizability.specs.Histories.{answers, complete_calls, completed, had_responded, invoked, responder, since_of, stays}
-use Rattle.linearizability.specs.Moments.{Continues, Happening, IsNotedBetween, IsResponse, IsSoundMoment, IsWholeRun, Moment, Pending, invokes, refuses, responds, shows, steps}
+use Rattle.linearizability.specs.Configurations.{Continues, Happening, IsNotedBetween, IsResponse, IsSoundConfiguration, IsWholeRun, Configuration, Pending, invokes, refuses, responds, shows, steps}
 use Rattle.linearizability.specs.Statements.{HaveOneOrder}
 use Rattle.linearizability.proofs.Histories.Calling.{LegalUpTo, calls_legal, noted-append, noted_at, notes_by, notes_complete, notes_up_to}
-use Rattle.linearizability.proofs.Moments.{all_behind, grown, loaded_since, longer, runs_stay_sound}
+use Rattle.linearizability.proofs.Configurations.{all_behind, grown, loaded_since, longer, runs_stay_sound}
 use Rattle.linearizability.proofs.Histories.Hits.{all_calls}
 use Rattle.linearizability.proofs.Histories.Passes.{all_legal, notes_more, notes_same, passes_below}
 
--- The notes complete pass q's call, if one is pending at the run's last moment: they are legal behind those of its calls that have responded,
+-- The notes complete pass q's call, if one is pending at the run's last time: they are legal behind those of its calls that have responded,
 -- and stand at no place of a change that had been made before the call was invoked.
-pub record Completes (last : ℕ) (at : ℕ → Moment) (q : ℕ) (o : Option Pending) (notes : List Note) : Type 0 where
+pub record Completes (last : ℕ) (at : ℕ → Configuration) (q : ℕ) (o : Option Pending) (notes : List Note) : Type 0 where
   pub none : o ≡ None → notes ≡ []
   pub legal : LegalCalls (at last).core.changes q (notes_up_to at q last o ++ notes)
   pub placed : (call : Pending) → o ≡ Some call → All (λ n. length (at call.since).core.changes ≤ n.place) notes
 
-abbrev pub AllComplete : Layout → ℕ → (ℕ → Moment) → (ℕ → List Note) → Type 0
+abbrev pub AllComplete : Layout → ℕ → (ℕ → Configuration) → (ℕ → List Note) → Type 0
 AllComplete layout last at added = (q : ℕ) → q < layout.passes → Completes last at q ((at last).pending q) (added q)
 
-module _ (layout : Layout) (last : ℕ) (at : ℕ → Moment) (happens : ℕ → Happening) (run : IsWholeRun layout last at happens) (added : ℕ → List Note) (all : AllComplete layout last at added) where
+module _ (layout : Layout) (last : ℕ) (at : ℕ → Configuration) (happens : ℕ → Happening) (run : IsWholeRun layout last at happens) (added : ℕ → List Note) (all : AllComplete layout last at added) where
   abbrev changes : List Change
   changes = (at last).core.changes
 
   abbrev goes : ℕ → Happening
   goes = completed last happens added
 
-  sound_at : (t : ℕ) → t ≤ last → IsSoundMoment layout (at t)
+  sound_at : (t : ℕ) → t ≤ last → IsSoundConfiguration layout (at t)
   sound_at = runs_stay_sound layout last at happens run
 
   goes_before : (t : ℕ) → t < last → goes t ≡ happens t
@@ -118,11 +118,11 @@ module _ (layout : Layout) (last : ℕ) (at : ℕ → Moment) (happens : ℕ →
     pub high : x.0 < last → place_after x.1 ≤ length (at x.0).core.changes
 
   begun_is : (t : ℕ) → t < last → (h : Happening) → happens t ≡ h → begun t ≡ since_of ((at t).pending (responder h))
-  begun_is t low h e = ap (λ (m : Moment). since_of (m.pending (responder (goes t)))) (stays_before t low) ∙ ap (λ g. since_of ((at t).pending (responder g))) (goes_before t low ∙ e)
+  begun_is t low h e = ap (λ (m : Configuration). since_of (m.pending (responder (goes t)))) (stays_before t low) ∙ ap (λ g. since_of ((at t).pending (responder g))) (goes_before t low ∙ e)
 
   begun_behind : (n m : ℕ) → m ≡ last + n → begun m ≡ since_of ((at last).pending n)
   begun_behind n m e =
-      ap begun e ∙ ap (λ (m : Moment). since_of (m.pending (responder (goes (last + n))))) (stays_behind n) ∙ ap (λ g. since_of ((at last).pending (responder g))) (goes_behind n)
+      ap begun e ∙ ap (λ (m : Configuration). since_of (m.pending (responder (goes (last + n))))) (stays_behind n) ∙ ap (λ g. since_of ((at last).pending (responder g))) (goes_behind n)
 
   module _ (t : ℕ) (low : t < last) (q : ℕ) (notes : List Note) (is : happens t ≡ responds q notes) (call : Pending) (x : IsResponse at t q call notes) (pass : q < layout.passes) where
     abbrev s : ℕ
@@ -210,7 +210,7 @@ in_turn : (g : ℕ → Happening) (t : ℕ) → AllPairs Rises (complete_calls g
 in_turn g zero = λ i j d lt within. absurd (omega arith)
 in_turn g (suc t) = all_later t (answers (g t)) (complete_calls g t) (in_turn g t) (All-weaker (λ x. x.0 < t) (λ x. x.0 ≤ t) (λ x h. omega arith) (complete_calls g t) (all_below g t))
 
-module _ (layout : Layout) (last : ℕ) (at : ℕ → Moment) (happens : ℕ → Happening) (run : IsWholeRun layout last at happens) (added : ℕ → List Note) (all : AllComplete layout last at added) where
+module _ (layout : Layout) (last : ℕ) (at : ℕ → Configuration) (happens : ℕ → Happening) (run : IsWholeRun layout last at happens) (added : ℕ → List Note) (all : AllComplete layout last at added) where
   abbrev calls : List (ℕ × Note)
   calls = complete_calls (completed last happens added) (last + layout.passes)
 

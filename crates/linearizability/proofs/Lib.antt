@@ -1,6 +1,6 @@
 -- The lemmas of the crate.
 mod Examples
-pub mod Moments
+pub mod Configurations
 pub mod Effects
 pub mod Histories
 pub mod Scanning

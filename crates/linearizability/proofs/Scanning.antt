@@ -27,14 +27,14 @@ use Rattle.tries.specs.Content.{Item}
 use Rattle.versions.specs.Told.{added_change, items_of}
 use Rattle.rowex_core.proofs.Events.Appending.{only_publish_appends}
 use Rattle.rowex_core.proofs.Knowing.Keeping.{seen_by}
-use Rattle.linearizability.specs.Moments.{Continues, Happening, IsWholeRun, Moment, invokes, refuses, responds, shows, steps}
+use Rattle.linearizability.specs.Configurations.{Continues, Happening, IsWholeRun, Configuration, invokes, refuses, responds, shows, steps}
 use Rattle.linearizability.specs.Scanning.{IsScanInTime, WasHeld, WasThere}
 use Rattle.linearizability.specs.Statements.{ScansInTime}
-use Rattle.linearizability.proofs.Moments.{grown, loaded_since, longer, runs_stay_sound}
+use Rattle.linearizability.proofs.Configurations.{grown, loaded_since, longer, runs_stay_sound}
 
--- A moment makes one change at most; or pairs are loaded at it, before any change
+-- A time makes one change at most; or pairs are loaded at it, before any change
 
--- at this moment pairs are loaded: no change was made before, and it makes only additions
+-- at this time pairs are loaded: no change was made before, and it makes only additions
 pub record IsLoading (a b : Core) : Type 0 where
   pub none : a.changes ≡ []
   pub adds : All (λ c. c.kind ≡ Added) b.changes
@@ -61,7 +61,7 @@ either c q act legal = inl (one_at_most act c (next_core c q act) tt (only_publi
 same_at_most : (c d : Core) → d ≡ c → length d.changes ≤ length c.changes + 1
 same_at_most c d e = let same : length d.changes ≡ length c.changes = ap (λ (z : Core). length z.changes) e in omega (arith, same)
 
-next_at_most : (layout : Layout) (at : ℕ → Moment) (t : ℕ) (h : Happening) → Continues layout at t h →
+next_at_most : (layout : Layout) (at : ℕ → Configuration) (t : ℕ) (h : Happening) → Continues layout at t h →
     (length (at (suc t)).core.changes ≤ length (at t).core.changes + 1) ⊎ IsLoading (at t).core (at (suc t)).core
 next_at_most layout at t (steps q act notes) x =
     subst (λ (z : Core). (length z.changes ≤ length (at t).core.changes + 1) ⊎ IsLoading (at t).core z) (sym x.core) (either (at t).core q act x.legal)
@@ -124,15 +124,15 @@ never_removed front (c ∷ more) key there =
     (not_removed c.kind (map_of front) c.key key c.value (map_of-rising front) (subst (λ m. IsSome (value_at m key)) (map_of-push front c) now))
     (never_removed (front ++ c ∷ []) more key on)
 
-module _ (layout : Layout) (last : ℕ) (at : ℕ → Moment) (happens : ℕ → Happening) (run : IsWholeRun layout last at happens) where
+module _ (layout : Layout) (last : ℕ) (at : ℕ → Configuration) (happens : ℕ → Happening) (run : IsWholeRun layout last at happens) where
   abbrev count : ℕ → ℕ
   count t = length (at t).core.changes
 
-  -- so many changes have been made at the moment; or a load, at it, makes more
+  -- so many changes have been made at the time; or a load, at it, makes more
   abbrev HasMade : ℕ → ℕ → ℕ → Type 0
   HasMade n t m = (count m ≡ n) ⊎ ((m < t) × IsLoading (at m).core (at (suc m)).core × (n < count (suc m)))
 
-  -- each number of changes between those of two moments is that of a moment between them, or a load passes it
+  -- each number of changes between those of two times is that of a time between them, or a load passes it
   pub goes_through : (s n t : ℕ) → s ≤ t → t ≤ last → count s ≤ n → n ≤ count t → (m : ℕ) × (s ≤ m) × (m ≤ t) × HasMade n t m
   goes_through s n zero low high from upto = (zero, low, le_refl 0, inl (let e : s ≡ 0 = omega arith in let f : count 0 ≤ n = subst (λ k. count k ≤ n) e from in omega (arith, f, upto)))
   goes_through s n (suc t) low high from upto = ⊎_elim
@@ -168,13 +168,13 @@ module _ (layout : Layout) (last : ℕ) (at : ℕ → Moment) (happens : ℕ →
     least : count since ≤ length before
     least = longer before (at since).core.changes (loaded_since layout last at happens run since q pass until order within loaded)
 
-    -- the first n changes that the pass has seen were all there were at some moment of the scan; or a load, at it, made more
+    -- the first n changes that the pass has seen were all there were at some time of the scan; or a load, at it, made more
     abbrev WasAll : ℕ → ℕ → Type 0
     WasAll n t = (take n after ≡ (at t).core.changes) ⊎
         ((t < until) × IsLoading (at t).core (at (suc t)).core × ((m : ℕ) × (take n after ≡ take m (at (suc t)).core.changes)))
 
-    moment_of : (n : ℕ) → length before ≤ n → n ≤ length after → (t : ℕ) × (since ≤ t) × (t ≤ until) × WasAll n t
-    moment_of n low high =
+    configuration_of : (n : ℕ) → length before ≤ n → n ≤ length after → (t : ℕ) × (since ≤ t) × (t ≤ until) × WasAll n t
+    configuration_of n low high =
         let most = longer (at until).core.changes after seen in
         let found = goes_through since n until order within (omega (arith, low, least)) (omega (arith, high, most)) in
         let t : ℕ = found.0 in
@@ -198,10 +198,10 @@ module _ (layout : Layout) (last : ℕ) (at : ℕ → Moment) (happens : ℕ →
             let more = grown layout last at happens run (suc t) until (omega arith) within in
             ap (take n) more.1 ∙ take-append-le n (at (suc t)).core.changes more.0 (omega arith)
 
-    -- what was held by the first n changes was held at a moment
+    -- what was held by the first n changes was held at a time
     was_held : (n : ℕ) (key : List ℕ) (value : ℕ) → length before ≤ n → n ≤ length after → value_at (map_of (take n after)) key ≡ Some value → WasHeld at since until key value
     was_held n key value low high held =
-        let m = moment_of n low high in
+        let m = configuration_of n low high in
         ⊎_elim
         (λ is. (m.0, m.1, m.2, subst (λ l. value_at (map_of l) key ≡ Some value) is held))
         (λ more. (
@@ -214,10 +214,10 @@ module _ (layout : Layout) (last : ℕ) (at : ℕ → Moment) (happens : ℕ →
         ))
         m.3
 
-    -- and what is there at each moment is there after each of them
+    -- and what is there at each time is there after each of them
     was_there : (n : ℕ) (key : List ℕ) → length before ≤ n → n ≤ length after → WasThere at since until key → IsSome (value_at (map_of (take n after)) key)
     was_there n key low high there =
-        let m = moment_of n low high in
+        let m = configuration_of n low high in
         ⊎_elim
         (λ is. subst (λ l. IsSome (value_at (map_of l) key)) (sym is) (there m.0 m.1 m.2))
         (λ more. absurd (no_key (subst (λ (l : List Change). IsSome (value_at (map_of l) key)) more.1.none (there m.0 m.1 m.2))))

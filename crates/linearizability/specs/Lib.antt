@@ -1,5 +1,5 @@
 -- The definitions of the crate.
-pub mod Moments
+pub mod Configurations
 pub mod Histories
 pub mod Effects
 pub mod Scanning

@@ -1,27 +1,27 @@
--- What a scan shows of the maps of a run, moment by moment.
+-- What a scan shows of the maps of a run, configuration by configuration.
 use Rattle.std.specs.Prelude.{◌≡◌, ℕ, ◌≤◌, All, Contains, IsSome, IsTrue, List, Some, true}
 use Rattle.std.specs.Map.{keys_of}
 use Rattle.finite_map.specs.declared.Scan.{Scan}
 use Rattle.finite_map.specs.Fronts.{map_of}
 use Rattle.finite_map.specs.Maps.{Map, value_at}
 use Rattle.finite_map.specs.Scans.{is_within}
-use Rattle.linearizability.specs.Moments.{Moment}
+use Rattle.linearizability.specs.Configurations.{Configuration}
 
--- the map at a moment of the run
-abbrev pub map_at : (ℕ → Moment) → ℕ → Map
+-- the map at a time of the run
+abbrev pub map_at : (ℕ → Configuration) → ℕ → Map
 map_at at t = map_of (at t).core.changes
 
--- at some moment from `since` to `until` the key has the value
-abbrev pub WasHeld : (ℕ → Moment) → ℕ → ℕ → List ℕ → ℕ → Type 0
+-- at some time from `since` to `until` the key has the value
+abbrev pub WasHeld : (ℕ → Configuration) → (since until : ℕ) → List ℕ → (value : ℕ) → Type 0
 WasHeld at since until key value = (t : ℕ) × (since ≤ t) × (t ≤ until) × (value_at (map_at at t) key ≡ Some value)
 
--- at all moments from `since` to `until` the key is in the map
-abbrev pub WasThere : (ℕ → Moment) → ℕ → ℕ → List ℕ → Type 0
+-- at all times from `since` to `until` the key is in the map
+abbrev pub WasThere : (ℕ → Configuration) → (since until : ℕ) → List ℕ → Type 0
 WasThere at since until key = (t : ℕ) → since ≤ t → t ≤ until → IsSome (value_at (map_at at t) key)
 
--- A scan from moment `since` to `until`. Each pair was in the map at one of these moments. No key of the range is missing that was there at
+-- A scan from time `since` to `until`. Each pair was in the map at one of these times. No key of the range is missing that was there at
 -- all of them, as far as the scan has come.
-pub record IsScanInTime (IsReached : Map → List ℕ → Type 0) (at : ℕ → Moment) (since until : ℕ) (from upto : List ℕ) (scan : Scan) : Type 0 where
+pub record IsScanInTime (IsReached : Map → List ℕ → Type 0) (at : ℕ → Configuration) (since until : ℕ) (from upto : List ℕ) (scan : Scan) : Type 0 where
   pub held : All (λ e. WasHeld at since until e.0 e.1) scan.pairs.items
   pub whole : (key : List ℕ) → IsTrue (is_within from upto key) → (scan.more ≡ true → IsReached scan.pairs.items key) → WasThere at since until key →
       Contains (keys_of scan.pairs.items) key

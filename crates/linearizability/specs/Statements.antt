@@ -15,72 +15,77 @@ use Rattle.rowex_core.specs.declared.event.Event.{Event}
 use Rattle.rowex_core.specs.Runs.{EventsLead}
 use Rattle.linearizability.specs.Effects.{completions}
 use Rattle.linearizability.specs.Histories.{ChangesAsAsked, IsAppended, PendingEndOrChangeAsAsked, complete_calls, completed, had_responded, stays}
-use Rattle.linearizability.specs.Moments.{Happening, IsRefusal, IsResponse, IsSoundMoment, IsWholeRun, Moment, Pending}
+use Rattle.linearizability.specs.Configurations.{Happening, IsRefusal, IsResponse, IsSoundConfiguration, IsWholeRun, Configuration, Pending}
 use Rattle.linearizability.specs.Scanning.{IsScanInTime, map_at}
 
--- each moment of a run is sound
+-- each configuration of a run is sound
 abbrev pub RunsStaySound : Type 0
 RunsStaySound =
-    (layout : Layout) (last : ℕ) (at : ℕ → Moment) (happens : ℕ → Happening) → IsWholeRun layout last at happens → (t : ℕ) → t ≤ last → IsSoundMoment layout (at t)
+    (layout : Layout) (last : ℕ) (at : ℕ → Configuration) (happens : ℕ → Happening) → IsWholeRun layout last at happens → (t : ℕ) → t ≤ last → IsSoundConfiguration layout (at t)
 
 -- the steps of a run are legal events that lead from its first core to its last
 abbrev pub RunsAreEvents : Type 0
 RunsAreEvents =
-    (layout : Layout) (last : ℕ) (at : ℕ → Moment) (happens : ℕ → Happening) → IsWholeRun layout last at happens → (t : ℕ) → t ≤ last →
+    (layout : Layout) (last : ℕ) (at : ℕ → Configuration) (happens : ℕ → Happening) → IsWholeRun layout last at happens → (t : ℕ) → t ≤ last →
     (events : List Event) × EventsLead (at 0).core events (at t).core
 
 -- With these responses appended, the calls of a run stand in one order, each once. Each reply in it is that of a finite map, which is empty
 -- at first. No call stands before one that had responded when it was invoked.
-abbrev pub HaveOneOrder : Layout → ℕ → (ℕ → Moment) → (ℕ → Happening) → (ℕ → List Note) → Type 0
+abbrev pub HaveOneOrder : Layout → ℕ → (ℕ → Configuration) → (ℕ → Happening) → (ℕ → List Note) → Type 0
 HaveOneOrder layout last at happens added =
     (order : List (ℕ × Note)) × IsPermutation (complete_calls (completed last happens added) (last + layout.passes)) order ×
     LegalHistory (calls_of (noted order)) × IsInTime (had_responded (stays last at) (completed last happens added)) order
 
 -- The run is linearizable (Herlihy and Wing, 1990). Responses may be appended for calls that are pending, one at most for each, so that all
 -- answered calls have one order.
-abbrev pub IsLinearizable : Layout → ℕ → (ℕ → Moment) → (ℕ → Happening) → Type 0
+abbrev pub IsLinearizable : Layout → ℕ → (ℕ → Configuration) → (ℕ → Happening) → Type 0
 IsLinearizable layout last at happens =
-    (added : ℕ → List Note) × ((q : ℕ) → IsAppended ((at last).pending q) (added q)) × HaveOneOrder layout last at happens added
+    (added : ℕ → List Note) × ((pass : ℕ) → IsAppended ((at last).pending pass) (added pass)) × HaveOneOrder layout last at happens added
 
--- Each run is linearizable up to any moment. The calls that are pending then must end later, or change the map as they ask.
+-- Each run is linearizable up to any time. The calls that are pending then must end later, or change the map as they ask.
 abbrev pub Linearizable : Type 0
 Linearizable =
-    (layout : Layout) (last later : ℕ) (at : ℕ → Moment) (happens : ℕ → Happening) → last ≤ later → IsWholeRun layout later at happens →
+    (layout : Layout) (last later : ℕ) (at : ℕ → Configuration) (happens : ℕ → Happening) → last ≤ later → IsWholeRun layout later at happens →
     PendingEndOrChangeAsAsked layout last later at → IsLinearizable layout last at happens
 
--- Let a call respond that asks one call of the map or changes nothing. At each moment of it, it has changed nothing, or the map as it asks.
+-- Let a call respond that asks one call of the map or changes nothing. At each time of it, it has changed nothing, or the map as it asks.
 abbrev pub RespondersChangeAsAsked : Type 0
 RespondersChangeAsAsked =
-    (layout : Layout) (last : ℕ) (at : ℕ → Moment) (happens : ℕ → Happening) → IsWholeRun layout last at happens →
-    (q t : ℕ) (call : Pending) (notes : List Note) → q < layout.passes → t ≤ last → IsResponse at t q call notes →
-    ((asked : Call) × (call.calls ≡ asked ∷ [])) ⊎ (changes_of q notes ≡ []) →
-    (m : ℕ) → call.since ≤ m → m ≤ t → ChangesAsAsked q call.calls (at call.since).core.changes (at m).core.changes
+    (layout : Layout) (last : ℕ) (at : ℕ → Configuration) (happens : ℕ → Happening) → IsWholeRun layout last at happens →
+    (pass t : ℕ) (call : Pending) (notes : List Note) → pass < layout.passes → t ≤ last → IsResponse at t pass call notes →
+    ((asked : Call) × (call.calls ≡ asked ∷ [])) ⊎ (changes_of pass notes ≡ []) →
+    (m : ℕ) → call.since ≤ m → m ≤ t → ChangesAsAsked pass call.calls (at call.since).core.changes (at m).core.changes
 
--- A call that is refused has changed nothing at any moment.
+-- A call that is refused has changed nothing at any time.
 abbrev pub RefusedChangeNothing : Type 0
 RefusedChangeNothing =
-    (layout : Layout) (last : ℕ) (at : ℕ → Moment) (happens : ℕ → Happening) → IsWholeRun layout last at happens →
-    (q t : ℕ) (call : Pending) → q < layout.passes → t ≤ last → IsRefusal at t q call →
-    (m : ℕ) → call.since ≤ m → m ≤ t → OthersGoOn q (at call.since).core.changes (at m).core.changes
+    (layout : Layout) (last : ℕ) (at : ℕ → Configuration) (happens : ℕ → Happening) → IsWholeRun layout last at happens →
+    (pass t : ℕ) (call : Pending) → pass < layout.passes → t ≤ last → IsRefusal at t pass call →
+    (m : ℕ) → call.since ≤ m → m ≤ t → OthersGoOn pass (at call.since).core.changes (at m).core.changes
 
 -- Whatever pending calls do, the answered calls have one order. It has one more call for each change that a pending one has made.
 abbrev pub OrderedByEffect : Type 0
 OrderedByEffect =
-    (layout : Layout) (last : ℕ) (at : ℕ → Moment) (happens : ℕ → Happening) → IsWholeRun layout last at happens →
+    (layout : Layout) (last : ℕ) (at : ℕ → Configuration) (happens : ℕ → Happening) → IsWholeRun layout last at happens →
     HaveOneOrder layout last at happens (completions last at)
 
--- A scan shows maps of moments from its invocation to its response, upwards as downwards. It must be lawful from what its pass saw at a
+-- A scan shows maps of times from its invocation to its response, upwards as downwards. It must be lawful from what its pass saw at a
 -- load of the root in it to what it has seen by its end.
 abbrev pub ScansInTime : Type 0
 ScansInTime =
-    (layout : Layout) (last : ℕ) (at : ℕ → Moment) (happens : ℕ → Happening) → IsWholeRun layout last at happens →
-    (q since until : ℕ) → q < layout.passes → since ≤ until → until ≤ last → ((at since).known q).steps ≤ ((at until).known q).fresh.step →
+    (layout : Layout) (last : ℕ) (at : ℕ → Configuration) (happens : ℕ → Happening) → IsWholeRun layout last at happens →
+    (pass since until : ℕ) → pass < layout.passes → since ≤ until → until ≤ last →
+    ((at since).known pass).steps ≤ ((at until).known pass).fresh.step →
     (from upto : List ℕ) (limit : ℕ) (scan : Scan) →
-    (IsLawfulScan ((at until).known q).fresh.front ((at until).known q).front from upto limit scan → IsScanInTime IsUpToLast at since until from upto scan) ×
-    (IsLawfulReverseScan ((at until).known q).fresh.front ((at until).known q).front from upto limit scan → IsScanInTime IsDownToLast at since until from upto scan)
+    (IsLawfulScan ((at until).known pass).fresh.front ((at until).known pass).front from upto limit scan →
+    IsScanInTime IsUpToLast at since until from upto scan) ×
+    (IsLawfulReverseScan ((at until).known pass).fresh.front ((at until).known pass).front from upto limit scan →
+    IsScanInTime IsDownToLast at since until from upto scan)
 
--- Each answered call's reply is the map's at a moment between its invocation and its response.
+-- Each answered call's reply is the map's at a time between its invocation and its response.
 abbrev pub RepliesInTime : Type 0
 RepliesInTime =
-    (layout : Layout) (last : ℕ) (at : ℕ → Moment) (happens : ℕ → Happening) → IsWholeRun layout last at happens → (q t : ℕ) (call : Pending) (notes : List Note) →
-    q < layout.passes → t ≤ last → IsResponse at t q call notes → All (λ n. (m : ℕ) × (call.since ≤ m) × (m ≤ t) × (n.reply ≡ reply_of (map_at at m) n.call)) notes
+    (layout : Layout) (last : ℕ) (at : ℕ → Configuration) (happens : ℕ → Happening) → IsWholeRun layout last at happens →
+    (pass t : ℕ) (call : Pending) (notes : List Note) →
+    pass < layout.passes → t ≤ last → IsResponse at t pass call notes →
+    All (λ n. (m : ℕ) × (call.since ≤ m) × (m ≤ t) × (n.reply ≡ reply_of (map_at at m) n.call)) notes

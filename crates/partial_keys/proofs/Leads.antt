@@ -61,8 +61,8 @@ module _ (cs : List ℕ) (few : length cs ≤ 31) (rise : Ascends 0 cs) where
     agree_on d ps l f.1,
   )
 
-pub highest-value : (sparse : List ℕ) (d i : ℕ) → IsHighest sparse d i → i ≡ highest (complies d) sparse
-highest-value sparse d i h = highest_at (complies d) sparse i 0 h.in_range (eq-eqb _ _ h.complying) h.none_above
+pub highest-value : (padded_rows : List ℕ) (d i : ℕ) → IsHighest padded_rows d i → i ≡ highest (complies d) padded_rows
+highest-value padded_rows d i h = highest_at (complies d) padded_rows i 0 h.in_range (eq-eqb _ _ h.complying) h.none_above
 
 module _ {A : Type 0} (cs rows : List ℕ) (es : List A) (P : Piece A) (sh : ShowsPiece cs rows es P) where
   -- THE SEARCH, for any dense key whose bit 0 is 0
@@ -89,9 +89,9 @@ module _ {A : Type 0} (cs rows : List ℕ) (es : List A) (P : Piece A) (sh : Sho
       ∙ get_or-map (row_of cs) (paths P) 0 [] 0 (rw (length-paths P) (size_pos P)) ∙ ap (row_of cs) (first_path P) ∙ code-falses 32 cs)
 
 -- ---- what a search ensures
-pub place_for_dense : (sparse : List ℕ) (d i : ℕ) → d < 2 ^ 32 → d % 2 ≡ 0 → IsHighest sparse d i → IsPlaceForDense sparse d i
-place_for_dense sparse d i l even h columns rows entries piece sh is = highest_leads_dense columns rows entries piece sh d i l even (subst (λ xs. IsHighest xs d i) is h)
+pub place_for_dense : (padded_rows : List ℕ) (d i : ℕ) → d < 2 ^ 32 → d % 2 ≡ 0 → IsHighest padded_rows d i → IsPlaceForDense padded_rows d i
+place_for_dense padded_rows d i l even h columns rows entries piece sh is = highest_leads_dense columns rows entries piece sh d i l even (subst (λ xs. IsHighest xs d i) is h)
 
-pub place_for_key : (sparse : List ℕ) (d i : ℕ) → IsHighest sparse d i → IsPlaceForKey sparse d i
-place_for_key sparse d i h columns rows entries piece bit sh is e =
+pub place_for_key : (padded_rows : List ℕ) (d i : ℕ) → IsHighest padded_rows d i → IsPlaceForKey padded_rows d i
+place_for_key padded_rows d i h columns rows entries piece bit sh is e =
     highest_leads columns rows entries piece sh bit i (subst (λ n. IsHighest (with_unused rows) n i) e (subst (λ xs. IsHighest xs d i) is h))

@@ -7,19 +7,19 @@ use Rattle.node_tries.specs.Piece.{Piece, leads_to}
 
 -- Index i is where the forks lead by the dense key, in each piece whose rows these words are, filled up by unused ones.
 abbrev pub IsPlaceForDense : List ℕ → ℕ → ℕ → Type 0
-IsPlaceForDense sparse dense i =
-    (columns rows entries : List ℕ) (piece : Piece ℕ) → ShowsPiece columns rows entries piece → sparse ≡ with_unused rows →
+IsPlaceForDense padded_rows dense i =
+    (columns rows entries : List ℕ) (piece : Piece ℕ) → ShowsPiece columns rows entries piece → padded_rows ≡ with_unused rows →
     i ≡ leads_to (dense_bit columns dense) piece
 
 -- Index i is where the forks lead by a key's bits, in each piece whose rows these words are. The dense key was gathered from these bits.
 abbrev pub IsPlaceForKey : List ℕ → ℕ → ℕ → Type 0
-IsPlaceForKey sparse dense i =
-    (columns rows entries : List ℕ) (piece : Piece ℕ) (bit : ℕ → Bool) → ShowsPiece columns rows entries piece → sparse ≡ with_unused rows →
+IsPlaceForKey padded_rows dense i =
+    (columns rows entries : List ℕ) (piece : Piece ℕ) (bit : ℕ → Bool) → ShowsPiece columns rows entries piece → padded_rows ≡ with_unused rows →
     dense ≡ dense_of columns bit → i ≡ leads_to bit piece
 
 -- i is the highest index at which a sparse partial key complies with the dense key, so it is where the forks lead
-pub record IsFound (sparse : List ℕ) (dense i : ℕ) : Type 0 where
-  pub value : i ≡ highest (complies dense) sparse
-  pub highest : IsHighest sparse dense i
-  pub leads : dense % 2 ≡ 0 → IsPlaceForDense sparse dense i
-  pub leads_key : IsPlaceForKey sparse dense i
+pub record IsFound (padded_rows : List ℕ) (dense i : ℕ) : Type 0 where
+  pub value : i ≡ highest (complies dense) padded_rows
+  pub highest : IsHighest padded_rows dense i
+  pub leads : dense % 2 ≡ 0 → IsPlaceForDense padded_rows dense i
+  pub leads_key : IsPlaceForKey padded_rows dense i

@@ -18,7 +18,7 @@ abbrev pub rows_of : {A : Type 0} → List ℕ → Piece A → List ℕ
 rows_of columns piece = map (row_of columns) (paths piece)
 
 -- the row has a 1 only where the dense key has one
-abbrev pub complies : ℕ → ℕ → Bool
+abbrev pub complies : (dense row : ℕ) → Bool
 complies dense row = eqb (bit_and dense row) row
 
 -- row i is the highest that complies with the dense key

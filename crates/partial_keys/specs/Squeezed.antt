@@ -14,7 +14,7 @@ unfoldable pub used_bits : ℕ → List Bool
 used_bits used = bits_of 32 used
 
 -- the row without the columns whose bit in `used` is 0
-abbrev pub squeezed : ℕ → ℕ → ℕ
+abbrev pub squeezed : (used row : ℕ) → ℕ
 squeezed used row = code 32 (kept (bits_of 32 used) (bits_of 32 row))
 
 -- the bits that one of the rows has, at least

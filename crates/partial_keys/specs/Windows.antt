@@ -17,5 +17,5 @@ missed_lane window first last i byte mask =
     bit_or (bit_and mask (255 - slice_index window (16 * (i / 16) + (byte + 256 - first) % 16))) (byte - last)
 
 -- the key's bit at a position, if its byte is one of the sixteen from `first` on; else 0
-abbrev pub bit_within : ℕ → List ℕ → ℕ → Bool
-bit_within first key p = bit_of key p && (nat_le first (p / 9) && nat_lt (p / 9) (first + 16))
+abbrev pub bit_within : (first : ℕ) → List ℕ → (position : ℕ) → Bool
+bit_within first key position = bit_of key position && (nat_le first (position / 9) && nat_lt (position / 9) (first + 16))

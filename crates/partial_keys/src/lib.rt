@@ -244,14 +244,15 @@ fn keep_used_positions(positions: &mut [u16; MAX_COLUMNS], count: usize, used: u
     found
 }
 
-/// The highest index i at which row `sparse[i]` complies with the dense key: it has no bit that `dense` lacks. The first row is 0, so there is one.
-pub fn search_plain(sparse: &[u32; MAX_ENTRIES], dense: u32) -> u8
-    requires { slice_index sparse.now 0 ≡ 0 }
-    ensures { IsFound sparse.now dense result }
+/// The highest index i at which row `padded_rows[i]` complies with the dense key: it has no bit that `dense` lacks. The first row is 0, so
+/// there is one.
+pub fn search_plain(padded_rows: &[u32; MAX_ENTRIES], dense: u32) -> u8
+    requires { slice_index padded_rows.now 0 ≡ 0 }
+    ensures { IsFound padded_rows.now dense result }
 {
     let mut best = 0;
     for i in 1..32 {
-        if dense & sparse[i as usize] == sparse[i as usize] {
+        if dense & padded_rows[i as usize] == padded_rows[i as usize] {
             best = i;
         }
     }
@@ -259,20 +260,20 @@ pub fn search_plain(sparse: &[u32; MAX_ENTRIES], dense: u32) -> u8
 }
 
 /// The index that `search_plain` returns, by one comparison of all 32 rows as lanes of a vector.
-pub fn search_lanes(sparse: &[u32; MAX_ENTRIES], dense: u32) -> u8
-    requires { slice_index sparse.now 0 ≡ 0 }
-    ensures { IsFound sparse.now dense result }
+pub fn search_lanes(padded_rows: &[u32; MAX_ENTRIES], dense: u32) -> u8
+    requires { slice_index padded_rows.now 0 ≡ 0 }
+    ensures { IsFound padded_rows.now dense result }
 {
-    search_rows(u32x32::from_array(*sparse), dense)
+    search_rows(u32x32::from_array(*padded_rows), dense)
 }
 
 /// The index that `search_plain` returns, where the rows are lanes already.
 #[inline(always)]
-pub fn search_rows(sparse: u32x32, dense: u32) -> u8
-    requires { slice_index sparse 0 ≡ 0 }
-    ensures { IsFound sparse dense result }
+pub fn search_rows(padded_rows: u32x32, dense: u32) -> u8
+    requires { slice_index padded_rows 0 ≡ 0 }
+    ensures { IsFound padded_rows dense result }
 {
-    (63 - mark_complying(sparse, dense).leading_zeros()) as u8
+    (63 - mark_complying(padded_rows, dense).leading_zeros()) as u8
 }
 
 /// A mask whose bit i is set exactly if lane i complies with `dense`: it has no bit that `dense` lacks.

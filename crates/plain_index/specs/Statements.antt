@@ -13,7 +13,9 @@ use Rattle.plain_index.specs.Times.{FitsPlaces, IsInTime, noted}
 
 -- Calls that are legal in a front are legal in each legal front that goes on from it by changes of other passes alone.
 abbrev pub LegalCallsStayLegal : Type 0
-LegalCallsStayLegal = (front later : List Change) (q : ℕ) (notes : List Note) → LegalCalls front q notes → OthersGoOn q front later → LegalFront later → LegalCalls later q notes
+LegalCallsStayLegal =
+    (front later : List Change) (pass : ℕ) (notes : List Note) → LegalCalls front pass notes → OthersGoOn pass front later → LegalFront later →
+    LegalCalls later pass notes
 
 -- Where the calls of each pass are legal in one front, all are answered as by a finite map in one sequential history. It is the weave of
 -- all their notes into the front.
@@ -52,7 +54,7 @@ FirstPairsAreAStillScan =
 
 -- The weave of one pass's legal calls has each of them once, in the order in which the pass made them.
 abbrev pub WeaveKeepsCalls : Type 0
-WeaveKeepsCalls = (front : List Change) (q : ℕ) (notes : List Note) → LegalCalls front q notes → calls_in (weave front notes) ≡ calls_of notes
+WeaveKeepsCalls = (front : List Change) (pass : ℕ) (notes : List Note) → LegalCalls front pass notes → calls_in (weave front notes) ≡ calls_of notes
 
 -- A scan of a front that stays as it is gives the first pairs of its map's range. It says whether there is a further one.
 abbrev pub StillScanGivesFirstPairs : Type 0
@@ -61,7 +63,9 @@ StillScanGivesFirstPairs =
 
 -- If a pass made all changes of the front, its legal calls are a run of the finite map, from the empty one on.
 abbrev pub LoneCallsAreARun : Type 0
-LoneCallsAreARun = (front : List Change) (q : ℕ) (notes : List Note) → LegalCalls front q notes → All (λ c. c.pass ≡ q) front → IsRun [] notes (map_of front)
+LoneCallsAreARun =
+    (front : List Change) (pass : ℕ) (notes : List Note) → LegalCalls front pass notes → All (λ c. c.pass ≡ pass) front →
+    IsRun [] notes (map_of front)
 
 -- A lawful scan is a get of each key of its range, each at a moment of its own. At some moment between the scan's fronts the map has the
 -- value of the key's pair, or lacks the key if it has no pair. Where the scan ended at its limit, that is said of the keys up to the last

@@ -14,6 +14,7 @@ MakesRoot old new up = up ≡ true → MatchOption new.top ⊥ (IsNewNode (lengt
 -- An absent key was added, whose search ended at a leaf. It has the next leaf record. The nodes were changed as the case of the node that
 -- it affects says, up to the root.
 abbrev pub TakesCase : PlainView → PlainView → Key → Type 0
-TakesCase old new k =
-    (t : Tree) → shown_tree old ≡ Some t →
-    (p : ℕ) × IsFirstDifference k (found k t).key p × ((up : Bool) × AddsByCase old.nodes new.nodes k p (length old.leaves) t up × MakesRoot old new up)
+TakesCase old new key =
+    (tree : Tree) → shown_tree old ≡ Some tree →
+    (p : ℕ) × IsFirstDifference key (found key tree).key p ×
+    ((up : Bool) × AddsByCase old.nodes new.nodes key p (length old.leaves) tree up × MakesRoot old new up)

@@ -14,15 +14,15 @@ most_new_nodes (Some root) = height_of root + 1
 
 -- The trie is at its limit. No number of 32 bits is left for one leaf more, or too few are left for the most nodes that can come.
 abbrev pub IsAtLimit : PlainView → Type 0
-IsAtLimit v = (2 ^ 32 ≤ length v.leaves) ⊎ (2 ^ 32 < length v.nodes + most_new_nodes v.top)
+IsAtLimit plain = (2 ^ 32 ≤ length plain.leaves) ⊎ (2 ^ 32 < length plain.nodes + most_new_nodes plain.top)
 
 -- the vector of the leaves is full, or that of the nodes has no room for the most nodes that can come
 abbrev pub MustGrow : PlainView → Type 0
-MustGrow v = (v.leaf_capacity ≤ length v.leaves) ⊎ (v.node_capacity < length v.nodes + most_new_nodes v.top)
+MustGrow plain = (plain.leaf_capacity ≤ length plain.leaves) ⊎ (plain.node_capacity < length plain.nodes + most_new_nodes plain.top)
 
 -- a new key finds no room: the trie is at its limit, or its vectors must grow
 abbrev pub LacksRoom : PlainView → Type 0
-LacksRoom v = IsAtLimit v ⊎ MustGrow v
+LacksRoom plain = IsAtLimit plain ⊎ MustGrow plain
 
 -- no vector has less room than before
 abbrev pub KeepsRoom : PlainView → PlainView → Type 0

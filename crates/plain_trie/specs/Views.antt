@@ -21,41 +21,41 @@ pub record PlainView : Type 0 where
 
 -- the tree that the trie's records show from the root's entry on
 abbrev pub shown_tree : PlainView → Option Tree
-shown_tree v = option_and_then (λ e. entry_tree v.nodes v.leaves (height_of e) e) v.top
+shown_tree plain = option_and_then (λ e. entry_tree plain.nodes plain.leaves (height_of e) e) plain.top
 
 -- the map of a tree that was read; empty where there is none
 abbrev pub map_read : Option Tree → Map
 map_read None = []
-map_read (Some t) = pairs (items t)
+map_read (Some tree) = pairs (items tree)
 
 -- the map that the trie is
 abbrev pub trie_map : PlainView → Map
-trie_map v = map_read (shown_tree v)
+trie_map plain = map_read (shown_tree plain)
 
 -- the trie's records show a sound tree from the root's entry on, if there is one
 abbrev pub ShowsSoundTree : PlainView → Type 0
-ShowsSoundTree v = MatchOption v.top (Unit {0}) (λ e. IsSomeAnd (shown_tree v) IsSound)
+ShowsSoundTree plain = MatchOption plain.top (Unit {0}) (λ e. IsSomeAnd (shown_tree plain) IsSound)
 
 -- the trie's records show a bit trie of its keys from the root's entry on
 abbrev pub ShowsTrie : PlainView → Type 0
-ShowsTrie v = MatchOption v.top (trie_map v ≡ []) (λ e.
-    (t : Tree) × (subtrie t ≡ Place e) × IsSound t × ShowsTree v.nodes v.leaves t × (trie_map v ≡ pairs (items t)))
+ShowsTrie plain = MatchOption plain.top (trie_map plain ≡ []) (λ e.
+    (tree : Tree) × (subtrie tree ≡ Place e) × IsSound tree × ShowsTree plain.nodes plain.leaves tree × (trie_map plain ≡ pairs (items tree)))
 
 -- the tree that a trie with this root's entry shows
-pub record IsTree (v : PlainView) (e : Entry) (t : Tree) : Type 0 where
-  pub is : shown_tree v ≡ Some t
-  pub head : subtrie t ≡ Place e
-  pub sound : IsSound t
-  pub shown : ShowsTree v.nodes v.leaves t
+pub record IsTree (plain : PlainView) (entry : Entry) (tree : Tree) : Type 0 where
+  pub is : shown_tree plain ≡ Some tree
+  pub head : subtrie tree ≡ Place entry
+  pub sound : IsSound tree
+  pub shown : ShowsTree plain.nodes plain.leaves tree
 
 -- the key's search, from the root's entry on, ends at the leaf that is the record of this number
-pub record EndsAt (v : PlainView) (e : Entry) (k : Key) (n : ℕ) : Type 0 where
-  pub top : v.top ≡ Some e
+pub record EndsAt (plain : PlainView) (entry : Entry) (key : Key) (n : ℕ) : Type 0 where
+  pub top : plain.top ≡ Some entry
   pub tree : Tree
-  pub stands : IsTree v e tree
-  pub number : (found k tree).number ≡ n
-  pub at : slice_get v.leaves n ≡ Some (item_record (found k tree))
+  pub stands : IsTree plain entry tree
+  pub number : (found key tree).number ≡ n
+  pub at : slice_get plain.leaves n ≡ Some (item_record (found key tree))
 
 -- the key's search ends at leaf record n, which has the key
 abbrev pub IsHeldInLeaf : PlainView → Key → ℕ → Type 0
-IsHeldInLeaf v k n = (e : Entry) × (end : EndsAt v e k n) × ((found k end.tree).key ≡ k)
+IsHeldInLeaf plain key n = (entry : Entry) × (end : EndsAt plain entry key n) × ((found key end.tree).key ≡ key)

@@ -62,7 +62,7 @@ HasNodeAt old new at = (number : ℕ) × (height : ℕ) × (new ≡ record old {
 
 -- What becomes of a node above a child of this height. A fork that rose goes into it if that is a pull up. Otherwise a new node in the
 -- child's slot has the fork, and nothing goes up. If none rose, at most one slot has another entry.
-abbrev pub IsLevelDone : ℕ → Bool → NodeView → NodeView → ℕ → Bool → Type 0
+abbrev pub IsLevelDone : (low : ℕ) → Bool → NodeView → NodeView → (at : ℕ) → Bool → Type 0
 IsLevelDone low false old new at up = Remains old new × (up ≡ false)
 IsLevelDone low true old new at up = (IsPullUp low old.height → TakesFork old new at up) × ((IsPullUp low old.height → ⊥) → HasNodeAt old new at × (up ≡ false))
 
@@ -77,34 +77,35 @@ pub record DoesLevel (old new : List NodeView) (n low at : ℕ) (rose up : Bool)
 -- Each node on the key's path has become what its level asks, from so many levels below t up to t. `low` says whether a fork rose to the
 -- lowest, `up` whether one rises from t.
 abbrev pub DoesLevels : List NodeView → List NodeView → Key → ℕ → Tree → Bool → Bool → Type 0
-DoesLevels old new k zero t low up = up ≡ low
-DoesLevels old new k (suc l) (leaf n j v) low up = ⊥
-DoesLevels old new k (suc l) (node n y b) low up =
-    (rose : Bool) × DoesLevels old new k l (child k b) low rose × DoesLevel old new n (height_of (seek k (subtrie b))) (spot k (subtrie b)) rose up
-DoesLevels old new k (suc l) (fork q a b) low up = ⊥
+DoesLevels old new key zero t low up = up ≡ low
+DoesLevels old new key (suc l) (leaf number own_key value) low up = ⊥
+DoesLevels old new key (suc l) (node number fixed body) low up =
+    (rose : Bool) × DoesLevels old new key l (child key body) low rose ×
+    DoesLevel old new number (height_of (seek key (subtrie body))) (spot key (subtrie body)) rose up
+DoesLevels old new key (suc l) (fork position left right) low up = ⊥
 
 -- ---- an insertion
 -- The records before and after a new leaf was added below t; `up` says whether a fork rises from t. The affected node was changed by its
 -- case, and each node above did its part with what rose to it.
-pub record IsByCase (old new : List NodeView) (k : Key) (p number : ℕ) (t : Tree) (up : Bool) : Type 0 where
+pub record IsByCase (old new : List NodeView) (key : Key) (position number : ℕ) (t : Tree) (up : Bool) : Type 0 where
   pub choice : Choice
-  pub affected : IsAffectedNode k p t choice
+  pub affected : IsAffectedNode key position t choice
   pub view : NodeView
   pub at : slice_get old affected.number ≡ Some view
-  pub does : DoesCase new affected.number choice.case view choice.first (grown p (bit k p) (Leaf number) choice.first (piece view))
-  pub rises : DoesLevels old new k choice.level t (is_overflow choice.case) up
+  pub does : DoesCase new affected.number choice.case view choice.first (grown position (bit key position) (Leaf number) choice.first (piece view))
+  pub rises : DoesLevels old new key choice.level t (is_overflow choice.case) up
 
 -- The records before and after a new leaf was added below t, by the case of the node that it affects. A leaf alone gives way to a fork of
 -- itself and the new one.
 abbrev pub AddsByCase : List NodeView → List NodeView → Key → ℕ → ℕ → Tree → Bool → Type 0
-AddsByCase old new k p number (leaf n l v) up = up ≡ true
-AddsByCase old new k p number (node n x b) up = IsByCase old new k p number (node n x b) up
-AddsByCase old new k p number (fork q a b) up = Unit {0}
+AddsByCase old new key p number (leaf n own_key value) up = up ≡ true
+AddsByCase old new key p number (node n fixed body) up = IsByCase old new key p number (node n fixed body) up
+AddsByCase old new key p number (fork position left right) up = Unit {0}
 
 -- the entry is a node whose number is `count` or more
 abbrev pub IsNewNode : ℕ → Entry → Type 0
-IsNewNode count (Leaf n) = ⊥
-IsNewNode count (Node n h) = count ≤ n
+IsNewNode count (Leaf number) = ⊥
+IsNewNode count (Node number height) = count ≤ number
 
 -- A new node was put between a node and its child in slot `at`. It shows the fork that rose there.
 pub record IsPutBetween (old new : List NodeView) (n at : ℕ) (node_view : NodeView) (shown : Subtrie) : Type 0 where

@@ -32,11 +32,11 @@ RisenShows nodes old (Split position zero one) shown = AtRootFork (λ p a b. (po
 
 -- all nodes but one stay, and new ones may come
 abbrev pub OthersStay : List NodeView → List NodeView → ℕ → Type 0
-OthersStay old new n = (m : ℕ) (v : NodeView) → n ≢ m → slice_get old m ≡ Some v → slice_get new m ≡ Some v
+OthersStay old new n = (m : ℕ) (view : NodeView) → n ≢ m → slice_get old m ≡ Some view → slice_get new m ≡ Some view
 
 -- all nodes stay, and new ones may come
 abbrev pub AllStay : List NodeView → List NodeView → Type 0
-AllStay old new = (m : ℕ) (v : NodeView) → slice_get old m ≡ Some v → slice_get new m ≡ Some v
+AllStay old new = (m : ℕ) (view : NodeView) → slice_get old m ≡ Some view → slice_get new m ≡ Some view
 
 -- the nodes with a half behind them; none is added for an entry alone
 abbrev pub pushed_nodes : List NodeView → Half → List NodeView

@@ -17,34 +17,34 @@ use Rattle.insert_cases.specs.Ways.{WayBelow}
 
 -- no node of the tree has this number
 abbrev pub NoNode : ℕ → Tree → Type 0
-NoNode n (leaf m k v) = Unit {0}
-NoNode n (node m x b) = (n ≢ m) × NoNode n b
-NoNode n (fork p a b) = NoNode n a × NoNode n b
+NoNode n (leaf number key value) = Unit {0}
+NoNode n (node number fixed body) = (n ≢ number) × NoNode n body
+NoNode n (fork position left right) = NoNode n left × NoNode n right
 
 -- the nodes whose numbers don't stand in the tree stay
 abbrev pub StaysStored : List NodeView → List NodeView → Tree → Type 0
-StaysStored old new s = (n : ℕ) (v : NodeView) → NoNode n s → slice_get old n ≡ Some v → slice_get new n ≡ Some v
+StaysStored old new tree = (n : ℕ) (view : NodeView) → NoNode n tree → slice_get old n ≡ Some view → slice_get new n ≡ Some view
 
 -- In place of s the new nodes show a tree with one leaf more. It begins with this subtrie, and its entries are lower than h. All nodes but
 -- those of s are as they were.
-pub record IsRaised (old new : List NodeView) (leaves : List LeafRecord) (x : Item) (p : ℕ) (s : Tree) (h : ℕ) (head : Subtrie) : Type 0 where
+pub record IsRaised (old new : List NodeView) (leaves : List LeafRecord) (item : Item) (p : ℕ) (s : Tree) (h : ℕ) (head : Subtrie) : Type 0 where
   pub tree : Tree
   pub begins : subtrie tree ≡ head
-  pub adds : IsAdded x p s tree
+  pub adds : IsAdded item p s tree
   pub built : IsBuilt tree
   pub lower : IsLower h tree
   pub shown : ShowsTree new leaves tree
   pub kept : StaysStored old new s
 
 -- The records show a tree at an entry, and a new leaf besides. Its key differs first at p from that of the leaf where its search ends.
-pub record IsAddable (nodes : List NodeView) (leaves : List LeafRecord) (x : Item) (p : ℕ) (e : Entry) (t : Tree) : Type 0 where
-  pub head : subtrie t ≡ Place e
-  pub trie : IsTrie t
-  pub built : IsBuilt t
-  pub shown : ShowsTree nodes leaves t
-  pub key : IsKey x.key
-  pub differ : IsFirstDifference x.key (found x.key t).key p
-  pub new : slice_get leaves x.number ≡ Some (item_record x)
+pub record IsAddable (nodes : List NodeView) (leaves : List LeafRecord) (item : Item) (p : ℕ) (entry : Entry) (tree : Tree) : Type 0 where
+  pub head : subtrie tree ≡ Place entry
+  pub trie : IsTrie tree
+  pub built : IsBuilt tree
+  pub shown : ShowsTree nodes leaves tree
+  pub key : IsKey item.key
+  pub differ : IsFirstDifference item.key (found item.key tree).key p
+  pub new : slice_get leaves item.number ≡ Some (item_record item)
 
 -- the nodes and the leaves of a trie
 pub record Records : Type 0 where
@@ -63,19 +63,19 @@ pub record Level : Type 0 where
   pub low : ℕ
 
 -- the level of these numbers
-abbrev pub level : ℕ → ℕ → ℕ → ℕ → Level
+abbrev pub level : (number height at low : ℕ) → Level
 level number height at low = record { number = number; height = height; at = at; low = low }
 
 -- A new leaf was added below a node of the old records, as far up as the child on the key's path. This subtrie takes the child's place.
-pub record IsLifting (old : Records) (new : List NodeView) (x : Item) (p : ℕ) (l : Level) (y : Fixed) (b : Tree) (head : Subtrie) : Type 0 where
-  pub trie : IsTrie b
-  pub built : IsBuilt (node l.number y b)
-  pub shown : ShowsTree old.nodes old.leaves (node l.number y b)
-  pub below : WayBelow p x.key b
-  pub high_is : y.height ≡ l.height
-  pub at_is : l.at ≡ spot x.key (subtrie b)
+pub record IsLifting (old : Records) (new : List NodeView) (item : Item) (p : ℕ) (l : Level) (fixed : Fixed) (tree : Tree) (head : Subtrie) : Type 0 where
+  pub trie : IsTrie tree
+  pub built : IsBuilt (node l.number fixed tree)
+  pub shown : ShowsTree old.nodes old.leaves (node l.number fixed tree)
+  pub below : WayBelow p item.key tree
+  pub high_is : fixed.height ≡ l.height
+  pub at_is : l.at ≡ spot item.key (subtrie tree)
   pub lower : l.low < l.height
-  pub up : IsRaised old.nodes new old.leaves x p (child x.key b) (suc l.low) head
+  pub up : IsRaised old.nodes new old.leaves item p (child item.key tree) (suc l.low) head
 
 -- one node more stands behind the others, built for this subtrie, and the entry names it
 pub record IsNew (old new : List NodeView) (entry : Entry) (shown : Subtrie) : Type 0 where

@@ -9,39 +9,39 @@ use Rattle.tries.specs.Tree.{Subtrie, Fixed, Tree, leaf, node, fork, subtrie, Is
 use Rattle.plain_trie_records.specs.declared.leaf.LeafRecord.{LeafRecord}
 
 -- record n has a node with this head, which shows this subtrie
-pub record IsNodeStored (nodes : List NodeView) (n : ℕ) (x : Fixed) (p : Subtrie) : Type 0 where
+pub record IsNodeStored (nodes : List NodeView) (n : ℕ) (x : Fixed) (trie : Subtrie) : Type 0 where
   pub view : NodeView
   pub at : slice_get nodes n ≡ Some view
   pub fixed : head_of view ≡ x
-  pub shows : piece view ≡ p
+  pub shows : piece view ≡ trie
 
 -- the records show the tree
 abbrev pub ShowsTree : List NodeView → List LeafRecord → Tree → Type 0
-ShowsTree nodes leaves (leaf n k v) = slice_get leaves n ≡ Some (record { key = k; value = v })
-ShowsTree nodes leaves (node n x b) = IsNodeStored nodes n x (subtrie b) × ShowsTree nodes leaves b
-ShowsTree nodes leaves (fork p a b) = ShowsTree nodes leaves a × ShowsTree nodes leaves b
+ShowsTree nodes leaves (leaf number key value) = slice_get leaves number ≡ Some (record { key = key; value = value })
+ShowsTree nodes leaves (node number fixed body) = IsNodeStored nodes number fixed (subtrie body) × ShowsTree nodes leaves body
+ShowsTree nodes leaves (fork position left right) = ShowsTree nodes leaves left × ShowsTree nodes leaves right
 
 -- the tree of a node, read by what its entries show, if it has this height
 abbrev pub read_node : (Entry → Option Tree) → ℕ → ℕ → Option NodeView → Option Tree
-read_node f n h (Some v) = if nat_eq v.height h then join_node n (head_of v) (read_subtrie f (piece v)) else None
+read_node f n h (Some view) = if nat_eq view.height h then join_node n (head_of view) (read_subtrie f (piece view)) else None
 read_node f n h None = None
 
 -- the tree that an entry shows in these records, read down to a bounded depth
 abbrev pub entry_tree : List NodeView → List LeafRecord → ℕ → Entry → Option Tree
-entry_tree nodes leaves f (Leaf n) = option_map (λ (l : LeafRecord). leaf n l.key l.value) (slice_get leaves n)
-entry_tree nodes leaves zero (Node n h) = None
-entry_tree nodes leaves (suc f) (Node n h) = read_node (entry_tree nodes leaves f) n h (slice_get nodes n)
+entry_tree nodes leaves f (Leaf number) = option_map (λ (l : LeafRecord). leaf number l.key l.value) (slice_get leaves number)
+entry_tree nodes leaves zero (Node number height) = None
+entry_tree nodes leaves (suc f) (Node number height) = read_node (entry_tree nodes leaves f) number height (slice_get nodes number)
 
 -- the tree is a bit trie, in which each node has two entries or more and a height above theirs
-pub record IsSound (t : Tree) : Type 0 where
-  pub trie : IsTrie t
-  pub built : IsBuilt t
+pub record IsSound (tree : Tree) : Type 0 where
+  pub trie : IsTrie tree
+  pub built : IsBuilt tree
 
 -- the records show the tree, which is sound
-pub record ShowsSound (nodes : List NodeView) (leaves : List LeafRecord) (t : Tree) : Type 0 where
-  pub shown : ShowsTree nodes leaves t
-  pub sound : IsSound t
+pub record ShowsSound (nodes : List NodeView) (leaves : List LeafRecord) (tree : Tree) : Type 0 where
+  pub shown : ShowsTree nodes leaves tree
+  pub sound : IsSound tree
 
 -- the record of a leaf with this key and value
 abbrev pub item_record : Item → LeafRecord
-item_record x = record { key = x.key; value = x.value }
+item_record item = record { key = item.key; value = item.value }

@@ -29,7 +29,7 @@ use Rattle.rowex_core.specs.declared.event.Spot.TheVariants.{Slot}
 use Rattle.rowex_core.specs.declared.known.Known.{Known}
 use Rattle.rowex_core.specs.declared.known.Locked.{Locked}
 use Rattle.rowex_core.specs.Reading.{node_words_of, leaf_of, IsPacked}
-use Rattle.rowex_core.specs.Cores.{Core, IsLawful, IsWhole, bare, heap_of}
+use Rattle.rowex_core.specs.Cores.{Core, IsLawful, MustSpellValue, bare, heap_of}
 use Rattle.rowex_core.specs.Events.{IsPackedAt, IsLockedAt, stored_words}
 use Rattle.rowex_core.specs.Sharing.{IsLocked, IsOwned}
 use Rattle.rowex_core.specs.Knowing.{Knows}
@@ -82,7 +82,7 @@ module _ (layout : Layout) (k : Known) (held : List Locked) (news : List Made) (
       let (lock, tree, same) = stage.locks (record { node = o; words = words }) h in
       let now : node_words_of (c.words (a_node o)) ≡ node_words_of words = ap node_words_of same in
       let sized = stage.lawful.records.sized (a_node o) in
-      let (view, has, spells) = stage.lawful.records.packed (a_node o) (subst IsWhole (sym tree.1) tt) in
+      let (view, has, spells) = stage.lawful.records.packed (a_node o) (subst MustSpellValue (sym tree.1) tt) in
       let is_node = node_is view (c.words (a_node o)) sized.1 has spells in
       let view_subtrie : (node_words_of words).subtrie ≡ piece view = ap (λ (z : NodeWords). z.subtrie) (sym now ∙ is_node) in
       let view_height : (node_words_of words).fixed.height ≡ view.height = ap (λ (z : NodeWords). z.fixed.height) (sym now ∙ is_node) in

@@ -8,8 +8,8 @@ use Rattle.compound_node.specs.declared.entries.Entry.{Entry}
 use Rattle.version_laws.specs.Ways.{IsOnWay, IsWayFrom}
 use Rattle.tries.specs.Tree.{Subtrie, first_position}
 use Rattle.compound_node.specs.declared.entries.Entry.TheVariants.{Node, Leaf}
-use Rattle.version_laws.specs.Scan.{EntryStoodSince, IsShaped, IsPlaced, IsRead}
-use Rattle.versions.specs.State.{Past, IsReach, IsSteady}
+use Rattle.version_laws.specs.Scan.{EntryStoodSince, HadShapeSince, IsPlaced, IsRead}
+use Rattle.versions.specs.State.{Past, IsReach, KeepsFixedWordsSince}
 use Rattle.versions.specs.Core.{pin_version}
 use Rattle.versions.specs.Frames.{IsGrown}
 use Rattle.versions.proofs.State.{steady}
@@ -29,7 +29,7 @@ use Rattle.rowex_table.proofs.Made.ActsBefore.{recalls_before}
 pub reach_since : (k : Known) (m : ℕ) → IsPinnedSince k m → (c : Core) → IsLawful c → Recalls c k → IsReach (view c) m
 reach_since k m (pin, pinned, early) c law recalls n le = law.core.state.reach k.pass pin.version (ap pin_version (recalls.pin ∙ pinned)) n (omega arith)
 
-steady_since : (k : Known) (m : ℕ) → IsPinnedSince k m → (c : Core) → IsLawful c → Recalls c k → IsSteady c.past m
+steady_since : (k : Known) (m : ℕ) → IsPinnedSince k m → (c : Core) → IsLawful c → Recalls c k → KeepsFixedWordsSince c.past m
 steady_since k m since c law recalls = steady (view c) law.core.state m (reach_since k m since c law recalls)
 
 -- What holds of the versions that a pass has seen, in each lawful core in which what it recalls is true, and holds of each longer past
@@ -47,7 +47,7 @@ pub sure_stays : (k j : Known) (P : Past → Type 0) → IsLater k j → IsSure 
 sure_stays k j P later sure c law recalls = sure c law (recalls_before later recalls)
 
 -- A pass's descent below its lock begins at a node to which it was led,
-pub descent_begins : (k : Known) (m a h r : ℕ) (x : Subtrie) → IsPinnedSince k m → IsSure k (λ s. EntryStoodSince s m (Node a h)) → IsSure k (λ s. IsShaped s m a x) → first_position x ≡ r →
+pub descent_begins : (k : Known) (m a h r : ℕ) (x : Subtrie) → IsPinnedSince k m → IsSure k (λ s. EntryStoodSince s m (Node a h)) → IsSure k (λ s. HadShapeSince s m a x) → first_position x ≡ r →
     IsSure k (λ s. IsOnWay s m r a (Node a h))
 descent_begins k m a h r x since led shaped first c law recalls = way_begins c.past m (steady_since k m since c law recalls) a h r x (led c law recalls) (shaped c law recalls) first
 

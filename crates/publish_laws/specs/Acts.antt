@@ -25,21 +25,23 @@ use Rattle.publish_laws.specs.Stages.{IsSure}
 -- A pass may lock a node to which it was led since its pin.
 abbrev pub LedMayLock : Type 0
 LedMayLock =
-    (layout : Layout) (k : Known) (since n h : ℕ) → IsPinnedSince k since → IsSure k (λ s. EntryStoodSince s since (Node n h)) → MayLock layout (NodeTarget n) k
+    (layout : Layout) (known : Known) (since n height : ℕ) → IsPinnedSince known since →
+    IsSure known (λ past. EntryStoodSince past since (Node n height)) → MayLock layout (NodeTarget n) known
 
 -- A pass may lock the node beside the key's path in a node that it has locked. It is the one entry on the other side of the last fork.
 abbrev pub BesideMayLock : Type 0
 BesideMayLock =
-    (layout : Layout) (k : Known) (key : Key) (o m position height : ℕ) (words : List ℕ) → IsOneOf (record { node = o; words = words }) k.locks →
-    subtrie_sibling key (node_words_of words).subtrie ≡ Some (position, Place (Node m height)) → MayLock layout (NodeTarget m) k
+    (layout : Layout) (known : Known) (key : Key) (o m position height : ℕ) (words : List ℕ) →
+    IsOneOf (record { node = o; words = words }) known.locks →
+    subtrie_sibling key (node_words_of words).subtrie ≡ Some (position, Place (Node m height)) → MayLock layout (NodeTarget m) known
 
 -- A load from a node that the pass has locked finds the word that the pass knows.
 abbrev pub LoadsOfLocked : Type 0
 LoadsOfLocked =
-    (layout : Layout) (k j : Known) (n : ℕ) (words : List ℕ) → IsOneOf (record { node = n; words = words }) k.locks →
-    ((i w : ℕ) → IsEvent layout (LoadRef (Slot n i) w) silent k j → w ≡ get_or words (HEAD_WORDS + i) 0) ×
-    ((i w : ℕ) → IsEvent layout (LoadFixed (a_node n) (i + FIELDS_OFFSET) w) silent k j → w ≡ get_or words i 0)
+    (layout : Layout) (old new : Known) (n : ℕ) (words : List ℕ) → IsOneOf (record { node = n; words = words }) old.locks →
+    ((i word : ℕ) → IsEvent layout (LoadRef (Slot n i) word) silent old new → word ≡ get_or words (HEAD_WORDS + i) 0) ×
+    ((i word : ℕ) → IsEvent layout (LoadFixed (a_node n) (i + FIELDS_OFFSET) word) silent old new → word ≡ get_or words i 0)
 
 -- After each act but a publish, a pin or an unpin, a pass recalls all that it did before.
 abbrev pub ActGoesOn : Type 0
-ActGoesOn = (layout : Layout) (k j : Known) (act : Act) → KeepsRecall act → IsEvent layout act silent k j → IsLater k j
+ActGoesOn = (layout : Layout) (old new : Known) (act : Act) → KeepsRecall act → IsEvent layout act silent old new → IsLater old new

@@ -13,45 +13,45 @@ use Rattle.rowex_table.specs.Runs.{Runs}
 use Rattle.rowex_table.specs.Seats.{TableView, SeatView}
 
 -- The table has one pass, and the steps that the seat's pass knows lead from a new table to this core.
-pub record IsLone (layout : Layout) (s : SeatView) (c : Core) : Type 0 where
+pub record IsLone (layout : Layout) (seat : SeatView) (core : Core) : Type 0 where
   pub passes : layout.passes ≡ 1
-  pub led : EventsLead (opening layout) s.trace c
+  pub led : EventsLead (opening layout) seat.trace core
 
 -- a record of this fate stands in no tree
 abbrev pub IsOut : Fate → Type 0
 IsOut (InTree since) = ⊥
-IsOut f = Unit {0}
+IsOut fate = Unit {0}
 
 -- A record of this fate is free, or some pass has claimed and not linked it.
 abbrev pub IsUnused : Fate → Type 0
 IsUnused Free = Unit {0}
-IsUnused (Held q) = Unit {0}
-IsUnused (Ready q) = Unit {0}
-IsUnused f = ⊥
+IsUnused (Held pass) = Unit {0}
+IsUnused (Ready pass) = Unit {0}
+IsUnused fate = ⊥
 
 -- Node record n stands in no tree after the steps that the table's only pass knows.
 abbrev pub IsOutAt : Layout → SeatView → ℕ → Type 0
-IsOutAt layout s n = (c : Core) → IsLone layout s c → IsOut (c.fate (a_node n))
+IsOutAt layout seat n = (core : Core) → IsLone layout seat core → IsOut (core.fate (a_node n))
 
 -- Node record n is free after the steps that the table's only pass knows.
 abbrev pub IsFreeAt : Layout → SeatView → ℕ → Type 0
-IsFreeAt layout s n = (c : Core) → IsLone layout s c → c.fate (a_node n) ≡ Free
+IsFreeAt layout seat n = (core : Core) → IsLone layout seat core → core.fate (a_node n) ≡ Free
 
 -- Some node record stands in no tree after the steps that the table's only pass knows, so it is spare.
 abbrev pub HasSpare : Layout → SeatView → Type 0
-HasSpare layout s = (c : Core) → IsLone layout s c → (n : ℕ) × (n < layout.nodes) × IsOut (c.fate (a_node n))
+HasSpare layout seat = (core : Core) → IsLone layout seat core → (n : ℕ) × (n < layout.nodes) × IsOut (core.fate (a_node n))
 
 -- Some node record is free after the steps that the table's only pass knows.
 abbrev pub HasFree : Layout → SeatView → Type 0
-HasFree layout s = (n : ℕ) × (n < layout.nodes) × IsFreeAt layout s n
+HasFree layout seat = (n : ℕ) × (n < layout.nodes) × IsFreeAt layout seat n
 
 -- The table has one pass, and some node record is free.
 abbrev pub HasRoom : Layout → SeatView → Type 0
-HasRoom layout s = (layout.passes ≡ 1) × HasFree layout s
+HasRoom layout seat = (layout.passes ≡ 1) × HasFree layout seat
 
 -- If a node record was spare before, one still is.
 abbrev pub KeepsSpare : Layout → SeatView → SeatView → Type 0
-KeepsSpare layout s t = HasSpare layout s → HasSpare layout t
+KeepsSpare layout old new = HasSpare layout old → HasSpare layout new
 
 -- the step is no publish, and no bulk load
 abbrev pub LeavesTree : Act → Type 0
@@ -62,10 +62,11 @@ LeavesTree act = Unit {0}
 -- steps that are no publishes leave a node record spare
 abbrev pub SpareStays : {G : Type 0} → (G → Event → G → Type 0) → Type 0
 SpareStays {G = G} becomes =
-    (table : TableView) (acts : List Act) (a b : SeatView × G) → All LeavesTree acts → Runs table becomes acts a b → KeepsSpare table.layout a.0 b.0
+    (table : TableView) (acts : List Act) (old new : SeatView × G) → All LeavesTree acts → Runs table becomes acts old new →
+    KeepsSpare table.layout old.0 new.0
 
 -- steps that are no publishes leave a free node record free, if the pass then has no record
 abbrev pub FreeStays : {G : Type 0} → (G → Event → G → Type 0) → Type 0
 FreeStays {G = G} becomes =
-    (table : TableView) (acts : List Act) (a b : SeatView × G) → All LeavesTree acts → Runs table becomes acts a b → b.0.known.own ≡ [] →
-    (n : ℕ) → IsFreeAt table.layout a.0 n → IsFreeAt table.layout b.0 n
+    (table : TableView) (acts : List Act) (old new : SeatView × G) → All LeavesTree acts → Runs table becomes acts old new → new.0.known.own ≡ [] →
+    (n : ℕ) → IsFreeAt table.layout old.0 n → IsFreeAt table.layout new.0 n

@@ -30,28 +30,28 @@ made_of_node m view = record { rec = a_node m; words = node_words view }
 
 -- a new leaf record with these words
 abbrev pub made_of_leaf : Item → List ℕ → Made
-made_of_leaf x words = record { rec = a_leaf x.number; words = words }
+made_of_leaf item words = record { rec = a_leaf item.number; words = words }
 
 -- The node was built anew: it has words, and its height is one above the greatest of its entries.
 abbrev pub IsBuiltAnew : NodeView → Type 0
 IsBuiltAnew view = HasNodeWords view × (view.height ≡ 1 + greatest_height view.entries)
 
 -- The entry for a subtrie, and the records made for it. It is the subtrie itself if that is one entry, or else a new node.
-pub data IsSide (x : Subtrie) : Entry → List Made → Type 0 where
-  one : (e : Entry) → x ≡ Place e → IsSide x e []
-  anew : (m : ℕ) (view : NodeView) → IsBuiltAnew view → piece view ≡ x → IsSide x (Node m view.height) (made_of_node m view ∷ [])
+pub data IsSide (trie : Subtrie) : Entry → List Made → Type 0 where
+  one : (entry : Entry) → trie ≡ Place entry → IsSide trie entry []
+  anew : (m : ℕ) (view : NodeView) → IsBuiltAnew view → piece view ≡ trie → IsSide trie (Node m view.height) (made_of_node m view ∷ [])
 
 -- The lowest node
 
 -- From the locked node with these words on, the newcomer's search ended as `Newcomer` says. The pass's pin goes back to the newcomer's
 -- version.
-pub record HasFoundBelow (k : Known) (held : List Locked) (x : Newcomer) (n : ℕ) (words : List ℕ) : Type 0 where
-  pub leaf : HasLeafWords (x.item.key, x.item.value)
-  pub pinned : IsPinnedSince k x.since
+pub record HasFoundBelow (known : Known) (held : List Locked) (newcomer : Newcomer) (n : ℕ) (words : List ℕ) : Type 0 where
+  pub leaf : HasLeafWords (newcomer.item.key, newcomer.item.value)
+  pub pinned : IsPinnedSince known newcomer.since
   pub locked : IsOneOf (record { node = n; words = words }) held
-  pub way : IsSure k (λ s. IsWayBelow s x.since x.item.key (node_words_of words).subtrie x.like)
-  pub agree : AgreeBelow x.mismatch x.item.key x.like
-  pub differ : bit x.item.key x.mismatch ≢ bit x.like x.mismatch
+  pub way : IsSure known (λ past. IsWayBelow past newcomer.since newcomer.item.key (node_words_of words).subtrie newcomer.like)
+  pub agree : AgreeBelow newcomer.mismatch newcomer.item.key newcomer.like
+  pub differ : bit newcomer.item.key newcomer.mismatch ≢ bit newcomer.like newcomer.mismatch
 
 -- Further up
 
@@ -59,5 +59,5 @@ pub record HasFoundBelow (k : Known) (held : List Locked) (x : Newcomer) (n : �
 -- needs no other check than that its entry names it.
 abbrev pub AboveGoesOn : Type 0
 AboveGoesOn =
-    (layout : Layout) (k : Known) (held : List Locked) (news : List Made) (c : Core) → IsStage layout k held news c →
+    (layout : Layout) (known : Known) (held : List Locked) (news : List Made) (core : Core) → IsStage layout known held news core →
     (key : Key) (p o n : ℕ) (a : IsLockedAbove held key p o n) → FirstForkIsBefore p (node_words_of a.upper).subtrie

@@ -18,30 +18,31 @@ use Rattle.rowex_core.specs.Reading.{node_words_of}
 
 -- The pass holds the lock of this spot on the key's path, at which the entry d stands. It holds the anchor's lock, and d is the root. Or it
 -- holds that of a node with these words, and d is its entry on the path.
-pub data HoldsAt (k : Known) (held : List Locked) (key : Key) (d : Entry) : Spot → Type 0 where
-  at_root : k.anchor ≡ Some (Some d) → HoldsAt k held key d Root
+pub data HoldsAt (known : Known) (held : List Locked) (key : Key) (d : Entry) : Spot → Type 0 where
+  at_root : known.anchor ≡ Some (Some d) → HoldsAt known held key d Root
   in_node : (o slot : ℕ) (words : List ℕ) → IsOneOf (record { node = o; words = words }) held → seek key (node_words_of words).subtrie ≡ d →
-      spot key (node_words_of words).subtrie ≡ slot → HoldsAt k held key d (Slot o slot)
+      spot key (node_words_of words).subtrie ≡ slot → HoldsAt known held key d (Slot o slot)
 
 -- The entry may stand at the spot: in a node it is lower than the node.
 abbrev pub FitsAt : {k : Known} {held : List Locked} {key : Key} {d : Entry} {at : Spot} → HoldsAt k held key d at → Entry → Type 0
-FitsAt (at_root root) e = Unit {0}
-FitsAt (in_node o slot words has names place) e = IsLowerSubtrie (node_words_of words).fixed.height (Place e)
+FitsAt (at_root root) entry = Unit {0}
+FitsAt (in_node o slot words has names place) entry = IsLowerSubtrie (node_words_of words).fixed.height (Place entry)
 
 -- What there is below an entry: the subtrie of a locked node, or the leaf alone.
 abbrev pub IsSubtrieBelow : List Locked → Entry → Subtrie → Type 0
-IsSubtrieBelow held (Leaf j) r = r ≡ Place (Leaf j)
-IsSubtrieBelow held (Node n h) r = (words : List ℕ) × IsOneOf (record { node = n; words = words }) held × (r ≡ (node_words_of words).subtrie)
+IsSubtrieBelow held (Leaf number) trie = trie ≡ Place (Leaf number)
+IsSubtrieBelow held (Node number height) trie =
+    (words : List ℕ) × IsOneOf (record { node = number; words = words }) held × (trie ≡ (node_words_of words).subtrie)
 
 -- An insertion affects no more of a node than the entry at the spot, where the key first differs at p.
 abbrev pub AffectsSpotAlone : {k : Known} {held : List Locked} {key : Key} {d : Entry} {at : Spot} → HoldsAt k held key d at → ℕ → Type 0
 AffectsSpotAlone (at_root root) p = Unit {0}
 AffectsSpotAlone {held = held} {key = key} {d = d} (in_node o slot words has names place) p =
-    (r : Subtrie) × IsSubtrieBelow held d r × AffectsOne p key (node_words_of words).subtrie r
+    (trie : Subtrie) × IsSubtrieBelow held d trie × AffectsOne p key (node_words_of words).subtrie trie
 
 -- The spot of the locked node n. In an insertion at p the entry e may take the node's place there.
-pub record IsSpotOf (k : Known) (held : List Locked) (key : Key) (p n : ℕ) (e : Entry) (at : Spot) : Type 0 where
+pub record IsSpotOf (known : Known) (held : List Locked) (key : Key) (p n : ℕ) (e : Entry) (at : Spot) : Type 0 where
   pub height : ℕ
-  pub holds : HoldsAt k held key (Node n height) at
+  pub holds : HoldsAt known held key (Node n height) at
   pub alone : AffectsSpotAlone holds p
   pub fits : FitsAt holds e

@@ -27,35 +27,35 @@ use Rattle.rowex_table.specs.Made.{Made, held_as, recs_of}
 
 -- The property holds of the past of each lawful core in which what the pass recalls is true.
 abbrev pub IsSure : Known → (Past → Type 0) → Type 0
-IsSure k P = (c : Core) → IsLawful c → Recalls c k → P c.past
+IsSure known P = (core : Core) → IsLawful core → Recalls core known → P core.past
 
 -- A core at which the pass may publish. What it recalls is true, these nodes are locked by it, and these records are its own and ready, all
 -- with these words.
-pub record IsStage (layout : Layout) (k : Known) (held : List Locked) (news : List Made) (c : Core) : Type 0 where
-  pub lawful : IsLawful c
-  pub layout_is : c.layout ≡ layout
-  pub recalls : Recalls c k
-  pub locks : (l : Locked) → IsOneOf l held → IsLocked k.pass c l
-  pub made : (m : Made) → IsOneOf m news → IsOwned k.pass c (held_as Ready m)
+pub record IsStage (layout : Layout) (known : Known) (held : List Locked) (news : List Made) (core : Core) : Type 0 where
+  pub lawful : IsLawful core
+  pub layout_is : core.layout ≡ layout
+  pub recalls : Recalls core known
+  pub locks : (lock : Locked) → IsOneOf lock held → IsLocked known.pass core lock
+  pub made : (m : Made) → IsOneOf m news → IsOwned known.pass core (held_as Ready m)
 
 -- The pass has just these locks, and just these records, which it has made ready.
-pub record HasReady (k : Known) (held : List Locked) (news : List Made) : Type 0 where
-  pub locks : k.locks ≡ held
-  pub own : k.own ≡ map (held_as Ready) news
+pub record HasReady (known : Known) (held : List Locked) (news : List Made) : Type 0 where
+  pub locks : known.locks ≡ held
+  pub own : known.own ≡ map (held_as Ready) news
 
 -- the words of a leaf record spell this leaf's key and value
 abbrev pub SpellsLeaf : Item → List ℕ → Type 0
-SpellsLeaf x words = HasLeafWords (x.key, x.value) × (leaf_words (x.key, x.value) ≡ up_to_key words)
+SpellsLeaf item words = HasLeafWords (item.key, item.value) × (leaf_words (item.key, item.value) ≡ up_to_key words)
 
 -- One of the new records is this leaf.
 abbrev pub HasLeaf : List Made → Item → Type 0
-HasLeaf news x = (words : List ℕ) × IsOneOf (record { rec = a_leaf x.number; words = words }) news × SpellsLeaf x words
+HasLeaf news item = (words : List ℕ) × IsOneOf (record { rec = a_leaf item.number; words = words }) news × SpellsLeaf item words
 
 -- In each stage the subtrie is what takes the place of the node's body or entry when the key is added. It links just the records made, the
 -- one made last first. It unlinks just the records `gone`.
 abbrev pub HasRisen : Layout → Known → List Locked → List Made → Newcomer → Side → Subtrie → List Rec → Type 0
-HasRisen layout k held news x d r gone = (c : Core) → IsStage layout k held news c →
-    (i : IsRise (bare c) k.pass x d r) × (linked_by_rise i ≡ recs_of news) × (unlinked_by_rise i ≡ gone)
+HasRisen layout known held news newcomer side trie gone = (core : Core) → IsStage layout known held news core →
+    (i : IsRise (bare core) known.pass newcomer side trie) × (linked_by_rise i ≡ recs_of news) × (unlinked_by_rise i ≡ gone)
 
 -- By their words, the locked node o's entry on the key's path names the locked node n. An insertion at p affects no more of o than that
 -- entry.
@@ -90,8 +90,8 @@ merged {key = key} b = fork_of (bit key b.position) b.position (subtrie_without 
 
 -- In each stage leaf j has this key.
 abbrev pub IsLeafThere : Layout → Known → List Locked → List Made → ℕ → Key → Type 0
-IsLeafThere layout k held news j key = (c : Core) → IsStage layout k held news c → (leaf_of (c.words (a_leaf j))).key ≡ key
+IsLeafThere layout known held news j key = (core : Core) → IsStage layout known held news core → (leaf_of (core.words (a_leaf j))).key ≡ key
 
 -- The pass has loaded this value of leaf j. It has neither locked nor unlocked, published or marked since.
 abbrev pub HasLoaded : Known → ℕ → ℕ → Type 0
-HasLoaded k j value = IsOneOf (record { leaf = j; value = value }) k.values
+HasLoaded known j value = IsOneOf (record { leaf = j; value = value }) known.values

@@ -17,6 +17,9 @@ use Rattle.publish_laws.specs.Rises.{HasFoundBelow}
 -- insertion asks of the lowest locked node is known.
 abbrev pub DescentFinds : Type 0
 DescentFinds =
-    (k : Known) (held : List Locked) (x : Newcomer) (n : ℕ) (words : List ℕ) → HasLeafWords (x.item.key, x.item.value) → IsPinnedSince k x.since →
-    IsOneOf (record { node = n; words = words }) held → IsSure k (λ s. IsWayFrom s x.since x.like (seek x.item.key (node_words_of words).subtrie)) →
-    AgreeBelow x.mismatch x.item.key x.like → bit x.item.key x.mismatch ≢ bit x.like x.mismatch → HasFoundBelow k held x n words
+    (known : Known) (held : List Locked) (newcomer : Newcomer) (n : ℕ) (words : List ℕ) → HasLeafWords (newcomer.item.key, newcomer.item.value) →
+    IsPinnedSince known newcomer.since →
+    IsOneOf (record { node = n; words = words }) held →
+    IsSure known (λ past. IsWayFrom past newcomer.since newcomer.like (seek newcomer.item.key (node_words_of words).subtrie)) →
+    AgreeBelow newcomer.mismatch newcomer.item.key newcomer.like → bit newcomer.item.key newcomer.mismatch ≢ bit newcomer.like newcomer.mismatch →
+    HasFoundBelow known held newcomer n words

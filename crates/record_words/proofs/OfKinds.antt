@@ -9,7 +9,7 @@ use Rattle.record_words.specs.declared.kind.HeadKind.{HeadKind}
 use Rattle.record_words.specs.declared.kind.HeadKind.TheVariants.{Middle, Narrow, Wide}
 
 -- a position in the sixteen bytes from this one on, and not the bit that says that there is a byte
-pub record IsNear (first p : ℕ) : Type 0 where
+pub record KeepsAllButOneEntry (first p : ℕ) : Type 0 where
   pub a_bit : p % 9 ≢ 0
   pub below : p / 9 < first + 16
 
@@ -17,7 +17,7 @@ pub record IsNear (first p : ℕ) : Type 0 where
 pub record AreNear (columns : List ℕ) (most : ℕ) : Type 0 where
   pub few : length columns ≤ most
   pub within : first_byte columns + 16 ≤ 240
-  pub each : (i : ℕ) → i < length columns → IsNear (first_byte columns) (get_or columns i 0)
+  pub each : (i : ℕ) → i < length columns → KeepsAllButOneEntry (first_byte columns) (get_or columns i 0)
 
 and_left : (a b : Bool) → a && b ≡ true → a ≡ true
 and_left true b e = refl
@@ -36,7 +36,7 @@ each_of t [] e i l = absurd (omega (arith, l))
 each_of t (x ∷ xs) e zero l = and_left (t x) (all t xs) e
 each_of t (x ∷ xs) e (suc i) l = each_of t xs (and_right (t x) (all t xs) e) i (omega (arith, l))
 
-near_one : (first p : ℕ) → is_near first p ≡ true → IsNear first p
+near_one : (first p : ℕ) → is_near first p ≡ true → KeepsAllButOneEntry first p
 near_one first p e = record {
   a_bit = eqb-false (p % 9) 0 (not_true (eqb (p % 9) 0) (and_left (not (eqb (p % 9) 0)) (nat_lt (p / 9) (first + 16)) e));
   below = ltb-true (p / 9) (first + 16) (and_right (not (eqb (p % 9) 0)) (nat_lt (p / 9) (first + 16)) e);

@@ -16,7 +16,8 @@ use Rattle.record_words.specs.declared.TheConstants.{FIRST_KEY_WORD, FIRST_MIDDL
 -- ---- an entry word
 -- the entry that a word spells
 unfoldable pub entry_of : ℕ → Option Entry
-entry_of w = if nat_eq w (entry_word None) then None else (if nat_eq (w % 4) 1 then Some (Leaf (w / 4)) else Some (Node (w / 4 % 2 ^ 32) (w / 2 ^ HEIGHT_BIT)))
+entry_of word =
+    if nat_eq word (entry_word None) then None else (if nat_eq (word % 4) 1 then Some (Leaf (word / 4)) else Some (Node (word / 4 % 2 ^ 32) (word / 2 ^ HEIGHT_BIT)))
 
 -- ---- the words of a head
 -- the number of entries that the first word tells

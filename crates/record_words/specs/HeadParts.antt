@@ -41,5 +41,5 @@ pub record AreNumbersOf (numbers : HeadNumbers) (node : NodeView) : Type 0 where
   pub first_is : numbers.kind ≢ Wide → numbers.first_byte ≡ first_byte node.columns
 
 -- each node whose head has these numbers, and this word at this index, has the property
-abbrev pub InNodesWith : HeadNumbers → ℕ → ℕ → (NodeView → Type 0) → Type 0
+abbrev pub InNodesWith : HeadNumbers → (index word : ℕ) → (NodeView → Type 0) → Type 0
 InNodesWith numbers index word IsSo = (node : NodeView) → IsLawfulNode node → AreNumbersOf numbers node → slice_index (head_words (head_of node)) index ≡ word → IsSo node

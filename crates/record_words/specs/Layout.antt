@@ -42,7 +42,7 @@ class_for bytes =
     (if nat_le (words_for bytes) LARGE_WORDS then Large else (if nat_le (words_for bytes) WIDE_WORDS then Wide else Long)))
 
 -- a stock of so many node records, and so many leaf records of one class
-abbrev pub stock_of : ℕ → LeafClass → ℕ → Stock
+abbrev pub stock_of : (nodes : ℕ) → LeafClass → (leaves : ℕ) → Stock
 stock_of nodes Short leaves = record { nodes = nodes; short = leaves; medium = 0; large = 0; wide = 0; long = 0 }
 stock_of nodes Medium leaves = record { nodes = nodes; short = 0; medium = leaves; large = 0; wide = 0; long = 0 }
 stock_of nodes Large leaves = record { nodes = nodes; short = 0; medium = 0; large = leaves; wide = 0; long = 0 }
@@ -56,7 +56,7 @@ spare_for count = if nat_le count FEW_KEYS then FEW_SPARE else min (LEAST_SPARE 
 
 -- The stock for so many keys of at most so many bytes. It has a node record for KEYS_A_NODE keys, a leaf record for each key, and one more
 -- for KEYS_A_SPARE_LEAF keys. The spare records are added, but no more leaf records than a table may have.
-abbrev pub stock_for : ℕ → ℕ → Stock
+abbrev pub stock_for : (count bytes : ℕ) → Stock
 stock_for count bytes = stock_of (count / KEYS_A_NODE + spare_for count) (class_for bytes) (min (count + count / KEYS_A_SPARE_LEAF + spare_for count) (2 ^ 32 - 1))
 
 -- How many node records a change claims at most, for keys of at most so many bytes. They are two for each node on its path, and one above.
@@ -66,7 +66,7 @@ most_claims bytes = 18 * min bytes MAX_BYTES + 1
 
 -- The stock that is enough for any keys of at most so many bytes. It has a node record and a leaf record for each key, and for each pass
 -- those that a change claims. It has no more than a table may have.
-abbrev pub stock_for_any : ℕ → ℕ → ℕ → Stock
+abbrev pub stock_for_any : (count bytes passes : ℕ) → Stock
 stock_for_any count bytes passes = stock_of (min (count + passes * most_claims bytes) (2 ^ 32 - 1)) (class_for bytes) (min (count + passes) (2 ^ 32 - 1))
 
 -- how many leaf records a stock has, of all classes

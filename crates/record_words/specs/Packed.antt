@@ -8,7 +8,7 @@ use Rattle.partial_keys.specs.declared.TheConstants.{MAX_ENTRIES}
 use Rattle.record_words.specs.declared.TheConstants.{HEAD_WORDS}
 
 -- the number of entries, the number of columns and the stored height, as parts of one word
-abbrev pub meta_word : ℕ → ℕ → ℕ → ℕ
+abbrev pub meta_word : (count columns height : ℕ) → ℕ
 meta_word count columns height = count + 256 * columns + 65536 * height
 
 -- the position of column i, and 65,535 past the last one
@@ -45,7 +45,7 @@ row_words Narrow rows = lane_words 8 4 (row_lanes 24 rows)
 row_words Middle rows = lane_words 16 8 (row_lanes 16 rows)
 
 -- the first word of a head: its numbers, and its kind
-abbrev pub numbers_word : HeadKind → ℕ → ℕ → List ℕ → ℕ
+abbrev pub numbers_word : HeadKind → (count height : ℕ) → List ℕ → ℕ
 numbers_word kind count height columns = meta_word count (length columns) height + kind_part kind columns
 
 -- words of all ones, as many as a head of this kind leaves unused
@@ -53,7 +53,7 @@ abbrev pub unused_words : HeadKind → List ℕ
 unused_words kind = replicate (HEAD_WORDS - head_size kind) (2 ^ 64 - 1)
 
 -- the words of a head of this kind
-abbrev pub kind_words : HeadKind → ℕ → ℕ → List ℕ → List ℕ → List ℕ
+abbrev pub kind_words : HeadKind → (count height : ℕ) → List ℕ → List ℕ → List ℕ
 kind_words kind count height columns rows = numbers_word kind count height columns ∷ (column_words kind columns ++ (row_words kind rows ++ unused_words kind))
 
 -- the words of the head with these fields, in the kind that its columns ask for

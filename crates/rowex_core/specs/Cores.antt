@@ -29,7 +29,7 @@ heap_of words = record { nodes = λ n. node_words_of (words (a_node n)); leaves 
 
 -- the core with what its words say in place of the words
 abbrev pub bare : Core → Versions
-bare c = record { heap = heap_of c.words; shared = c.shared }
+bare core = record { heap = heap_of core.words; shared = core.shared }
 
 -- the table has this record
 abbrev pub HasRecord : Layout → Rec → Type 0
@@ -43,7 +43,7 @@ size_of layout (a_leaf n) = leaf_size layout n
 
 -- the record in the table has a word at this offset
 abbrev pub HasWord : Layout → Rec → ℕ → Type 0
-HasWord layout r offset = offset < size_of layout r
+HasWord layout rec offset = offset < size_of layout rec
 
 -- the record in the table has room for all words of the key that the leaf's words tell
 abbrev pub FitsIn : Layout → Rec → List ℕ → Type 0
@@ -63,48 +63,48 @@ fields_in layout table (a_leaf n) =
 
 -- the record has its number of words, of 64 bits each
 abbrev pub IsSized : Rec → List ℕ → Type 0
-IsSized r words = (length words ≡ word_count_of r) × All (λ w. w < 2 ^ 64) words
+IsSized rec words = (length words ≡ word_count_of rec) × All (λ w. w < 2 ^ 64) words
 
 -- a record of this fate is neither free nor held, so its words spell a value
-abbrev pub IsWhole : Fate → Type 0
-IsWhole Free = ⊥
-IsWhole (Held q) = ⊥
-IsWhole _ = Unit {0}
+abbrev pub MustSpellValue : Fate → Type 0
+MustSpellValue Free = ⊥
+MustSpellValue (Held pass) = ⊥
+MustSpellValue _ = Unit {0}
 
 -- The pass to which a record of this fate belongs. In the tree or retired, it belongs to none.
 abbrev pub holder_of : Fate → Option ℕ
 holder_of Free = None
-holder_of (Held q) = Some q
-holder_of (Ready q) = Some q
+holder_of (Held pass) = Some pass
+holder_of (Ready pass) = Some pass
 holder_of (InTree since) = None
-holder_of (Unlinked since last q) = Some q
+holder_of (Unlinked since last pass) = Some pass
 holder_of (Marked since last epoch) = None
 
 -- What holds of the records with these words, fates and locks.
 pub record AreRecords (layout : Layout) (words : Rec → List ℕ) (fate : Rec → Fate) (lock : ℕ → Option ℕ) : Type 0 where
   -- each has its number of words, and those of one that is neither free nor held spell a value
-  pub sized : (r : Rec) → IsSized r (words r)
-  pub packed : (r : Rec) → IsWhole (fate r) → IsPacked r (words r)
+  pub sized : (rec : Rec) → IsSized rec (words rec)
+  pub packed : (rec : Rec) → MustSpellValue (fate rec) → IsPacked rec (words rec)
   -- a leaf's words up to the end of its key are no more than the table has for it
-  pub fits : (r : Rec) → IsWhole (fate r) → FitsIn layout r (words r)
+  pub fits : (rec : Rec) → MustSpellValue (fate rec) → FitsIn layout rec (words rec)
   -- an unlinked node stays locked until it is marked
-  pub retired : (n since last q : ℕ) → fate (a_node n) ≡ Unlinked since last q → lock n ≡ Some q
+  pub retired : (n since last pass : ℕ) → fate (a_node n) ≡ Unlinked since last pass → lock n ≡ Some pass
   -- only records of the table are used
-  pub used : (r : Rec) → (fate r ≡ Free) ⊎ HasRecord layout r
+  pub used : (rec : Rec) → (fate rec ≡ Free) ⊎ HasRecord layout rec
   -- only passes of the index have records of their own
-  pub holders : (r : Rec) (q : ℕ) → holder_of (fate r) ≡ Some q → q < layout.passes
+  pub holders : (rec : Rec) (pass : ℕ) → holder_of (fate rec) ≡ Some pass → pass < layout.passes
 
 -- What holds of the epochs. They are from 1 on and below EPOCHS, and so are pins and marks. Only passes of the index are pinned.
 pub record AreEpochs (layout : Layout) (epoch : ℕ) (pins : ℕ → Option Pin) (rounds : ℕ → Round) (fate : Rec → Fate) : Type 0 where
   pub now : (1 ≤ epoch) × (epoch < EPOCHS)
-  pub loads : (q : ℕ) → ((rounds q).version ≡ 0) ⊎ (1 ≤ (rounds q).epoch)
-  pub pinned : (q : ℕ) (p : Pin) → pins q ≡ Some p → (q < layout.passes) × (1 ≤ p.word)
-  pub marked : (r : Rec) (since last epoch : ℕ) → fate r ≡ Marked since last epoch → (1 ≤ epoch) × (epoch < EPOCHS)
+  pub loads : (pass : ℕ) → ((rounds pass).version ≡ 0) ⊎ (1 ≤ (rounds pass).epoch)
+  pub pinned : (pass : ℕ) (pin : Pin) → pins pass ≡ Some pin → (pass < layout.passes) × (1 ≤ pin.word)
+  pub marked : (rec : Rec) (since last epoch : ℕ) → fate rec ≡ Marked since last epoch → (1 ≤ epoch) × (epoch < EPOCHS)
 
 -- Only passes of the index hold locks.
 pub record AreLockers (layout : Layout) (anchor : Option ℕ) (lock : ℕ → Option ℕ) : Type 0 where
-  pub root : (q : ℕ) → anchor ≡ Some q → q < layout.passes
-  pub nodes : (n q : ℕ) → lock n ≡ Some q → q < layout.passes
+  pub root : (pass : ℕ) → anchor ≡ Some pass → pass < layout.passes
+  pub nodes : (n pass : ℕ) → lock n ≡ Some pass → pass < layout.passes
 
 -- The whole core is lawful.
 pub record IsLawful (c : Core) : Type 0 where

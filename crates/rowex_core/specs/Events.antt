@@ -41,33 +41,33 @@ use Rattle.rowex_core.specs.Words.{lock_tag, state_at, pin_word, record_word}
 -- What a step changes
 
 -- the records' words, with one word of record r changed
-abbrev pub with_word : (Rec → List ℕ) → Rec → ℕ → ℕ → Rec → List ℕ
-with_word words r offset w i = if same_rec i r then set (words r) (offset - FIELDS_OFFSET) w else words i
+abbrev pub with_word : (Rec → List ℕ) → Rec → (offset word : ℕ) → Rec → List ℕ
+with_word words r offset word i = if same_rec i r then set (words r) (offset - FIELDS_OFFSET) word else words i
 
 -- Publishing: what a word stored at a spot makes
 
 -- The records' words after a store to a spot. An entry and a value are words of a record, the root is none.
 abbrev pub stored_words : Core → Spot → ℕ → Rec → List ℕ
-stored_words c Root w = c.words
-stored_words c (Slot n j) w = with_word c.words (a_node n) (FIRST_ENTRY + j) w
-stored_words c (Value l) w = with_word c.words (a_leaf l) VALUE_OFFSET w
+stored_words core Root word = core.words
+stored_words core (Slot n j) word = with_word core.words (a_node n) (FIRST_ENTRY + j) word
+stored_words core (Value l) word = with_word core.words (a_leaf l) VALUE_OFFSET word
 
 -- the root after a store to a spot
 abbrev pub stored_root : Core → Spot → ℕ → Option Entry
-stored_root c Root w = entry_of w
-stored_root c (Slot n j) w = c.root
-stored_root c (Value l) w = c.root
+stored_root core Root word = entry_of word
+stored_root core (Slot n j) word = core.root
+stored_root core (Value l) word = core.root
 
 -- the tree that the words show from this root, if they show one
 abbrev pub tree_of : Heap → Option Entry → Option Tree
 tree_of heap None = None
-tree_of heap (Some e) = read heap (height_of e) e
+tree_of heap (Some entry) = read heap (height_of entry) entry
 
 -- the change that the first two leaves that differ tell, by the order of their keys
 abbrev pub change_at : ℕ → Ordering → Item → Item → Change
-change_at q Less x y = removed_change q x
-change_at q Equal x y = replaced_change q y
-change_at q Greater x y = added_change q y
+change_at pass Less item other = removed_change pass item
+change_at pass Equal item other = replaced_change pass other
+change_at pass Greater item other = added_change pass other
 
 -- the change by which pass q made the first list of leaves the second
 abbrev pub change_between : ℕ → List Item → List Item → Change
@@ -83,20 +83,20 @@ IsOfEntry spot = Unit {0}
 
 -- leaves of both lists that have one number are the same
 abbrev pub AreSame : List Item → List Item → Type 0
-AreSame xs ys = (x y : Item) → IsIn x xs → IsIn y ys → x.number ≡ y.number → x ≡ y
+AreSame xs ys = (item other : Item) → IsIn item xs → IsIn other ys → item.number ≡ other.number → item ≡ other
 
 -- the tree after a store to a spot
 abbrev pub next_tree : Core → Spot → ℕ → Option Tree
-next_tree c spot w = tree_of (heap_of (stored_words c spot w)) (stored_root c spot w)
+next_tree core spot word = tree_of (heap_of (stored_words core spot word)) (stored_root core spot word)
 
 -- the change by which pass q gives the key of leaf l another value
 abbrev pub value_change : Core → ℕ → ℕ → ℕ → Change
-value_change c q l w = record { pass = q; key = (leaf_of (c.words (a_leaf l))).key; value = w; kind = Replaced }
+value_change core q l word = record { pass = q; key = (leaf_of (core.words (a_leaf l))).key; value = word; kind = Replaced }
 
 -- the change that a store to a spot makes to the map
-abbrev pub next_change : Core → ℕ → Spot → ℕ → Change
-next_change c q (Value l) w = value_change c q l w
-next_change c q spot w = change_between q (items_of (c.past.version c.past.now)) (items_of (next_tree c spot w))
+abbrev pub next_change : Core → (pass : ℕ) → Spot → (word : ℕ) → Change
+next_change core pass (Value l) word = value_change core pass l word
+next_change core pass spot word = change_between pass (items_of (core.past.version core.past.now)) (items_of (next_tree core spot word))
 
 -- A bulk load: what the words of a table show that is made of sorted pairs
 
@@ -114,8 +114,8 @@ pub record IsLoad (layout : Layout) (words : List ℕ) : Type 0 where
   pub root : HasEntryWord (loaded_root words) × (entry_word (loaded_root words) ≡ get_or words ROOT_WORD 0)
   pub top : IsTop (heap_of (fields_in layout words)) (loaded_root words) (loaded_tree layout words)
   pub tree : (u : Tree) → loaded_tree layout words ≡ Some u → IsTrie u × IsBuilt u
-  pub records : (r : Rec) → IsLinked (loaded_tree layout words) r →
-      HasRecord layout r × IsPacked r (fields_in layout words r) × FitsIn layout r (fields_in layout words r)
+  pub records : (rec : Rec) → IsLinked (loaded_tree layout words) rec →
+      HasRecord layout rec × IsPacked rec (fields_in layout words rec) × FitsIn layout rec (fields_in layout words rec)
 
 -- Legality
 
@@ -131,134 +131,138 @@ IsFixedOffset (a_leaf n) offset = (VALUE_OFFSET < offset) × (offset < LEAF_WORD
 
 -- the node is in the tree
 abbrev pub IsInTree : Core → ℕ → Type 0
-IsInTree c n = (since : ℕ) × (c.fate (a_node n) ≡ InTree since)
+IsInTree core n = (since : ℕ) × (core.fate (a_node n) ≡ InTree since)
 
 -- Pass q has the lock under which the spot's word is stored. For a value, it is that of what names the leaf.
 abbrev pub IsLockedAt : Core → ℕ → Spot → Type 0
-IsLockedAt c q Root = c.anchor ≡ Some q
-IsLockedAt c q (Slot n j) = (n < c.layout.nodes) × (j < MAX_ENTRIES) × (c.lock n ≡ Some q)
-IsLockedAt c q (Value l) = (l < c.layout.leaves) × HasLockedNamer (bare c) q l
+IsLockedAt core q Root = core.anchor ≡ Some q
+IsLockedAt core q (Slot n j) = (n < core.layout.nodes) × (j < MAX_ENTRIES) × (core.lock n ≡ Some q)
+IsLockedAt core q (Value l) = (l < core.layout.leaves) × HasLockedNamer (bare core) q l
 
 -- the word may stand at the spot: it spells an entry, or is a value
 abbrev pub IsWordFor : Spot → ℕ → Type 0
-IsWordFor (Value l) w = w < 2 ^ 64
-IsWordFor spot w = HasEntryWord (entry_of w) × (entry_word (entry_of w) ≡ w)
+IsWordFor (Value l) word = word < 2 ^ 64
+IsWordFor spot word = HasEntryWord (entry_of word) × (entry_word (entry_of word) ≡ word)
 
 -- after the store, the words of the node that has the spot still spell a value
 abbrev pub IsPackedAt : Core → Spot → ℕ → Type 0
-IsPackedAt c Root w = Unit {0}
-IsPackedAt c (Value l) w = Unit {0}
-IsPackedAt c (Slot n j) w = IsPacked (a_node n) (stored_words c (Slot n j) w (a_node n))
+IsPackedAt core Root word = Unit {0}
+IsPackedAt core (Value l) word = Unit {0}
+IsPackedAt core (Slot n j) word = IsPacked (a_node n) (stored_words core (Slot n j) word (a_node n))
 
 -- The publish is legal. The pass has the lock, and the word may stand at the spot. The node's words still spell a value, and the words show
 -- the next version.
-pub record IsLegalPublish (c : Core) (q : ℕ) (spot : Spot) (w : ℕ) : Type 0 where
-  pub locked : IsLockedAt c q spot
-  pub entry : IsWordFor spot w
-  pub packed : IsPackedAt c spot w
-  pub next : IsNextVersion c.shared q (heap_of (stored_words c spot w)) (stored_root c spot w) (next_tree c spot w) (next_change c q spot w)
+pub record IsLegalPublish (core : Core) (pass : ℕ) (spot : Spot) (word : ℕ) : Type 0 where
+  pub locked : IsLockedAt core pass spot
+  pub entry : IsWordFor spot word
+  pub packed : IsPackedAt core spot word
+  pub next : IsNextVersion core.shared pass (heap_of (stored_words core spot word)) (stored_root core spot word) (next_tree core spot word) (next_change core pass spot word)
   pub open next use *
 
 -- Pass q may store the word at the spot. For an entry that is a legal publish; for a value, the pass has locked what names the leaf.
 abbrev pub MayStoreAt : Core → ℕ → Spot → ℕ → Type 0
-MayStoreAt c q (Value l) w = IsLockedAt c q (Value l) × (w < 2 ^ 64)
-MayStoreAt c q spot w = IsLegalPublish c q spot w
+MayStoreAt core q (Value l) word = IsLockedAt core q (Value l) × (word < 2 ^ 64)
+MayStoreAt core q spot word = IsLegalPublish core q spot word
 
 -- when a pass may make an act, and what a load or an exchange of it finds
 abbrev pub LegalAct : Core → ℕ → Act → Type 0
-LegalAct c q (Claim r found) = HasRecord c.layout r × (found ≡ state_at c r)
-LegalAct c q (Fill r offset w) = HasRecord c.layout r × (c.fate r ≡ Held q) × IsOffset r offset × (w < 2 ^ 64) × HasWord c.layout r offset
-LegalAct c q (Ready r) = HasRecord c.layout r × (c.fate r ≡ Held q) × IsPacked r (c.words r) × FitsIn c.layout r (c.words r)
-LegalAct c q (Release r) = HasRecord c.layout r × (c.fate r ≡ Held q)
-LegalAct c q (LoadRef Root w) = w ≡ entry_word c.root
-LegalAct c q (LoadRef (Slot n j) w) = (n < c.layout.nodes) × (j < MAX_ENTRIES) × (w ≡ record_word c (a_node n) (FIRST_ENTRY + j))
-LegalAct c q (LoadRef (Value l) w) = (l < c.layout.leaves) × (w ≡ record_word c (a_leaf l) VALUE_OFFSET)
-LegalAct c q (LoadFixed r offset w) = HasRecord c.layout r × IsFixedOffset r offset × (w ≡ record_word c r offset) × HasWord c.layout r offset
-LegalAct c q (Lock Anchor found) = found ≡ state_word (lock_tag c.anchor)
-LegalAct c q (Lock (NodeTarget n) found) = (n < c.layout.nodes) × (found ≡ state_at c (a_node n)) × (found ≡ state_word Live → IsInTree c n)
-LegalAct c q (Unlock Anchor) = c.anchor ≡ Some q
-LegalAct c q (Unlock (NodeTarget n)) = (n < c.layout.nodes) × (c.lock n ≡ Some q) × IsInTree c n
-LegalAct c q (Publish spot w) = MayStoreAt c q spot w
-LegalAct c q (Mark r epoch) =
-    HasRecord c.layout r × (epoch ≡ (c.rounds q).epoch) × ((since : ℕ) × (last : ℕ) × (c.fate r ≡ Unlinked since last q) × (last < (c.rounds q).version))
-LegalAct c q (LoadEpoch w) = w ≡ c.epoch
-LegalAct c q (Advance expected found) = (1 ≤ expected) × (expected + 1 < EPOCHS) × (found ≡ c.epoch)
-LegalAct c q (SetPin w) = (c.pins q ≡ None) × (w ≡ (c.rounds q).epoch) × (1 ≤ w)
-LegalAct c q ClearPin = IsSome (c.pins q)
-LegalAct c q (LoadPin o w) = (o < c.layout.passes) × (w ≡ pin_word (c.pins o))
-LegalAct c q (LoadState r w) = HasRecord c.layout r × (w ≡ state_at c r)
-LegalAct c q (GiveBack r epoch found) =
-    HasRecord c.layout r × (found ≡ state_at c r) × (1 ≤ epoch) × (epoch < (c.rounds q).bound) ×
-    ((o : ℕ) → o < c.layout.passes → has_seen (c.rounds q).seen o ≡ true)
-LegalAct c q (Load words) = (c ≡ opening c.layout) × IsLoad c.layout words.now
+LegalAct core pass (Claim r found) = HasRecord core.layout r × (found ≡ state_at core r)
+LegalAct core pass (Fill r offset w) =
+    HasRecord core.layout r × (core.fate r ≡ Held pass) × IsOffset r offset × (w < 2 ^ 64) × HasWord core.layout r offset
+LegalAct core pass (Ready r) = HasRecord core.layout r × (core.fate r ≡ Held pass) × IsPacked r (core.words r) × FitsIn core.layout r (core.words r)
+LegalAct core pass (Release r) = HasRecord core.layout r × (core.fate r ≡ Held pass)
+LegalAct core pass (LoadRef Root w) = w ≡ entry_word core.root
+LegalAct core pass (LoadRef (Slot n j) w) = (n < core.layout.nodes) × (j < MAX_ENTRIES) × (w ≡ record_word core (a_node n) (FIRST_ENTRY + j))
+LegalAct core pass (LoadRef (Value l) w) = (l < core.layout.leaves) × (w ≡ record_word core (a_leaf l) VALUE_OFFSET)
+LegalAct core pass (LoadFixed r offset w) =
+    HasRecord core.layout r × IsFixedOffset r offset × (w ≡ record_word core r offset) × HasWord core.layout r offset
+LegalAct core pass (Lock Anchor found) = found ≡ state_word (lock_tag core.anchor)
+LegalAct core pass (Lock (NodeTarget n) found) =
+    (n < core.layout.nodes) × (found ≡ state_at core (a_node n)) × (found ≡ state_word Live → IsInTree core n)
+LegalAct core pass (Unlock Anchor) = core.anchor ≡ Some pass
+LegalAct core pass (Unlock (NodeTarget n)) = (n < core.layout.nodes) × (core.lock n ≡ Some pass) × IsInTree core n
+LegalAct core pass (Publish spot w) = MayStoreAt core pass spot w
+LegalAct core pass (Mark r epoch) =
+    HasRecord core.layout r × (epoch ≡ (core.rounds pass).epoch) ×
+    ((since : ℕ) × (last : ℕ) × (core.fate r ≡ Unlinked since last pass) × (last < (core.rounds pass).version))
+LegalAct core pass (LoadEpoch w) = w ≡ core.epoch
+LegalAct core pass (Advance expected found) = (1 ≤ expected) × (expected + 1 < EPOCHS) × (found ≡ core.epoch)
+LegalAct core pass (SetPin w) = (core.pins pass ≡ None) × (w ≡ (core.rounds pass).epoch) × (1 ≤ w)
+LegalAct core pass ClearPin = IsSome (core.pins pass)
+LegalAct core pass (LoadPin o w) = (o < core.layout.passes) × (w ≡ pin_word (core.pins o))
+LegalAct core pass (LoadState r w) = HasRecord core.layout r × (w ≡ state_at core r)
+LegalAct core pass (GiveBack r epoch found) =
+    HasRecord core.layout r × (found ≡ state_at core r) × (1 ≤ epoch) × (epoch < (core.rounds pass).bound) ×
+    ((o : ℕ) → o < core.layout.passes → has_seen (core.rounds pass).seen o ≡ true)
+LegalAct core pass (Load words) = (core ≡ opening core.layout) × IsLoad core.layout words.now
 
 -- the step of pass q is legal: the index has the pass, and the act is legal
 abbrev pub Legal : Core → ℕ → Act → Type 0
-Legal c q act = (q < c.layout.passes) × LegalAct c q act
+Legal core q act = (q < core.layout.passes) × LegalAct core q act
 
 -- Effect
 
 -- what passes share after pass q tried to claim a record of this fate: it succeeds if that is free
 abbrev pub claimed : Shared → ℕ → Rec → Fate → Shared
-claimed s q r Free = with_fate s r (Held q)
-claimed s q r f = s
+claimed shared q rec Free = with_fate shared rec (Held q)
+claimed shared q rec fate = shared
 
 -- what passes share after a record of this fate was marked, if it was unlinked
 abbrev pub marked : Shared → Rec → ℕ → Fate → Shared
-marked s r epoch (Unlinked since last q) = after_mark s r since last epoch
-marked s r epoch f = s
+marked shared rec epoch (Unlinked since last pass) = after_mark shared rec since last epoch
+marked shared rec epoch fate = shared
 
 -- what passes share after a record of this fate was given back, if it was marked with this epoch
 abbrev pub given_back : Shared → Rec → ℕ → Fate → Shared
-given_back s r epoch (Marked since last m) = if nat_eq m epoch then with_fate s r Free else s
-given_back s r epoch f = s
+given_back shared rec epoch (Marked since last m) = if nat_eq m epoch then with_fate shared rec Free else shared
+given_back shared rec epoch fate = shared
 
 -- what passes share after pass q tried to lock the anchor: it succeeds if no pass had
 abbrev pub anchored : Shared → ℕ → Option ℕ → Shared
-anchored s q None = with_anchor s (Some q)
-anchored s q (Some p) = s
+anchored shared q None = with_anchor shared (Some q)
+anchored shared q (Some p) = shared
 
 -- what passes share after pass q tried to lock node n: it succeeds if the state was live
 abbrev pub locked_where : Shared → ℕ → ℕ → ℕ → Shared
-locked_where s n q found = if nat_eq found (state_word Live) then with_lock s n (Some q) else s
+locked_where shared n q found = if nat_eq found (state_word Live) then with_lock shared n (Some q) else shared
 
 -- what passes share after a try to advance the epoch from the expected one
 abbrev pub advanced : Shared → ℕ → Shared
-advanced s expected = if nat_eq s.epoch expected then with_epoch s (suc s.epoch) else s
+advanced shared expected = if nat_eq shared.epoch expected then with_epoch shared (suc shared.epoch) else shared
 
 -- the words of the records after a step
 abbrev pub words_after : Core → Act → Rec → List ℕ
-words_after c (Fill r offset w) = with_word c.words r offset w
-words_after c (Publish spot w) = stored_words c spot w
-words_after c (Load words) = fields_in c.layout words.now
-words_after c _ = c.words
+words_after core (Fill r offset w) = with_word core.words r offset w
+words_after core (Publish spot w) = stored_words core spot w
+words_after core (Load words) = fields_in core.layout words.now
+words_after core _ = core.words
 
 -- what passes share after a step of pass q, but the words
 abbrev pub shared_after : Core → ℕ → Act → Shared
-shared_after c q (Claim r found) = claimed c.shared q r (c.fate r)
-shared_after c q (Fill r offset w) = c.shared
-shared_after c q (Ready r) = with_fate c.shared r (ReadyBy q)
-shared_after c q (Release r) = with_fate c.shared r Free
-shared_after c q (LoadRef spot w) = c.shared
-shared_after c q (LoadFixed r offset w) = c.shared
-shared_after c q (Lock Anchor found) = anchored c.shared q c.anchor
-shared_after c q (Lock (NodeTarget n) found) = locked_where c.shared n q found
-shared_after c q (Unlock Anchor) = with_anchor c.shared None
-shared_after c q (Unlock (NodeTarget n)) = with_lock c.shared n None
-shared_after c q (Publish spot w) = published_by c.shared q (stored_root c spot w) (next_tree c spot w) (next_change c q spot w)
-shared_after c q (Mark r epoch) = marked c.shared r epoch (c.fate r)
-shared_after c q (LoadEpoch w) = after_load_epoch c.shared q
-shared_after c q (Advance expected found) = advanced c.shared expected
-shared_after c q (SetPin w) = after_set_pin c.shared q w
-shared_after c q ClearPin = with_pin c.shared q None
-shared_after c q (LoadPin o w) = after_load_pin c.shared q o
-shared_after c q (LoadState r w) = c.shared
-shared_after c q (GiveBack r epoch found) = given_back c.shared r epoch (c.fate r)
-shared_after c q (Load words) = loaded_by c.shared q (loaded_root words.now) (loaded_tree c.layout words.now)
+shared_after core q (Claim r found) = claimed core.shared q r (core.fate r)
+shared_after core q (Fill r offset w) = core.shared
+shared_after core q (Ready r) = with_fate core.shared r (ReadyBy q)
+shared_after core q (Release r) = with_fate core.shared r Free
+shared_after core q (LoadRef spot w) = core.shared
+shared_after core q (LoadFixed r offset w) = core.shared
+shared_after core q (Lock Anchor found) = anchored core.shared q core.anchor
+shared_after core q (Lock (NodeTarget n) found) = locked_where core.shared n q found
+shared_after core q (Unlock Anchor) = with_anchor core.shared None
+shared_after core q (Unlock (NodeTarget n)) = with_lock core.shared n None
+shared_after core q (Publish spot w) = published_by core.shared q (stored_root core spot w) (next_tree core spot w) (next_change core q spot w)
+shared_after core q (Mark r epoch) = marked core.shared r epoch (core.fate r)
+shared_after core q (LoadEpoch w) = after_load_epoch core.shared q
+shared_after core q (Advance expected found) = advanced core.shared expected
+shared_after core q (SetPin w) = after_set_pin core.shared q w
+shared_after core q ClearPin = with_pin core.shared q None
+shared_after core q (LoadPin o w) = after_load_pin core.shared q o
+shared_after core q (LoadState r w) = core.shared
+shared_after core q (GiveBack r epoch found) = given_back core.shared r epoch (core.fate r)
+shared_after core q (Load words) = loaded_by core.shared q (loaded_root words.now) (loaded_tree core.layout words.now)
 
 -- the core after an act of a pass
 abbrev pub after : Core → ℕ → Act → Core
-after c q act = record { layout = c.layout; words = words_after c act; shared = shared_after c q act }
+after core pass act = record { layout = core.layout; words = words_after core act; shared = shared_after core pass act }
 
 -- The act is an atomic step. A bulk load is none, since it changes many words.
 abbrev pub IsAtomic : Act → Type 0
@@ -274,7 +278,7 @@ word_of (a_leaf n) offset = LeafWord n offset
 
 -- the location of a record's state
 abbrev pub state_of : Rec → Location
-state_of r = word_of r 0
+state_of rec = word_of rec 0
 
 -- the location of a spot
 abbrev pub spot_word : Spot → Location
@@ -289,24 +293,24 @@ target_word (NodeTarget n) = state_of (a_node n)
 
 -- the location that an act loads, stores or exchanges
 abbrev pub location_of : ℕ → Act → Location
-location_of q (Claim r found) = state_of r
-location_of q (Fill r offset w) = word_of r offset
-location_of q (Ready r) = state_of r
-location_of q (Release r) = state_of r
-location_of q (LoadRef spot w) = spot_word spot
-location_of q (LoadFixed r offset w) = word_of r offset
-location_of q (Lock target found) = target_word target
-location_of q (Unlock target) = target_word target
-location_of q (Publish spot w) = spot_word spot
-location_of q (Mark r epoch) = state_of r
-location_of q (LoadEpoch w) = Epoch
-location_of q (Advance expected found) = Epoch
-location_of q (SetPin w) = PinOf q
-location_of q ClearPin = PinOf q
-location_of q (LoadPin o w) = PinOf o
-location_of q (LoadState r w) = state_of r
-location_of q (GiveBack r epoch found) = state_of r
-location_of q (Load words) = RootWord
+location_of pass (Claim r found) = state_of r
+location_of pass (Fill r offset w) = word_of r offset
+location_of pass (Ready r) = state_of r
+location_of pass (Release r) = state_of r
+location_of pass (LoadRef spot w) = spot_word spot
+location_of pass (LoadFixed r offset w) = word_of r offset
+location_of pass (Lock target found) = target_word target
+location_of pass (Unlock target) = target_word target
+location_of pass (Publish spot w) = spot_word spot
+location_of pass (Mark r epoch) = state_of r
+location_of pass (LoadEpoch w) = Epoch
+location_of pass (Advance expected found) = Epoch
+location_of pass (SetPin w) = PinOf pass
+location_of pass ClearPin = PinOf pass
+location_of pass (LoadPin o w) = PinOf o
+location_of pass (LoadState r w) = state_of r
+location_of pass (GiveBack r epoch found) = state_of r
+location_of pass (Load words) = RootWord
 
 -- what a compare-exchange leaves where w stood
 abbrev pub exchanged : ℕ → ℕ → ℕ → ℕ

@@ -11,10 +11,10 @@ use Rattle.rowex_core.specs.Events.{IsLockedAt}
 use Rattle.rowex_core.specs.Sharing.{share}
 
 -- The versions and changes have grown by changes of others alone. What pass q has is as it was.
-pub record IsFrame (q : ℕ) (c d : Core) : Type 0 where
-  pub layout : d.layout ≡ c.layout
-  pub past : IsGrown c.past d.past
-  pub changes : OthersGoOn q c.changes d.changes
-  pub own : share q d ≡ share q c
+pub record IsFrame (q : ℕ) (old new : Core) : Type 0 where
+  pub layout : new.layout ≡ old.layout
+  pub past : IsGrown old.past new.past
+  pub changes : OthersGoOn q old.changes new.changes
+  pub own : share q new ≡ share q old
   -- the values of leaves are as they were if pass q has locked what names them
-  pub values : (l : ℕ) → IsLockedAt c q (Value l) → record_word d (a_leaf l) VALUE_OFFSET ≡ record_word c (a_leaf l) VALUE_OFFSET
+  pub values : (l : ℕ) → IsLockedAt old q (Value l) → record_word new (a_leaf l) VALUE_OFFSET ≡ record_word old (a_leaf l) VALUE_OFFSET

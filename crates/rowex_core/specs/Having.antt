@@ -10,25 +10,25 @@ use Rattle.versions.specs.Trades.{IsOneOf}
 
 -- The pass's own records are exactly these, each held in a way that has the property.
 pub record OwnsJust (own : List Owned) (P : Owned → Type 0) (recs : List Rec) : Type 0 where
-  pub only : (o : Owned) → IsOneOf o own → IsOneOf o.rec recs × P o
-  pub each : (r : Rec) → IsOneOf r recs → (o : Owned) × IsOneOf o own × (o.rec ≡ r)
+  pub only : (owned : Owned) → IsOneOf owned own → IsOneOf owned.rec recs × P owned
+  pub each : (rec : Rec) → IsOneOf rec recs → (owned : Owned) × IsOneOf owned own × (owned.rec ≡ rec)
 
 -- the record may be held in any way
 abbrev pub InAnyWay : Owned → Type 0
-InAnyWay o = Unit {0}
+InAnyWay owned = Unit {0}
 
 -- the pass has unlinked the record
 abbrev pub IsUnlinked : Owned → Type 0
-IsUnlinked o = (since : ℕ) × (last : ℕ) × (o.holding ≡ Unlinked since last)
+IsUnlinked owned = (since : ℕ) × (last : ℕ) × (owned.holding ≡ Unlinked since last)
 
 -- the pass has unlinked the record, before version m
 abbrev pub IsUnlinkedBefore : ℕ → Owned → Type 0
-IsUnlinkedBefore m o = (since : ℕ) × (last : ℕ) × (o.holding ≡ Unlinked since last) × (last < m)
+IsUnlinkedBefore m owned = (since : ℕ) × (last : ℕ) × (owned.holding ≡ Unlinked since last) × (last < m)
 
 -- The nodes that the pass has locked are exactly these.
 pub record LocksJust (locks : List Locked) (nodes : List ℕ) : Type 0 where
-  pub only : (l : Locked) → IsOneOf l locks → IsOneOf l.node nodes
-  pub each : (n : ℕ) → IsOneOf n nodes → (l : Locked) × IsOneOf l locks × (l.node ≡ n)
+  pub only : (lock : Locked) → IsOneOf lock locks → IsOneOf lock.node nodes
+  pub each : (n : ℕ) → IsOneOf n nodes → (lock : Locked) × IsOneOf lock locks × (lock.node ≡ n)
 
 -- Of the locked nodes exactly those are kept that are not unlinked.
 pub record AreKept (held : List ℕ) (gone : List Rec) (kept : List ℕ) : Type 0 where
@@ -37,8 +37,8 @@ pub record AreKept (held : List ℕ) (gone : List Rec) (kept : List ℕ) : Type 
 
 -- whether the record is one of these
 abbrev pub is_among : Rec → List Rec → Bool
-is_among r [] = false
-is_among r (x ∷ xs) = if same_rec r x then true else is_among r xs
+is_among rec [] = false
+is_among rec (x ∷ xs) = if same_rec rec x then true else is_among rec xs
 
 -- the locked nodes that are kept, where these records are unlinked
 abbrev pub kept_locks : List ℕ → List Rec → List ℕ

@@ -46,33 +46,33 @@ use Rattle.rowex_core.specs.Events.{loaded_tree, Legal, IsLockedAt, stored_words
 -- Facts of past versions
 
 -- the record stood in the tree in some version from `since` to `at`
-abbrev pub StoodBetween : Past → ℕ → ℕ → Rec → Type 0
-StoodBetween s since at r = (n : ℕ) × (u : Tree) × (since ≤ n) × (n ≤ at) × Stands s n r u
+abbrev pub StoodBetween : Past → (since at : ℕ) → Rec → Type 0
+StoodBetween past since at rec = (n : ℕ) × (tree : Tree) × (since ≤ n) × (n ≤ at) × Stands past n rec tree
 
 -- the record stood in the tree in some version from `since` to `at`, with a tree that has the property
-abbrev pub StoodAs : Past → ℕ → ℕ → Rec → (Tree → Type 0) → Type 0
-StoodAs s since at r P = (n : ℕ) × (u : Tree) × (since ≤ n) × (n ≤ at) × Stands s n r u × P u
+abbrev pub StoodAs : Past → (since at : ℕ) → Rec → (Tree → Type 0) → Type 0
+StoodAs past since at rec P = (n : ℕ) × (tree : Tree) × (since ≤ n) × (n ≤ at) × Stands past n rec tree × P tree
 
 -- If the record stood in a version from m to `at`, it stood in one of these with a tree that has the property. So it is for each m since
 -- `since`.
-abbrev pub HoldsIfStood : Past → ℕ → ℕ → Rec → (Tree → Type 0) → Type 0
-HoldsIfStood s since at r P = (m : ℕ) → since ≤ m → StoodBetween s m at r → StoodAs s m at r P
+abbrev pub HoldsIfStood : Past → (since at : ℕ) → Rec → (Tree → Type 0) → Type 0
+HoldsIfStood past since at rec P = (m : ℕ) → since ≤ m → StoodBetween past m at rec → StoodAs past m at rec P
 
 -- what a fact says of the past
 abbrev pub IsFact : Past → Fact → Type 0
-IsFact s (Rooted since at e) = (since ≤ at) × (at ≤ s.now) × (root_of (s.version at) ≡ e)
-IsFact s (Placed since at n j e) = (at ≤ s.now) × HoldsIfStood s since at (a_node n) (λ u. entry_in u j ≡ e)
-IsFact s (Fixed since at r offset w) = (at ≤ s.now) × HoldsIfStood s since at r (λ u. HasWordAt u offset w)
-IsFact s (Valued since at l v) = (at ≤ s.now) × HoldsIfStood s since at (a_leaf l) (λ u. head_value u ≡ Some v)
+IsFact past (Rooted since at e) = (since ≤ at) × (at ≤ past.now) × (root_of (past.version at) ≡ e)
+IsFact past (Placed since at n j e) = (at ≤ past.now) × HoldsIfStood past since at (a_node n) (λ u. entry_in u j ≡ e)
+IsFact past (Fixed since at r offset w) = (at ≤ past.now) × HoldsIfStood past since at r (λ u. HasWordAt u offset w)
+IsFact past (Valued since at l v) = (at ≤ past.now) × HoldsIfStood past since at (a_leaf l) (λ u. head_value u ≡ Some v)
 
 -- The leaf still has the value that the pass loaded, if the pass has locked what names the leaf.
 abbrev pub IsStillLoaded : ℕ → Core → Loaded → Type 0
-IsStillLoaded q c v = IsLockedAt c q (Value v.leaf) → record_word c (a_leaf v.leaf) VALUE_OFFSET ≡ v.value
+IsStillLoaded pass core loaded = IsLockedAt core pass (Value loaded.leaf) → record_word core (a_leaf loaded.leaf) VALUE_OFFSET ≡ loaded.value
 
 -- What the pass has seen is true. Others alone have changed the map since. Its last load of the root saw the beginning of that. Its facts
 -- are facts of the past.
-pub record HasSeen (q : ℕ) (past : Past) (changes : List Change) (seen last : List Change) (known : List Fact) : Type 0 where
-  pub front : OthersGoOn q seen changes
+pub record HasSeen (pass : ℕ) (past : Past) (changes : List Change) (seen last : List Change) (known : List Fact) : Type 0 where
+  pub front : OthersGoOn pass seen changes
   pub fresh : BeginsWith seen last
   pub facts : All (IsFact past) known
 
@@ -82,71 +82,72 @@ pub record AreCounted (next last : ℕ) (failures : List Failed) : Type 0 where
   pub failed : All (λ f. f.step < next) failures
 
 -- What the pass knows is true of the core. What it knows of its own is all that it has, and its steps are counted.
-pub record Knows (c : Core) (k : Known) : Type 0 where
-  pub pass : k.pass < c.layout.passes
-  pub counted : AreCounted k.steps k.fresh.step k.failed
-  pub seen : HasSeen k.pass c.past c.changes k.front k.fresh.front k.facts
-  pub own : share k.pass c ≡ known_share k
-  pub values : All (IsStillLoaded k.pass c) k.values
+pub record Knows (core : Core) (known : Known) : Type 0 where
+  pub pass : known.pass < core.layout.passes
+  pub counted : AreCounted known.steps known.fresh.step known.failed
+  pub seen : HasSeen known.pass core.past core.changes known.front known.fresh.front known.facts
+  pub own : share known.pass core ≡ known_share known
+  pub values : All (IsStillLoaded known.pass core) known.values
 
 -- The part of a pass's knowledge that only its own publish, pin or unpin makes untrue. It is the changes that it has seen, its facts of the
 -- past, and its pin.
-pub record Recalls (c : Core) (k : Known) : Type 0 where
-  pub front : OthersGoOn k.pass k.front c.changes
-  pub facts : All (IsFact c.past) k.facts
-  pub pin : c.pins k.pass ≡ k.pin
+pub record Recalls (core : Core) (known : Known) : Type 0 where
+  pub front : OthersGoOn known.pass known.front core.changes
+  pub facts : All (IsFact core.past) known.facts
+  pub pin : core.pins known.pass ≡ known.pin
 
 -- the pass has been pinned since version m or longer
 abbrev pub IsPinnedSince : Known → ℕ → Type 0
-IsPinnedSince k m = (p : Pin) × (k.pin ≡ Some p) × (p.version ≤ m)
+IsPinnedSince known m = (pin : Pin) × (known.pin ≡ Some pin) × (pin.version ≤ m)
 
 -- none of the changes is by pass q
 abbrev pub NoChangeBy : ℕ → List Change → Type 0
 NoChangeBy q changes = All (λ x. x.pass ≢ q) changes
 
 -- the pass has made no change and has nothing, as a new one
-pub record IsUntouched (c : Core) (q : ℕ) : Type 0 where
-  pub changes : NoChangeBy q c.changes
-  pub own : share q c ≡ nothing
+pub record IsUntouched (core : Core) (pass : ℕ) : Type 0 where
+  pub changes : NoChangeBy pass core.changes
+  pub own : share pass core ≡ nothing
 
 -- What a view says of a core. A pass's says what the pass knows, and a dealer's that the passes to come have done nothing.
 abbrev pub Knowing : Core → View → Type 0
-Knowing c Spent = Unit {0}
-Knowing c (Dealer m) = (q : ℕ) → m ≤ q → IsUntouched c q
-Knowing c (Founder k m) = Knows c k × ((q : ℕ) → m ≤ q → IsUntouched c q)
-Knowing c (Pass k) = Knows c k
-Knowing c (Pair j k) = Knows c j × Knows c k × (j.pass ≢ k.pass)
-Knowing c (Witness front) = BeginsWith c.changes front
-Knowing c (Follower k front) = Knows c k × BeginsWith c.changes front
+Knowing core Spent = Unit {0}
+Knowing core (Dealer m) = (pass : ℕ) → m ≤ pass → IsUntouched core pass
+Knowing core (Founder known m) = Knows core known × ((pass : ℕ) → m ≤ pass → IsUntouched core pass)
+Knowing core (Pass known) = Knows core known
+Knowing core (Pair j k) = Knows core j × Knows core k × (j.pass ≢ k.pass)
+Knowing core (Witness front) = BeginsWith core.changes front
+Knowing core (Follower known front) = Knows core known × BeginsWith core.changes front
 
 -- the view is that of pass q, or of a dealer that still has it
 abbrev pub IsViewOf : View → ℕ → Type 0
 IsViewOf Spent q = ⊥
 IsViewOf (Dealer m) q = m ≤ q
-IsViewOf (Founder k m) q = (k.pass ≡ q) ⊎ (m ≤ q)
-IsViewOf (Pass k) q = k.pass ≡ q
+IsViewOf (Founder known m) q = (known.pass ≡ q) ⊎ (m ≤ q)
+IsViewOf (Pass known) q = known.pass ≡ q
 IsViewOf (Pair j k) q = (j.pass ≡ q) ⊎ (k.pass ≡ q)
 IsViewOf (Witness front) q = ⊥
-IsViewOf (Follower k front) q = k.pass ≡ q
+IsViewOf (Follower known front) q = known.pass ≡ q
 
 -- What a step teaches its pass, where c is the core before it
 
 -- the facts of a pass after a load, which teaches a fact to a pinned pass alone
 abbrev pub facts_with : Option Pin → (ℕ → Fact) → List Fact → List Fact
-facts_with None f facts = facts
-facts_with (Some p) f facts = f p.version ∷ facts
+facts_with None fact_of facts = facts
+facts_with (Some pin) fact_of facts = fact_of pin.version ∷ facts
 
 -- a pass that remembers one more failed act, of its latest step
 abbrev pub failed_with : Known → FailedAct → Location → ℕ → Known
-failed_with k act location w = record k { failed = record { act = act; location = location; word = w; step = k.steps } ∷ k.failed }
+failed_with known act location word =
+    record known { failed = record { act = act; location = location; word = word; step = known.steps } ∷ known.failed }
 
 -- the own record, held in another way if it is record r
 abbrev pub with_holding : Rec → Holding → Owned → Owned
-with_holding r h o = if same_rec o.rec r then record o { holding = h } else o
+with_holding r holding owned = if same_rec owned.rec r then record owned { holding = holding } else owned
 
 -- the own record, with a word filled if it is record r
-abbrev pub with_filled_word : Rec → ℕ → ℕ → Owned → Owned
-with_filled_word r offset w o = if same_rec o.rec r then record o { words = set o.words (offset - FIELDS_OFFSET) w } else o
+abbrev pub with_filled_word : Rec → (offset word : ℕ) → Owned → Owned
+with_filled_word r offset word owned = if same_rec owned.rec r then record owned { words = set owned.words (offset - FIELDS_OFFSET) word } else owned
 
 -- the own records without record r
 abbrev pub without_record : Rec → List Owned → List Owned
@@ -158,86 +159,87 @@ without_lock n locks = filter (λ l. not (nat_eq l.node n)) locks
 
 -- What a claim teaches: the record is now the pass's own, or belongs to another pass or none.
 abbrev pub claim_learned : Core → Rec → ℕ → Fate → Known → Known
-claim_learned c r found Free k = record k { own = record { rec = r; holding = Held; words = c.words r } ∷ k.own }
-claim_learned c r found f k = failed_with k (a_claim (holder_of f)) (state_of r) found
+claim_learned core rec found Free known = record known { own = record { rec = rec; holding = Held; words = core.words rec } ∷ known.own }
+claim_learned core rec found fate known = failed_with known (a_claim (holder_of fate)) (state_of rec) found
 
 -- the pass that made a change, if there is one
 abbrev pub maker_of : Option Change → Option ℕ
 maker_of None = None
-maker_of (Some x) = Some x.pass
+maker_of (Some change) = Some change.pass
 
 -- The pass that stands in the way of a node's lock. It has locked the node; or its change unlinked the node, if that is retired.
 abbrev pub blocking_pass_of : Core → ℕ → Fate → Option ℕ
-blocking_pass_of c n (Marked since last epoch) = maker_of (slice_get c.changes last)
-blocking_pass_of c n f = c.lock n
+blocking_pass_of core n (Marked since last epoch) = maker_of (slice_get core.changes last)
+blocking_pass_of core n fate = core.lock n
 
 -- the pass that stands in the way of a lock, if one does
 abbrev pub blocking_pass_at : Core → Target → Option ℕ
-blocking_pass_at c Anchor = c.anchor
-blocking_pass_at c (NodeTarget n) = blocking_pass_of c n (c.fate (a_node n))
+blocking_pass_at core Anchor = core.anchor
+blocking_pass_at core (NodeTarget n) = blocking_pass_of core n (core.fate (a_node n))
 
 -- what a try of the anchor's lock teaches
 abbrev pub anchor_learned : Core → ℕ → Option ℕ → Known → Known
-anchor_learned c found None k = record k { anchor = Some c.root; values = [] }
-anchor_learned c found (Some q) k = failed_with k (a_lock (Some q)) (target_word Anchor) found
+anchor_learned core found None known = record known { anchor = Some core.root; values = [] }
+anchor_learned core found (Some pass) known = failed_with known (a_lock (Some pass)) (target_word Anchor) found
 
 -- what a try of a node's lock teaches
 abbrev pub node_learned : Core → ℕ → ℕ → Known → Known
-node_learned c n found k =
-    if nat_eq found (state_word Live) then record k { locks = record { node = n; words = c.words (a_node n) } ∷ k.locks; values = [] }
-    else failed_with k (a_lock (blocking_pass_of c n (c.fate (a_node n)))) (target_word (NodeTarget n)) found
+node_learned core n found known =
+    if nat_eq found (state_word Live) then record known { locks = record { node = n; words = core.words (a_node n) } ∷ known.locks; values = [] }
+    else failed_with known (a_lock (blocking_pass_of core n (core.fate (a_node n)))) (target_word (NodeTarget n)) found
 
 -- what a load of a record's state teaches, if it finds the record not free
 abbrev pub state_learned : Core → Rec → ℕ → Known → Known
-state_learned c r w k = if nat_eq w (state_word FreeTag) then k else failed_with k (a_load (holder_of (c.fate r))) (state_of r) w
+state_learned core rec word known =
+    if nat_eq word (state_word FreeTag) then known else failed_with known (a_load (holder_of (core.fate rec))) (state_of rec) word
 
 -- the version of a pin; 0 without one
 abbrev pub version_of : Option Pin → ℕ
 version_of None = 0
-version_of (Some p) = p.version
+version_of (Some pin) = pin.version
 
 -- What a load of a spot teaches. The root also shows all changes up to now.
 abbrev pub entry_learned : Core → Spot → Known → Known
-entry_learned c Root k = record k {
-  front = c.changes;
-  fresh = record { front = c.changes; step = k.steps; pinned = version_of k.pin };
-  facts = facts_with k.pin (λ since. Rooted since c.past.now c.root) k.facts;
+entry_learned core Root known = record known {
+  front = core.changes;
+  fresh = record { front = core.changes; step = known.steps; pinned = version_of known.pin };
+  facts = facts_with known.pin (λ since. Rooted since core.past.now core.root) known.facts;
 }
-entry_learned c (Slot n j) k = record k {
-  front = c.changes;
-  facts = facts_with k.pin (λ since. Placed since c.past.now n j (entry_of (record_word c (a_node n) (FIRST_ENTRY + j)))) k.facts;
+entry_learned core (Slot n j) known = record known {
+  front = core.changes;
+  facts = facts_with known.pin (λ since. Placed since core.past.now n j (entry_of (record_word core (a_node n) (FIRST_ENTRY + j)))) known.facts;
 }
-entry_learned c (Value l) k = record k {
-  front = c.changes;
-  facts = facts_with k.pin (λ since. Valued since c.past.now l (record_word c (a_leaf l) VALUE_OFFSET)) k.facts;
-  values = record { leaf = l; value = record_word c (a_leaf l) VALUE_OFFSET } ∷ k.values;
+entry_learned core (Value l) known = record known {
+  front = core.changes;
+  facts = facts_with known.pin (λ since. Valued since core.past.now l (record_word core (a_leaf l) VALUE_OFFSET)) known.facts;
+  values = record { leaf = l; value = record_word core (a_leaf l) VALUE_OFFSET } ∷ known.values;
 }
 
 -- the records of a tree
 abbrev pub records_of : Tree → List Rec
-records_of (leaf n k v) = a_leaf n ∷ []
-records_of (node n x b) = a_node n ∷ records_of b
-records_of (fork p a b) = records_of a ++ records_of b
+records_of (leaf number key value) = a_leaf number ∷ []
+records_of (node number fixed body) = a_node number ∷ records_of body
+records_of (fork position left right) = records_of left ++ records_of right
 
 -- the records of a version, which may be empty
 abbrev pub records_in : Option Tree → List Rec
 records_in None = []
-records_in (Some t) = records_of t
+records_in (Some tree) = records_of tree
 
 -- A record that the pass has unlinked, which is its own until it is marked.
 abbrev pub owned_unlinked : Core → Rec → Fate → Owned
-owned_unlinked c r (InTree since) = record { rec = r; holding = Unlinked since c.past.now; words = c.words r }
-owned_unlinked c r _ = record { rec = r; holding = Unlinked 0 0; words = c.words r }
+owned_unlinked core rec (InTree since) = record { rec = rec; holding = Unlinked since core.past.now; words = core.words rec }
+owned_unlinked core rec _ = record { rec = rec; holding = Unlinked 0 0; words = core.words rec }
 
 -- The pass's own records after a publish of the tree t. Those that it links have gone, and those that it unlinks have come.
 abbrev pub own_after : Core → Option Tree → List Owned → List Owned
-own_after c t own =
-    map (λ r. owned_unlinked c r (c.fate r)) (filter (λ r. not (is_linked t r)) (records_in (c.past.version c.past.now))) ++
+own_after core t own =
+    map (λ r. owned_unlinked core r (core.fate r)) (filter (λ r. not (is_linked t r)) (records_in (core.past.version core.past.now))) ++
     filter (λ o. not (is_linked t o.rec)) own
 
 -- a lock, with the words that its node has now
 abbrev pub locked_with_words : (Rec → List ℕ) → Locked → Locked
-locked_with_words words l = record l { words = words (a_node l.node) }
+locked_with_words words lock = record lock { words = words (a_node lock.node) }
 
 -- the locks of a pass on nodes in the tree t, with the words that these have then
 abbrev pub locks_after : (Rec → List ℕ) → Option Tree → List Locked → List Locked
@@ -251,48 +253,49 @@ anchor_after (Value l) root anchor = anchor
 
 -- what a publish teaches its pass
 abbrev pub publish_learned : Core → Spot → ℕ → Known → Known
-publish_learned c spot w k = record k {
-  front = c.changes ++ next_change c k.pass spot w ∷ [];
-  own = own_after c (next_tree c spot w) k.own;
-  locks = locks_after (stored_words c spot w) (next_tree c spot w) k.locks;
-  anchor = anchor_after spot (stored_root c spot w) k.anchor;
+publish_learned core spot word known = record known {
+  front = core.changes ++ next_change core known.pass spot word ∷ [];
+  own = own_after core (next_tree core spot word) known.own;
+  locks = locks_after (stored_words core spot word) (next_tree core spot word) known.locks;
+  anchor = anchor_after spot (stored_root core spot word) known.anchor;
   values = [];
 }
 
 -- What a bulk load teaches its pass: all leaves of the tree, as if it had loaded the root just before.
 abbrev pub load_learned : Core → Option Tree → Known → Known
-load_learned c t k = record k {
-  front = c.changes ++ map (added_change k.pass) (items_of t);
-  fresh = record { front = c.changes; step = k.steps; pinned = version_of k.pin };
+load_learned core tree known = record known {
+  front = core.changes ++ map (added_change known.pass) (items_of tree);
+  fresh = record { front = core.changes; step = known.steps; pinned = version_of known.pin };
   values = [];
 }
 
 -- What each act teaches its pass.
 abbrev pub learned_by : Core → Act → Known → Known
-learned_by c (Claim r found) k = claim_learned c r found (c.fate r) k
-learned_by c (Fill r offset w) k = record k { own = map (with_filled_word r offset w) k.own }
-learned_by c (Ready r) k = record k { own = map (with_holding r IsReady) k.own }
-learned_by c (Release r) k = record k { own = without_record r k.own }
-learned_by c (LoadRef spot w) k = entry_learned c spot k
-learned_by c (LoadFixed r offset w) k = record k { front = c.changes; facts = facts_with k.pin (λ since. Fixed since c.past.now r offset w) k.facts }
-learned_by c (Lock Anchor found) k = anchor_learned c found c.anchor k
-learned_by c (Lock (NodeTarget n) found) k = node_learned c n found k
-learned_by c (Unlock Anchor) k = record k { anchor = None; values = [] }
-learned_by c (Unlock (NodeTarget n)) k = record k { locks = without_lock n k.locks; values = [] }
-learned_by c (Publish spot w) k = publish_learned c spot w k
-learned_by c (Mark r epoch) k = record k { own = without_record r k.own; values = [] }
-learned_by c (LoadEpoch w) k = record k { round = begun_round c.epoch c.past.now }
-learned_by c (Advance expected found) k = k
-learned_by c (SetPin w) k = record k { pin = Some (record { word = w; version = c.past.now; floor = c.epoch }) }
-learned_by c ClearPin k = record k { pin = None }
-learned_by c (LoadPin o w) k = record k { round = with_seen k.round o (c.pins o) }
-learned_by c (LoadState r w) k = state_learned c r w k
-learned_by c (GiveBack r epoch found) k = k
-learned_by c (Load words) k = load_learned c (loaded_tree c.layout words.now) k
+learned_by core (Claim r found) known = claim_learned core r found (core.fate r) known
+learned_by core (Fill r offset w) known = record known { own = map (with_filled_word r offset w) known.own }
+learned_by core (Ready r) known = record known { own = map (with_holding r IsReady) known.own }
+learned_by core (Release r) known = record known { own = without_record r known.own }
+learned_by core (LoadRef spot w) known = entry_learned core spot known
+learned_by core (LoadFixed r offset w) known =
+    record known { front = core.changes; facts = facts_with known.pin (λ since. Fixed since core.past.now r offset w) known.facts }
+learned_by core (Lock Anchor found) known = anchor_learned core found core.anchor known
+learned_by core (Lock (NodeTarget n) found) known = node_learned core n found known
+learned_by core (Unlock Anchor) known = record known { anchor = None; values = [] }
+learned_by core (Unlock (NodeTarget n)) known = record known { locks = without_lock n known.locks; values = [] }
+learned_by core (Publish spot w) known = publish_learned core spot w known
+learned_by core (Mark r epoch) known = record known { own = without_record r known.own; values = [] }
+learned_by core (LoadEpoch w) known = record known { round = begun_round core.epoch core.past.now }
+learned_by core (Advance expected found) known = known
+learned_by core (SetPin w) known = record known { pin = Some (record { word = w; version = core.past.now; floor = core.epoch }) }
+learned_by core ClearPin known = record known { pin = None }
+learned_by core (LoadPin o w) known = record known { round = with_seen known.round o (core.pins o) }
+learned_by core (LoadState r w) known = state_learned core r w known
+learned_by core (GiveBack r epoch found) known = known
+learned_by core (Load words) known = load_learned core (loaded_tree core.layout words.now) known
 
 -- what a pass knows after its step: what the act teaches it, with one step more counted
 abbrev pub learned : Core → Act → Known → Known
-learned c act k = let j = learned_by c act k in record j { steps = k.steps + 1 }
+learned core act known = let j = learned_by core act known in record j { steps = known.steps + 1 }
 
 -- One atomic step of a pass, which knew k, and knows j then. `said` are the notes that its caller adds.
 pub record IsEvent (layout : Layout) (act : Act) (said : Known → List Note) (k j : Known) : Type 0 where

@@ -46,30 +46,31 @@ IsPacked (a_leaf n) words = (pair : List ℕ × ℕ) × HasLeafWords pair × (le
 
 -- the entry for the record with which a tree begins
 abbrev pub head_entry : Tree → Option Entry
-head_entry (leaf n k v) = Some (Leaf n)
-head_entry (node n x b) = Some (Node n x.height)
-head_entry (fork p a b) = None
+head_entry (leaf number key value) = Some (Leaf number)
+head_entry (node number fixed body) = Some (Node number fixed.height)
+head_entry (fork position left right) = None
 
 -- the root's entry of a version, which may be empty
 abbrev pub root_of : Option Tree → Option Entry
 root_of None = None
-root_of (Some t) = head_entry t
+root_of (Some tree) = head_entry tree
 
 -- the entry in slot j of the node with which a tree begins
 abbrev pub entry_in : Tree → ℕ → Option Entry
-entry_in (leaf n k v) j = None
-entry_in (node n x b) j = if nat_lt j (size (subtrie b)) then Some (entry_at (subtrie b) j) else None
-entry_in (fork p a b) j = None
+entry_in (leaf number key value) j = None
+entry_in (node number fixed body) j = if nat_lt j (size (subtrie body)) then Some (entry_at (subtrie body) j) else None
+entry_in (fork position left right) j = None
 
 -- the value of the leaf with which a tree begins
 abbrev pub head_value : Tree → Option ℕ
-head_value (leaf n k v) = Some v
-head_value (node n x b) = None
-head_value (fork p a b) = None
+head_value (leaf number key value) = Some value
+head_value (node number fixed body) = None
+head_value (fork position left right) = None
 
 -- The record with which the tree begins has this word at an offset of neither its state nor an entry. The words behind a leaf's key may be
 -- any.
-abbrev pub HasWordAt : Tree → ℕ → ℕ → Type 0
-HasWordAt (leaf n k v) offset w = offset < words_for (length k) → get_or (leaf_words (k, v)) (offset - FIELDS_OFFSET) 0 ≡ w
-HasWordAt (node n x b) offset w = get_or (fixed_words (length x.rows) x.height x.columns x.rows) (offset - FIELDS_OFFSET) 0 ≡ w
-HasWordAt (fork p a b) offset w = w ≡ 0
+abbrev pub HasWordAt : Tree → (offset word : ℕ) → Type 0
+HasWordAt (leaf number key value) offset word = offset < words_for (length key) → get_or (leaf_words (key, value)) (offset - FIELDS_OFFSET) 0 ≡ word
+HasWordAt (node number fixed body) offset word =
+    get_or (fixed_words (length fixed.rows) fixed.height fixed.columns fixed.rows) (offset - FIELDS_OFFSET) 0 ≡ word
+HasWordAt (fork position left right) offset word = word ≡ 0

@@ -8,10 +8,10 @@ use Rattle.rowex_core.specs.Knowing.{IsViewOf}
 
 -- the events are legal one after the other from a core on, and lead to this one
 abbrev pub EventsLead : Core → List Event → Core → Type 0
-EventsLead c [] d = d ≡ c
-EventsLead c (x ∷ xs) d = Legal c x.pass x.act × EventsLead (after c x.pass x.act) xs d
+EventsLead old [] new = new ≡ old
+EventsLead old (x ∷ xs) new = Legal old x.pass x.act × EventsLead (after old x.pass x.act) xs new
 
 -- none of the events is a step of a pass whose view this is
 abbrev pub AreOthers : View → List Event → Type 0
-AreOthers v [] = Unit {0}
-AreOthers v (x ∷ xs) = (¬ IsViewOf v x.pass) × AreOthers v xs
+AreOthers view [] = Unit {0}
+AreOthers view (x ∷ xs) = (¬ IsViewOf view x.pass) × AreOthers view xs

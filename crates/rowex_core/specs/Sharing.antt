@@ -32,12 +32,12 @@ is_by q (Some p) = nat_eq p q
 -- whether a record of this fate is in the tree
 abbrev pub is_in_tree : Fate → Bool
 is_in_tree (InTree since) = true
-is_in_tree f = false
+is_in_tree fate = false
 
 -- the record as the only one of a list, if the pass holds it
 abbrev pub owned : Rec → List ℕ → Option Holding → List Owned
-owned r words None = []
-owned r words (Some h) = record { rec = r; holding = h; words = words } ∷ []
+owned rec words None = []
+owned rec words (Some holding) = record { rec = rec; holding = holding; words = words } ∷ []
 
 -- the node as the only one of a list, if the pass has locked it
 abbrev pub locked : ℕ → List ℕ → Bool → List Locked
@@ -60,12 +60,12 @@ pub record Share : Type 0 where
 
 -- what pass q has in the core
 abbrev pub share : ℕ → Core → Share
-share q c = record {
-  own = λ r. owned r (c.words r) (holding_of q (c.fate r));
-  locks = λ n. locked n (c.words (a_node n)) (is_in_tree (c.fate (a_node n)) && is_by q (c.lock n));
-  anchor = anchored_at c.root (is_by q c.anchor);
-  pin = c.pins q;
-  round = c.rounds q;
+share q core = record {
+  own = λ r. owned r (core.words r) (holding_of q (core.fate r));
+  locks = λ n. locked n (core.words (a_node n)) (is_in_tree (core.fate (a_node n)) && is_by q (core.lock n));
+  anchor = anchored_at core.root (is_by q core.anchor);
+  pin = core.pins q;
+  round = core.rounds q;
 }
 
 -- the own records that are record r
@@ -78,12 +78,12 @@ of_node n locks = filter (λ l. nat_eq n l.node) locks
 
 -- what a pass has, by what it knows
 abbrev pub known_share : Known → Share
-known_share k = record {
-  own = λ r. of_record r k.own;
-  locks = λ n. of_node n k.locks;
-  anchor = k.anchor;
-  pin = k.pin;
-  round = k.round;
+known_share known = record {
+  own = λ r. of_record r known.own;
+  locks = λ n. of_node n known.locks;
+  anchor = known.anchor;
+  pin = known.pin;
+  round = known.round;
 }
 
 -- the share of a pass that has nothing, and has loaded no epoch
@@ -106,17 +106,19 @@ fate_of q (Unlinked since last) = UnlinkedBy since last q
 
 -- The record is the pass's own in the way that it knows, and has the words that it knows.
 abbrev pub IsOwned : ℕ → Core → Owned → Type 0
-IsOwned q c o = (c.fate o.rec ≡ fate_of q o.holding) × (c.words o.rec ≡ o.words)
+IsOwned pass core o = (core.fate o.rec ≡ fate_of pass o.holding) × (core.words o.rec ≡ o.words)
 
 -- The node is locked by the pass, is in the tree, and has the words that the pass knows.
 abbrev pub IsLocked : ℕ → Core → Locked → Type 0
-IsLocked q c l = (c.lock l.node ≡ Some q) × IsInTree c l.node × (c.words (a_node l.node) ≡ l.words)
+IsLocked pass core lock = (core.lock lock.node ≡ Some pass) × IsInTree core lock.node × (core.words (a_node lock.node) ≡ lock.words)
 
 -- the pass has what it knows that it has, and no more
-pub record HasAll (c : Core) (k : Known) : Type 0 where
-  pub own : All (IsOwned k.pass c) k.own
-  pub all_own : (r : Rec) (h : Holding) → c.fate r ≡ fate_of k.pass h → Contains k.own (record { rec = r; holding = h; words = c.words r })
-  pub locks : All (IsLocked k.pass c) k.locks
-  pub all_locks : (n : ℕ) → c.lock n ≡ Some k.pass → IsInTree c n → Contains k.locks (record { node = n; words = c.words (a_node n) })
-  pub anchor : (e : Option Entry) → k.anchor ≡ Some e → (c.anchor ≡ Some k.pass) × (c.root ≡ e)
-  pub all_anchor : c.anchor ≡ Some k.pass → k.anchor ≡ Some c.root
+pub record HasAll (core : Core) (known : Known) : Type 0 where
+  pub own : All (IsOwned known.pass core) known.own
+  pub all_own : (rec : Rec) (holding : Holding) → core.fate rec ≡ fate_of known.pass holding →
+      Contains known.own (record { rec = rec; holding = holding; words = core.words rec })
+  pub locks : All (IsLocked known.pass core) known.locks
+  pub all_locks : (n : ℕ) → core.lock n ≡ Some known.pass → IsInTree core n →
+      Contains known.locks (record { node = n; words = core.words (a_node n) })
+  pub anchor : (e : Option Entry) → known.anchor ≡ Some e → (core.anchor ≡ Some known.pass) × (core.root ≡ e)
+  pub all_anchor : core.anchor ≡ Some known.pass → known.anchor ≡ Some core.root

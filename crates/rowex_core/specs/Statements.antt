@@ -46,36 +46,41 @@ use Rattle.rowex_core.specs.declared.event.Event.{Event}
 
 -- a legal step keeps the core lawful
 abbrev pub StepsStayLawful : Type 0
-StepsStayLawful = (c : Core) (q : ℕ) (act : Act) → IsLawful c → Legal c q act → IsLawful (after c q act)
+StepsStayLawful = (core : Core) (pass : ℕ) (act : Act) → IsLawful core → Legal core pass act → IsLawful (after core pass act)
 
 -- a legal step of one pass leaves true what the view of another says
 abbrev pub StepsKeepKnowledge : Type 0
-StepsKeepKnowledge = (c : Core) (p : ℕ) (act : Act) (v : View) → IsLawful c → Legal c p act → ¬ IsViewOf v p → Knowing c v → Knowing (after c p act) v
+StepsKeepKnowledge =
+    (core : Core) (p : ℕ) (act : Act) (view : View) → IsLawful core → Legal core p act → ¬ IsViewOf view p → Knowing core view →
+    Knowing (after core p act) view
 
 -- A legal step of one pass leaves to another what it has, and the versions and changes so far. So locks of two passes on different nodes
 -- are lawful at once. Each publish is one change, whatever other locks are held.
 abbrev pub StepsLeaveOthers : Type 0
-StepsLeaveOthers = (c : Core) (p q : ℕ) (act : Act) → p ≢ q → IsLawful c → Legal c p act → IsFrame q c (after c p act)
+StepsLeaveOthers = (core : Core) (p q : ℕ) (act : Act) → p ≢ q → IsLawful core → Legal core p act → IsFrame q core (after core p act)
 
 -- what a pass knows after its own step is true
 abbrev pub LearnedIsTrue : Type 0
-LearnedIsTrue = (c : Core) (k : Known) (act : Act) → IsLawful c → Knows c k → Legal c k.pass act → Knows (after c k.pass act) (learned c act k)
+LearnedIsTrue =
+    (core : Core) (known : Known) (act : Act) → IsLawful core → Knows core known → Legal core known.pass act →
+    Knows (after core known.pass act) (learned core act known)
 
 -- A legal load of the root leaves its pass all changes made before it. So these include all that any pass had seen by then.
 abbrev pub RootLoadSeesAll : Type 0
 RootLoadSeesAll =
-    (c : Core) (k : Known) (w : ℕ) → IsLawful c → Knows c k → Legal c k.pass (LoadRef Root w) →
-    let j = learned c (LoadRef Root w) k in (j.front ≡ c.changes) × (j.fresh.front ≡ c.changes) × ((o : Known) → Knows c o → BeginsWith j.fresh.front o.front)
+    (core : Core) (k : Known) (word : ℕ) → IsLawful core → Knows core k → Legal core k.pass (LoadRef Root word) →
+    let j = learned core (LoadRef Root word) k in (j.front ≡ core.changes) × (j.fresh.front ≡ core.changes) ×
+    ((o : Known) → Knows core o → BeginsWith j.fresh.front o.front)
 
 -- a pass whose knowledge is true has what it knows that it has, and no more
 abbrev pub PassKnowsAllItHas : Type 0
-PassKnowsAllItHas = (c : Core) (k : Known) → Knows c k → HasAll c k
+PassKnowsAllItHas = (core : Core) (known : Known) → Knows core known → HasAll core known
 
 -- a legal atomic step writes one word at most, and the words then show the core after it
 abbrev pub StepsWriteOneWord : Type 0
 StepsWriteOneWord =
-    (c : Core) (q : ℕ) (act : Act) (words : List ℕ) → IsAtomic act → IsLawful c → Legal c q act → Shows c words →
-    Shows (after c q act) (set words (address c.layout (location_of q act)) (writes act (word_at c (location_of q act))))
+    (core : Core) (pass : ℕ) (act : Act) (words : List ℕ) → IsAtomic act → IsLawful core → Legal core pass act → Shows core words →
+    Shows (after core pass act) (set words (address core.layout (location_of pass act)) (writes act (word_at core (location_of pass act))))
 
 -- the opening core is lawful, the opening words show it, and no pass has done anything
 abbrev pub OpeningIsLawful : Type 0
@@ -83,59 +88,67 @@ OpeningIsLawful = (layout : Layout) → IsLawful (opening layout) × Shows (open
 
 -- legal events that begin at the opening core lead to a lawful core
 abbrev pub RunsStayLawful : Type 0
-RunsStayLawful = (layout : Layout) (events : List Event) (d : Core) → EventsLead (opening layout) events d → IsLawful d
+RunsStayLawful = (layout : Layout) (events : List Event) (core : Core) → EventsLead (opening layout) events core → IsLawful core
 
 -- legal events leave true what a view says, if none is a step of a pass whose view it is
 abbrev pub RunsKeep : Type 0
-RunsKeep = (c : Core) (events : List Event) (d : Core) (v : View) → IsLawful c → EventsLead c events d → AreOthers v events → Knowing c v → Knowing d v
+RunsKeep =
+    (old : Core) (events : List Event) (new : Core) (view : View) → IsLawful old → EventsLead old events new → AreOthers view events →
+    Knowing old view → Knowing new view
 
 -- What a step does to the changes and the versions. A publish appends one of each, a bulk load one for each leaf. Any other step leaves
 -- both as they are.
 abbrev pub Appends : Act → Core → Core → Type 0
-Appends (Publish spot w) c d =
-    (x : Change) × (d.changes ≡ c.changes ++ x ∷ []) × (d.past.now ≡ suc c.past.now) × ((n : ℕ) → n ≤ c.past.now → d.past.version n ≡ c.past.version n)
-Appends (Load words) c d =
-    (q : ℕ) × (d.changes ≡ c.changes ++ map (added_change q) (items_of (loaded_tree c.layout words.now))) × (d.past ≡ loaded_past (loaded_tree c.layout words.now))
-Appends _ c d = (d.changes ≡ c.changes) × (d.past ≡ c.past)
+Appends (Publish spot w) old new =
+    (change : Change) × (new.changes ≡ old.changes ++ change ∷ []) × (new.past.now ≡ suc old.past.now) ×
+    ((n : ℕ) → n ≤ old.past.now → new.past.version n ≡ old.past.version n)
+Appends (Load words) old new =
+    (pass : ℕ) × (new.changes ≡ old.changes ++ map (added_change pass) (items_of (loaded_tree old.layout words.now))) ×
+    (new.past ≡ loaded_past (loaded_tree old.layout words.now))
+Appends _ old new = (new.changes ≡ old.changes) × (new.past ≡ old.past)
 
--- Only a publish appends a change.
-abbrev pub OnlyPublishAppends : Type 0
-OnlyPublishAppends = (c : Core) (q : ℕ) (act : Act) → Appends act c (after c q act)
+-- Each act appends what it must: a publish one change, a bulk load one for each leaf, any other act none.
+abbrev pub EachActAppends : Type 0
+EachActAppends = (core : Core) (pass : ℕ) (act : Act) → Appends act core (after core pass act)
 
 -- Let a pinned pass's search be led to a node since version m, which is no older than its pin. Then it is led since m to the child that the
 -- node's words give it now, be the node still linked or not. A search is led to a record whose stem the key followed, unless it was absent.
 abbrev pub Hindsight : Type 0
 Hindsight =
-    (c : Core) → IsLawful c → (q : ℕ) (p : Pin) → c.pins q ≡ Some p → (m : ℕ) → p.version ≤ m → (k : Key) (n h : ℕ) →
-    IsLed c.past m k (Node n h) → IsLed c.past m k (seek k (node_words_of (c.words (a_node n))).subtrie)
+    (core : Core) → IsLawful core → (pass : ℕ) (pin : Pin) → core.pins pass ≡ Some pin → (m : ℕ) → pin.version ≤ m → (key : Key) (n height : ℕ) →
+    IsLed core.past m key (Node n height) → IsLed core.past m key (seek key (node_words_of (core.words (a_node n))).subtrie)
 
 -- Keys below two entries of a record part at the fork between these, whichever versions of its present life they come from.
 abbrev pub KeysPartAtFork : Type 0
 KeysPartAtFork =
-    (c : Core) → IsLawful c → (r : Rec) (n o x y : ℕ) (g h : Fixed) (a b : Tree) → n ≤ c.past.now → o ≤ c.past.now →
-    Spans c.past.now (life_of (c.fate r)) n → Spans c.past.now (life_of (c.fate r)) o → Stands c.past n r (node x g a) → Stands c.past o r (node y h b) →
-    (i j : ℕ) → i < j → (k l : Key) → IsUnder a i k → IsUnder b j l → IsParted (between (subtrie a) i j) k l
+    (core : Core) → IsLawful core → (rec : Rec) (n o x y : ℕ) (g h : Fixed) (a b : Tree) → n ≤ core.past.now → o ≤ core.past.now →
+    Spans core.past.now (life_of (core.fate rec)) n → Spans core.past.now (life_of (core.fate rec)) o → Stands core.past n rec (node x g a) →
+    Stands core.past o rec (node y h b) →
+    (i j : ℕ) → i < j → (key other : Key) → IsUnder a i key → IsUnder b j other → IsParted (between (subtrie a) i j) key other
 
 -- A record that stood in a version since a pass's pin is neither free nor held. Its words are those that it had then, but for its state,
 -- its entries, and the words behind a leaf's key.
 abbrev pub ReachKeepsWords : Type 0
 ReachKeepsWords =
-    (c : Core) → IsLawful c → (q : ℕ) (p : Pin) → c.pins q ≡ Some p → (n : ℕ) (r : Rec) (u : Tree) → p.version ≤ n → n ≤ c.past.now → Stands c.past n r u →
-    (c.fate r ≢ Free) × ((o : ℕ) → c.fate r ≢ Held o) × ((offset : ℕ) → IsFixedOffset r offset → HasWordAt u offset (record_word c r offset))
+    (core : Core) → IsLawful core → (pass : ℕ) (pin : Pin) → core.pins pass ≡ Some pin → (n : ℕ) (rec : Rec) (tree : Tree) → pin.version ≤ n →
+    n ≤ core.past.now → Stands core.past n rec tree →
+    (core.fate rec ≢ Free) × ((o : ℕ) → core.fate rec ≢ Held o) ×
+    ((offset : ℕ) → IsFixedOffset rec offset → HasWordAt tree offset (record_word core rec offset))
 
 -- the record stood in version n as u, and at no later one
-pub record StoodLast (s : Past) (n : ℕ) (r : Rec) (u : Tree) : Type 0 where
+pub record StoodLast (s : Past) (n : ℕ) (rec : Rec) (u : Tree) : Type 0 where
   pub past : n ≤ s.now
-  pub stands : Stands s n r u
-  pub later : (o : ℕ) (v : Tree) → n < o → o ≤ s.now → Stands s o r v → ⊥
+  pub stands : Stands s n rec u
+  pub later : (o : ℕ) (v : Tree) → n < o → o ≤ s.now → Stands s o rec v → ⊥
 
 -- Let a node have stood in version m, which is no older than a pass's pin. Each of its entries is one that it had when it stood last, which
 -- is now or in a version since m. Its other words but the state are as at m, and so are its stems.
 abbrev pub EntriesInReach : Type 0
 EntriesInReach =
-    (c : Core) → IsLawful c → (q : ℕ) (p : Pin) → c.pins q ≡ Some p → (m n : ℕ) (u : Tree) → p.version ≤ m → m ≤ c.past.now → Stands c.past m (a_node n) u →
-    (o : ℕ) × (v : Tree) × (m ≤ o) × StoodLast c.past o (a_node n) v × IsSameRecord u v ×
-    ((j : ℕ) → j < MAX_ENTRIES → entry_of (record_word c (a_node n) (FIRST_ENTRY + j)) ≡ entry_in v j)
+    (core : Core) → IsLawful core → (pass : ℕ) (pin : Pin) → core.pins pass ≡ Some pin → (m n : ℕ) (u : Tree) → pin.version ≤ m → m ≤ core.past.now →
+    Stands core.past m (a_node n) u →
+    (o : ℕ) × (v : Tree) × (m ≤ o) × StoodLast core.past o (a_node n) v × IsSameRecord u v ×
+    ((j : ℕ) → j < MAX_ENTRIES → entry_of (record_word core (a_node n) (FIRST_ENTRY + j)) ≡ entry_in v j)
 
 -- a call that makes a change of this kind
 abbrev pub call_of_kind : Kind → Key → ℕ → Call
@@ -145,28 +158,32 @@ call_of_kind Removed key value = Remove key
 
 -- a call that makes this change
 abbrev pub call_of_change : Change → Call
-call_of_change x = call_of_kind x.kind x.key x.value
+call_of_change change = call_of_kind change.kind change.key change.value
 
 -- A publish makes one change, by its pass, which fits the map of those before. The content is then that map after one call, whatever locks
 -- others hold.
 abbrev pub PublishIsAStep : Type 0
 PublishIsAStep =
-    (c : Core) (q : ℕ) (spot : Spot) (w : ℕ) → IsLawful c → Legal c q (Publish spot w) →
-    ((after c q (Publish spot w)).changes ≡ c.changes ++ next_change c q spot w ∷ []) × ((next_change c q spot w).pass ≡ q) ×
-    Fits (map_of c.changes) (next_change c q spot w) ×
-    (content ((after c q (Publish spot w)).past.version (after c q (Publish spot w)).past.now) ≡ map_after (map_of c.changes) (call_of_change (next_change c q spot w)))
+    (core : Core) (pass : ℕ) (spot : Spot) (word : ℕ) → IsLawful core → Legal core pass (Publish spot word) →
+    ((after core pass (Publish spot word)).changes ≡ core.changes ++ next_change core pass spot word ∷ []) ×
+    ((next_change core pass spot word).pass ≡ pass) ×
+    Fits (map_of core.changes) (next_change core pass spot word) ×
+    (content ((after core pass (Publish spot word)).past.version (after core pass (Publish spot word)).past.now) ≡ map_after (map_of core.changes) (call_of_change (next_change core pass spot word)))
 
 -- Let an entry be stored, and the words show a bit trie of lawful nodes then, or no tree. Let its leaves differ from those before by one
 -- change of the pass. Then the publish makes that change.
 abbrev pub FindsChange : Type 0
 FindsChange =
-    (c : Core) (q : ℕ) (spot : Spot) (w : ℕ) → IsOfEntry spot → IsLawful c → IsTop (heap_of (stored_words c spot w)) (stored_root c spot w) (next_tree c spot w) →
-    ((t : Tree) → next_tree c spot w ≡ Some t → IsTrie t × IsBuilt t) → (x : Change) → IsChange (c.past.version c.past.now) x (next_tree c spot w) →
-    items_of (c.past.version c.past.now) ≢ items_of (next_tree c spot w) → x.pass ≡ q → next_change c q spot w ≡ x
+    (core : Core) (pass : ℕ) (spot : Spot) (word : ℕ) → IsOfEntry spot → IsLawful core →
+    IsTop (heap_of (stored_words core spot word)) (stored_root core spot word) (next_tree core spot word) →
+    ((tree : Tree) → next_tree core spot word ≡ Some tree → IsTrie tree × IsBuilt tree) → (change : Change) →
+    IsChange (core.past.version core.past.now) change (next_tree core spot word) →
+    items_of (core.past.version core.past.now) ≢ items_of (next_tree core spot word) → change.pass ≡ pass → next_change core pass spot word ≡ change
 
 -- A pass may lock a node while another holds the lock of another node. Both have their locks then.
 abbrev pub LocksApart : Type 0
 LocksApart =
-    (c : Core) (p q n m : ℕ) → IsLawful c → c.lock n ≡ Some p → n ≢ m → Legal c q (Lock (NodeTarget m) (state_word Live)) →
-    IsLawful (after c q (Lock (NodeTarget m) (state_word Live))) ×
-    ((after c q (Lock (NodeTarget m) (state_word Live))).lock n ≡ Some p) × ((after c q (Lock (NodeTarget m) (state_word Live))).lock m ≡ Some q)
+    (core : Core) (other pass n m : ℕ) → IsLawful core → core.lock n ≡ Some other → n ≢ m → Legal core pass (Lock (NodeTarget m) (state_word Live)) →
+    IsLawful (after core pass (Lock (NodeTarget m) (state_word Live))) ×
+    ((after core pass (Lock (NodeTarget m) (state_word Live))).lock n ≡ Some other) ×
+    ((after core pass (Lock (NodeTarget m) (state_word Live))).lock m ≡ Some pass)

@@ -17,46 +17,46 @@ use Rattle.rowex_core.specs.Cores.{Core}
 -- the state of a live node, by its lock
 abbrev pub lock_tag : Option ℕ → Tag
 lock_tag None = Live
-lock_tag (Some q) = Locked
+lock_tag (Some pass) = Locked
 
 -- the state of a record, where `lock` says who has locked it
 abbrev pub tag_of : Option ℕ → Fate → Tag
 tag_of lock Free = FreeTag
-tag_of lock (Held q) = HeldTag
-tag_of lock (Ready q) = lock_tag lock
+tag_of lock (Held pass) = HeldTag
+tag_of lock (Ready pass) = lock_tag lock
 tag_of lock (InTree since) = lock_tag lock
-tag_of lock (Unlinked since last q) = lock_tag lock
+tag_of lock (Unlinked since last pass) = lock_tag lock
 tag_of lock (Marked since last epoch) = Obsolete epoch
 
 -- the lock of a record; a leaf is never locked
 abbrev pub lock_of : Core → Rec → Option ℕ
-lock_of c (a_node n) = c.lock n
-lock_of c (a_leaf n) = None
+lock_of core (a_node n) = core.lock n
+lock_of core (a_leaf n) = None
 
 -- the state word of a record
 abbrev pub state_at : Core → Rec → ℕ
-state_at c r = state_word (tag_of (lock_of c r) (c.fate r))
+state_at core rec = state_word (tag_of (lock_of core rec) (core.fate rec))
 
 -- the word of a pin, or of none
 abbrev pub pin_word : Option Pin → ℕ
 pin_word None = NO_PIN
-pin_word (Some p) = p.word
+pin_word (Some pin) = pin.word
 
 -- a word of a record by its offset
 abbrev pub record_word : Core → Rec → ℕ → ℕ
-record_word c r zero = state_at c r
-record_word c r (suc offset) = get_or (c.words r) offset 0
+record_word core rec zero = state_at core rec
+record_word core rec (suc offset) = get_or (core.words rec) offset 0
 
 -- What stands at a location.
 abbrev pub word_at : Core → Location → ℕ
-word_at c Epoch = c.epoch
-word_at c Root = entry_word c.root
-word_at c Anchor = state_word (lock_tag c.anchor)
-word_at c (PinOf q) = pin_word (c.pins q)
-word_at c (NodeWord n offset) = record_word c (a_node n) offset
-word_at c (LeafWord n offset) = record_word c (a_leaf n) offset
+word_at core Epoch = core.epoch
+word_at core Root = entry_word core.root
+word_at core Anchor = state_word (lock_tag core.anchor)
+word_at core (PinOf pass) = pin_word (core.pins pass)
+word_at core (NodeWord n offset) = record_word core (a_node n) offset
+word_at core (LeafWord n offset) = record_word core (a_leaf n) offset
 
 -- the words of the table show the core
-pub record Shows (c : Core) (words : List ℕ) : Type 0 where
-  pub size : length words ≡ word_count c.layout
-  pub each : (location : Location) → IsInTable c.layout location → get_or words (address c.layout location) 0 ≡ word_at c location
+pub record Shows (core : Core) (words : List ℕ) : Type 0 where
+  pub size : length words ≡ word_count core.layout
+  pub each : (location : Location) → IsInTable core.layout location → get_or words (address core.layout location) 0 ≡ word_at core location

@@ -29,37 +29,41 @@ use Rattle.rowex_core.specs.Knowing.{Knows, publish_learned}
 -- words show this tree, and the change found between the leaves is the one that versions tell.
 abbrev pub PublishIsLegal : Type 0
 PublishIsLegal =
-    (c : Core) (q : ℕ) (spot : Spot) (w : ℕ) → IsOfEntry spot → IsLawful c → IsLockedAt c q spot → IsWordFor spot w → IsPackedAt c spot w →
-    (t : Option Tree) (x : Change) → IsVersionsPublish (bare c) q (heap_of (stored_words c spot w)) (stored_root c spot w) t x →
-    items_of (c.past.version c.past.now) ≢ items_of t →
-    IsLegalPublish c q spot w × (next_tree c spot w ≡ t) × (next_change c q spot w ≡ x)
+    (core : Core) (pass : ℕ) (spot : Spot) (word : ℕ) → IsOfEntry spot → IsLawful core → IsLockedAt core pass spot → IsWordFor spot word →
+    IsPackedAt core spot word →
+    (tree : Option Tree) (change : Change) →
+    IsVersionsPublish (bare core) pass (heap_of (stored_words core spot word)) (stored_root core spot word) tree change →
+    items_of (core.past.version core.past.now) ≢ items_of tree →
+    IsLegalPublish core pass spot word × (next_tree core spot word ≡ tree) × (next_change core pass spot word ≡ change)
 
 -- A store of a value of 64 bits, under the lock of what names the leaf, is a legal publish. It links no record anew and unlinks none.
 abbrev pub ValueIsLegal : Type 0
 ValueIsLegal =
-    (c : Core) (q l w : ℕ) → IsLawful c → IsLockedAt c q (Value l) → w < 2 ^ 64 →
-    IsLegalPublish c q (Value l) w × HasTraded (c.past.version c.past.now) (next_tree c (Value l) w) [] []
+    (core : Core) (pass l word : ℕ) → IsLawful core → IsLockedAt core pass (Value l) → word < 2 ^ 64 →
+    IsLegalPublish core pass (Value l) word × HasTraded (core.past.version core.past.now) (next_tree core (Value l) word) [] []
 
 -- Let the words of a node record spell a node, and an entry that may stand in it be stored in slot j. The words spell the node with that
 -- entry then. What is read from them is the node's fixed part and its subtrie with that entry.
 abbrev pub SlotIsStored : Type 0
 SlotIsStored =
     (view : NodeView) (words : List ℕ) → HasNodeWords view → node_words view ≡ words → All (λ w. w < 2 ^ 64) words →
-    (j : ℕ) (e : Entry) → j < length view.entries → HasEntryWord (Some e) → StandsBelow view.height e →
-    let stored = record view { entries = set view.entries j e } in let after = set words (HEAD_WORDS + j) (entry_word (Some e)) in
+    (j : ℕ) (entry : Entry) → j < length view.entries → HasEntryWord (Some entry) → StandsBelow view.height entry →
+    let stored = record view { entries = set view.entries j entry } in let after = set words (HEAD_WORDS + j) (entry_word (Some entry)) in
     HasNodeWords stored × (node_words stored ≡ after) ×
-    (node_words_of after ≡ record { fixed = (node_words_of words).fixed; subtrie = with_entry (node_words_of words).subtrie j e })
+    (node_words_of after ≡ record { fixed = (node_words_of words).fixed; subtrie = with_entry (node_words_of words).subtrie j entry })
 
 -- A node that stood in the tree in a version since a pass's pin is in the tree, if its state is live.
 abbrev pub LedIsInTree : Type 0
 LedIsInTree =
-    (c : Core) → IsLawful c → (q : ℕ) (p : Pin) → c.pins q ≡ Some p → (n m : ℕ) (u : Tree) → p.version ≤ m → m ≤ c.past.now →
-    Stands c.past m (a_node n) u → state_at c (a_node n) ≡ 2 → IsInTree c n
+    (core : Core) → IsLawful core → (pass : ℕ) (pin : Pin) → core.pins pass ≡ Some pin → (n m : ℕ) (tree : Tree) → pin.version ≤ m →
+    m ≤ core.past.now →
+    Stands core.past m (a_node n) tree → state_at core (a_node n) ≡ 2 → IsInTree core n
 
 -- What a pass has after a publish, if it owned just what is linked anew and had locked just these nodes. It owns just what is unlinked, and
 -- has locked just those that are still linked.
 abbrev pub OwnedAfterPublish : Type 0
 OwnedAfterPublish =
-    (c : Core) (k : Known) (spot : Spot) (w : ℕ) → IsLawful c → Knows c k → (new gone : List Rec) (held kept : List ℕ) →
-    HasTraded (c.past.version c.past.now) (next_tree c spot w) new gone → OwnsJust k.own InAnyWay new → LocksJust k.locks held → AreKept held gone kept →
-    let j = publish_learned c spot w k in OwnsJust j.own IsUnlinked gone × LocksJust j.locks kept
+    (core : Core) (known : Known) (spot : Spot) (word : ℕ) → IsLawful core → Knows core known → (new gone : List Rec) (held kept : List ℕ) →
+    HasTraded (core.past.version core.past.now) (next_tree core spot word) new gone → OwnsJust known.own InAnyWay new → LocksJust known.locks held →
+    AreKept held gone kept →
+    let j = publish_learned core spot word known in OwnsJust j.own IsUnlinked gone × LocksJust j.locks kept

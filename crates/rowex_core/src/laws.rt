@@ -1,6 +1,6 @@
 //! The laws of the core. The functions do nothing: their contracts are the laws.
 
-ghost use Rattle.rowex_core.specs.Statements.{EntriesInReach, FindsChange, Hindsight, ReachKeepsWords, StepsKeepKnowledge, PassKnowsAllItHas, LearnedIsTrue, StepsLeaveOthers, LocksApart, OnlyPublishAppends, OpeningIsLawful, KeysPartAtFork, PublishIsAStep, RunsKeep, RunsStayLawful, RootLoadSeesAll, StepsStayLawful, StepsWriteOneWord};
+ghost use Rattle.rowex_core.specs.Statements.{EntriesInReach, FindsChange, Hindsight, ReachKeepsWords, StepsKeepKnowledge, PassKnowsAllItHas, LearnedIsTrue, StepsLeaveOthers, LocksApart, EachActAppends, OpeningIsLawful, KeysPartAtFork, PublishIsAStep, RunsKeep, RunsStayLawful, RootLoadSeesAll, StepsStayLawful, StepsWriteOneWord};
 
 /// A legal step keeps the core lawful.
 pub fn steps_stay_lawful()
@@ -55,7 +55,7 @@ pub fn runs_keep_knowledge()
 /// A publish appends one change and one version; all earlier ones stay. A bulk load appends one change for each leaf, and makes the
 /// versions anew: it is legal at the opening alone. Every other act leaves both lists.
 pub fn only_publish_appends()
-    ensures { OnlyPublishAppends }
+    ensures { EachActAppends }
 {}
 
 /// Let the search of a pinned pass be led to a node, since the version of the pin or a later one. Then since the same version it is led to
@@ -64,7 +64,8 @@ pub fn hindsight()
     ensures { Hindsight }
 {}
 
-/// Keys below two entries of a node, in any versions of its life, first differ at the fork between the two. That below the first has 0 there.
+/// Keys below two entries of a node, in any versions of its life, first differ at the fork between the two. That below the first has 0
+/// there.
 pub fn keys_part_at_fork_between_entries()
     ensures { KeysPartAtFork }
 {}
@@ -86,8 +87,8 @@ pub fn publish_is_map_step()
     ensures { PublishIsAStep }
 {}
 
-/// Let the store of an entry word show a bit trie with other leaves than the newest version has. If one change of its pass leads from the one to
-/// the other, the publish of that word makes this change.
+/// Let the store of an entry word show a bit trie with other leaves than the newest version has. If one change of its pass leads from the
+/// one to the other, the publish of that word makes this change.
 pub fn legality_finds_change()
     ensures { FindsChange }
 {}

@@ -19,7 +19,7 @@ use Rattle.tries.specs.Place.{spot}
 use Rattle.tries.proofs.Place.{leads_spot}
 use Rattle.tries.specs.Tree.{Subtrie, Tree}
 use Rattle.record_words.specs.declared.records.Rec.{Rec}
-use Rattle.versions.specs.State.{Past, Stands, IsHeldSince, WasAbsentSince, IsLed, IsSteady, rec_of}
+use Rattle.versions.specs.State.{Past, Stands, IsHeldSince, WasAbsentSince, IsLed, KeepsFixedWordsSince, rec_of}
 use Rattle.versions.specs.Core.{pin_version}
 use Rattle.versions.specs.Frames.{IsGrown}
 use Rattle.versions.specs.Told.{TellChanges}
@@ -28,7 +28,7 @@ use Rattle.versions.proofs.State.{steady, reach_later}
 use Rattle.rowex_core.specs.declared.known.Known.{Known}
 use Rattle.rowex_core.specs.Cores.{Core, IsLawful}
 use Rattle.rowex_core.specs.Knowing.{Recalls, IsPinnedSince}
-use Rattle.version_laws.specs.Scan.{EntryStoodSince, IsRooted, IsPlaced, IsShaped, IsRead, IsBlank}
+use Rattle.version_laws.specs.Scan.{EntryStoodSince, IsRooted, IsPlaced, HadShapeSince, IsRead, IsBlank}
 use Rattle.version_laws.proofs.Scan.Persist.{rooted_grown, placed_grown, shaped_grown, read_grown}
 use Rattle.rowex_reading.specs.Seen.{seen, shape_of, Sure, HasMorePlaces}
 use Rattle.rowex_table.specs.Made.{IsLater}
@@ -88,7 +88,7 @@ seen_told {c} {k} lawful recalls = record {
 }
 
 -- and since its pin the records keep their fixed words
-pub seen_steady : {c : Core} {k : Known} {m : ℕ} → IsLawful c → Recalls c k → IsPinnedSince k m → IsSteady (seen c k) m
+pub seen_steady : {c : Core} {k : Known} {m : ℕ} → IsLawful c → Recalls c k → IsPinnedSince k m → KeepsFixedWordsSince (seen c k) m
 seen_steady {c} {k} {m} lawful recalls (p, is, low) = record {
   trees = λ n t h e. all.trees n t (le_trans h within) e;
   same = λ r n o u v a b d e x y. all.same r n o u v a (le_trans b within) d (le_trans e within) (stands_in c k x) (stands_in c k y);
@@ -97,7 +97,7 @@ seen_steady {c} {k} {m} lawful recalls (p, is, low) = record {
     within : length k.front ≤ c.past.now
     within = seen_within lawful recalls
 
-    all : IsSteady c.past m
+    all : KeepsFixedWordsSince c.past m
     all = steady (view c) lawful.core.state m (reach_later (view c) p.version m low (lawful.core.state.reach k.pass p.version (ap pin_version (recalls.pin ∙ is))))
 
 -- What stays true as the past grows
@@ -111,7 +111,7 @@ rooted_stable m e a b g h = rooted_grown a b g m e h
 pub placed_stable : (m r j : ℕ) (e : Entry) → IsStable (λ s. IsPlaced s m r j e)
 placed_stable m r j e a b g h = placed_grown a b g m r j e h
 
-pub shaped_stable : (m r : ℕ) (p : Subtrie) → IsStable (λ s. IsShaped s m r p)
+pub shaped_stable : (m r : ℕ) (p : Subtrie) → IsStable (λ s. HadShapeSince s m r p)
 shaped_stable m r p a b g h = shaped_grown a b g m r p h
 
 pub room_stable : (m r i : ℕ) → IsStable (λ s. HasMorePlaces s m r i)

@@ -11,7 +11,7 @@ use Rattle.tries.specs.Keys.{Key}
 use Rattle.tries.proofs.Place.{spot_below}
 use Rattle.rowex_core.specs.declared.known.Known.{Known}
 use Rattle.rowex_table.specs.Made.{IsLater}
-use Rattle.version_laws.specs.Scan.{EntryStoodSince, IsRooted, IsBlank, IsPlaced, IsShaped, IsRead}
+use Rattle.version_laws.specs.Scan.{EntryStoodSince, IsRooted, IsBlank, IsPlaced, HadShapeSince, IsRead}
 use Rattle.rowex_reading.specs.Seen.{HasPlace}
 use Rattle.rowex_reading.proofs.Seen.Led.{shape_place}
 use Rattle.rowex_reading.proofs.Seen.{sure_later, since_later, seen_stable, rooted_stable, placed_stable, shaped_stable, read_stable, blank_stable}
@@ -41,7 +41,7 @@ module _ (layout : Layout) (k j : Known) (m : ℕ) (key : Key) (later : IsLater 
     forks = w.forks;
     range = w.range;
     seen = sure_later {P = λ p. EntryStoodSince p m (Node s.number s.height)} (seen_stable m (Node s.number s.height)) later w.seen;
-    shaped = sure_later {P = λ p. IsShaped p m s.number w.forks} (shaped_stable m s.number w.forks) later w.shaped;
+    shaped = sure_later {P = λ p. HadShapeSince p m s.number w.forks} (shaped_stable m s.number w.forks) later w.shaped;
     placed = sure_later {P = λ p. IsPlaced p m s.number s.slot e} (placed_stable m s.number s.slot e) later w.placed;
     at = w.at;
     below = w.below;

@@ -6,8 +6,8 @@ use Rattle.rowex_core.specs.Cores.{Core, IsLawful}
 use Rattle.rowex_core.specs.Knowing.{Knows}
 
 -- There is a lawful core of this layout of which what the pass knows is true: that of its last load.
-pub record IsPossible (layout : Layout) (k : Known) : Type 0 where
+pub record IsPossible (layout : Layout) (known : Known) : Type 0 where
   pub core : Core
   pub lawful : IsLawful core
   pub layout_is : core.layout ≡ layout
-  pub knows : Knows core k
+  pub knows : Knows core known

@@ -12,7 +12,7 @@ use Rattle.rowex_reading.specs.Possible.{IsPossible}
 
 -- The seat is of a pass of this table that may read below the root. What it knows is true of some lawful core.
 abbrev pub IsReader : TableView → SeatView → Type 0
-IsReader table a = IsSeatOf table a × IsPossible table.layout a.known
+IsReader table seat = IsSeatOf table seat × IsPossible table.layout seat.known
 
 -- the step loads a node's entry, a leaf's value, or a word of a record that is neither of these nor its state
 abbrev pub IsBelowRoot : Act → Type 0
@@ -31,18 +31,18 @@ abbrev pub entries_in : List Act → ℕ
 entries_in acts = count_by loads_entry acts
 
 -- The pass makes n loads below the root, so many of them of entries, and no other step. The gate is told each.
-pub record Reads {G : Type 0} (table : TableView) (becomes : G → Event → G → Type 0) (entries n : ℕ) (a b : SeatView × G) : Type 0 where
+pub record Reads {G : Type 0} (table : TableView) (becomes : G → Event → G → Type 0) (entries n : ℕ) (old new : SeatView × G) : Type 0 where
   pub acts : List Act
   pub below : All IsBelowRoot acts
   pub count : length acts ≡ n
   pub entries_are : entries_in acts ≡ entries
-  pub steps : Runs table becomes acts a b
+  pub steps : Runs table becomes acts old new
 
 -- The pass makes n loads below the root, so many of them of entries, and no other step. On the way it touches at most so many words.
-pub record ReadsAndTouches {G : Type 0} (table : TableView) (becomes : G → Event → G → Type 0) (entries n most : ℕ) (a b : SeatView × G) : Type 0 where
-  pub reads : Reads table becomes entries n a (touched_to a.0.touches b.0, b.1)
-  pub rises : a.0.touches ≤ b.0.touches
-  pub few : b.0.touches ≤ a.0.touches + most
+pub record ReadsAndTouches {G : Type 0} (table : TableView) (becomes : G → Event → G → Type 0) (entries n most : ℕ) (old new : SeatView × G) : Type 0 where
+  pub reads : Reads table becomes entries n old (touched_to old.0.touches new.0, new.1)
+  pub rises : old.0.touches ≤ new.0.touches
+  pub few : new.0.touches ≤ old.0.touches + most
 
 -- how many loads a leaf with this key takes: its value, the key's length, and the words with bytes of the key
 abbrev pub leaf_loads : Key → ℕ
@@ -50,14 +50,14 @@ leaf_loads key = 2 + words_of_key (length key)
 
 -- the pass makes some number of loads below the root, and no other step
 abbrev pub ReadsSome : {G : Type 0} → TableView → (G → Event → G → Type 0) → SeatView × G → SeatView × G → Type 0
-ReadsSome table becomes a b = (entries n : ℕ) × Reads table becomes entries n a b
+ReadsSome table becomes old new = (entries n : ℕ) × Reads table becomes entries n old new
 
 -- the pass loads the root, and makes no other step; the gate is told it
 abbrev pub ReadsRoot : {G : Type 0} → TableView → (G → Event → G → Type 0) → SeatView × G → SeatView × G → Type 0
-ReadsRoot table becomes a b = (word : ℕ) × Steps table becomes (LoadRef Root word) a b
+ReadsRoot table becomes old new = (word : ℕ) × Steps table becomes (LoadRef Root word) old new
 
 -- The pass loads the root, then n words below it, so many of them entries, and makes no other step. The gate is told each load.
-pub record Looks {G : Type 0} (table : TableView) (becomes : G → Event → G → Type 0) (entries n : ℕ) (a b : SeatView × G) : Type 0 where
+pub record Looks {G : Type 0} (table : TableView) (becomes : G → Event → G → Type 0) (entries n : ℕ) (old new : SeatView × G) : Type 0 where
   pub at : SeatView × G
-  pub root : ReadsRoot table becomes a at
-  pub rest : Reads table becomes entries n at b
+  pub root : ReadsRoot table becomes old at
+  pub rest : Reads table becomes entries n at new

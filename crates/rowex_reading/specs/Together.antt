@@ -15,17 +15,18 @@ use Rattle.rowex_reading.specs.Reads.{Reads}
 use Rattle.rowex_reading.specs.Seen.{Sure, since}
 
 -- The key's search has led the pass to the entry, by loads since its last one of the root.
-pub record HasComeTo (k : Known) (key : Key) (e : Entry) : Type 0 where
-  pub pinned : IsPinnedSince k (since k)
-  pub led : Sure k (λ s. IsLed s (since k) key e)
+pub record HasComeTo (known : Known) (key : Key) (entry : Entry) : Type 0 where
+  pub pinned : IsPinnedSince known (since known)
+  pub led : Sure known (λ past. IsLed past (since known) key entry)
 
 -- the search for each key has led to its entry
 abbrev pub HaveComeTo : Known → List Key → List Entry → Type 0
-HaveComeTo k keys tips = (i : ℕ) (key : Key) (e : Entry) → slice_get keys i ≡ Some key → slice_get tips i ≡ Some e → HasComeTo k key e
+HaveComeTo known keys tips =
+    (i : ℕ) (key : Key) (entry : Entry) → slice_get keys i ≡ Some key → slice_get tips i ≡ Some entry → HasComeTo known key entry
 
 -- the first of these entries are leaves
 abbrev pub AreLeaves : ℕ → List Entry → Type 0
-AreLeaves count tips = (i : ℕ) (e : Entry) → i < count → slice_get tips i ≡ Some e → (n : ℕ) × (e ≡ Leaf n)
+AreLeaves count tips = (i : ℕ) (entry : Entry) → i < count → slice_get tips i ≡ Some entry → (n : ℕ) × (entry ≡ Leaf n)
 
 -- the sum of these entries' heights, which each step to a child lowers
 abbrev pub heights_in : List Entry → ℕ
@@ -34,5 +35,5 @@ heights_in tips = sum_by height_of tips
 -- The pass makes the loads of `count` searches from the root's entry on. They are at most 26 for each node on a path, one of them an entry,
 -- and 32 for each leaf.
 abbrev pub ReadsForAll : {G : Type 0} → TableView → (G → Event → G → Type 0) → ℕ → SeatView × G → SeatView × G → Type 0
-ReadsForAll table becomes count a b =
-    (entries n : ℕ) × (entries ≤ count * (9 * MAX_BYTES)) × (n ≤ 32 * count + 26 * entries) × Reads table becomes entries n a b
+ReadsForAll table becomes count old new =
+    (entries n : ℕ) × (entries ≤ count * (9 * MAX_BYTES)) × (n ≤ 32 * count + 26 * entries) × Reads table becomes entries n old new

@@ -13,7 +13,7 @@ use Rattle.tries.specs.Place.{spot}
 use Rattle.tries.specs.Tree.{Subtrie, first_position}
 use Rattle.rowex_core.specs.declared.known.Known.{Known}
 use Rattle.rowex_core.specs.Knowing.{IsPinnedSince}
-use Rattle.version_laws.specs.Scan.{EntryStoodSince, IsRooted, IsBlank, IsPlaced, IsShaped, IsRead}
+use Rattle.version_laws.specs.Scan.{EntryStoodSince, IsRooted, IsBlank, IsPlaced, HadShapeSince, IsRead}
 use Rattle.rowex_reading.specs.Seen.{Sure, shape_of}
 use Rattle.rowex_reading.specs.declared.descent.Found.{Found}
 use Rattle.rowex_reading.specs.declared.descent.Found.TheVariants.{Nothing, Leaf}
@@ -37,42 +37,43 @@ named (s ∷ way) found zero = Some (Node s.number s.height)
 named (s ∷ way) found (suc i) = named way found i
 
 -- the step of a path at a node with this head, in which the search takes slot `at`
-abbrev pub step_at : HeadView → ℕ → ℕ → PathNode
+abbrev pub step_at : HeadView → (number at : ℕ) → PathNode
 step_at head number at = record { number = number; height = head.height; first_position = first_position (shape_of head); count = size (shape_of head); slot = at }
 
 -- the root's entry, or none, in a version since m
 abbrev pub RootWas : Known → ℕ → Option Entry → Type 0
-RootWas k m None = Sure k (λ past. IsBlank past m)
-RootWas k m (Some e) = Sure k (λ past. IsRooted past m e)
+RootWas known m None = Sure known (λ past. IsBlank past m)
+RootWas known m (Some entry) = Sure known (λ past. IsRooted past m entry)
 
 -- Since version m the pass was led to the node of the step. It has read the node's forks, and this entry in the slot on the key's path.
-pub record IsWayNode (layout : Layout) (k : Known) (m : ℕ) (key : Key) (s : PathNode) (e : Entry) : Type 0 where
+pub record IsWayNode (layout : Layout) (known : Known) (m : ℕ) (key : Key) (node : PathNode) (entry : Entry) : Type 0 where
   pub forks : Subtrie
-  pub range : s.number < layout.nodes
-  pub seen : Sure k (λ past. EntryStoodSince past m (Node s.number s.height))
-  pub shaped : Sure k (λ past. IsShaped past m s.number forks)
-  pub placed : Sure k (λ past. IsPlaced past m s.number s.slot e)
-  pub at : s.slot ≡ spot key forks
-  pub below : height_of e < s.height
-  pub count : s.count ≡ size forks
+  pub range : node.number < layout.nodes
+  pub seen : Sure known (λ past. EntryStoodSince past m (Node node.number node.height))
+  pub shaped : Sure known (λ past. HadShapeSince past m node.number forks)
+  pub placed : Sure known (λ past. IsPlaced past m node.number node.slot entry)
+  pub at : node.slot ≡ spot key forks
+  pub below : height_of entry < node.height
+  pub count : node.count ≡ size forks
   pub room : size forks ≤ 32
-  pub first : s.first_position ≡ first_position forks
+  pub first : node.first_position ≡ first_position forks
 
 -- the first position at which the keys differ, or none
 abbrev pub IsMismatch : Key → Key → Option ℕ → Type 0
 IsMismatch key l None = key ≡ l
-IsMismatch key l (Some p) = AgreeBelow p key l × (bit key p ≢ bit l p)
+IsMismatch key l (Some position) = AgreeBelow position key l × (bit key position ≢ bit l position)
 
 -- the pass has read the leaf that its search found, since version m
 abbrev pub IsFoundAt : Known → ℕ → Key → Found → Type 0
-IsFoundAt k m key Nothing = Unit {0}
-IsFoundAt k m key (Leaf number value mismatch) = (l : Key) × Sure k (λ past. IsRead past m number l value) × IsMismatch key l mismatch
+IsFoundAt known m key Nothing = Unit {0}
+IsFoundAt known m key (Leaf number value mismatch) = (l : Key) × Sure known (λ past. IsRead past m number l value) × IsMismatch key l mismatch
 
 -- What a search for the key has found, which loaded the root at version m: its path and its end.
-pub record IsWayOf (layout : Layout) (k : Known) (m : ℕ) (key : Key) (way : List PathNode) (found : Found) : Type 0 where
+pub record IsWayOf (layout : Layout) (known : Known) (m : ℕ) (key : Key) (way : List PathNode) (found : Found) : Type 0 where
   pub is_key : IsKey key
-  pub since : IsPinnedSince k m
-  pub root : RootWas k m (named way found 0)
-  pub nodes : (i : ℕ) (s : PathNode) → slice_get way i ≡ Some s → (e : Entry) × (named way found (i + 1) ≡ Some e) × IsWayNode layout k m key s e
-  pub found_at : IsFoundAt k m key found
+  pub since : IsPinnedSince known m
+  pub root : RootWas known m (named way found 0)
+  pub nodes : (i : ℕ) (node : PathNode) → slice_get way i ≡ Some node → (entry : Entry) × (named way found (i + 1) ≡ Some entry) ×
+      IsWayNode layout known m key node entry
+  pub found_at : IsFoundAt known m key found
   pub depth : length way ≤ 9 * MAX_BYTES

@@ -3,7 +3,7 @@
 ghost use Rattle.std.specs.Prelude.{◌≡◌, ◌+◌, ◌≤◌, ℕ};
 ghost use Rattle.node_tries.specs.Growth.{affected_count, affected_first};
 ghost use Rattle.record_words.specs.declared.TheConstants.{HEAD_WORDS};
-ghost use Rattle.version_laws.specs.Scan.{IsShaped};
+ghost use Rattle.version_laws.specs.Scan.{HadShapeSince};
 ghost use Rattle.rowex_reading.specs.Reads.{IsReader, Reads};
 ghost use Rattle.rowex_reading.specs.Seen.{HasPlace, Sure};
 ghost use Rattle.tries.specs.Tree.{Subtrie};
@@ -28,7 +28,7 @@ pub fn find_affected<G: Gate>(
     requires place { (m h : ℕ) × HasPlace seat.old.known m step.number h step.slot }
     ensures reads { (n : ℕ) × (n ≤ HEAD_WORDS) × Reads table.now G.becomes 0 n (seat.old, gate.old) (seat.new, gate.new) }
     ensures affected { (m h : ℕ) → HasPlace seat.old.known m step.number h step.slot →
-        (forks : Subtrie) × Sure seat.new.known (λ s. IsShaped s m step.number forks) ×
+        (forks : Subtrie) × Sure seat.new.known (λ s. HadShapeSince s m step.number forks) ×
         (affected_first position step.slot forks ≡ result.0) × (affected_count position step.slot forks + result.0 ≡ result.1 + 1) }
 {
     let words = load_head_words(table, seat, gate, step.number);

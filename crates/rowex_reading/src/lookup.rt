@@ -3,7 +3,7 @@
 ghost use Rattle.std.specs.Prelude.{◌≡◌, ◌≤◌, ℕ, IsSome};
 ghost use Rattle.compound_node.specs.declared.entries.Entry.TheVariants.{Node as NodeEntry};
 ghost use Rattle.record_words.specs.declared.TheConstants.{HEAD_WORDS};
-ghost use Rattle.version_laws.specs.Scan.{IsShaped};
+ghost use Rattle.version_laws.specs.Scan.{HadShapeSince};
 ghost use Rattle.rowex_table.specs.Rule.{IsNodeRecordAt, record_number};
 ghost use Rattle.rowex_table.specs.Seats.{IsSeatOf};
 ghost use Rattle.tries.specs.Place.{spot};
@@ -58,7 +58,7 @@ pub(crate) fn find_slot<G: Gate>(
     requires node { IsNodeRecordAt table.now.layout node }
     ensures reads { (n : ℕ) × (n ≤ HEAD_WORDS) × ReadsAndTouches table.now G.becomes 0 n search_touches (seat.old, gate.old) (seat.new, gate.new) }
     ensures place { (m h : ℕ) → IsLedTo seat.old.known m (NodeEntry (record_number node.rec) h) →
-        (forks : Subtrie) × Sure seat.new.known (λ s. IsShaped s m (record_number node.rec) forks) × (result ≡ spot key.now forks) }
+        (forks : Subtrie) × Sure seat.new.known (λ s. HadShapeSince s m (record_number node.rec) forks) × (result ≡ spot key.now forks) }
 {
     search_node(table, seat, gate, node, key).slot
 }

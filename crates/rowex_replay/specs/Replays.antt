@@ -10,9 +10,9 @@ use Rattle.rowex_replay.specs.Runs.{Run, HasLegalEvents, core_of}
 
 -- The only kind of act that may want memory: a publish by a pass that has locked its word.
 abbrev pub MayWantMemory : Core → ℕ → Act → Type 0
-MayWantMemory c q act = (spot : Spot) × (w : ℕ) × (act ≡ Publish spot w) × IsLockedAt c q spot
+MayWantMemory core pass act = (spot : Spot) × (word : ℕ) × (act ≡ Publish spot word) × IsLockedAt core pass spot
 
 -- The state is that after a legal run.
-pub record IsAfter (s : StateView) (run : Run) : Type 0 where
+pub record IsAfter (state : StateView) (run : Run) : Type 0 where
   pub legal : ∥ HasLegalEvents run ∥₁
-  pub at : IsStateOf s (core_of run)
+  pub at : IsStateOf state (core_of run)

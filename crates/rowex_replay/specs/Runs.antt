@@ -14,8 +14,8 @@ pub record Run : Type 0 where
 
 -- the core after these events
 abbrev pub core_after : Core → List Event → Core
-core_after c [] = c
-core_after c (x ∷ xs) = core_after (after c x.pass x.act) xs
+core_after core [] = core
+core_after core (x ∷ xs) = core_after (after core x.pass x.act) xs
 
 -- the core to which a run leads from the opening core
 abbrev pub core_of : Run → Core
@@ -33,4 +33,4 @@ new_run layout = record { layout = layout; events = [] }
 
 -- a run with one event more
 abbrev pub with_event : Run → Event → Run
-with_event run x = record { layout = run.layout; events = run.events ++ x ∷ [] }
+with_event run event = record { layout = run.layout; events = run.events ++ event ∷ [] }

@@ -16,14 +16,14 @@ numbers xs = map (λ x. x.number) xs
 
 -- one leaf has changed from the first list to the second, as the change tells
 abbrev pub Changes : Change → List Item → List Item → Type 0
-Changes x xs ys = (n : ℕ) × IsChanged x.kind (item_of n x) xs ys
+Changes change xs ys = (n : ℕ) × IsChanged change.kind (item_of n change) xs ys
 
 -- A change is found exactly if one leaf has changed as the change between the lists tells.
 abbrev pub IsFoundChange : ℕ → List Item → List Item → Option Change → Type 0
-IsFoundChange q xs ys None = ¬ (Changes (change_between q xs ys) xs ys)
-IsFoundChange q xs ys (Some x) = (x ≡ change_between q xs ys) × Changes x xs ys
+IsFoundChange pass xs ys None = ¬ (Changes (change_between pass xs ys) xs ys)
+IsFoundChange pass xs ys (Some change) = (change ≡ change_between pass xs ys) × Changes change xs ys
 
 -- The change is found exactly if the leaves have the same numbers before and after.
 abbrev pub IsMade : List Item → List Item → Change → Option Change → Type 0
-IsMade xs ys x None = ¬ (numbers xs ≡ numbers ys)
-IsMade xs ys x (Some y) = (y ≡ x) × (numbers xs ≡ numbers ys)
+IsMade xs ys change None = ¬ (numbers xs ≡ numbers ys)
+IsMade xs ys change (Some y) = (y ≡ change) × (numbers xs ≡ numbers ys)

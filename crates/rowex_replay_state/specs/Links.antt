@@ -7,24 +7,24 @@ use Rattle.rowex_replay_state.specs.Fates.{stored_fate}
 
 -- the record is in the tree
 abbrev pub IsStoredInTree : Stored → Type 0
-IsStoredInTree f = (since : ℕ) × (f ≡ InTree since)
+IsStoredInTree stored = (since : ℕ) × (stored ≡ InTree since)
 
 -- a record that the new tree links is in the tree, or pass q has made it ready
 abbrev pub MayBeLinked : ℕ → Bool → Stored → Type 0
-MayBeLinked q linked f = linked ≡ true → IsStoredInTree f ⊎ (f ≡ Ready q)
+MayBeLinked q linked stored = linked ≡ true → IsStoredInTree stored ⊎ (stored ≡ Ready q)
 
 -- a node in the tree that the new tree links no more is locked by pass q
 abbrev pub MayBeUnlinked : ℕ → Bool → Option ℕ → Stored → Type 0
-MayBeUnlinked q linked lock f = linked ≡ false → IsStoredInTree f → lock ≡ Some q
+MayBeUnlinked q linked lock stored = linked ≡ false → IsStoredInTree stored → lock ≡ Some q
 
 -- pass q may link each of the records that the new tree links
 abbrev pub AllMayBeLinked : ℕ → List Bool → List Stored → Type 0
-AllMayBeLinked q linked fates = (i : ℕ) (f : Stored) → slice_get fates i ≡ Some f → MayBeLinked q (get_or linked i false) f
+AllMayBeLinked q linked fates = (i : ℕ) (stored : Stored) → slice_get fates i ≡ Some stored → MayBeLinked q (get_or linked i false) stored
 
 -- pass q may unlink each node that the new tree links no more
 abbrev pub AllMayBeUnlinked : ℕ → List Bool → List (Option ℕ) → List Stored → Type 0
 AllMayBeUnlinked q linked locks fates =
-    (i : ℕ) (f : Stored) → slice_get fates i ≡ Some f → MayBeUnlinked q (get_or linked i false) (get_or locks i None) f
+    (i : ℕ) (stored : Stored) → slice_get fates i ≡ Some stored → MayBeUnlinked q (get_or linked i false) (get_or locks i None) stored
 
 -- the fates after a publish by pass q in version `now`
 abbrev pub AreNextFates : ℕ → ℕ → List Bool → List Stored → List Stored → Type 0

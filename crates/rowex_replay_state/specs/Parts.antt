@@ -20,18 +20,18 @@ table_of records = record { nodes = records.nodes.now; leaves = records.leaves.n
 
 -- the tree's first fork is at `least` or later; a leaf has none
 abbrev pub IsForkedFrom : ℕ → Tree → Type 0
-IsForkedFrom least (leaf n k v) = Unit {0}
-IsForkedFrom least (node n x b) = IsForkedFrom least b
-IsForkedFrom least (fork p a b) = least ≤ p
+IsForkedFrom least (leaf number key value) = Unit {0}
+IsForkedFrom least (node number fixed body) = IsForkedFrom least body
+IsForkedFrom least (fork position left right) = least ≤ position
 
 -- The words show a lawful tree for the subtrie. Its records stand in the table and spell values, and its first fork is at `least` or later.
-pub record ShowsPart (table : Table) (words : Rec → List ℕ) (least : ℕ) (p : Subtrie) (t : Tree) : Type 0 where
-  pub subtrie_is : subtrie t ≡ p
-  pub shown : IsShown (heap_of words) t
-  pub local : IsLocal t
-  pub built : IsBuilt t
-  pub from : IsForkedFrom least t
-  pub spelled : (r : Rec) → Links t r → IsSpelled table words r
+pub record ShowsPart (table : Table) (words : Rec → List ℕ) (least : ℕ) (trie : Subtrie) (tree : Tree) : Type 0 where
+  pub subtrie_is : subtrie tree ≡ trie
+  pub shown : IsShown (heap_of words) tree
+  pub local : IsLocal tree
+  pub built : IsBuilt tree
+  pub from : IsForkedFrom least tree
+  pub spelled : (rec : Rec) → Links tree rec → IsSpelled table words rec
 
 -- there is a mark for each record of the table
 pub record HasMarks (table : Table) (linked : Linked) : Type 0 where
@@ -39,20 +39,23 @@ pub record HasMarks (table : Table) (linked : Linked) : Type 0 where
   pub all_leaves : length linked.leaves.items ≡ length table.leaves
 
 -- what is told has grown by what the tree links
-pub record GrowsBy (t : Tree) (old new : Linked) : Type 0 where
-  pub items_are : map read_item new.items.items ≡ map read_item old.items.items ++ items t
-  pub nodes_are : (n : ℕ) → (slice_index_or new.nodes.items n false ≡ true) ↔ ((slice_index_or old.nodes.items n false ≡ true) ⊎ Links t (a_node n))
-  pub leaves_are : (n : ℕ) → (slice_index_or new.leaves.items n false ≡ true) ↔ ((slice_index_or old.leaves.items n false ≡ true) ⊎ Links t (a_leaf n))
+pub record GrowsBy (tree : Tree) (old new : Linked) : Type 0 where
+  pub items_are : map read_item new.items.items ≡ map read_item old.items.items ++ items tree
+  pub nodes_are : (n : ℕ) → (slice_index_or new.nodes.items n false ≡ true) ↔ ((slice_index_or old.nodes.items n false ≡ true) ⊎
+      Links tree (a_node n))
+  pub leaves_are : (n : ℕ) →
+      (slice_index_or new.leaves.items n false ≡ true) ↔ ((slice_index_or old.leaves.items n false ≡ true) ⊎ Links tree (a_leaf n))
 
 -- A tree with the property was read exactly if there is one. What is told has grown by it.
 abbrev pub IsTreeRead : (Tree → Type 0) → Bool → Linked → Linked → Type 0
-IsTreeRead shows true old new = (t : Tree) × shows t × GrowsBy t old new
-IsTreeRead shows false old new = (t : Tree) → ¬ (shows t)
+IsTreeRead shows true old new = (tree : Tree) × shows tree × GrowsBy tree old new
+IsTreeRead shows false old new = (tree : Tree) → ¬ (shows tree)
 
 -- A part of a tree, for a subtrie with the property, was read exactly if the words show one. It is so for all words that the table's may be
 -- part of.
 abbrev pub IsPartRead : Table → ℕ → (Subtrie → Type 0) → Bool → Linked → Linked → Type 0
-IsPartRead table least is good old new = (words : Rec → List ℕ) → AreWordsOf table words → (p : Subtrie) → is p → IsTreeRead (ShowsPart table words least p) good old new
+IsPartRead table least is good old new =
+    (words : Rec → List ℕ) → AreWordsOf table words → (trie : Subtrie) → is trie → IsTreeRead (ShowsPart table words least trie) good old new
 
 -- There is still a mark for each record. If a part was read, one leaf more is told, or several.
 pub record HasGrown (table : Table) (good : Bool) (old new : Linked) : Type 0 where

@@ -10,40 +10,45 @@ use Rattle.record_words.specs.declared.records.Rec.TheVariants.{Leaf as a_leaf}
 use Rattle.versions.specs.Steps.{IsNextVersion, published_by}
 use Rattle.versions.specs.Told.{items_of}
 use Rattle.rowex_core.specs.Reading.{IsPacked}
-use Rattle.rowex_core.specs.Cores.{Core, IsLawful, IsWhole, heap_of}
+use Rattle.rowex_core.specs.Cores.{Core, IsLawful, MustSpellValue, heap_of}
 use Rattle.rowex_core.specs.Events.{change_between, tree_of}
 use Rattle.rowex_replay_state.specs.States.{StateView, IsStateOf}
 
 -- The state is that of the lawful core with other words of nodes. The words of leaves are the core's.
-pub record IsWordStored (s : StateView) (c : Core) (words : Rec → List ℕ) : Type 0 where
-  pub lawful : ∥ IsLawful c ∥₁
-  pub at : IsStateOf s (record c { words = words })
-  pub leaves : (n : ℕ) → words (a_leaf n) ≡ c.words (a_leaf n)
+pub record IsWordStored (state : StateView) (core : Core) (words : Rec → List ℕ) : Type 0 where
+  pub lawful : ∥ IsLawful core ∥₁
+  pub at : IsStateOf state (record core { words = words })
+  pub leaves : (n : ℕ) → words (a_leaf n) ≡ core.words (a_leaf n)
 
 -- the words of each record that is neither free nor held spell a value
 abbrev pub AreWordsPacked : Core → (Rec → List ℕ) → Type 0
-AreWordsPacked c words = (r : Rec) → IsWhole (c.fate r) → IsPacked r (words r)
+AreWordsPacked core words = (rec : Rec) → MustSpellValue (core.fate rec) → IsPacked rec (words rec)
 
 -- the change that pass q makes by a publish of the tree that the words show from this root
 abbrev pub change_to : Core → ℕ → (Rec → List ℕ) → Option Entry → Change
-change_to c q words root = change_between q (items_of (c.past.version c.past.now)) (items_of (tree_of (heap_of words) root))
+change_to core q words root = change_between q (items_of (core.past.version core.past.now)) (items_of (tree_of (heap_of words) root))
 
 -- Pass q may make the tree that the words show from this root the newest version, its locks on words aside.
 abbrev pub MayMakeVersion : Core → ℕ → (Rec → List ℕ) → Option Entry → Type 0
-MayMakeVersion c q words root = IsNextVersion c.shared q (heap_of words) root (tree_of (heap_of words) root) (change_to c q words root)
+MayMakeVersion core q words root = IsNextVersion core.shared q (heap_of words) root (tree_of (heap_of words) root) (change_to core q words root)
 
 -- the core after pass q has made the tree that the words show from this root the newest version
 abbrev pub published : Core → ℕ → (Rec → List ℕ) → Option Entry → Core
-published c q words root = record { layout = c.layout; words = words; shared = published_by c.shared q root (tree_of (heap_of words) root) (change_to c q words root) }
+published core q words root =
+    record { layout = core.layout; words = words; shared = published_by core.shared q root (tree_of (heap_of words) root) (change_to core q words root) }
 
 -- The publish was made, and is legal in each core whose state it was. Or it wasn't, and is legal in none.
 abbrev pub IsPublishJudged : Bool → StateView → StateView → ℕ → Option Entry → Type 0
-IsPublishJudged true s t q root = (c : Core) (words : Rec → List ℕ) → IsWordStored s c words → MayMakeVersion c q words root × IsStateOf t (published c q words root)
-IsPublishJudged false s t q root = (t ≡ s) × ((c : Core) (words : Rec → List ℕ) → IsWordStored s c words → AreWordsPacked c words → ¬ (MayMakeVersion c q words root))
+IsPublishJudged true old new pass root =
+    (core : Core) (words : Rec → List ℕ) → IsWordStored old core words → MayMakeVersion core pass words root ×
+    IsStateOf new (published core pass words root)
+IsPublishJudged false old new pass root =
+    (new ≡ old) × ((core : Core) (words : Rec → List ℕ) → IsWordStored old core words → AreWordsPacked core words →
+    ¬ (MayMakeVersion core pass words root))
 
 -- the leaf, with this value if it has this number
 abbrev pub revalued_item : ℕ → ℕ → Item → Item
-revalued_item l w x = item x.number x.key (if nat_eq x.number l then w else x.value)
+revalued_item l word x = item x.number x.key (if nat_eq x.number l then word else x.value)
 
 -- the lists have the same leaves, but that leaf l has value w in the new one
 pub record AreRevalued (l w : ℕ) (old new : List ReadItem) : Type 0 where

@@ -30,97 +30,98 @@ pub record RecordsView : Type 0 where
 
 -- the words of a record, if the table has it
 abbrev pub words_in : RecordsView → Rec → Option (List ℕ)
-words_in s (a_node n) = slice_get s.nodes n
-words_in s (a_leaf n) = slice_get s.leaves n
+words_in records (a_node n) = slice_get records.nodes n
+words_in records (a_leaf n) = slice_get records.leaves n
 
 -- the fate of a record, if the table has it
 abbrev pub fate_in : RecordsView → Rec → Option Stored
-fate_in s (a_node n) = slice_get s.node_fates n
-fate_in s (a_leaf n) = slice_get s.leaf_fates n
+fate_in records (a_node n) = slice_get records.node_fates n
+fate_in records (a_leaf n) = slice_get records.leaf_fates n
 
 -- who has locked a record, or nobody, if the table has it
 abbrev pub lock_in : RecordsView → Rec → Option (Option ℕ)
-lock_in s (a_node n) = slice_get s.locks n
-lock_in s (a_leaf n) = Some None
+lock_in records (a_node n) = slice_get records.locks n
+lock_in records (a_leaf n) = Some None
 
 -- the state of a record, if the table has it
 abbrev pub tag_in : RecordsView → Rec → Option Tag
-tag_in s r = option_and_then (λ f. option_map (λ o. tag_of o (stored_fate f)) (lock_in s r)) (fate_in s r)
+tag_in records rec = option_and_then (λ f. option_map (λ o. tag_of o (stored_fate f)) (lock_in records rec)) (fate_in records rec)
 
 -- the record's state has this word
 abbrev pub HasState : RecordsView → Rec → ℕ → Type 0
-HasState s r w = (t : Tag) × (tag_in s r ≡ Some t) × HasStateWord t × (state_word t ≡ w)
+HasState records rec word = (t : Tag) × (tag_in records rec ≡ Some t) × HasStateWord t × (state_word t ≡ word)
 
 -- word i of the record behind its state is this one
 abbrev pub HasWordStored : RecordsView → Rec → ℕ → ℕ → Type 0
-HasWordStored s r i w = (words : List ℕ) × (words_in s r ≡ Some words) × (slice_get words i ≡ Some w)
+HasWordStored records rec i word = (words : List ℕ) × (words_in records rec ≡ Some words) × (slice_get words i ≡ Some word)
 
 -- one of the node's entries has this word
 abbrev pub HasEntryStored : RecordsView → ℕ → ℕ → Type 0
-HasEntryStored s n w = (j : ℕ) × (j < MAX_ENTRIES) × HasWordStored s (a_node n) (HEAD_WORDS + j) w
+HasEntryStored records n word = (j : ℕ) × (j < MAX_ENTRIES) × HasWordStored records (a_node n) (HEAD_WORDS + j) word
 
 -- pass q has locked node n, which is in the tree and has an entry with this word
 abbrev pub IsEntryLocked : RecordsView → ℕ → ℕ → ℕ → Type 0
-IsEntryLocked s q w n = (lock_in s (a_node n) ≡ Some (Some q)) × ((since : ℕ) × (fate_in s (a_node n) ≡ Some (InTree since))) × HasEntryStored s n w
+IsEntryLocked records q word n =
+    (lock_in records (a_node n) ≡ Some (Some q)) × ((since : ℕ) × (fate_in records (a_node n) ≡ Some (InTree since))) × HasEntryStored records n word
 
 -- pass q has locked a node of the table that has an entry with this word
 abbrev pub HasLockedEntry : RecordsView → ℕ → ℕ → Type 0
-HasLockedEntry s q w = (n : ℕ) × (n < s.layout.nodes) × IsEntryLocked s q w n
+HasLockedEntry records q word = (n : ℕ) × (n < records.layout.nodes) × IsEntryLocked records q word n
 
 -- the record's words spell a value
 abbrev pub IsSpelledIn : RecordsView → Rec → Type 0
-IsSpelledIn s r = (words : List ℕ) × (words_in s r ≡ Some words) × IsPacked r words
+IsSpelledIn records rec = (words : List ℕ) × (words_in records rec ≡ Some words) × IsPacked rec words
 
 -- the leaf's words have this key
 abbrev pub HasKeyIn : RecordsView → ℕ → List ℕ → Type 0
-HasKeyIn s n key = (words : List ℕ) × (words_in s (a_leaf n) ≡ Some words) × ((leaf_of words).key ≡ key)
+HasKeyIn records n key = (words : List ℕ) × (words_in records (a_leaf n) ≡ Some words) × ((leaf_of words).key ≡ key)
 
 -- the record's words spell a value for which it has room
 abbrev pub IsPackedIn : RecordsView → Rec → Type 0
-IsPackedIn s r = (words : List ℕ) × (words_in s r ≡ Some words) × IsPacked r words × FitsIn s.layout r words
+IsPackedIn records rec = (words : List ℕ) × (words_in records rec ≡ Some words) × IsPacked rec words × FitsIn records.layout rec words
 
 -- the records with one fate, one lock or the words of one record changed
 
 -- the records, with another fate of record r
 abbrev pub with_fate_in : RecordsView → Rec → Stored → RecordsView
-with_fate_in s (a_node n) f = record s { node_fates = set s.node_fates n f }
-with_fate_in s (a_leaf n) f = record s { leaf_fates = set s.leaf_fates n f }
+with_fate_in records (a_node n) stored = record records { node_fates = set records.node_fates n stored }
+with_fate_in records (a_leaf n) stored = record records { leaf_fates = set records.leaf_fates n stored }
 
 -- the records, with another lock of node n
 abbrev pub with_lock_in : RecordsView → ℕ → Option ℕ → RecordsView
-with_lock_in s n o = record s { locks = set s.locks n o }
+with_lock_in records n o = record records { locks = set records.locks n o }
 
 -- the records, with another fate of record r, and its lock released if it is a node
 abbrev pub with_fate_unlocked_in : RecordsView → Rec → Stored → RecordsView
-with_fate_unlocked_in s (a_node n) f = with_fate_in (with_lock_in s n None) (a_node n) f
-with_fate_unlocked_in s (a_leaf n) f = with_fate_in s (a_leaf n) f
+with_fate_unlocked_in records (a_node n) stored = with_fate_in (with_lock_in records n None) (a_node n) stored
+with_fate_unlocked_in records (a_leaf n) stored = with_fate_in records (a_leaf n) stored
 
 -- the records, with other words of record r
 abbrev pub with_words_in : RecordsView → Rec → List ℕ → RecordsView
-with_words_in s (a_node n) words = record s { nodes = set s.nodes n words }
-with_words_in s (a_leaf n) words = record s { leaves = set s.leaves n words }
+with_words_in records (a_node n) words = record records { nodes = set records.nodes n words }
+with_words_in records (a_leaf n) words = record records { leaves = set records.leaves n words }
 
 -- fates and locks allow pass q to publish a tree that links just these nodes and leaves
-pub record MayPublishTree (s : RecordsView) (q : ℕ) (nodes leaves : List Bool) : Type 0 where
-  pub nodes_come : AllMayBeLinked q nodes s.node_fates
-  pub leaves_come : AllMayBeLinked q leaves s.leaf_fates
-  pub nodes_go : AllMayBeUnlinked q nodes s.locks s.node_fates
+pub record MayPublishTree (records : RecordsView) (q : ℕ) (nodes leaves : List Bool) : Type 0 where
+  pub nodes_come : AllMayBeLinked q nodes records.node_fates
+  pub leaves_come : AllMayBeLinked q leaves records.leaf_fates
+  pub nodes_go : AllMayBeUnlinked q nodes records.locks records.node_fates
 
 -- from the first records to the second only fates have changed, as a publish changes them
-pub record AreNextRecords (now q : ℕ) (nodes leaves : List Bool) (s t : RecordsView) : Type 0 where
-  pub layout : t.layout ≡ s.layout
-  pub words : (t.nodes ≡ s.nodes) × (t.leaves ≡ s.leaves)
-  pub locks : t.locks ≡ s.locks
-  pub node_count : length t.node_fates ≡ length s.node_fates
-  pub leaf_count : length t.leaf_fates ≡ length s.leaf_fates
-  pub node_fates : AreNextFates now q nodes s.node_fates t.node_fates
-  pub leaf_fates : AreNextFates now q leaves s.leaf_fates t.leaf_fates
+pub record AreNextRecords (now pass : ℕ) (nodes leaves : List Bool) (old new : RecordsView) : Type 0 where
+  pub layout : new.layout ≡ old.layout
+  pub words : (new.nodes ≡ old.nodes) × (new.leaves ≡ old.leaves)
+  pub locks : new.locks ≡ old.locks
+  pub node_count : length new.node_fates ≡ length old.node_fates
+  pub leaf_count : length new.leaf_fates ≡ length old.leaf_fates
+  pub node_fates : AreNextFates now pass nodes old.node_fates new.node_fates
+  pub leaf_fates : AreNextFates now pass leaves old.leaf_fates new.leaf_fates
 
 -- The records are those of a table of this layout, with these words, fates and locks.
-pub record AreRecordsOf (s : RecordsView) (layout : Layout) (words : Rec → List ℕ) (fate : Rec → Fate) (lock : ℕ → Option ℕ) : Type 0 where
-  pub layout_is : s.layout ≡ layout
-  pub node_count : (length s.nodes ≡ layout.nodes) × (length s.node_fates ≡ layout.nodes) × (length s.locks ≡ layout.nodes)
-  pub leaf_count : (length s.leaves ≡ layout.leaves) × (length s.leaf_fates ≡ layout.leaves)
-  pub words_are : (r : Rec) (x : List ℕ) → words_in s r ≡ Some x → words r ≡ x
-  pub fates_are : (r : Rec) (f : Stored) → fate_in s r ≡ Some f → fate r ≡ stored_fate f
-  pub locks_are : (n : ℕ) (o : Option ℕ) → slice_get s.locks n ≡ Some o → lock n ≡ o
+pub record AreRecordsOf (records : RecordsView) (layout : Layout) (words : Rec → List ℕ) (fate : Rec → Fate) (lock : ℕ → Option ℕ) : Type 0 where
+  pub layout_is : records.layout ≡ layout
+  pub node_count : (length records.nodes ≡ layout.nodes) × (length records.node_fates ≡ layout.nodes) × (length records.locks ≡ layout.nodes)
+  pub leaf_count : (length records.leaves ≡ layout.leaves) × (length records.leaf_fates ≡ layout.leaves)
+  pub words_are : (rec : Rec) (x : List ℕ) → words_in records rec ≡ Some x → words rec ≡ x
+  pub fates_are : (rec : Rec) (stored : Stored) → fate_in records rec ≡ Some stored → fate rec ≡ stored_fate stored
+  pub locks_are : (n : ℕ) (o : Option ℕ) → slice_get records.locks n ≡ Some o → lock n ≡ o

@@ -9,5 +9,6 @@ use Rattle.rowex_core.specs.Events.{AreSame, IsOfEntry, stored_words, stored_roo
 -- If the words show a tree after an entry word is stored, a number names one leaf before and after.
 abbrev pub LeavesAreOne : Type 0
 LeavesAreOne =
-    (c : Core) (spot : Spot) (w : ℕ) → IsOfEntry spot → IsLawful c → IsTop (heap_of (stored_words c spot w)) (stored_root c spot w) (next_tree c spot w) →
-    AreSame (items_of (c.past.version c.past.now)) (items_of (next_tree c spot w))
+    (core : Core) (spot : Spot) (word : ℕ) → IsOfEntry spot → IsLawful core →
+    IsTop (heap_of (stored_words core spot word)) (stored_root core spot word) (next_tree core spot word) →
+    AreSame (items_of (core.past.version core.past.now)) (items_of (next_tree core spot word))

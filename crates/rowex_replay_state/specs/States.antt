@@ -31,30 +31,30 @@ pub record StateView : Type 0 where
 
 -- The state is that of this core. They have the same records, passes, locks, epoch, root and changes. The state has the leaves of the
 -- newest version.
-pub record IsStateOf (s : StateView) (c : Core) : Type 0 where
-  pub records : AreRecordsOf s.records c.layout c.words c.fate c.lock
-  pub passes : ArePassesOf s.passes c.layout c.pins c.rounds
-  pub anchor : c.anchor ≡ s.anchor
-  pub root : c.root ≡ s.root
-  pub epoch : c.epoch ≡ s.epoch
-  pub changes : c.changes ≡ s.changes
-  pub items : items_of (c.past.version c.past.now) ≡ map read_item s.items
+pub record IsStateOf (state : StateView) (core : Core) : Type 0 where
+  pub records : AreRecordsOf state.records core.layout core.words core.fate core.lock
+  pub passes : ArePassesOf state.passes core.layout core.pins core.rounds
+  pub anchor : core.anchor ≡ state.anchor
+  pub root : core.root ≡ state.root
+  pub epoch : core.epoch ≡ state.epoch
+  pub changes : core.changes ≡ state.changes
+  pub items : items_of (core.past.version core.past.now) ≡ map read_item state.items
 
 -- The act of pass q was made, and is legal in each lawful core whose state it was. Or it wasn't, and is legal in none.
 abbrev pub IsStepped : Bool → StateView → StateView → ℕ → Act → Type 0
-IsStepped true s t q act = (c : Core) → ∥ IsLawful c ∥₁ → IsStateOf s c → LegalAct c q act × IsStateOf t (after c q act)
-IsStepped false s t q act = (t ≡ s) × ((c : Core) → IsLawful c → IsStateOf s c → ¬ (LegalAct c q act))
+IsStepped true old new q act = (core : Core) → ∥ IsLawful core ∥₁ → IsStateOf old core → LegalAct core q act × IsStateOf new (after core q act)
+IsStepped false old new q act = (new ≡ old) × ((core : Core) → IsLawful core → IsStateOf old core → ¬ (LegalAct core q act))
 
 -- pass q has locked what names the leaf
 abbrev pub HasNamerLocked : StateView → ℕ → ℕ → Type 0
-HasNamerLocked s q l = ((s.anchor ≡ Some q) × (s.root ≡ Some (Leaf l))) ⊎ HasLockedEntry s.records q (entry_word (Some (Leaf l)))
+HasNamerLocked state q l = ((state.anchor ≡ Some q) × (state.root ≡ Some (Leaf l))) ⊎ HasLockedEntry state.records q (entry_word (Some (Leaf l)))
 
 -- Pass q has the lock under which the spot's word is stored. For a value, it is that of what names the leaf.
 abbrev pub HasLock : StateView → ℕ → Spot → Type 0
-HasLock s q Root = s.anchor ≡ Some q
-HasLock s q (Slot n j) = (j < MAX_ENTRIES) × (lock_in s.records (a_node n) ≡ Some (Some q))
-HasLock s q (Value l) = ((words : List ℕ) × (words_in s.records (a_leaf l) ≡ Some words)) × HasNamerLocked s q l
+HasLock state q Root = state.anchor ≡ Some q
+HasLock state q (Slot n j) = (j < MAX_ENTRIES) × (lock_in state.records (a_node n) ≡ Some (Some q))
+HasLock state q (Value l) = ((words : List ℕ) × (words_in state.records (a_leaf l) ≡ Some words)) × HasNamerLocked state q l
 
 -- the act is a publish of pass q, which has locked its word
 abbrev pub IsLockedPublish : StateView → ℕ → Act → Type 0
-IsLockedPublish s q act = (spot : Spot) × (w : ℕ) × (act ≡ Publish spot w) × HasLock s q spot
+IsLockedPublish state q act = (spot : Spot) × (word : ℕ) × (act ≡ Publish spot word) × HasLock state q spot

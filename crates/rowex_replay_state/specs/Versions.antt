@@ -30,25 +30,25 @@ HasRecordIn table (a_leaf n) = n < length table.leaves
 
 -- the record is in the table, and its words spell a value
 abbrev pub IsSpelled : Table → (Rec → List ℕ) → Rec → Type 0
-IsSpelled table words r = HasRecordIn table r × IsPacked r (words r)
+IsSpelled table words rec = HasRecordIn table rec × IsPacked rec (words rec)
 
 -- The words show a lawful tree from this root, or none if the root is empty. Each record that it links is in the table and spells a value.
 pub record IsVersion (table : Table) (words : Rec → List ℕ) (root : Option Entry) : Type 0 where
   pub top : IsTop (heap_of words) root (tree_of (heap_of words) root)
   pub tree : (t : Tree) → tree_of (heap_of words) root ≡ Some t → IsTrie t × IsBuilt t
-  pub spelled : (r : Rec) → IsLinked (tree_of (heap_of words) root) r → IsSpelled table words r
+  pub spelled : (rec : Rec) → IsLinked (tree_of (heap_of words) root) rec → IsSpelled table words rec
 
 -- a leaf that was read
 abbrev pub read_item : ReadItem → Item
 read_item x = record { number = x.number; key = x.key; value = x.value }
 
 -- What is told of a tree: its leaves in order, and for each record of the table whether the tree links it.
-pub record Tells (table : Table) (t : Option Tree) (linked : Linked) : Type 0 where
-  pub items_are : map read_item linked.items.items ≡ items_of t
+pub record Tells (table : Table) (tree : Option Tree) (linked : Linked) : Type 0 where
+  pub items_are : map read_item linked.items.items ≡ items_of tree
   pub all_nodes : length linked.nodes.items ≡ length table.nodes
   pub all_leaves : length linked.leaves.items ≡ length table.leaves
-  pub nodes_are : (n : ℕ) → (slice_index_or linked.nodes.items n false ≡ true) ↔ IsLinked t (a_node n)
-  pub leaves_are : (n : ℕ) → (slice_index_or linked.leaves.items n false ≡ true) ↔ IsLinked t (a_leaf n)
+  pub nodes_are : (n : ℕ) → (slice_index_or linked.nodes.items n false ≡ true) ↔ IsLinked tree (a_node n)
+  pub leaves_are : (n : ℕ) → (slice_index_or linked.leaves.items n false ≡ true) ↔ IsLinked tree (a_leaf n)
 
 -- Something was told exactly if the words show a lawful version.
 abbrev pub IsReadVersion : Table → (Rec → List ℕ) → Option Entry → Option Linked → Type 0

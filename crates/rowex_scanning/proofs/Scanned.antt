@@ -7,7 +7,7 @@ use Rattle.finite_map.specs.declared.Scan.{Scan}
 use Rattle.key_bits.specs.Key.{IsKey}
 use Rattle.record_words.specs.declared.layout.Layout.{Layout}
 use Rattle.versions.specs.declared.Pin.{Pin}
-use Rattle.versions.specs.State.{IsSteady, Past}
+use Rattle.versions.specs.State.{KeepsFixedWordsSince, Past}
 use Rattle.versions.specs.Told.{TellChanges}
 use Rattle.rowex_core.specs.declared.event.Act.TheVariants.{ClearPin}
 use Rattle.rowex_core.specs.declared.known.Known.{Known}
@@ -28,7 +28,7 @@ module _ (d : Direction) (k : Known) (g : Range) (scan : Scan) (layout : Layout)
   told : TellChanges (seen event.core k) (k.fresh.front ++ event.knows.seen.fresh.0)
   told = subst (λ (z : List Change). TellChanges (seen event.core k) z) event.knows.seen.fresh.1 (seen_told event.lawful (event_recalls event))
 
-  steady : IsSteady (seen event.core k) p.version
+  steady : KeepsFixedWordsSince (seen event.core k) p.version
   steady = seen_steady event.lawful (event_recalls event) (p, pin, le_refl p.version)
 
   pub lawful_taken : (taken : List Pair) → scan.pairs.items ≡ in_order_taken taken → IsAnswer d (seen event.core k) (since k) g taken scan.more → IsLawfulBy d k.fresh.front k.front g.from g.upto g.limit scan

@@ -23,12 +23,12 @@ use Rattle.tries.specs.Keys.{Key, bit, AgreeBelow, IsBefore, IsAtMost}
 use Rattle.tries.specs.Place.{spot}
 use Rattle.tries.specs.Tree.{Subtrie, first_position, leaf}
 use Rattle.tries.proofs.Place.{spot_below}
-use Rattle.versions.specs.State.{Past, IsSteady}
+use Rattle.versions.specs.State.{Past, KeepsFixedWordsSince}
 use Rattle.rowex_core.specs.Cores.{Core, IsLawful}
 use Rattle.rowex_core.specs.Knowing.{IsPinnedSince, Recalls}
 use Rattle.rowex_core.specs.declared.known.Known.{Known}
 use Rattle.rowex_core.proofs.Sharing.Owning.{recalls}
-use Rattle.version_laws.specs.Scan.{Range, IsBlank, IsRooted, IsPlaced, IsShaped, IsRead, IsStack, MayStandAt, Frame as Stage}
+use Rattle.version_laws.specs.Scan.{Range, IsBlank, IsRooted, IsPlaced, HadShapeSince, IsRead, IsStack, MayStandAt, Frame as Stage}
 use Rattle.version_laws.proofs.Scan.{may_stand_at_child_place, leaf_may_stand, near_may_stand, may_stand_in_order, shaped_several}
 use Rattle.version_laws.proofs.Directions.Starts.{at_beyond, at_on_way, fit_sole, scan_started, sides, sides_beyond, stack_at, start_fits, AreAt, affected_from, start_place}
 use Rattle.version_laws.proofs.Directions.{scan_skipped, stack_place}
@@ -153,7 +153,7 @@ module _ (layout : Layout) (k : Known) (m : ℕ) (key : Key) (way : List PathNod
 
   -- ---- in the versions that it has seen
   module _ (c : Core) (lawful : IsLawful c) (known : Recalls c k) where
-    steady : IsSteady (seen c k) m
+    steady : KeepsFixedWordsSince (seen c k) m
     steady = seen_steady lawful known w.since
 
     stack : (n : ℕ) (h : n ≤ length way) → IsStack (seen c k) m (stages n h)
@@ -336,7 +336,7 @@ module _ (layout : Layout) (k : Known) (m : ℕ) (key : Key) (way : List PathNod
       (some_injective (sym at ∙ (step i h).1))
 
   -- ---- where it differs
-  module _ (d : ℕ) (differs : differ ≡ Some d) (level : ℕ) (is : IsLevel way d level) (s : PathNode) (there : slice_get way level ≡ Some s) (x : Subtrie) (shapes : Sure k (λ p. IsShaped p m s.number x))
+  module _ (d : ℕ) (differs : differ ≡ Some d) (level : ℕ) (is : IsLevel way d level) (s : PathNode) (there : slice_get way level ≡ Some s) (x : Subtrie) (shapes : Sure k (λ p. HadShapeSince p m s.number x))
       (first last : ℕ) (from : affected_first d s.slot x ≡ first) (upto : affected_count d s.slot x + first ≡ last + 1) where
     apart : AgreeBelow d key leaf_key × (bit key d ≢ bit leaf_key d)
     apart = subst (IsMismatch key leaf_key) differs w.found_at.2
@@ -345,7 +345,7 @@ module _ (layout : Layout) (k : Known) (m : ℕ) (key : Key) (way : List PathNod
     step_is h = some_injective (sym (step level h).1 ∙ there)
 
     shape_is : (h : level < length way) → (stage level h).shape ≡ x
-    shape_is h = same_shape layout k m s.number (stage level h).shape x possible w.since (subst (λ (z : PathNode). Sure k (λ p. IsShaped p m z.number (stage level h).shape)) (step_is h) (node level h).2.shaped) shapes
+    shape_is h = same_shape layout k m s.number (stage level h).shape x possible w.since (subst (λ (z : PathNode). Sure k (λ p. HadShapeSince p m z.number (stage level h).shape)) (step_is h) (node level h).2.shaped) shapes
 
     spot_is : (h : level < length way) → s.slot ≡ spot key x
     spot_is h = ap (λ (z : PathNode). z.slot) (sym (step_is h)) ∙ (place_is level h ∙ ap (spot key) (shape_is h))
@@ -470,7 +470,7 @@ module _ (layout : Layout) (k : Known) (m : ℕ) (key : Key) (way : List PathNod
 -- ---- with the forks of the node at the level, which were read once more
 module _ (layout : Layout) (k j : Known) (m : ℕ) (key : Key) (way : List PathNode) (number value : ℕ) (differ : Option ℕ) (w : IsWayOf layout k m key way (Leaf number value differ)) (possible : IsPossible layout j)
     (later : IsLater k j) (d : ℕ) (differs : differ ≡ Some d) (level : ℕ) (is : IsLevel way d level) (s : PathNode) (there : slice_get way level ≡ Some s) (forks : Subtrie)
-    (shapes : Sure j (λ p. IsShaped p m s.number forks)) (first last : ℕ)
+    (shapes : Sure j (λ p. HadShapeSince p m s.number forks)) (first last : ℕ)
     (from : affected_first d s.slot forks ≡ first) (upto : affected_count d s.slot forks + first ≡ last + 1) (c : Choice) (chosen : IsChosen way level first last c) where
   then_found : IsWayOf layout j m key way (Leaf number value differ)
   then_found = way_later layout k j m key way (Leaf number value differ) later w
@@ -521,7 +521,7 @@ pub leaf_rooted : (layout : Layout) (k : Known) (key : Key) (way : List PathNode
 leaf_rooted layout k key way number value differ none w = (w.since, subst (λ z. RootWas k (since k) (named z (Leaf number value differ) 0)) none w.root)
 
 -- Two reads of one leaf find one key.
-pub read_same : (s : Past) (m : ℕ) → IsSteady s m → (n : ℕ) (a b : Key) (v u : ℕ) → IsRead s m n a v → IsRead s m n b u → a ≡ b
+pub read_same : (s : Past) (m : ℕ) → KeepsFixedWordsSince s m → (n : ℕ) (a b : Key) (v u : ℕ) → IsRead s m n a v → IsRead s m n b u → a ≡ b
 read_same s m steady n a b v u (o, lo, hi, st) (p, lo2, hi2, su) = steady.same (a_leaf n) o p (leaf n a v) (leaf n b u) lo hi lo2 hi2 st su
 
 -- The leaf that was found does not come before the first key.

@@ -21,7 +21,7 @@ use Rattle.compound_node.specs.declared.entries.Entry.TheVariants.{Leaf, Node}
 use Rattle.node_tries.specs.Piece.{size}
 use Rattle.node_tries.proofs.Piece.{length-places}
 use Rattle.tries.specs.Keys.{Key, bit, IsBefore, IsAtMost}
-use Rattle.versions.specs.State.{IsSteady}
+use Rattle.versions.specs.State.{KeepsFixedWordsSince}
 use Rattle.rowex_core.specs.declared.event.Event.{Event}
 use Rattle.rowex_core.specs.declared.known.Known.{Known}
 use Rattle.rowex_core.specs.Cores.{Core, IsLawful}
@@ -31,7 +31,7 @@ use Rattle.record_words.specs.declared.TheConstants.{HEAD_WORDS, LEAF_FIELDS}
 use Rattle.record_words.specs.declared.layout.Layout.{Layout}
 use Rattle.insert_cases.specs.declared.choice.PathNode.{PathNode}
 use Rattle.version_laws.proofs.Directions.Starts.{beyond_at_place, beyond_behind, beyond_in_child, beyond_grown}
-use Rattle.version_laws.specs.Scan.{Pair, Range, IsInRange, IsRooted, IsPlaced, IsRead, IsBlank, IsShaped, IsStack, Frame as Stage}
+use Rattle.version_laws.specs.Scan.{Pair, Range, IsInRange, IsRooted, IsPlaced, IsRead, IsBlank, HadShapeSince, IsStack, Frame as Stage}
 use Rattle.version_laws.proofs.Scan.{leaf_may_stand, shaped_several}
 use Rattle.version_laws.proofs.Directions.{before, behind, scan_ended, scan_filled, scan_passed, scan_popped, scan_pushed, scan_taken, stack_shape}
 use Rattle.version_laws.proofs.Scan.Ends.{answer_blank, answer_nought, answer_one, answer_outside, none_between, stack_depth, stack_high, stack_low, stack_seen}
@@ -332,7 +332,7 @@ module _ {d : Direction} {k : Known} {m : ℕ} {g : Range} {at : PathNode} {fram
   entry_led = placed_led at.number at.slot e a.walk.stands.pinned a.placed
 
   module _ {j : Known} (l : IsLater k j) where
-    steady : (c : Core) → IsLawful c → Recalls c j → IsSteady (seen c j) m
+    steady : (c : Core) → IsLawful c → Recalls c j → KeepsFixedWordsSince (seen c j) m
     steady c lawful recalls = seen_steady lawful recalls (since_later l a.walk.stands.pinned)
 
     -- the entry, by the frame
@@ -500,7 +500,7 @@ module _ {layout : Layout} {d : Direction} {k : Known} {m : ℕ} {g : Range} {to
   known : Recalls possible.core k
   known = recalls possible.core k possible.knows
 
-  fixed_now : IsSteady (seen possible.core k) m
+  fixed_now : KeepsFixedWordsSince (seen possible.core k) m
   fixed_now = seen_steady possible.lawful known w.pinned
 
   stack_now : IsStack (seen possible.core k) m (w.lowest ∷ w.others)
@@ -735,7 +735,7 @@ module _ (d : Direction) {k j : Known} (g : Range) {number : ℕ} {key : Key} {v
   rooted : Sure j (λ s. IsRooted s (since k) (Leaf number))
   rooted c lawful recalls = rooted_grown (seen c k) (seen c j) (seen_grown c of.later) (since k) (Leaf number) (of.root.1 c lawful (recalls_before of.later recalls))
 
-  fixed : (c : Core) → IsLawful c → Recalls c j → IsSteady (seen c j) (since k)
+  fixed : (c : Core) → IsLawful c → Recalls c j → KeepsFixedWordsSince (seen c j) (since k)
   fixed c lawful recalls = seen_steady lawful recalls (since_later of.later of.root.0)
 
   answered : (t : Tally) (taken : List Pair) → AreTallied t taken → (more : Bool) → Sure j (λ s. IsAnswer d s (since k) g taken more) → HasTaken d j g t more
@@ -779,7 +779,7 @@ module _ (head : HeadView) (lawful : IsLawfulNode (node_of head (leaves (length 
   pub head_room : (1 ≤ length head.rows) × (length head.rows ≤ 32)
   head_room = let a = lawful.several in let b = lawful.room in let e = length_leaves in (omega arith, omega arith)
 
-  pub entered : {d : Direction} {k : Known} (m number h : ℕ) (top : PathNode) → head.height ≡ h → top ≡ step_at head number (first_gap d (length head.rows)) → Sure k (λ s. IsShaped s m number (shape_of head)) → IsEntered d k m number h top
+  pub entered : {d : Direction} {k : Known} (m number h : ℕ) (top : PathNode) → head.height ≡ h → top ≡ step_at head number (first_gap d (length head.rows)) → Sure k (λ s. HadShapeSince s m number (shape_of head)) → IsEntered d k m number h top
   entered {d} {k} m number h top high is shaped = record {
     forks = shape_of head;
     top_is = is ∙ (ap (λ z. let x : PathNode = record (step_at head number (first_gap d (length head.rows))) { height = z } in x) high ∙

@@ -22,7 +22,8 @@ use Rattle.rowex_scanning.specs.declared.scan.Verdict.TheVariants.{Further, Past
 
 -- the node has entries in all slots that are to come
 abbrev pub HasPlaces : Direction → Known → ℕ → PathNode → Type 0
-HasPlaces d k m top = (i : ℕ) → i < to_come d top.count top.slot → HasPlace k m top.number top.height (place_ahead d top.slot i)
+HasPlaces direction known m top =
+    (i : ℕ) → i < to_come direction top.count top.slot → HasPlace known m top.number top.height (place_ahead direction top.slot i)
 
 -- What leads from a slot to the next one in a direction, modulo 256.
 abbrev pub slot_step : Direction → ℕ
@@ -30,41 +31,43 @@ slot_step Upwards = 1
 slot_step Downwards = 255
 
 -- These are the slots of a node with so many entries from this gap on, behind the first of them.
-pub record AreSlots (d : Direction) (count gap entries : ℕ) (slots : Slots) : Type 0 where
+pub record AreSlots (direction : Direction) (count gap entries : ℕ) (slots : Slots) : Type 0 where
   pub small : (count < 2 ^ 8) × (gap ≤ count)
-  pub step : slots.step ≡ slot_step d
-  pub next : entries < to_come d count gap → slots.next ≡ place_ahead d gap entries
+  pub step : slots.step ≡ slot_step direction
+  pub next : entries < to_come direction count gap → slots.next ≡ place_ahead direction gap entries
 
 -- how many entries a look ahead has loaded: those of leaves, and that of the node that follows
 abbrev pub entries_ahead : Ahead → ℕ
-entries_ahead a = a.count + length (option_to_list a.node)
+entries_ahead ahead = ahead.count + length (option_to_list ahead.node)
 
 -- the pass is sure that the first `count` of these leaves stood in the next slots, in this order
 abbrev pub AreAhead : Direction → Known → ℕ → PathNode → ℕ → List ℕ → Type 0
-AreAhead d k m top count leaves = (i : ℕ) → i < count → Sure k (λ s. IsPlaced s m top.number (place_ahead d top.slot i) (Leaf (slice_index leaves i)))
+AreAhead direction known m top count leaves =
+    (i : ℕ) → i < count → Sure known (λ past. IsPlaced past m top.number (place_ahead direction top.slot i) (Leaf (slice_index leaves i)))
 
 -- the pass is sure that this node, which is lower, stood in the slot behind the next `count`
 abbrev pub IsNodeAhead : Direction → Known → ℕ → PathNode → ℕ → ℕ → Type 0
-IsNodeAhead d k m top count n = (h : ℕ) × (h < top.height) × Sure k (λ s. IsPlaced s m top.number (place_ahead d top.slot count) (Node n h))
+IsNodeAhead direction known m top count n =
+    (height : ℕ) × (height < top.height) × Sure known (λ past. IsPlaced past m top.number (place_ahead direction top.slot count) (Node n height))
 
 -- the records of the first `count` leaves begin at these words
-abbrev pub AreStartsOf : Layout → ℕ → List ℕ → List ℕ → Type 0
-AreStartsOf layout count leaves starts = (i : ℕ) → i < count → IsStartOf layout (a_leaf (slice_index leaves i)) (slice_index starts i)
+abbrev pub FirstLeavesBeginAt : Layout → ℕ → List ℕ → List ℕ → Type 0
+FirstLeavesBeginAt layout count leaves starts = (i : ℕ) → i < count → IsStartOf layout (a_leaf (slice_index leaves i)) (slice_index starts i)
 
 -- the records of all leaves begin at these words
-abbrev pub AreStarts : Layout → List ℕ → List ℕ → Type 0
-AreStarts layout leaves starts = (length starts ≡ length leaves) × AreStartsOf layout (length leaves) leaves starts
+abbrev pub LeavesBeginAt : Layout → List ℕ → List ℕ → Type 0
+LeavesBeginAt layout leaves starts = (length starts ≡ length leaves) × FirstLeavesBeginAt layout (length leaves) leaves starts
 
 -- The pass is sure of the entries in the next slots: those of the leaves, and then of the node, if there is one.
-pub record HasSeenAhead (d : Direction) (k : Known) (m : ℕ) (top : PathNode) (a : Ahead) : Type 0 where
-  pub first : AreAhead d k m top a.count a.leaves
-  pub node : IfSome a.node (IsNodeAhead d k m top a.count)
+pub record HasSeenAhead (direction : Direction) (known : Known) (m : ℕ) (top : PathNode) (ahead : Ahead) : Type 0 where
+  pub first : AreAhead direction known m top ahead.count ahead.leaves
+  pub node : IfSome ahead.node (IsNodeAhead direction known m top ahead.count)
 
 -- From a gap of this node, with `size` pairs so far, the walk has passed `count` leaves. It stands behind them, with their pairs.
-pub record HavePassed (k : Known) (m : ℕ) (r : Request) (frames : List PathNode) (top : PathNode) (size count : ℕ) (t : Tally) : Type 0 where
-  pub more : t.size ≡ size + count
-  pub walk : IsWalk k m r (record top { slot = gap_after r.0 top.slot count }) frames t
-  pub bound : IsBound r.0 k m (first_key r.0 r.1) (record top { slot = gap_after r.0 top.slot count }) frames
+pub record HavePassed (known : Known) (m : ℕ) (request : Request) (frames : List PathNode) (top : PathNode) (size count : ℕ) (tally : Tally) : Type 0 where
+  pub more : tally.size ≡ size + count
+  pub walk : IsWalk known m request (record top { slot = gap_after request.0 top.slot count }) frames tally
+  pub bound : IsBound request.0 known m (first_key request.0 request.1) (record top { slot = gap_after request.0 top.slot count }) frames
 
 -- What became of a scan at some leaves. It has passed all of them, or has ended at one, and there is a further key or not.
 abbrev pub AreTaken : Type 0 → (Bool → Type 0) → Verdict → Type 0
@@ -73,37 +76,40 @@ AreTaken Passed Ended IsPast = Ended false
 AreTaken Passed Ended Full = Ended true
 
 -- A walk is at a gap of this node on this path, with such pairs so far. These leaves come next in the node.
-pub record AreNext (k : Known) (r : Request) (top : PathNode) (frames : List PathNode) (t : Tally) (leaves : List ℕ) : Type 0 where
-  pub bound : IsBoundWalk k (since k) r top frames t
-  pub ahead : AreAhead r.0 k (since k) top (length leaves) leaves
-  pub come : length leaves ≤ to_come r.0 top.count top.slot
+pub record AreNext (known : Known) (request : Request) (top : PathNode) (frames : List PathNode) (tally : Tally) (leaves : List ℕ) : Type 0 where
+  pub bound : IsBoundWalk known (since known) request top frames tally
+  pub ahead : AreAhead request.0 known (since known) top (length leaves) leaves
+  pub come : length leaves ≤ to_come request.0 top.count top.slot
 
 -- What became of these leaves on each path on which they came next, since the last load of the root.
 abbrev pub AreTakenOnWays : Known → Known → Request → Tally → List ℕ → Tally → Verdict → Type 0
-AreTakenOnWays k j r t leaves u verdict =
-    (top : PathNode) (frames : List PathNode) → AreNext k r top frames t leaves →
-    AreTaken (HavePassed j (since k) r frames top t.size (length leaves) u) (HasTaken r.0 j r.1 u) verdict
+AreTakenOnWays old new request before leaves later verdict =
+    (top : PathNode) (frames : List PathNode) → AreNext old request top frames before leaves →
+    AreTaken (HavePassed new (since old) request frames top before.size (length leaves) later) (HasTaken request.0 new request.1 later) verdict
 
 -- These leaves come next at a gap of this node. What stands behind the gap comes later than the range's first key.
-pub record AreBehindGap (k : Known) (r : Request) (top : PathNode) (leaves : List ℕ) : Type 0 where
-  pub pinned : IsPinnedSince k (since k)
-  pub there : Sure k (λ s. IsPastKey r.0 s (since k) (first_key r.0 r.1) top.number top.slot)
-  pub ahead : AreAhead r.0 k (since k) top (length leaves) leaves
-  pub come : length leaves ≤ to_come r.0 top.count top.slot
+pub record AreBehindGap (known : Known) (request : Request) (top : PathNode) (leaves : List ℕ) : Type 0 where
+  pub pinned : IsPinnedSince known (since known)
+  pub there : Sure known (λ past. IsPastKey request.0 past (since known) (first_key request.0 request.1) top.number top.slot)
+  pub ahead : AreAhead request.0 known (since known) top (length leaves) leaves
+  pub come : length leaves ≤ to_come request.0 top.count top.slot
 
 -- the pass is sure that the keys of the first `count` leaves belong to the range, whatever they are
 abbrev pub AreWithin : Known → ℕ → Range → List ℕ → ℕ → Type 0
-AreWithin j m g leaves count = (i : ℕ) → i < count → Sure j (λ s. (key : Key) (value : ℕ) → IsRead s m (slice_index leaves i) key value → IsInRange g key)
+AreWithin known m range leaves count =
+    (i : ℕ) → i < count → Sure known (λ past. (key : Key) (value : ℕ) → IsRead past m (slice_index leaves i) key value → IsInRange range key)
 
 -- the pass is sure that the leaf's key is past the range
 abbrev pub IsLeafPast : Known → ℕ → Request → ℕ → Type 0
-IsLeafPast j m r number = Sure j (λ s. (key : Key) × (value : ℕ) × IsRead s m number key value × IsEarlier r.0 (last_key r.0 r.1) key)
+IsLeafPast known m request number =
+    Sure known (λ past. (key : Key) × (value : ℕ) × IsRead past m number key value × IsEarlier request.0 (last_key request.0 request.1) key)
 
 -- the pass is sure that the leaf's key isn't past the range
 abbrev pub IsLeafNotPast : Known → ℕ → Request → ℕ → Type 0
-IsLeafNotPast j m r number = Sure j (λ s. (key : Key) × (value : ℕ) × IsRead s m number key value × IsNoLater r.0 key (last_key r.0 r.1))
+IsLeafNotPast known m request number =
+    Sure known (λ past. (key : Key) × (value : ℕ) × IsRead past m number key value × IsNoLater request.0 key (last_key request.0 request.1))
 
 -- The first `count` of these leaves belong to the range. The next one, if there is one, is past it.
-pub record AreParted (j : Known) (m : ℕ) (r : Request) (leaves : List ℕ) (count : ℕ) : Type 0 where
-  pub within : AreWithin j m r.1 leaves count
-  pub past : count < length leaves → IsLeafPast j m r (slice_index leaves count)
+pub record AreParted (known : Known) (m : ℕ) (request : Request) (leaves : List ℕ) (count : ℕ) : Type 0 where
+  pub within : AreWithin known m request.1 leaves count
+  pub past : count < length leaves → IsLeafPast known m request (slice_index leaves count)

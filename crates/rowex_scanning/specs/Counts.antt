@@ -19,8 +19,8 @@ pub record AreWalkLoads (beside limit entries loads : ℕ) : Type 0 where
   pub few : loads ≤ beside + 26 * entries + 8 * (limit + 1)
 
 -- the pass makes the loads of a walk with this limit, and `beside` others
-abbrev pub Walks : {G : Type 0} → TableView → (G → Event → G → Type 0) → ℕ → ℕ → SeatView × G → SeatView × G → Type 0
-Walks table becomes beside limit a b = (loads entries : ℕ) × AreWalkLoads beside limit entries loads × Reads table becomes entries loads a b
+abbrev pub Walks : {G : Type 0} → TableView → (G → Event → G → Type 0) → (beside limit : ℕ) → SeatView × G → SeatView × G → Type 0
+Walks table becomes beside limit old new = (loads entries : ℕ) × AreWalkLoads beside limit entries loads × Reads table becomes entries loads old new
 
 -- how many entries a scan loads at most: one in each node on the path of its search, and those of its walk
 abbrev pub scan_entries : ℕ → ℕ
@@ -28,7 +28,7 @@ scan_entries limit = 9 * MAX_BYTES + walk_entries limit
 
 -- How many loads a scan makes below the root at most, by the entries that it loads. Beside those of its walk, its search has read a leaf,
 -- and it may read one head and that leaf once more.
-abbrev pub loads_by : ℕ → ℕ → ℕ
+abbrev pub loads_by : (limit entries : ℕ) → ℕ
 loads_by limit entries = LEAF_FIELDS + (HEAD_WORDS + LEAF_FIELDS) + 26 * entries + 8 * (limit + 1)
 
 -- a scan has loaded no more than its limit allows for
@@ -38,12 +38,12 @@ pub record AreScanLoads (limit entries loads : ℕ) : Type 0 where
 
 -- the pass loads the root, and makes no more loads below it than a scan with this limit may
 abbrev pub Scans : {G : Type 0} → TableView → (G → Event → G → Type 0) → ℕ → SeatView × G → SeatView × G → Type 0
-Scans table becomes limit a b = (loads entries : ℕ) × AreScanLoads limit entries loads × Looks table becomes entries loads a b
+Scans table becomes limit old new = (loads entries : ℕ) × AreScanLoads limit entries loads × Looks table becomes entries loads old new
 
 -- how many loads a scan with this limit makes below the root at most, whatever it finds
 abbrev pub scan_loads : ℕ → ℕ
 scan_loads limit = loads_by limit (scan_entries limit)
 
 -- The limit that bounds the loads of a walk that took so many pairs. It has looked at 16 leaves more at most.
-abbrev pub limit_by : ℕ → ℕ → ℕ
+abbrev pub limit_by : (limit taken : ℕ) → ℕ
 limit_by limit taken = min limit (taken + MOST_AHEAD)

@@ -19,36 +19,39 @@ use Rattle.rowex_scanning.specs.declared.start.Start.{Start}
 
 -- The search for the key has gone along this path since version m, through one node at least, and ended at this leaf.
 abbrev pub IsSearchEnd : Layout → Known → ℕ → Key → List PathNode → SearchEnd → Type 0
-IsSearchEnd layout k m key way found = (0 < length way) × (value : ℕ) × IsWayOf layout k m key way (FoundLeaf found.number value found.mismatch)
+IsSearchEnd layout known m key way found =
+    (0 < length way) × (value : ℕ) × IsWayOf layout known m key way (FoundLeaf found.number value found.mismatch)
 
 -- The leaf at which the search has ended stands in the topmost frame's slot. Its key does not come before this one, and all that is behind
 -- it comes later.
-pub record IsFirst (d : Direction) (k : Known) (m : ℕ) (key : Key) (number : ℕ) (top : PathNode) (frames : List PathNode) : Type 0 where
+pub record IsFirst (direction : Direction) (known : Known) (since : ℕ) (key : Key) (number : ℕ) (top : PathNode) (frames : List PathNode) : Type 0 where
   pub found : Key
   pub value : ℕ
   pub inside : top.slot < top.count
-  pub placed : Sure k (λ s. IsPlaced s m top.number top.slot (Leaf number))
-  pub read : Sure k (λ s. IsRead s m number found value)
-  pub reached : IsNoLater d key found
-  pub bound : IsBound d k m key (record top { slot = gap_behind d top.slot }) frames
+  pub placed : Sure known (λ past. IsPlaced past since top.number top.slot (Leaf number))
+  pub read : Sure known (λ past. IsRead past since number found value)
+  pub reached : IsNoLater direction key found
+  pub bound : IsBound direction known since key (record top { slot = gap_behind direction top.slot }) frames
 
 -- the walk of any scan that starts at the key stands here, with no pairs so far
 abbrev pub IsWalkFrom : Direction → Known → ℕ → Key → PathNode → List PathNode → Type 0
-IsWalkFrom d k m key top frames = (g : Range) → first_key d g ≡ key → IsWalk k m (d, g) top frames (tally_of_number 0)
+IsWalkFrom direction known since key top frames =
+    (range : Range) → first_key direction range ≡ key → IsWalk known since (direction, range) top frames (tally_of_number 0)
 
 -- The scan starts before the leaf at which the search has ended, or at a gap.
 abbrev pub IsBegun : Direction → Known → ℕ → Key → ℕ → List PathNode → Start → Type 0
-IsBegun d k m key number frames start = MatchBool start.leaf
-    (IsFirst d k m key number start.top frames × IsWalkFrom d k m key (record start.top { slot = gap_before d start.top.slot }) frames)
-    (IsBound d k m key start.top frames × IsWalkFrom d k m key start.top frames)
+IsBegun direction known m key number frames start = MatchBool start.leaf
+    (IsFirst direction known m key number start.top frames ×
+    IsWalkFrom direction known m key (record start.top { slot = gap_before direction start.top.slot }) frames)
+    (IsBound direction known m key start.top frames × IsWalkFrom direction known m key start.top frames)
 
 -- Where a scan from the key starts on the path of the key's search, which has ended at this leaf.
-pub record IsStart (d : Direction) (k : Known) (m : ℕ) (key : Key) (way : List PathNode) (number : ℕ) (start : Start) : Type 0 where
+pub record IsStart (direction : Direction) (known : Known) (m : ℕ) (key : Key) (way : List PathNode) (number : ℕ) (start : Start) : Type 0 where
   pub within : start.level < length way
-  pub begun : IsBegun d k m key number (take start.level way) start
+  pub begun : IsBegun direction known m key number (take start.level way) start
 
 -- The scan starts behind the leaf at which the search has ended. That leaf's key is below this one, and so is all that stands left of it.
-pub record IsBehindLeaf (k : Known) (m : ℕ) (key : Key) (way : List PathNode) (number : ℕ) (start : Start) : Type 0 where
+pub record IsBehindLeaf (known : Known) (m : ℕ) (key : Key) (way : List PathNode) (number : ℕ) (start : Start) : Type 0 where
   pub apart : start.leaf ≡ false
   pub last : start.level + 1 ≡ length way
   pub step : PathNode
@@ -56,14 +59,14 @@ pub record IsBehindLeaf (k : Known) (m : ℕ) (key : Key) (way : List PathNode) 
   pub behind : start.top.slot ≡ suc step.slot
   pub found : Key
   pub value : ℕ
-  pub read : Sure k (λ s. IsRead s m number found value)
+  pub read : Sure known (λ past. IsRead past m number found value)
   pub low : IsBefore found key
-  pub beneath : Sure k (λ s. IsPastKey Downwards s m key step.number step.slot)
+  pub beneath : Sure known (λ past. IsPastKey Downwards past m key step.number step.slot)
 
 -- Where a scan upwards starts, and what stands left of there. All of it is below the key, or the scan starts behind the search's leaf
 -- (`IsBehindLeaf`).
-pub record IsParting (k : Known) (m : ℕ) (key : Key) (way : List PathNode) (number : ℕ) (start : Start) : Type 0 where
-  pub upwards : IsStart Upwards k m key way number start
+pub record IsParting (known : Known) (m : ℕ) (key : Key) (way : List PathNode) (number : ℕ) (start : Start) : Type 0 where
+  pub upwards : IsStart Upwards known m key way number start
   pub of_way : (s : PathNode) → slice_get way start.level ≡ Some s → start.top ≡ record s { slot = start.top.slot }
-  pub left : ArePastKey Downwards k m key (take start.level way)
-  pub side : Sure k (λ s. IsPastKey Downwards s m key start.top.number start.top.slot) ⊎ IsBehindLeaf k m key way number start
+  pub left : ArePastKey Downwards known m key (take start.level way)
+  pub side : Sure known (λ s. IsPastKey Downwards s m key start.top.number start.top.slot) ⊎ IsBehindLeaf known m key way number start

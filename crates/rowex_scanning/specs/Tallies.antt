@@ -13,19 +13,20 @@ pub record Tally : Type 1 where
 
 -- the tally tells these pairs
 abbrev pub AreTallied : Tally → List Pair → Type 0
-AreTallied t taken = (t.size ≡ length taken) × t.says taken
+AreTallied tally taken = (tally.size ≡ length taken) × tally.says taken
 
 -- the tally tells that no pair was taken
 abbrev pub IsNone : Tally → Type 0
-IsNone t = (t.size ≡ 0) × t.says []
+IsNone tally = (tally.size ≡ 0) × tally.says []
 
 -- the second tally tells the same pairs as the first
 abbrev pub IsKept : Tally → Tally → Type 0
-IsKept t u = (u.size ≡ t.size) × ((taken : List Pair) → t.says taken → u.says taken)
+IsKept old new = (new.size ≡ old.size) × ((taken : List Pair) → old.says taken → new.says taken)
 
 -- the second tally tells one pair more, with this key and value
 abbrev pub IsOneMore : Tally → Key → ℕ → Tally → Type 0
-IsOneMore t key value u = (u.size ≡ t.size + 1) × ((taken : List Pair) → t.says taken → u.says (record { key = key; value = value } ∷ taken))
+IsOneMore old key value new =
+    (new.size ≡ old.size + 1) × ((taken : List Pair) → old.says taken → new.says (record { key = key; value = value } ∷ taken))
 
 -- the tally that tells nothing of its pairs but their number
 abbrev pub tally_of_number : ℕ → Tally
@@ -46,4 +47,4 @@ tally_of_values values = record { size = length values; says = λ taken. values 
 
 -- a scan has taken pairs that the tally tells, and stands at these frames
 abbrev pub IsTalliedScan : Direction → Past → ℕ → Range → List Stage → Tally → Type 0
-IsTalliedScan d s m g fs t = (taken : List Pair) × AreTallied t taken × IsScanBy d s m g fs taken
+IsTalliedScan direction past m range fs tally = (taken : List Pair) × AreTallied tally taken × IsScanBy direction past m range fs taken

@@ -2,7 +2,7 @@
 
 ghost use Rattle.std.specs.Prelude.{◌≡◌, ◌+◌, ◌<◌, ◌≤◌, ℕ, length};
 ghost use Rattle.rowex_reading.specs.Reads.{IsReader, Reads};
-ghost use Rattle.rowex_scanning.specs.Ahead.{AreStartsOf, HasPlaces, HasSeenAhead, entries_ahead};
+ghost use Rattle.rowex_scanning.specs.Ahead.{FirstLeavesBeginAt, HasPlaces, HasSeenAhead, entries_ahead};
 ghost use Rattle.rowex_table.specs.Rule.{IsLeafRecordAt};
 ghost use Rattle.rowex_table.specs.Seats.{HasTouched, IsSeatOf};
 ghost use Rattle.version_laws.specs.Directions.{to_come as to_come_of};
@@ -84,7 +84,7 @@ pub(crate) fn load_entries_ahead<G: Gate, S: Tallies>(
     ensures come { entries_ahead result ≤ to_come_of scan.now.range.now.direction top.now.count top.now.slot }
     ensures most { (result.count ≤ MOST_AHEAD) × (length result.leaves ≡ MOST_AHEAD) }
     ensures wide { length starts.new ≡ MOST_AHEAD }
-    ensures starts { AreStartsOf scan.now.table.now.layout result.count result.leaves starts.new }
+    ensures starts { FirstLeavesBeginAt scan.now.table.now.layout result.count result.leaves starts.new }
     ensures few { (S.tally sink.now).size + entries_ahead result ≤ scan.now.range.now.limit + 1 }
     ensures ahead { (m : ℕ) → HasPlaces scan.now.range.now.direction seat.old.known m top.now →
         HasSeenAhead scan.now.range.now.direction seat.new.known m top.now result }
@@ -123,8 +123,8 @@ pub(crate) fn load_entries_ahead<G: Gate, S: Tallies>(
     }
 }
 
-/// Asks for the first cache lines of `leaf`, which is read soon, so that those of several leaves come side by side. In an index of few leaves
-/// it asks for none, since they are there mostly.
+/// Asks for the first cache lines of `leaf`, which is read soon, so that those of several leaves come side by side. In an index of few
+/// leaves it asks for none, since they are there mostly.
 #[inline(always)]
 pub(crate) fn touch_leaf(scan: &Scan, seat: &mut TableSeat, leaf: RecordAt)
     requires own { IsSeatOf scan.now.table.now seat.old }

@@ -6,7 +6,7 @@ ghost use Rattle.key_bits.specs.Key.{IsKey};
 ghost use Rattle.key_bits.specs.declared.TheConstants.{MAX_BYTES};
 ghost use Rattle.record_words.specs.declared.TheConstants.{LEAF_FIELDS};
 ghost use Rattle.rowex_reading.specs.Reads.{IsReader, Reads};
-ghost use Rattle.rowex_scanning.specs.Ahead.{AreNext, AreStarts, AreTakenOnWays};
+ghost use Rattle.rowex_scanning.specs.Ahead.{AreNext, LeavesBeginAt, AreTakenOnWays};
 ghost use Rattle.rowex_scanning.specs.Scanning.{HasTakenPart, asked_range, request_of};
 ghost use Rattle.rowex_scanning.specs.Tallies.{IsKept, IsOneMore};
 ghost use Rattle.rowex_table.specs.Rule.{IsLeafRecordAt};
@@ -86,7 +86,7 @@ pub(crate) trait Sink: Tallies {
         requires reader { IsReader scan.now.table.now seat.old }
         requires origins { scan.now.origins.now.layout ≡ scan.now.table.now.layout }
         requires next { (top : PathNode) × (frames : List PathNode) × AreNext seat.old.known (request_of scan.now.range.now) top frames (Self.tally self.old) leaves.now }
-        requires starts { AreStarts scan.now.table.now.layout leaves.now starts.now }
+        requires starts { LeavesBeginAt scan.now.table.now.layout leaves.now starts.now }
         requires few { (Self.tally self.old).size + length leaves.now ≤ scan.now.range.now.limit + 1 }
         ensures reads { (n : ℕ) × (n ≤ LEAF_FIELDS * length leaves.now) × Reads scan.now.table.now G.becomes 0 n (seat.old, gate.old) (seat.new, gate.new) }
         ensures more { (Self.tally self.old).size ≤ (Self.tally self.new).size }

@@ -8,7 +8,7 @@ ghost use Rattle.key_bits.specs.declared.TheConstants.{MAX_BYTES};
 ghost use Rattle.record_words.specs.declared.TheConstants.{LEAF_FIELDS};
 ghost use Rattle.rowex_reading.specs.Reads.{IsReader, Reads};
 ghost use Rattle.rowex_reading.specs.Seen.{IsLedTo, Sure, since};
-ghost use Rattle.rowex_scanning.specs.Ahead.{AreNext, AreStarts, AreTakenOnWays, HavePassed, IsLeafNotPast};
+ghost use Rattle.rowex_scanning.specs.Ahead.{AreNext, LeavesBeginAt, AreTakenOnWays, HavePassed, IsLeafNotPast};
 ghost use Rattle.rowex_scanning.specs.Scanning.{HasTakenPart, IsLeafRefused, IsLeafTaken, IsPairRefused, IsPairTaken, IsReached, asked_range, first_key_of, request_of};
 ghost use Rattle.record_words.specs.declared.records.Rec.TheVariants.{Leaf as a_leaf};
 ghost use Rattle.rowex_table.specs.Rule.{IsStartOf};
@@ -40,7 +40,7 @@ pub(crate) fn take_each_leaf<G: Gate, S: Tallies>(
     requires reader { IsReader scan.now.table.now seat.old }
     requires origins { scan.now.origins.now.layout ≡ scan.now.table.now.layout }
     requires next { (top : PathNode) × (frames : List PathNode) × AreNext seat.old.known (request_of scan.now.range.now) top frames (S.tally sink.old) leaves.now }
-    requires starts { AreStarts scan.now.table.now.layout leaves.now starts.now }
+    requires starts { LeavesBeginAt scan.now.table.now.layout leaves.now starts.now }
     requires few { (S.tally sink.old).size + length leaves.now ≤ scan.now.range.now.limit + 1 }
     ensures reads { (n : ℕ) × (n ≤ LEAF_FIELDS * length leaves.now) × Reads scan.now.table.now G.becomes 0 n (seat.old, gate.old) (seat.new, gate.new) }
     ensures more { (S.tally sink.old).size ≤ (S.tally sink.new).size }
@@ -78,8 +78,8 @@ pub(crate) fn take_each_leaf<G: Gate, S: Tallies>(
     Ok(Verdict::Further)
 }
 
-/// Takes the pairs of `leaves` but that of the last one, whose key is not past the range, so that none of the others is compared. There is room
-/// for them, by the limit and in `sink`.
+/// Takes the pairs of `leaves` but that of the last one, whose key is not past the range, so that none of the others is compared. There is
+/// room for them, by the limit and in `sink`.
 #[inline(always)]
 fn take_leaves_before_last<G: Gate, S: Tallies>(
     scan: &Scan,
@@ -93,7 +93,7 @@ fn take_leaves_before_last<G: Gate, S: Tallies>(
     requires reader { IsReader scan.now.table.now seat.old }
     requires origins { scan.now.origins.now.layout ≡ scan.now.table.now.layout }
     requires next { (top : PathNode) × (frames : List PathNode) × AreNext seat.old.known (request_of scan.now.range.now) top frames (S.tally sink.old) leaves.now }
-    requires starts { AreStarts scan.now.table.now.layout leaves.now starts.now }
+    requires starts { LeavesBeginAt scan.now.table.now.layout leaves.now starts.now }
     requires some { 0 < length leaves.now }
     requires last { IsLeafNotPast seat.old.known (since seat.old.known) (request_of scan.now.range.now) (slice_index leaves.now (length leaves.now - 1)) }
     requires few { (S.tally sink.old).size + (length leaves.now - 1) ≤ scan.now.range.now.limit }
@@ -124,7 +124,7 @@ fn take_leaves_to_end<G: Gate, S: Tallies>(
     requires reader { IsReader scan.now.table.now seat.old }
     requires origins { scan.now.origins.now.layout ≡ scan.now.table.now.layout }
     requires next { (top : PathNode) × (frames : List PathNode) × AreNext seat.old.known (request_of scan.now.range.now) top frames (S.tally sink.old) leaves.now }
-    requires starts { AreStarts scan.now.table.now.layout leaves.now starts.now }
+    requires starts { LeavesBeginAt scan.now.table.now.layout leaves.now starts.now }
     ensures reads { (n : ℕ) × (n ≤ LEAF_FIELDS * length leaves.now) × Reads scan.now.table.now G.becomes 0 n (seat.old, gate.old) (seat.new, gate.new) }
     ensures more { (S.tally sink.old).size ≤ (S.tally sink.new).size }
     ensures taken { IfOk result (AreTakenOnWays seat.old.known seat.new.known (request_of scan.now.range.now) (S.tally sink.old) leaves.now (S.tally sink.new)) }

@@ -18,7 +18,7 @@ pub record Made : Type 0 where
 
 -- the record as the pass's own, held this way
 abbrev pub held_as : Holding → Made → Owned
-held_as h m = record { rec = m.rec; holding = h; words = m.words }
+held_as holding made = record { rec = made.rec; holding = holding; words = made.words }
 
 -- the records without their words
 abbrev pub recs_of : List Made → List Rec
@@ -26,19 +26,19 @@ recs_of made = map (λ (m : Made). m.rec) made
 
 -- the locked nodes without their words
 abbrev pub nodes_of : List Locked → List ℕ
-nodes_of locks = map (λ (l : Locked). l.node) locks
+nodes_of locks = map (λ (lock : Locked). lock.node) locks
 
 -- the pass's own records are exactly these, claimed and filled
 abbrev pub HoldsMade : Known → List Made → Type 0
-HoldsMade k news = (k.own ≡ map (held_as Held) news) × AreApart (recs_of news)
+HoldsMade known news = (known.own ≡ map (held_as Held) news) × AreApart (recs_of news)
 
 -- the pass's own records are exactly these, of which those of `done` are ready
 abbrev pub HasReadied : Known → List Made → List Made → Type 0
-HasReadied k done todo = (k.own ≡ map (held_as Ready) done ++ map (held_as Held) todo) × AreApart (recs_of (done ++ todo))
+HasReadied known done todo = (known.own ≡ map (held_as Ready) done ++ map (held_as Held) todo) × AreApart (recs_of (done ++ todo))
 
 -- The pass that knew k knows j now. It has the same pin, has seen more changes by others alone, and has forgotten no fact.
 pub record IsLater (k j : Known) : Type 0 where
   pub pass : j.pass ≡ k.pass
   pub pin : j.pin ≡ k.pin
   pub front : OthersGoOn k.pass k.front j.front
-  pub facts : (s : Past) → All (IsFact s) j.facts → All (IsFact s) k.facts
+  pub facts : (past : Past) → All (IsFact past) j.facts → All (IsFact past) k.facts

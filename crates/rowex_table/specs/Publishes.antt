@@ -32,6 +32,7 @@ pub record HasPublished (k j : Known) (x : Change) (was : Option ℕ) (gone : Li
 
 -- A pass that knows k may publish the change x by a store of the word at the spot. It then knows what `HasPublished` says. `kept` are those
 -- of its locked nodes that are not among the records `gone`.
-pub record Publishes (layout : Layout) (k : Known) (spot : Spot) (w : ℕ) (x : Change) (was : Option ℕ) (gone : List Rec) : Type 0 where
-  pub may : MayStep layout (λ found. Publish spot w) k
-  pub gives : (j : Known) (kept : List ℕ) → AreKept (nodes_of k.locks) gone kept → IsEvent layout (Publish spot w) silent k j → HasPublished k j x was gone kept
+pub record Publishes (layout : Layout) (k : Known) (spot : Spot) (word : ℕ) (x : Change) (was : Option ℕ) (gone : List Rec) : Type 0 where
+  pub may : MayStep layout (λ found. Publish spot word) k
+  pub gives : (j : Known) (kept : List ℕ) → AreKept (nodes_of k.locks) gone kept → IsEvent layout (Publish spot word) silent k j →
+      HasPublished k j x was gone kept

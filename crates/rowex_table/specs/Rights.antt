@@ -17,13 +17,14 @@ use Rattle.rowex_core.specs.Knowing.{Knows}
 
 -- the record is the pass's own, held this way, and has these words behind its state
 abbrev pub OwnsAs : Known → Rec → Holding → List ℕ → Type 0
-OwnsAs k r h words = Contains k.own (record { rec = r; holding = h; words = words })
+OwnsAs known rec holding words = Contains known.own (record { rec = rec; holding = holding; words = words })
 
 -- the pass has claimed the record, and not made it ready
 abbrev pub IsClaimed : Known → Rec → Type 0
-IsClaimed k r = (words : List ℕ) × (length words ≡ word_count_of r) × OwnsAs k r Held words
+IsClaimed known rec = (words : List ℕ) × (length words ≡ word_count_of rec) × OwnsAs known rec Held words
 
 -- The pass may lock the target: the anchor always, and a node that it knows to stand in the tree, if it is live.
 abbrev pub MayLock : Layout → Target → Known → Type 0
-MayLock layout Anchor k = Unit {0}
-MayLock layout (NodeTarget n) k = (c : Core) → IsLawful c → c.layout ≡ layout → Knows c k → state_at c (a_node n) ≡ state_word Live → IsInTree c n
+MayLock layout Anchor known = Unit {0}
+MayLock layout (NodeTarget n) known =
+    (core : Core) → IsLawful core → core.layout ≡ layout → Knows core known → state_at core (a_node n) ≡ state_word Live → IsInTree core n

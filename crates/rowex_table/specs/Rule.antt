@@ -33,11 +33,11 @@ use Rattle.rowex_table.specs.Traces.{HasTraces, IsNextStep, IsShownRun, RunBegin
 
 -- some view is of the pass of this number
 abbrev pub IsSomeSeats : List TracedView → ℕ → Type 0
-IsSomeSeats views q = (i : ℕ) × (v : TracedView) × (get_elem? views i ≡ some v) × IsViewOf (view_of v) q
+IsSomeSeats views pass = (i : ℕ) × (view : TracedView) × (get_elem? views i ≡ some view) × IsViewOf (view_of view) pass
 
 -- what a view tells is true of the core, and its traces are of the run
 abbrev pub IsTrueOf : Core → List Event → TracedView → Type 0
-IsTrueOf core run v = Knowing core (view_of v) × HasTraces run v
+IsTrueOf core run view = Knowing core (view_of view) × HasTraces run view
 
 -- The rule of a table. A run of steps leads from a new table to a lawful core of this layout, which the words show. What each view tells is
 -- true of both. No two views have one number, and each number of a pass is in some view.
@@ -49,13 +49,14 @@ pub record Ruled {S : Type 0} (layout : Layout) (s : State S TracedView) : Type 
   pub run : List Event
   pub led : EventsLead (opening layout) run core
   pub knows : (i : ℕ) (v : TracedView) → get_elem? s.views i ≡ some v → IsTrueOf core run v
-  pub apart : (i j q : ℕ) (v w : TracedView) → get_elem? s.views i ≡ some v → get_elem? s.views j ≡ some w → IsViewOf (view_of v) q → IsViewOf (view_of w) q → i ≡ j
-  pub each : (q : ℕ) → q < layout.passes → IsSomeSeats s.views q
+  pub apart : (i j pass : ℕ) (v w : TracedView) → get_elem? s.views i ≡ some v → get_elem? s.views j ≡ some w → IsViewOf (view_of v) pass →
+      IsViewOf (view_of w) pass → i ≡ j
+  pub each : (pass : ℕ) → pass < layout.passes → IsSomeSeats s.views pass
 
 -- what a new pass knows
 abbrev pub opening_of : ℕ → Known
-opening_of q = record {
-  pass = q;
+opening_of pass = record {
+  pass = pass;
   front = [];
   fresh = record { front = []; step = 0; pinned = 0 };
   notes = [];
@@ -99,7 +100,7 @@ trace_of _ = untraced
 
 -- the seat is that of the pass of this number, and holds nothing else
 abbrev pub IsOfPass : {S : Type 0} → Me S TracedView → ℕ → Type 0
-IsOfPass me q = (me ≡ (Pass (known_of me.0) (trace_of me.0), [])) × ((known_of me.0).pass ≡ q)
+IsOfPass me pass = (me ≡ (Pass (known_of me.0) (trace_of me.0), [])) × ((known_of me.0).pass ≡ pass)
 
 -- the spot is the root, a value, or one of the slots that a node has
 abbrev pub HasEntrySlot : Spot → Type 0
@@ -119,7 +120,7 @@ IsAddressOf layout location word = (word ≡ address layout location) × IsInTab
 
 -- the record is in the table, and begins at this word
 abbrev pub IsStartOf : Layout → Rec → ℕ → Type 0
-IsStartOf layout r word = HasRecord layout r × (word ≡ address layout (word_of r 0))
+IsStartOf layout rec word = HasRecord layout rec × (word ≡ address layout (word_of rec 0))
 
 -- the record's number among those of its kind
 abbrev pub record_number : Rec → ℕ
@@ -138,28 +139,31 @@ IsLeafRecordAt layout at = (at.rec ≡ a_leaf (record_number at.rec)) × IsStart
 
 -- The act, as one that finds this word. A store finds none.
 abbrev pub found_by : Act → ℕ → Act
-found_by (Claim r found) w = Claim r w
+found_by (Claim r found) word = Claim r word
 found_by (LoadRef spot word) w = LoadRef spot w
 found_by (LoadFixed r offset word) w = LoadFixed r offset w
-found_by (Lock target found) w = Lock target w
+found_by (Lock target found) word = Lock target word
 found_by (LoadEpoch word) w = LoadEpoch w
-found_by (Advance expected found) w = Advance expected w
+found_by (Advance expected found) word = Advance expected word
 found_by (LoadPin o word) w = LoadPin o w
 found_by (LoadState r word) w = LoadState r w
-found_by (GiveBack r epoch found) w = GiveBack r epoch w
-found_by act w = act
+found_by (GiveBack r epoch found) word = GiveBack r epoch word
+found_by act word = act
 
 -- The pass may make the step at a table of this layout. It is legal in each lawful core of which what the pass knows is true. `act` takes
 -- the word that stands there.
 abbrev pub MayStep : Layout → (ℕ → Act) → Known → Type 0
-MayStep layout act k = (c : Core) → IsLawful c → c.layout ≡ layout → Knows c k → Legal c k.pass (act (word_at c (location_of k.pass (act 0))))
+MayStep layout act known =
+    (core : Core) → IsLawful core → core.layout ≡ layout → Knows core known →
+    Legal core known.pass (act (word_at core (location_of known.pass (act 0))))
 
 -- The act of a pass happens: it is legal, the pass learns of it, and it is the next step of the table's run.
 abbrev pub Happens : Option Layout → Act → (Known → List Note) → TracedView → TracedView → Type 0
-Happens (Some layout) act said (Pass k t) w =
-    (j : Known) × (u : Trace) × (event : IsEvent layout act said k j) × (w ≡ Pass j u) × IsNextStep layout k.pass act event.core t.events u.events × (u.asides ≡ t.asides) ×
-    (u.touches ≡ t.touches)
-Happens _ act said v w = Unit {0}
+Happens (Some layout) act said (Pass k t) view =
+    (known : Known) × (trace : Trace) × (event : IsEvent layout act said k known) × (view ≡ Pass known trace) ×
+    IsNextStep layout k.pass act event.core t.events trace.events × (trace.asides ≡ t.asides) ×
+    (trace.touches ≡ t.touches)
+Happens _ act said v view = Unit {0}
 
 -- a pass's step, as an event that finds the word which the step tells
 abbrev pub did : {S : Type 0} → Option Layout → Act → (Known → List Note) → Step S → Me S TracedView → ℕ → Me S TracedView → Type 0
@@ -170,7 +174,7 @@ did layout act said st m told m' = (m'.1 ≡ m.1) × Happens layout (found_by ac
 -- the view of a pass that has touched one word more
 abbrev pub touched_once : TracedView → TracedView
 touched_once (Pass k t) = Pass k (record { events = t.events; asides = t.asides; touches = suc t.touches })
-touched_once v = v
+touched_once view = view
 
 -- a touch changes nothing but that it is counted
 abbrev pub touching : {S : Type 0} → Step S → Me S TracedView → ℕ → Me S TracedView → Type 0
@@ -182,7 +186,7 @@ touching st m told m' = (m'.1 ≡ m.1) × (m'.0 ≡ touched_once m.0)
 abbrev pub next_dealer : TracedView → TracedView
 next_dealer (Dealer m) = Dealer (m + 1)
 next_dealer (Founder k t m) = Dealer m
-next_dealer v = v
+next_dealer view = view
 
 -- the view of the seat that a dealer deals next
 abbrev pub dealt : TracedView → TracedView
@@ -197,12 +201,12 @@ IsRuledAtFirst layout loads words = Ruled {S = Unit {0}} layout (first_state wor
 -- the dealer's view once the passes below this number have been dealt, from the table's first view on
 abbrev pub dealer_at : TracedView → ℕ → TracedView
 dealer_at first zero = first
-dealer_at first (suc q) = Dealer (suc q)
+dealer_at first (suc pass) = Dealer (suc pass)
 
 -- the view of the pass of this number when it is dealt, by the table's first view
 abbrev pub dealt_at : TracedView → ℕ → TracedView
 dealt_at first zero = dealt first
-dealt_at first (suc q) = Pass (opening_of (suc q)) untraced
+dealt_at first (suc pass) = Pass (opening_of (suc pass)) untraced
 
 -- the views of two passes as one
 abbrev pub paired : TracedView → TracedView → TracedView
@@ -212,16 +216,16 @@ paired v w = Spent
 -- the view of the first of two passes
 abbrev pub first_of_two : TracedView → TracedView
 first_of_two (Pair j t k u) = Pass j t
-first_of_two v = v
+first_of_two view = view
 
 -- the view of the second of two passes
 abbrev pub second_of_two : TracedView → TracedView
 second_of_two (Pair j t k u) = Pass k u
-second_of_two v = Spent
+second_of_two view = Spent
 
 -- what a pass knows, with these changes as its front
 abbrev pub with_front : List Change → Known → Known
-with_front front k = record k { front = front }
+with_front front known = record known { front = front }
 
 -- Two passes of different numbers, which knew j and k, now know j' and k'. Both have seen one list of legal changes, each by a pass of the
 -- table. It begins with what each had seen, and goes on by changes of others.
@@ -237,10 +241,10 @@ HasBeenShown layout k t j u = IsShownRun layout k.pass t.events u.events j.front
 
 -- Two passes meet: afterwards both know of the same changes and of the same steps.
 abbrev pub Meeting : Option Layout → TracedView → TracedView → Type 0
-Meeting (Some layout) (Pair j t k u) w =
-    (j' : Known) × (t' : Trace) × (k' : Known) × (u' : Trace) × (w ≡ Pair j' t' k' u') × SeatsHaveMet layout j k j' k' ×
+Meeting (Some layout) (Pair j t k u) view =
+    (j' : Known) × (t' : Trace) × (k' : Known) × (u' : Trace) × (view ≡ Pair j' t' k' u') × SeatsHaveMet layout j k j' k' ×
     (t'.events ≡ u'.events) × HasBeenShown layout j t j' t' × HasBeenShown layout k u k' u'
-Meeting _ _ w = Unit {0}
+Meeting _ _ view = Unit {0}
 
 -- a step at which two passes meet
 abbrev pub met : {S : Type 0} → Option Layout → Step S → Me S TracedView → ℕ → Me S TracedView → Type 0
@@ -251,12 +255,12 @@ met layout st m told m' = (m'.1 ≡ m.1) × Meeting layout m.0 m'.0
 -- the changes that a stamp tells to have been made
 abbrev pub witnessed : TracedView → List Change
 witnessed (Witness front events) = front
-witnessed v = []
+witnessed view = []
 
 -- the steps that a stamp tells to have been made
 abbrev pub witnessed_steps : TracedView → List Event
 witnessed_steps (Witness front events) = events
-witnessed_steps v = []
+witnessed_steps view = []
 
 -- the seat is that of a stamp, and holds nothing else
 abbrev pub IsOfStamp : {S : Type 0} → Me S TracedView → Type 0
@@ -265,12 +269,12 @@ IsOfStamp me = me ≡ (Witness (witnessed me.0) (witnessed_steps me.0), [])
 -- the view of the stamp that a pass makes
 abbrev pub stamped : TracedView → TracedView
 stamped (Pass k t) = Witness k.front t.events
-stamped v = Spent
+stamped view = Spent
 
 -- the view of a pass that has made a stamp
 abbrev pub stamping : TracedView → TracedView
 stamping (Pass k t) = Pass k (record { events = t.events; asides = suc t.asides; touches = t.touches })
-stamping v = v
+stamping view = view
 
 -- the view of a pass with that of the stamp that it follows
 abbrev pub following : TracedView → TracedView → TracedView
@@ -286,9 +290,10 @@ HasFollowed layout stamp k j =
 
 -- A pass follows a stamp. It knows of the stamp's changes and steps then, and is shown a run that begins with them.
 abbrev pub Following : Option Layout → TracedView → TracedView → Type 0
-Following (Some layout) (Follower k t stamp events) w =
-    (j : Known) × (u : Trace) × (w ≡ Pass j u) × HasFollowed layout stamp k j × HasBeenShown layout k t j u × RunBeginsWith u.events events
-Following _ _ w = Unit {0}
+Following (Some layout) (Follower k t stamp events) view =
+    (known : Known) × (trace : Trace) × (view ≡ Pass known trace) × HasFollowed layout stamp k known × HasBeenShown layout k t known trace ×
+    RunBeginsWith trace.events events
+Following _ _ view = Unit {0}
 
 -- a step at which a pass follows a stamp
 abbrev pub followed : {S : Type 0} → Option Layout → Step S → Me S TracedView → ℕ → Me S TracedView → Type 0

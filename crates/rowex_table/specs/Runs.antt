@@ -17,7 +17,7 @@ use Rattle.rowex_table.specs.Traces.{IsNextStep, RunBeginsWith, own_acts}
 
 -- no notes
 abbrev pub silent : Known → List Note
-silent k = []
+silent known = []
 
 -- Told these events, one after the other, the one gate has become the other.
 abbrev pub IsTold : {G : Type 0} → (G → Event → G → Type 0) → List Event → G → G → Type 0
@@ -26,7 +26,7 @@ IsTold {G = G} becomes (event ∷ events) g h = (f : G) × becomes g event f × 
 
 -- the acts as events of one pass
 abbrev pub events_of : ℕ → List Act → List Event
-events_of q acts = map (λ act. record { pass = q; act = act }) acts
+events_of pass acts = map (λ act. record { pass = pass; act = act }) acts
 
 -- The most words that a pass touches beside a load of an entry. They are four of the entry's node, and seven of the record to which the
 -- entry leads.
@@ -39,18 +39,18 @@ most_touches (LoadRef (Slot n i) word) = entry_touches
 most_touches act = 0
 
 -- beside this step the count of touches may rise from `before` to `after`
-abbrev pub MayTouch : Act → ℕ → ℕ → Type 0
+abbrev pub MayTouch : Act → (before after : ℕ) → Type 0
 MayTouch act before after = (before ≤ after) × (after ≤ before + most_touches act)
 
 -- The seat's pass makes this one atomic step, with which the notes `said` come, and the gate is told it. It is the next step of a run. The
 -- steps before it lead from a new table to its core, and begin with those that the pass knew. It may touch some words beside it.
-pub record StepsWith {G : Type 0} (table : TableView) (becomes : G → Event → G → Type 0) (act : Act) (said : Known → List Note) (a b : SeatView × G) : Type 0 where
-  pub seat : MakesNoAside a.0 b.0
+pub record StepsWith {G : Type 0} (table : TableView) (becomes : G → Event → G → Type 0) (act : Act) (said : Known → List Note) (old new : SeatView × G) : Type 0 where
+  pub seat : MakesNoAside old.0 new.0
   pub atomic : IsAtomic act
-  pub event : IsEvent table.layout act said a.0.known b.0.known
-  pub next : IsNextStep table.layout a.0.known.pass act event.core a.0.trace b.0.trace
-  pub touches : MayTouch act a.0.touches b.0.touches
-  pub told : becomes a.1 (record { pass = a.0.known.pass; act = act }) b.1
+  pub event : IsEvent table.layout act said old.0.known new.0.known
+  pub next : IsNextStep table.layout old.0.known.pass act event.core old.0.trace new.0.trace
+  pub touches : MayTouch act old.0.touches new.0.touches
+  pub told : becomes old.1 (record { pass = old.0.known.pass; act = act }) new.1
 
 -- the load of the root by pass q that finds this word
 abbrev pub root_load : ℕ → ℕ → Event
@@ -59,37 +59,38 @@ root_load q word = record { pass = q; act = LoadRef Root word }
 -- Between these views of a seat its pass has loaded the root, as `SeesAllAtRoot` says. The steps `run` lead from a new table to the core of
 -- that load, and begin with those that the pass knew at first. In the steps that it knows at last, the load stands right behind `run`. No
 -- later load of the root by this pass stands there.
-pub record SeesAllOfRun (layout : Layout) (s t : SeatView) : Type 0 where
-  pub sees : SeesAllAtRoot layout s.known t.known
+pub record SeesAllOfRun (layout : Layout) (old new : SeatView) : Type 0 where
+  pub sees : SeesAllAtRoot layout old.known new.known
   pub run : List Event
   pub led : EventsLead (opening layout) run sees.core
-  pub since : RunBeginsWith run s.trace
+  pub since : RunBeginsWith run old.trace
   pub root : ℕ
-  pub legal : Legal sees.core s.known.pass (LoadRef Root root)
+  pub legal : Legal sees.core old.known.pass (LoadRef Root root)
   pub rest : List Event
-  pub until : t.trace ≡ run ++ root_load s.known.pass root ∷ rest
-  pub last : All LeavesFresh (own_acts s.known.pass rest)
+  pub until : new.trace ≡ run ++ root_load old.known.pass root ∷ rest
+  pub last : All LeavesFresh (own_acts old.known.pass rest)
 
 -- The seat's pass makes this one atomic step, with no note, and the gate is told it.
 abbrev pub Steps : {G : Type 0} → TableView → (G → Event → G → Type 0) → Act → SeatView × G → SeatView × G → Type 0
-Steps table becomes act a b = StepsWith table becomes act silent a b
+Steps table becomes act old new = StepsWith table becomes act silent old new
 
 -- The pass of the seat makes these steps, one after the other, and the gate is told each of them, in order.
 abbrev pub Runs : {G : Type 0} → TableView → (G → Event → G → Type 0) → List Act → SeatView × G → SeatView × G → Type 0
-Runs table becomes [] a b = b ≡ a
-Runs {G = G} table becomes (act ∷ acts) a b = (m : SeatView × G) × Steps table becomes act a m × Runs table becomes acts m b
+Runs table becomes [] old new = new ≡ old
+Runs {G = G} table becomes (act ∷ acts) old new = (middle : SeatView × G) × Steps table becomes act old middle × Runs table becomes acts middle new
 
 -- The seat's pass makes these steps, one after the other, and then one more with which the notes `said` come. The gate is told each.
 abbrev pub Ends : {G : Type 0} → TableView → (G → Event → G → Type 0) → List Act → Act → (Known → List Note) → SeatView × G → SeatView × G → Type 0
-Ends {G = G} table becomes acts act said a b = (m : SeatView × G) × Runs table becomes acts a m × StepsWith table becomes act said m b
+Ends {G = G} table becomes acts act said old new =
+    (middle : SeatView × G) × Runs table becomes acts old middle × StepsWith table becomes act said middle new
 
 -- The seat's pass makes these steps and no others, and the gate is told each. Of what it knew, `changed` takes what they may change from
 -- what it knows after. The rest stays, but that they are counted.
 pub record Does {G : Type 0} (table : TableView) (becomes : G → Event → G → Type 0) (changed : Known → Known → Known)
-    (acts : List Act) (a b : SeatView × G) : Type 0 where
-  pub seat : MakesNoAside a.0 b.0
-  pub steps : Runs table becomes acts a b
-  pub rest : b.0.known ≡ record (changed a.0.known b.0.known) { steps = a.0.known.steps + length acts }
+    (acts : List Act) (old new : SeatView × G) : Type 0 where
+  pub seat : MakesNoAside old.0 new.0
+  pub steps : Runs table becomes acts old new
+  pub rest : new.0.known ≡ record (changed old.0.known new.0.known) { steps = old.0.known.steps + length acts }
 
 -- the acts are those of parts 0 to n - 1, one part after the other
 abbrev pub InTurn : (ℕ → List Act → Type 0) → ℕ → List Act → Type 0

@@ -37,53 +37,54 @@ IsStampOf table s = s.table ≡ table.id
 
 -- the seat is one of this table
 abbrev pub IsSeatOf : TableView → SeatView → Type 0
-IsSeatOf table s = s.table ≡ table.id
+IsSeatOf table seat = seat.table ≡ table.id
 
 -- the seat is one of this table, and its pass is one of the table's
 abbrev pub IsPassOf : TableView → SeatView → Type 0
-IsPassOf table s = IsSeatOf table s × (s.known.pass < table.layout.passes)
+IsPassOf table seat = IsSeatOf table seat × (seat.known.pass < table.layout.passes)
 
 -- the two views are of one seat of one pass
 abbrev pub IsOneSeat : SeatView → SeatView → Type 0
-IsOneSeat s t = (t.table ≡ s.table) × (t.id ≡ s.id) × (t.known.pass ≡ s.known.pass)
+IsOneSeat old new = (new.table ≡ old.table) × (new.id ≡ old.id) × (new.known.pass ≡ old.known.pass)
 
 -- The two views are of one seat. Meanwhile its pass has made or followed no stamp, and met no other pass.
 abbrev pub MakesNoAside : SeatView → SeatView → Type 0
-MakesNoAside s t = (t.table ≡ s.table) × (t.id ≡ s.id) × (t.known.pass ≡ s.known.pass) × (t.asides ≡ s.asides)
+MakesNoAside old new = (new.table ≡ old.table) × (new.id ≡ old.id) × (new.known.pass ≡ old.known.pass) × (new.asides ≡ old.asides)
 
 -- the seat, once its pass has touched n words more
 abbrev pub touched : ℕ → SeatView → SeatView
-touched n s = record s { touches = s.touches + n }
+touched n seat = record seat { touches = seat.touches + n }
 
 -- The pass has touched some words, at most so many. Nothing else of its seat has changed.
 abbrev pub HasTouched : ℕ → SeatView → SeatView → Type 0
-HasTouched most s t = (n : ℕ) × (n ≤ most) × (t ≡ touched n s)
+HasTouched most old new = (n : ℕ) × (n ≤ most) × (new ≡ touched n old)
 
 -- the seat, as if its pass had touched n words so far
 abbrev pub touched_to : ℕ → SeatView → SeatView
-touched_to n s = record s { touches = n }
+touched_to n seat = record seat { touches = n }
 
 -- The pass is shown a run, and the changes that were made in it (`IsShownRun`), as where it follows a stamp or meets another pass.
-pub record IsShownAll (layout : Layout) (s t : SeatView) : Type 0 where
-  pub pass : t.known.pass ≡ s.known.pass
-  pub run : IsShownRun layout s.known.pass s.trace t.trace t.known.front
-  pub asides : t.asides ≡ suc s.asides
-  pub touches : t.touches ≡ s.touches
+pub record IsShownAll (layout : Layout) (old new : SeatView) : Type 0 where
+  pub pass : new.known.pass ≡ old.known.pass
+  pub run : IsShownRun layout old.known.pass old.trace new.trace new.known.front
+  pub asides : new.asides ≡ suc old.asides
+  pub touches : new.touches ≡ old.touches
 
 -- the seat of a new pass of this table
 abbrev pub IsNewSeat : TableView → SeatView → Type 0
-IsNewSeat table s = IsPassOf table s × (s.known ≡ opening_of s.known.pass) × (s.trace ≡ []) × (s.asides ≡ 0)
+IsNewSeat table seat = IsPassOf table seat × (seat.known ≡ opening_of seat.known.pass) × (seat.trace ≡ []) × (seat.asides ≡ 0)
 
 -- the seat of a new pass of this table, which has this number
 abbrev pub IsNewSeatOf : TableView → ℕ → SeatView → Type 0
-IsNewSeatOf table q s = IsSeatOf table s × (s.known ≡ opening_of q) × (s.trace ≡ []) × (s.asides ≡ 0)
+IsNewSeatOf table pass seat = IsSeatOf table seat × (seat.known ≡ opening_of pass) × (seat.trace ≡ []) × (seat.asides ≡ 0)
 
 -- The seat of pass 0 of a table that was made of these words. It has loaded the leaves of the tree that they show.
 abbrev pub IsLoaderSeat : TableView → List ℕ → SeatView → Type 0
-IsLoaderSeat table words s =
-    IsSeatOf table s × (s.known ≡ loader_of table.layout words) × (s.trace ≡ (load_trace words).events) × (s.asides ≡ 0)
+IsLoaderSeat table words seat =
+    IsSeatOf table seat × (seat.known ≡ loader_of table.layout words) × (seat.trace ≡ (load_trace words).events) × (seat.asides ≡ 0)
 
 -- the seat of the pass of this number when it is dealt, by the table's first view
 abbrev pub IsDealtSeat : TableView → TracedView → ℕ → SeatView → Type 0
-IsDealtSeat table first q s =
-    IsSeatOf table s × (s.known ≡ known_of (dealt_at first q)) × (s.trace ≡ (trace_of (dealt_at first q)).events) × (s.asides ≡ (trace_of (dealt_at first q)).asides)
+IsDealtSeat table first pass seat =
+    IsSeatOf table seat × (seat.known ≡ known_of (dealt_at first pass)) × (seat.trace ≡ (trace_of (dealt_at first pass)).events) ×
+    (seat.asides ≡ (trace_of (dealt_at first pass)).asides)

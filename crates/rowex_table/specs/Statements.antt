@@ -21,37 +21,38 @@ use Rattle.rowex_table.specs.Traces.{IsTableRun, RunBeginsWith, own_acts, taught
 
 -- the gate of a run is told the event of each of its steps, in order, and nothing else
 abbrev pub GateIsToldEachStep : {G : Type 0} → (G → Event → G → Type 0) → Type 0
-GateIsToldEachStep {G = G} becomes = (table : TableView) (acts : List Act) (a b : SeatView × G) → Runs table becomes acts a b →
-    IsTold becomes (events_of a.0.known.pass acts) a.1 b.1
+GateIsToldEachStep {G = G} becomes = (table : TableView) (acts : List Act) (old new : SeatView × G) → Runs table becomes acts old new →
+    IsTold becomes (events_of old.0.known.pass acts) old.1 new.1
 
 -- what a pass knows, with its notes and those of `said`
 abbrev pub with_notes : (Known → List Note) → Known → Known
-with_notes said k = record k { notes = k.notes ++ said k }
+with_notes said known = record known { notes = known.notes ++ said known }
 
 -- From the one view of a seat to the other, its pass has made these acts, in one run of the table. `steps` are those of all passes behind
 -- those that it knew: its own among them are exactly these acts. They lead on from the core of the steps before. In the end the pass knows
 -- what they have taught it, and these notes.
-pub record IsInOneRun (layout : Layout) (acts : List Act) (said : Known → List Note) (s t : SeatView) : Type 0 where
+pub record IsInOneRun (layout : Layout) (acts : List Act) (said : Known → List Note) (old new : SeatView) : Type 0 where
   pub steps : List Event
-  pub trace : t.trace ≡ s.trace ++ steps
-  pub own : own_acts s.known.pass steps ≡ acts
-  pub led : (c : Core) → EventsLead (opening layout) s.trace c → (d : Core) × EventsLead c steps d × (t.known ≡ with_notes said (taught s.known.pass c steps s.known))
-  pub run : IsTableRun layout s.trace ⊎ (acts ≢ []) → IsTableRun layout t.trace
+  pub trace : new.trace ≡ old.trace ++ steps
+  pub own : own_acts old.known.pass steps ≡ acts
+  pub led : (before : Core) → EventsLead (opening layout) old.trace before → (later : Core) × EventsLead before steps later ×
+      (new.known ≡ with_notes said (taught old.known.pass before steps old.known))
+  pub run : IsTableRun layout old.trace ⊎ (acts ≢ []) → IsTableRun layout new.trace
 
 -- Steps of one pass, one after the other, stand in one run of the table.
 abbrev pub StepsAreInOneRun : {G : Type 0} → (G → Event → G → Type 0) → Type 0
-StepsAreInOneRun {G = G} becomes = (table : TableView) (acts : List Act) (a b : SeatView × G) → Runs table becomes acts a b →
-    IsInOneRun table.layout acts silent a.0 b.0
+StepsAreInOneRun {G = G} becomes = (table : TableView) (acts : List Act) (old new : SeatView × G) → Runs table becomes acts old new →
+    IsInOneRun table.layout acts silent old.0 new.0
 
 -- The steps of a call, whose notes come with the last, stand in one run of the table.
 abbrev pub CallStepsAreInOneRun : {G : Type 0} → (G → Event → G → Type 0) → Type 0
-CallStepsAreInOneRun {G = G} becomes = (table : TableView) (acts : List Act) (act : Act) (said : Known → List Note) (a b : SeatView × G) →
-    Ends table becomes acts act said a b → IsInOneRun table.layout (acts ++ act ∷ []) said a.0 b.0
+CallStepsAreInOneRun {G = G} becomes = (table : TableView) (acts : List Act) (act : Act) (said : Known → List Note) (old new : SeatView × G) →
+    Ends table becomes acts act said old new → IsInOneRun table.layout (acts ++ act ∷ []) said old.0 new.0
 
 -- By the rule of the table all traces are of one run. Of what two passes know of its steps, now or earlier, one begins with the other. No
 -- contract shows the state of a table. By contracts two passes have one run if they meet, or one follows the other's stamp.
 abbrev pub TracesAreOfOneRun : Type 0
 TracesAreOfOneRun =
-    (layout : Layout) (s : State (Unit {0}) TracedView) → Ruled layout s → (i j : ℕ) (k l : Known) (t u : Trace) →
-    get_elem? s.views i ≡ some (Pass k t) → get_elem? s.views j ≡ some (Pass l u) →
-    (one other : List Event) → RunBeginsWith t.events one → RunBeginsWith u.events other → RunBeginsWith other one ⊎ RunBeginsWith one other
+    (layout : Layout) (s : State (Unit {0}) TracedView) → Ruled layout s → (i j : ℕ) (k l : Known) (old new : Trace) →
+    get_elem? s.views i ≡ some (Pass k old) → get_elem? s.views j ≡ some (Pass l new) →
+    (one other : List Event) → RunBeginsWith old.events one → RunBeginsWith new.events other → RunBeginsWith other one ⊎ RunBeginsWith one other

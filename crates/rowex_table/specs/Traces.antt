@@ -28,7 +28,7 @@ OthersStepOn q earlier later = (more : List Event) × (later ≡ earlier ++ more
 
 -- the steps are legal, one after the other, from a new table on
 abbrev pub IsTableRun : Layout → List Event → Type 0
-IsTableRun layout run = (c : Core) × EventsLead (opening layout) run c
+IsTableRun layout run = (core : Core) × EventsLead (opening layout) run core
 
 -- the acts of pass q among these steps
 abbrev pub own_acts : ℕ → List Event → List Act

@@ -19,7 +19,7 @@ ghost use Rattle.rowex_writing.specs.build.Deeds.{MayReplace, leaf_gone};
 ghost use Rattle.rowex_writing.specs.build.Building.{HasNotMade};
 ghost use Rattle.rowex_writing.specs.build.Changes.{HasChanged, HasPlanned};
 ghost use Rattle.rowex_writing.specs.locks.Checks.{HasTakenPlan, HasTakenSpan};
-ghost use Rattle.rowex_writing.specs.merging.Merging.{ChangesOn, EndsChange, TriesFew};
+ghost use Rattle.rowex_writing.specs.merging.Merging.{HasChangeStepsAfterTries, EndsChange, HasFewStepsAfterTries};
 ghost use Rattle.rowex_writing.specs.build.Taking.{HasClaimed, IsLeftOfNode, TakesOn};
 ghost use Rattle.rowex_writing.specs.declared.plan.Deed.TheVariants.{Take};
 ghost use Rattle.rowex_writing.specs.plan.Plans.{TakesLeaf};
@@ -236,7 +236,7 @@ fn make_removal<G: Gate>(
     requires taken { HasTakenPlan table.now seat.old job.now Take }
     requires some { 0 < job.now.span.end }
     requires loaded { HasLoadedFound seat.old.known job.now.found }
-    ensures run { ChangesOn table.now G.becomes (span_numbers job.now.way.now job.now.span) 1 (seat.old, gate.old) (seat.new, gate.new) }
+    ensures run { HasChangeStepsAfterTries table.now G.becomes (span_numbers job.now.way.now job.now.span) 1 (seat.old, gate.old) (seat.new, gate.new) }
     ensures done { result ≡ Ok tt → HasDoneDeed seat.old.known seat.new.known Take job.now.key.now job.now.value job.now.found }
     ensures failed { IfErr result (HasFailed table.now.layout job.now seat.old.known seat.new.known build.new.made.items) }
     ensures leafless { result ≢ Err TryFault.FullLeaves }
@@ -261,8 +261,9 @@ fn make_removal<G: Gate>(
     end_removal(table, seat, gate, build, job, &left)
 }
 
-/// Ends a removal for which the record of `left` is claimed. What is left of the node becomes one node with its sibling, or, if that can't be
-/// made, takes the node's place alone. If the key has got another value meanwhile, the removal is undone, and the fault is `TryFault::Busy`.
+/// Ends a removal for which the record of `left` is claimed. What is left of the node becomes one node with its sibling, or, if that can't
+/// be made, takes the node's place alone. If the key has got another value meanwhile, the removal is undone, and the fault is
+/// `TryFault::Busy`.
 fn end_removal<G: Gate>(
     table: &HotTable,
     seat: &mut TableSeat,
@@ -275,7 +276,7 @@ fn end_removal<G: Gate>(
     requires claimed { HasClaimed table.now seat.old.known left.now.number }
     requires left { IsLeftOfNode seat.old.known job.now left.now.words }
     requires loaded { HasLoadedFound seat.old.known job.now.found }
-    ensures tries { TriesFew table.now G.becomes (span_numbers job.now.way.now job.now.span) build.old.left_nodes (84 + 2 * NODE_FIELDS)
+    ensures tries { HasFewStepsAfterTries table.now G.becomes (span_numbers job.now.way.now job.now.span) build.old.left_nodes (84 + 2 * NODE_FIELDS)
         (seat.old, gate.old) (seat.new, gate.new) }
     ensures done { result ≡ Ok tt → HasDoneDeed seat.old.known seat.new.known Take job.now.key.now job.now.value job.now.found }
     ensures failed { IfErr result (λ fault. (fault ≡ TryFault.Busy) ×

@@ -18,7 +18,7 @@ ghost use Rattle.rowex_writing.specs.store.Values.{HasDoneDeed, HasLoadedFound};
 ghost use Rattle.rowex_writing.specs.build.Building.{IsBuilding};
 ghost use Rattle.rowex_writing.specs.locks.Going.{HasLocked, HasLockedNode, IsLockedBy, ReadsOn, WorksOn};
 ghost use Rattle.rowex_writing.specs.locks.Locks.{span_numbers, HasRun};
-ghost use Rattle.rowex_writing.specs.merging.Merging.{AreNoNode, ClosesFork, HasListed, IsNeighbour, IsWide, MayMergeInto, TriesFew};
+ghost use Rattle.rowex_writing.specs.merging.Merging.{AreNoNode, ClosesFork, HasListed, IsNeighbour, HasWiderLocks, MayMergeInto, HasFewStepsAfterTries};
 ghost use Rattle.rowex_writing.specs.build.Taking.{HasClaimed, HasHeight, IsLeftOfNode, TakesOn, lower, upper};
 ghost use Rattle.rowex_writing.specs.declared.plan.Deed.TheVariants.{Take};
 
@@ -72,7 +72,7 @@ pub(crate) fn try_merge<G: Gate>(
     requires beside { IsNeighbour seat.old.known job.now merge.now }
     requires claimed { HasClaimed table.now seat.old.known merge.now.left.now.number }
     requires left { IsLeftOfNode seat.old.known job.now merge.now.left.now.words }
-    ensures tries { TriesFew table.now G.becomes (span_numbers job.now.way.now job.now.span) build.old.left_nodes 53 (seat.old, gate.old) (seat.new, gate.new) }
+    ensures tries { HasFewStepsAfterTries table.now G.becomes (span_numbers job.now.way.now job.now.span) build.old.left_nodes 53 (seat.old, gate.old) (seat.new, gate.new) }
     ensures done { result ≡ true → HasDoneDeed seat.old.known seat.new.known Take job.now.key.now job.now.value job.now.found }
     ensures later { result ≡ false → IsLater seat.old.known seat.new.known × IsSeatOf table.now seat.new × IsPossible table.now.layout seat.new.known }
     ensures same { result ≡ false → (seat.new.known.locks ≡ seat.old.known.locks) × (seat.new.known.anchor ≡ seat.old.known.anchor) ×
@@ -139,7 +139,7 @@ fn merge_under_locks<G: Gate>(
     job: &Job<'_>,
     merge: &Merge<'_>,
 ) -> bool
-    requires wide { IsWide table.now seat.old job.now merge.now.number }
+    requires wide { HasWiderLocks table.now seat.old job.now merge.now.number }
     requires beside { IsNeighbour seat.old.known job.now merge.now }
     requires claimed { HasClaimed table.now seat.old.known merge.now.left.now.number }
     requires left { IsLeftOfNode seat.old.known job.now merge.now.left.now.words }
@@ -147,7 +147,7 @@ fn merge_under_locks<G: Gate>(
     ensures run { HasRun table.now G.becomes (seat.old, gate.old) (seat.new, gate.new) }
     ensures done { result ≡ true → HasDoneDeed seat.old.known seat.new.known Take job.now.key.now job.now.value job.now.found }
     ensures later { result ≡ false → IsLater seat.old.known seat.new.known }
-    ensures same { result ≡ false → (w : IsWide table.now seat.old job.now merge.now.number) →
+    ensures same { result ≡ false → (w : HasWiderLocks table.now seat.old job.now merge.now.number) →
         (seat.new.known.locks ≡ w.taking.before.known.locks) × (seat.new.known.anchor ≡ w.taking.before.known.anchor) ×
         HasClaimed table.now seat.new.known merge.now.left.now.number }
     ensures few { seat.new.known.steps ≤ seat.old.known.steps + 2 * build.old.left_nodes + 500 }
@@ -172,7 +172,7 @@ fn make_merge_records<G: Gate>(
     job: &Job<'_>,
     merge: &Merge<'_>,
 ) -> Option<Entry>
-    requires wide { IsWide table.now seat.old job.now merge.now.number }
+    requires wide { HasWiderLocks table.now seat.old job.now merge.now.number }
     requires beside { IsNeighbour seat.old.known job.now merge.now }
     requires claimed { HasClaimed table.now seat.old.known merge.now.left.now.number }
     requires left { IsLeftOfNode seat.old.known job.now merge.now.left.now.words }
@@ -208,7 +208,7 @@ fn merge_siblings<G: Gate>(
     job: &Job<'_>,
     merge: &Merge<'_>,
 ) -> Option<Node>
-    requires wide { IsWide table.now seat.old job.now merge.now.number }
+    requires wide { HasWiderLocks table.now seat.old job.now merge.now.number }
     requires beside { IsNeighbour seat.old.known job.now merge.now }
     requires left { IsLeftOfNode seat.old.known job.now merge.now.left.now.words }
     ensures reads { ReadsOn table.now G.becomes (seat.old, gate.old) (seat.new, gate.new) }
@@ -281,7 +281,7 @@ fn publish_merge<G: Gate>(
     job: &Job<'_>,
     entry: Entry,
 )
-    requires may { (number : ℕ) × IsWide table.now seat.old job.now number × MayMergeInto table.now seat.old build.old.made.items job.now number entry ×
+    requires may { (number : ℕ) × HasWiderLocks table.now seat.old job.now number × MayMergeInto table.now seat.old build.old.made.items job.now number entry ×
         HasListed build.old.gone.items job.now number }
     requires loaded { HasLoadedFound seat.old.known job.now.found }
     ensures run { HasRun table.now G.becomes (seat.old, gate.old) (seat.new, gate.new) }

@@ -25,21 +25,21 @@ answered_as call (Reply reply) place = called (record { place = place; call = ca
 answered_as call (Refused full) place = refused call full
 
 -- The pass was told the answer to this command, and its gate the steps. The answer's lines follow the text that stood before.
-pub record HasAnsweredCommand {G : Type 0} (index : TableView) (becomes : G → Event → G → Type 0) (a : PassView × G) (command : Command) (b : PassView × G)
+pub record HasAnsweredCommand {G : Type 0} (index : TableView) (becomes : G → Event → G → Type 0) (old : PassView × G) (command : Command) (new : PassView × G)
     (before after : List ℕ) : Type 0 where
   pub answer : Answered
   pub command_is : answered_command answer ≡ command
-  pub told : IsCommandTold index.layout a.0 answer b.0
-  pub steps : HasMadeCallSteps index becomes a b
+  pub told : IsCommandTold index.layout old.0 answer new.0
+  pub steps : HasMadeCallSteps index becomes old new
   pub text_is : after ≡ before ++ lines_of_answer answer
 
 -- The pass made these commands, one after another, and the text has the answers to them.
-pub record HasRunCommands {G : Type 0} (index : TableView) (becomes : G → Event → G → Type 0) (a : PassView × G) (commands : List Command) (b : PassView × G)
+pub record HasRunCommands {G : Type 0} (index : TableView) (becomes : G → Event → G → Type 0) (old : PassView × G) (commands : List Command) (new : PassView × G)
     (text : List ℕ) : Type 0 where
   pub answers : List Answered
   pub commands_are : map answered_command answers ≡ commands
   pub text_is : text ≡ flat_map lines_of_answer answers
-  pub told : AreTold index becomes a answers b
+  pub told : AreTold index becomes old answers new
 
 -- the index's pass of this number, which is new
 abbrev pub IsNewPassOf : TableView → ℕ → PassView → Type 0
@@ -74,27 +74,27 @@ AreAt index handle done = (handle.index ≡ index) × All (λ d. d.handle.index 
 
 -- the pass meets those of the scripts that have run, one after another
 abbrev pub MeetInTurn : TableView → PassView → List Done → PassView → List Done → Type 0
-MeetInTurn index k [] j [] = j ≡ k
-MeetInTurn index k (before ∷ befores) j (after ∷ afters) =
-    (m : PassView) × HaveMet index.layout k before.handle.pass m after.handle.pass × (after.text ≡ before.text) × MeetInTurn index m befores j afters
-MeetInTurn index k _ j _ = ⊥
+MeetInTurn index old [] new [] = new ≡ old
+MeetInTurn index old (before ∷ befores) new (after ∷ afters) =
+    (m : PassView) × HaveMet index.layout old before.handle.pass m after.handle.pass × (after.text ≡ before.text) × MeetInTurn index m befores new afters
+MeetInTurn index old _ new _ = ⊥
 
 -- The handle's pass ran the last script's commands, and then met those of the files again. The text has all answers.
-pub record HasAnsweredLast (k : HandleView) (met : List Done) (commands : List Command) (text : List ℕ) : Type 0 where
+pub record HasAnsweredLast (handle : HandleView) (met : List Done) (commands : List Command) (text : List ℕ) : Type 0 where
   pub after : PassView
   pub last : PassView
   pub again : List Done
   pub answers : List ℕ
-  pub own : Owns k.index k.pass
-  pub ran : HasRunCommands k.index untold (k.pass, tt) commands (after, tt) answers
-  pub meet : MeetInTurn k.index after met last again
+  pub own : Owns handle.index handle.pass
+  pub ran : HasRunCommands handle.index untold (handle.pass, tt) commands (after, tt) answers
+  pub meet : MeetInTurn handle.index after met last again
   pub text_is : text ≡ sections 1 (map (λ d. d.text.items) again) ++ line (codes "last") ++ answers
 
 -- The handle's pass met those of scripts that had run, one after another, and the last script was answered. The gates are those of the
 -- scripts that had run.
-pub record HaveAnswered {G : Type 0} (ran : List (Done × G)) (commands : List Command) (k : HandleView) (results : Results G) : Type 0 where
+pub record HaveAnswered {G : Type 0} (ran : List (Done × G)) (commands : List Command) (handle : HandleView) (results : Results G) : Type 0 where
   pub met : List Done
   pub after : PassView
   pub gates_are : results.gates.items ≡ map (λ r. r.1) ran
-  pub meet : MeetInTurn k.index k.pass (map (λ r. r.0) ran) after met
-  pub answered : HasAnsweredLast (handle_at k.index after) met commands (flat_map (λ t. t.items) results.texts.items)
+  pub meet : MeetInTurn handle.index handle.pass (map (λ r. r.0) ran) after met
+  pub answered : HasAnsweredLast (handle_at handle.index after) met commands (flat_map (λ t. t.items) results.texts.items)

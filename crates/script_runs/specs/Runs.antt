@@ -16,10 +16,10 @@ use Rattle.script_runs.specs.Told.{IsSizedFor, WasToldAnew}
 -- The text of answers, each on the map as the command found it. A refusal leaves the map, so the others are answered as if the refused
 -- commands weren't there.
 abbrev pub text_told : Map → List Answered → List ℕ
-text_told m [] = []
-text_told m (called note ∷ answers) = line (reply_text (reply_of m note.call)) ++ text_told (map_after m note.call) answers
-text_told m (refused call full ∷ answers) = line (full_text full) ++ text_told m answers
-text_told m (listed range scan before after ∷ answers) = scan_text m range ++ text_told m answers
+text_told pairs [] = []
+text_told pairs (called note ∷ answers) = line (reply_text (reply_of pairs note.call)) ++ text_told (map_after pairs note.call) answers
+text_told pairs (refused call full ∷ answers) = line (full_text full) ++ text_told pairs answers
+text_told pairs (listed range scan before after ∷ answers) = scan_text pairs range ++ text_told pairs answers
 
 -- The text has the answers to the commands on a new index with one pass and so many records. Each answer is that of the map that the
 -- earlier ones left. A command was refused only if its call found no record of the kind free (`IsCommandTold`). All steps of its calls

@@ -102,7 +102,7 @@ pub record AreAllAnswered {G : Type 0} (nodes leaves : ℕ) (becomes : G → Eve
   pub lawful : LawfulAnswers scripts last text
   pub index : TableView
   pub sized : IsOfSize (length scripts + 1) nodes leaves index
-  pub files_told : AllTwoFrom 0 (λ q gate ran. WasToldAnew index becomes q gate ran.answers ran.front) gates lawful.files_ran
+  pub files_told : AllTwoFrom 0 (λ pass gate ran. WasToldAnew index becomes pass gate ran.answers ran.front) gates lawful.files_ran
   pub last_told : WasTold index untold (length scripts) (tt, tt) lawful.met lawful.last_ran.answers lawful.last_ran.front
 
 -- Several scripts, after Herlihy and Wing. These files and the last script have commands, and the text answers them lawfully, on an index

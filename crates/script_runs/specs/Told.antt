@@ -19,32 +19,33 @@ use Rattle.hot_scripts.specs.Grammar.{called_key}
 use Rattle.script_runs.specs.Answers.{Answered, called, refused, listed}
 
 -- The pass has made a call, which stands behind all that it had seen before.
-pub record IsCalled (layout : Layout) (k j : PassView) (note : Note) : Type 0 where
-  pub number : j.number ≡ k.number
-  pub front : BeginsWith j.front k.front
-  pub notes : j.notes ≡ k.notes ++ note ∷ []
-  pub low : length k.front ≤ note.place
-  pub legal : LegalCalls j.front j.number j.notes
-  pub makers : AreByPasses layout j.front
+pub record IsCalled (layout : Layout) (old new : PassView) (note : Note) : Type 0 where
+  pub number : new.number ≡ old.number
+  pub front : BeginsWith new.front old.front
+  pub notes : new.notes ≡ old.notes ++ note ∷ []
+  pub low : length old.front ≤ note.place
+  pub legal : LegalCalls new.front new.number new.notes
+  pub makers : AreByPasses layout new.front
 
 -- The pass was told this answer to a command. A call that was refused has found each record of the kind not free, in its own steps. Of leaf
 -- records these are those with room for its key.
 abbrev pub IsCommandTold : Layout → PassView → Answered → PassView → Type 0
-IsCommandTold layout k (called note) j = IsCalled layout k j note
-IsCommandTold layout k (refused call full) j = MayLack call full × IsRefusedFor layout call k j (fault_of full)
-IsCommandTold layout k (listed range scan before after) j =
-    IsScanned layout k j (range_from range.from range.upto range.limit) scan × (before ≡ length j.fresh.front) × (after ≡ length j.front)
+IsCommandTold layout old (called note) new = IsCalled layout old new note
+IsCommandTold layout old (refused call full) new = MayLack call full × IsRefusedFor layout call old new (fault_of full)
+IsCommandTold layout old (listed range scan before after) new =
+    IsScanned layout old new (range_from range.from range.upto range.limit) scan × (before ≡ length new.fresh.front) × (after ≡ length new.front)
 
 -- The pass was told these answers, one after another. It makes each command's steps and no other between them. Its gate is told each of
 -- these, in order, and nothing else.
 abbrev pub AreTold : {G : Type 0} → TableView → (G → Event → G → Type 0) → PassView × G → List Answered → PassView × G → Type 0
-AreTold index becomes a [] b = b ≡ a
-AreTold {G = G} index becomes a (answer ∷ answers) b =
-    (m : PassView × G) × IsCommandTold index.layout a.0 answer m.0 × HasMadeCallSteps index becomes a m × AreTold index becomes m answers b
+AreTold index becomes old [] new = new ≡ old
+AreTold {G = G} index becomes old (answer ∷ answers) new =
+    (middle : PassView × G) × IsCommandTold index.layout old.0 answer middle.0 × HasMadeCallSteps index becomes old middle ×
+    AreTold index becomes middle answers new
 
 -- The gate, given as it was before and after, was told steps of this pass and no others, one after another.
 abbrev pub IsToldOf : {G : Type 0} → (G → Event → G → Type 0) → ℕ → G × G → Type 0
-IsToldOf becomes q gate = (events : List Event) × All (λ e. e.pass ≡ q) events × IsTold becomes events gate.0 gate.1
+IsToldOf becomes pass gate = (events : List Event) × All (λ e. e.pass ≡ pass) events × IsTold becomes events gate.0 gate.1
 
 -- An index of so many passes, node records, with one more that is kept, and leaf records. Each leaf record has room for each key.
 pub record IsOfSize (passes nodes leaves : ℕ) (index : TableView) : Type 0 where
@@ -67,19 +68,19 @@ pub record IsSizedFor (commands : List Command) (passes nodes leaves : ℕ) (ind
 
 -- The pass of this number, which had seen the changes `before`, was told the answers by the index, and has then seen `after`. Its gate,
 -- given as it was before and after, was told the steps.
-pub record WasTold {G : Type 0} (index : TableView) (becomes : G → Event → G → Type 0) (q : ℕ) (gate : G × G)
+pub record WasTold {G : Type 0} (index : TableView) (becomes : G → Event → G → Type 0) (pass : ℕ) (gate : G × G)
     (before : List Change) (answers : List Answered) (after : List Change) : Type 0 where
   pub first : PassView
   pub last : PassView
   pub own : Owns index first
-  pub number : first.number ≡ q
+  pub number : first.number ≡ pass
   pub begins : first.front ≡ before
   pub ends : last.front ≡ after
   pub told : AreTold index becomes (first, gate.0) answers (last, gate.1)
 
 -- A new pass was told the answers by the index. It knew no step of any pass, so the steps of its calls stand in one run from the new table
 -- on.
-pub record WasToldAnew {G : Type 0} (index : TableView) (becomes : G → Event → G → Type 0) (q : ℕ) (gate : G × G)
+pub record WasToldAnew {G : Type 0} (index : TableView) (becomes : G → Event → G → Type 0) (pass : ℕ) (gate : G × G)
     (answers : List Answered) (after : List Change) : Type 0 where
-  pub told : WasTold index becomes q gate [] answers after
-  pub new : IsNewPass q told.first
+  pub told : WasTold index becomes pass gate [] answers after
+  pub new : IsNewPass pass told.first

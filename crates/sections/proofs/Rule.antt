@@ -12,7 +12,7 @@ use Rattle.sections.specs.declared.events.SectionEvent.{SectionEvent}
 use Rattle.sections.specs.declared.events.SectionKnowledge.{SectionKnowledge}
 use Rattle.sections.specs.declared.events.Seated.{Seated}
 use Rattle.sections.specs.declared.events.Seated.TheVariants.{Owner}
-use Rattle.sections.specs.declared.table.TheConstants.{REACH}
+use Rattle.sections.specs.declared.table.TheConstants.{EXTENT}
 use Rattle.sections.specs.Rule.{Finds, HasSection, IsTrueOfRun, SectionsRuled, ShowsRun, owner_of}
 use Rattle.sections.specs.Runs.{IsLawfulRun}
 use Rattle.sections.proofs.Runs.{others_none}
@@ -40,15 +40,15 @@ pub record Makes (count : ℕ) (k : SectionKnowledge) (run next : List SectionEv
   pub lawful : IsLawfulRun next
   pub shows : ShowsRun count next words
   pub number : j.number ≡ k.number
-  pub mine : IsTrueOfRun count (get_or words REACH 0) next (Owner j)
-  pub others : (v : Seated) → ¬ HasSection v k.number → IsTrueOfRun count was run v → IsTrueOfRun count (get_or words REACH 0) next v
+  pub mine : IsTrueOfRun count (get_or words EXTENT 0) next (Owner j)
+  pub others : (v : Seated) → ¬ HasSection v k.number → IsTrueOfRun count was run v → IsTrueOfRun count (get_or words EXTENT 0) next v
 
 module _ {S : Type 0} (count slots id i : ℕ) (k : SectionKnowledge) (f : ℕ → ℕ) (Then : ℕ → Seated → Type 0) where
   abbrev pub Makes_here : State S Seated → List SectionEvent → List SectionEvent → SectionKnowledge → Type 0
-  Makes_here s run next j = Makes count k run next (set s.words i (f (get_or s.words i 0))) (get_or s.words REACH 0) j
+  Makes_here s run next j = Makes count k run next (set s.words i (f (get_or s.words i 0))) (get_or s.words EXTENT 0) j
 
   -- the step keeps the rule, and tells what it is to tell
-  pub allows : ((s : State S Seated) (r : SectionsRuled count s) → IsTrueOfRun count (get_or s.words REACH 0) r.run (Owner k) →
+  pub allows : ((s : State S Seated) (r : SectionsRuled count s) → IsTrueOfRun count (get_or s.words EXTENT 0) r.run (Owner k) →
       (next : List SectionEvent) × (j : SectionKnowledge) × Makes_here s r.run next j × Then (get_or s.words i 0) (Owner j))
       → Allows {S = S} {V = Seated} (SectionsRuled count) slots id (Owner k, []) i f (λ n m'. (m'.1 ≡ []) × Then n m'.0)
   allows go s r deep here low =
@@ -61,7 +61,7 @@ module _ {S : Type 0} (count slots id i : ℕ) (k : SectionKnowledge) (f : ℕ �
           lawful = makes.lawful;
           shows = makes.shows;
           knows = λ m v e. ⊎_elim
-              (λ (h : (m ≡ id) × (Owner j ≡ v)). subst (IsTrueOfRun count (get_or (set s.words i (f (get_or s.words i 0))) REACH 0) next) h.1 makes.mine)
+              (λ (h : (m ≡ id) × (Owner j ≡ v)). subst (IsTrueOfRun count (get_or (set s.words i (f (get_or s.words i 0))) EXTENT 0) next) h.1 makes.mine)
               (λ (h : (m ≢ id) × (get_elem? s.views m ≡ some v)). makes.others v (λ o. h.0 (r.apart m id k.number v (Owner k) h.1 here o refl)) (r.knows m v h.1))
               (at_set s.views id m (Owner j) v e);
           apart = apart_set s.views id (Owner k) (Owner j) here (λ q o. sym makes.number ∙ o) r.apart;
@@ -71,7 +71,7 @@ module _ {S : Type 0} (count slots id i : ℕ) (k : SectionKnowledge) (f : ℕ �
 
 -- the same for a seat that is an owner's
 pub allows_me : {S : Type 0} (count slots id i : ℕ) (key : ℕ) (me : Me S Seated) (f : ℕ → ℕ) (Then : ℕ → Seated → Seated → Type 0) → key ≡ count → me ≡ (Owner (owner_of me.0), [])
-    → ((s : State S Seated) (r : SectionsRuled count s) → IsTrueOfRun count (get_or s.words REACH 0) r.run (Owner (owner_of me.0)) →
+    → ((s : State S Seated) (r : SectionsRuled count s) → IsTrueOfRun count (get_or s.words EXTENT 0) r.run (Owner (owner_of me.0)) →
     (next : List SectionEvent) × (j : SectionKnowledge) × Makes_here count slots id i (owner_of me.0) f (λ n w. Then n (Owner (owner_of me.0)) w) s r.run next j × Then (get_or s.words i 0) (Owner (owner_of me.0)) (Owner j))
     → Allows {S = S} {V = Seated} (SectionsRuled key) slots id me i f (λ n m'. (m'.1 ≡ me.1) × Then n me.0 m'.0)
 allows_me {S = S} count slots id i key me f Then same is go =
@@ -80,10 +80,10 @@ allows_me {S = S} count slots id i key me f Then same is go =
     (allows count slots id i (owner_of me.0) f (λ n w. Then n (Owner (owner_of me.0)) w) go))
 
 -- A load changes no word, and its owner knows of the run then
-pub loads : {S : Type 0} (count i : ℕ) (k : SectionKnowledge) (s : State S Seated) (r : SectionsRuled count s) → IsTrueOfRun count (get_or s.words REACH 0) r.run (Owner k) →
-    Makes count k r.run r.run (set s.words i (get_or s.words i 0)) (get_or s.words REACH 0) (record k { run = r.run })
+pub loads : {S : Type 0} (count i : ℕ) (k : SectionKnowledge) (s : State S Seated) (r : SectionsRuled count s) → IsTrueOfRun count (get_or s.words EXTENT 0) r.run (Owner k) →
+    Makes count k r.run r.run (set s.words i (get_or s.words i 0)) (get_or s.words EXTENT 0) (record k { run = r.run })
 loads count i k s r knows =
-    subst (λ (ws : List ℕ). Makes count k r.run r.run ws (get_or s.words REACH 0) (record k { run = r.run })) (sym (set-get_or s.words i 0))
+    subst (λ (ws : List ℕ). Makes count k r.run r.run ws (get_or s.words EXTENT 0) (record k { run = r.run })) (sym (set-get_or s.words i 0))
     (record { lawful = r.lawful; shows = r.shows; number = refl; mine = (knows.0, others_none k.number r.run, knows.2); others = λ v other h. h })
 
 pub finds : {S : Type 0} (count slots id i key : ℕ) (me : Me S Seated) (Found : ℕ → SectionKnowledge → List SectionEvent → Type 0) → key ≡ count → me ≡ (Owner (owner_of me.0), [])

@@ -7,8 +7,8 @@ use Rattle.sections.specs.declared.table.TheConstants.{MOST_MOMENTS}
 -- how many moments have been taken
 abbrev pub moments_in : List SectionEvent → ℕ
 moments_in [] = 0
-moments_in (Entered q n ∷ run) = moments_in run
-moments_in (Left q ∷ run) = moments_in run
+moments_in (Entered section n ∷ run) = moments_in run
+moments_in (Left section ∷ run) = moments_in run
 moments_in (Taken ∷ run) = suc (moments_in run)
 
 -- The word of section q: 0 if it isn't open, and else one more than the number of moments with which it was entered.
@@ -25,8 +25,8 @@ IsOpen q run = 0 < word_in q run
 -- The event may happen after this run. A section that isn't open may be entered, with a number of moments that had been taken. An open one
 -- may be left.
 abbrev pub MayFollow : List SectionEvent → SectionEvent → Type 0
-MayFollow run (Entered q n) = (word_in q run ≡ 0) × (n ≤ moments_in run)
-MayFollow run (Left q) = IsOpen q run
+MayFollow run (Entered section n) = (word_in section run ≡ 0) × (n ≤ moments_in run)
+MayFollow run (Left section) = IsOpen section run
 MayFollow run Taken = moments_in run < MOST_MOMENTS
 
 -- each event may follow those before it
@@ -52,12 +52,14 @@ OthersRunOn q earlier later = (more : List SectionEvent) × (later ≡ more ++ e
 -- The moment of this number is past: each section that was open at any time before it was taken has been left since. Moments are numbered
 -- from 1 on, in the order in which they are taken.
 abbrev pub IsPast : ℕ → List SectionEvent → Type 0
-IsPast moment run = (q : ℕ) (before since : List SectionEvent) → run ≡ since ++ before → moments_in before < moment → IsOpen q before → Contains since (Left q)
+IsPast moment run =
+    (section : ℕ) (before since : List SectionEvent) → run ≡ since ++ before → moments_in before < moment → IsOpen section before →
+    Contains since (Left section)
 
 -- A section with this word isn't open, or was entered when the moment had been taken.
-abbrev pub IsNewer : ℕ → ℕ → Type 0
+abbrev pub IsNewer : (moment word : ℕ) → Type 0
 IsNewer moment word = (word ≡ 0) ⊎ (moment < word)
 
 -- The moment may not be past. It has not been taken, or a section is open that was entered with fewer moments.
 abbrev pub IsHeld : ℕ → List SectionEvent → Type 0
-IsHeld moment run = (moments_in run < moment) ⊎ ((q : ℕ) × IsOpen q run × (word_in q run ≤ moment))
+IsHeld moment run = (moments_in run < moment) ⊎ ((section : ℕ) × IsOpen section run × (word_in section run ≤ moment))

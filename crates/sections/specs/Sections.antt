@@ -20,62 +20,63 @@ pub record SectionView : Type 0 where
 
 -- the section is one of this table
 abbrev pub IsSectionOf : SectionsView → SectionView → Type 0
-IsSectionOf table s = (s.table ≡ table.id) × (s.known.count ≡ table.count)
+IsSectionOf table section = (section.table ≡ table.id) × (section.known.count ≡ table.count)
 
 -- the section of this number, which was never entered
 abbrev pub IsNewSection : SectionsView → ℕ → SectionView → Type 0
-IsNewSection table q s = (s.table ≡ table.id) × (s.known ≡ new_section q table.count)
+IsNewSection table number section = (section.table ≡ table.id) × (section.known ≡ new_section number table.count)
 
 -- the section is open
 abbrev pub IsInside : SectionView → Type 0
-IsInside s = IsOpen s.known.number s.known.run
+IsInside section = IsOpen section.known.number section.known.run
 
 -- the two views are of one section
 abbrev pub IsOneSection : SectionView → SectionView → Type 0
-IsOneSection s t = (t.table ≡ s.table) × (t.known.number ≡ s.known.number) × (t.known.count ≡ s.known.count)
+IsOneSection old new = (new.table ≡ old.table) × (new.known.number ≡ old.known.number) × (new.known.count ≡ old.known.count)
 
 -- The section's owner has made no event, and knows those of others up to now, which make a lawful run. Nothing else has changed.
-pub record SeesOthers (s t : SectionView) : Type 0 where
-  pub table : t.table ≡ s.table
-  pub known : t.known ≡ record s.known { run = t.known.run }
-  pub others : OthersRunOn s.known.number s.known.run t.known.run
-  pub lawful : IsLawfulRun t.known.run
+pub record SeesOthers (old new : SectionView) : Type 0 where
+  pub table : new.table ≡ old.table
+  pub known : new.known ≡ record old.known { run = new.known.run }
+  pub others : OthersRunOn old.known.number old.known.run new.known.run
+  pub lawful : IsLawfulRun new.known.run
 
--- The section is entered: the last event of the run is this one. It comes with the number of moments that had been taken when the call loaded it.
-pub record Enters (s t : SectionView) : Type 0 where
-  pub one : IsOneSection s t
+-- The section is entered: the last event of the run is this one. It comes with the number of moments that had been taken when the call
+-- loaded it.
+pub record Enters (old new : SectionView) : Type 0 where
+  pub one : IsOneSection old new
   pub before : List SectionEvent
-  pub others : OthersRunOn s.known.number s.known.run before
+  pub others : OthersRunOn old.known.number old.known.run before
   pub moments : ℕ
-  pub fresh : moments_in s.known.run ≤ moments
-  pub run : t.known.run ≡ Entered s.known.number moments ∷ before
+  pub fresh : moments_in old.known.run ≤ moments
+  pub run : new.known.run ≡ Entered old.known.number moments ∷ before
 
 -- The section is left: the last event of the run is this one.
-pub record Leaves (s t : SectionView) : Type 0 where
-  pub one : IsOneSection s t
+pub record Leaves (old new : SectionView) : Type 0 where
+  pub one : IsOneSection old new
   pub before : List SectionEvent
-  pub others : OthersRunOn s.known.number s.known.run before
-  pub run : t.known.run ≡ Left s.known.number ∷ before
+  pub others : OthersRunOn old.known.number old.known.run before
+  pub run : new.known.run ≡ Left old.known.number ∷ before
 
 -- The number is that of a moment: at some time of the call fewer had been taken. It has been taken when the call ends. Or all that a table
 -- tells apart have been taken, and it is the next number.
-pub record TakesMoment (moment : ℕ) (s t : SectionView) : Type 0 where
-  pub one : IsOneSection s t
+pub record TakesMoment (moment : ℕ) (old new : SectionView) : Type 0 where
+  pub one : IsOneSection old new
   pub before : List SectionEvent
-  pub others : OthersRunOn s.known.number s.known.run before
+  pub others : OthersRunOn old.known.number old.known.run before
   pub fewer : moments_in before < moment
-  pub until : OthersRunOn s.known.number before t.known.run
-  pub taken : (moment ≤ moments_in t.known.run) ⊎ ((moment ≡ MOST_MOMENTS + 1) × (moments_in t.known.run ≡ MOST_MOMENTS))
+  pub until : OthersRunOn old.known.number before new.known.run
+  pub taken : (moment ≤ moments_in new.known.run) ⊎ ((moment ≡ MOST_MOMENTS + 1) × (moments_in new.known.run ≡ MOST_MOMENTS))
 
 -- From now on looks count the section. Its owner has made no event.
-pub record StartsCounting (s t : SectionView) : Type 0 where
-  pub table : t.table ≡ s.table
-  pub known : t.known ≡ record s.known { counted = true; run = t.known.run }
-  pub others : OthersRunOn s.known.number s.known.run t.known.run
+pub record StartsCounting (old new : SectionView) : Type 0 where
+  pub table : new.table ≡ old.table
+  pub known : new.known ≡ record old.known { counted = true; run = new.known.run }
+  pub others : OthersRunOn old.known.number old.known.run new.known.run
 
 -- One moment more than expected has been taken. Nothing of the section has changed.
-pub record TakesNext (expected : ℕ) (s t : SectionView) : Type 0 where
-  pub table : t.table ≡ s.table
-  pub known : t.known ≡ record s.known { run = t.known.run }
-  pub others : OthersRunOn s.known.number s.known.run t.known.run
-  pub taken : expected < moments_in t.known.run
+pub record TakesNext (expected : ℕ) (old new : SectionView) : Type 0 where
+  pub table : new.table ≡ old.table
+  pub known : new.known ≡ record old.known { run = new.known.run }
+  pub others : OthersRunOn old.known.number old.known.run new.known.run
+  pub taken : expected < moments_in new.known.run

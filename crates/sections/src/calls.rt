@@ -17,8 +17,8 @@ impl Section {
 }
 
 impl Sections {
-    /// Enters the section, and returns true. If it is open already, it stays so, and the call returns false. It makes two atomic steps, and one
-    /// more at the first time.
+    /// Enters the section, and returns true. If it is open already, it stays so, and the call returns false. It makes two atomic steps, and
+    /// one more at the first time.
     pub fn enter(&self, section: &mut Section) -> bool
         requires { IsSectionOf self.now section.old }
         ensures inside { IsInside section.old → (result ≡ false) × (section.new ≡ section.old) }
@@ -71,8 +71,8 @@ impl Sections {
         if self.load_moments(section) < moment {
             return false;
         }
-        let reach = self.load_reach(section);
-        for of in 0..reach {
+        let extent = self.load_extent(section);
+        for of in 0..extent {
             let word = self.load_word(section, of);
             if !is_newer(word, moment) {
                 return false;

@@ -4,7 +4,7 @@
 //!
 //! The words show a run of events, the newest first: a section entered or left, a moment taken (`SectionsRuled`, `ShowsRun`). A section is
 //! entered with the number of moments that its owner loaded before (`MayFollow`). So where a word is 0, or above a moment's number, the
-//! section has been left since that moment (`left_since` in `proofs/Runs/Past`). Sections from the reach on were never entered.
+//! section has been left since that moment (`left_since` in `proofs/Runs/Past`). Sections from the extent on were never entered.
 //! `laws::runs_are_one`: of two owners' runs one goes on from the other.
 #![tactic(auto)]
 

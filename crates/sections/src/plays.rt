@@ -1,7 +1,7 @@
 //! The rule of the table, and what its steps tell.
 
 ghost use Rattle.sections.specs.declared.events.Seated.TheVariants.{Dealer};
-ghost use Rattle.sections.specs.Rule.{SectionsRuled, counting, section_dealt, entering, finding, found_moments, found_reach, found_word, leaving, next_section, taking};
+ghost use Rattle.sections.specs.Rule.{SectionsRuled, counting, section_dealt, entering, finding, found_moments, found_extent, found_word, leaving, next_section, taking};
 
 use crate::events::Seated;
 use atomic_table::{Play, Split, TableRule};
@@ -33,10 +33,10 @@ impl Play<(), Seated> for FindsMoments {
 }
 
 /// The number below which all sections are that were ever entered is loaded.
-pub(crate) struct FindsReach;
+pub(crate) struct FindsExtent;
 
-impl Play<(), Seated> for FindsReach {
-    ghost then = { finding found_reach };
+impl Play<(), Seated> for FindsExtent {
+    ghost then = { finding found_extent };
 }
 
 /// The word of a section is loaded.
@@ -46,7 +46,7 @@ impl Play<(), Seated> for FindsWord {
     ghost then = { finding found_word };
 }
 
-/// The reach takes in the seat's own section.
+/// The extent takes in the seat's own section.
 pub(crate) struct Counts;
 
 impl Play<(), Seated> for Counts {

@@ -4,8 +4,8 @@ ghost use Rattle.std.specs.Prelude.{◌≡◌, ◌≤◌, ◌<◌, ℕ, true};
 ghost use Rattle.sections.specs.Runs.{HasNoneOf, moments_in, word_in};
 ghost use Rattle.sections.specs.Sections.{Enters, IsInside, IsSectionOf, Leaves, SeesOthers, StartsCounting, TakesNext};
 
-use crate::plays::{Counts, Entering, FindsMoments, FindsReach, FindsWord, Leaving, Taking};
-use crate::table::{FIRST_SECTION, MOMENTS, MOST_MOMENTS, REACH, Section, Sections};
+use crate::plays::{Counts, Entering, FindsExtent, FindsMoments, FindsWord, Leaving, Taking};
+use crate::table::{EXTENT, FIRST_SECTION, MOMENTS, MOST_MOMENTS, Section, Sections};
 
 impl Sections {
     /// Loads how many moments have been taken, and returns it.
@@ -20,18 +20,18 @@ impl Sections {
             .load::<FindsMoments>(&mut section.seat, MOMENTS)
     }
 
-    /// Loads the reach and returns it: all sections that were ever entered have numbers below it.
-    pub(crate) fn load_reach(&self, section: &mut Section) -> u16
+    /// Loads the extent and returns it: all sections that were ever entered have numbers below it.
+    pub(crate) fn load_extent(&self, section: &mut Section) -> u16
         requires { IsSectionOf self.now section.old }
         ensures looks { SeesOthers section.old section.new }
         ensures within { result ≤ self.now.count }
         ensures beyond { (q : ℕ) → result ≤ q → HasNoneOf q section.new.known.run }
     {
-        let reach = self
+        let extent = self
             .table
             .shared
-            .load::<FindsReach>(&mut section.seat, REACH);
-        reach.min(self.count as u64) as u16
+            .load::<FindsExtent>(&mut section.seat, EXTENT);
+        extent.min(self.count as u64) as u16
     }
 
     /// Loads the word of section number `of` and returns it.
@@ -47,7 +47,7 @@ impl Sections {
             .load::<FindsWord>(&mut section.seat, place)
     }
 
-    /// Makes the reach take in `section`, if it doesn't yet.
+    /// Makes the extent take in `section`, if it doesn't yet.
     pub(crate) fn count_section(&self, section: &mut Section)
         requires { IsSectionOf self.now section.old }
         ensures { StartsCounting section.old section.new }
@@ -58,7 +58,7 @@ impl Sections {
         let next = section.number as u64 + 1;
         self.table
             .shared
-            .fetch_max::<Counts>(&mut section.seat, REACH, next);
+            .fetch_max::<Counts>(&mut section.seat, EXTENT, next);
         section.counted = true;
     }
 

@@ -17,7 +17,7 @@ pub const MOST_MOMENTS: u64 = 1 << 63;
 /// The word that has the number of moments that were taken.
 pub(crate) const MOMENTS: usize = 0;
 /// The word below whose number all sections are that were ever entered.
-pub(crate) const REACH: usize = 8;
+pub(crate) const EXTENT: usize = 8;
 /// The word of section 0. Each other stands 8 words behind the one before, so that no two are in one line of a processor's cache.
 pub(crate) const FIRST_SECTION: usize = 16;
 

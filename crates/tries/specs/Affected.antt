@@ -8,50 +8,52 @@ use Rattle.tries.specs.Tree.{Subtrie, Tree, leaf, node, fork}
 
 -- The part of a body that an insertion affects, where the key first differs at `p`. It lies below the forks before `p` on the key's path.
 abbrev pub affected : ℕ → Key → Tree → Tree
-affected p k (leaf n l v) = leaf n l v
-affected p k (node n x b) = node n x b
-affected p k (fork q a b) = if nat_lt q p then (if bit k q then affected p k b else affected p k a) else fork q a b
+affected p key (leaf number own_key value) = leaf number own_key value
+affected p key (node number fixed body) = node number fixed body
+affected p key (fork position left right) =
+    if nat_lt position p then (if bit key position then affected p key right else affected p key left) else fork position left right
 
 -- The affected part is a leaf, or it has two entries or more.
 abbrev pub IsPart : Tree → Type 0
-IsPart (leaf n l v) = Unit {0}
-IsPart (node n x b) = ⊥
-IsPart (fork q a b) = Unit {0}
+IsPart (leaf number key value) = Unit {0}
+IsPart (node number fixed body) = ⊥
+IsPart (fork position left right) = Unit {0}
 
 -- The part of a subtrie that an insertion affects, where the key first differs at `p`.
 abbrev pub subtrie_affected : ℕ → Key → Subtrie → Subtrie
-subtrie_affected p k (Place e) = Place e
-subtrie_affected p k (Fork q x y) = if nat_lt q p then (if bit k q then subtrie_affected p k y else subtrie_affected p k x) else Fork q x y
+subtrie_affected p key (Place entry) = Place entry
+subtrie_affected p key (Fork position left right) =
+    if nat_lt position p then (if bit key position then subtrie_affected p key right else subtrie_affected p key left) else Fork position left right
 
 -- a new fork over a subtrie, with the new entry on the side of the bit
 abbrev pub subtrie_forked : Bool → ℕ → Entry → Subtrie → Subtrie
-subtrie_forked false p e x = Fork p (Place e) x
-subtrie_forked true p e x = Fork p x (Place e)
+subtrie_forked false position entry trie = Fork position (Place entry) trie
+subtrie_forked true position entry trie = Fork position trie (Place entry)
 
 -- a subtrie with a new key's entry, at the fork where the key parts
 abbrev pub subtrie_grown : ℕ → Key → Entry → Subtrie → Subtrie
-subtrie_grown p k e (Place f) = subtrie_forked (bit k p) p e (Place f)
-subtrie_grown p k e (Fork q x y) =
-    if nat_lt q p then (if bit k q then Fork q x (subtrie_grown p k e y) else Fork q (subtrie_grown p k e x) y) else subtrie_forked (bit k p) p e (Fork q x y)
+subtrie_grown position key entry (Place f) = subtrie_forked (bit key position) position entry (Place f)
+subtrie_grown position key entry (Fork q left right) =
+    if nat_lt q position then (if bit key q then Fork q left (subtrie_grown position key entry right) else Fork q (subtrie_grown position key entry left) right) else subtrie_forked (bit key position) position entry (Fork q left right)
 
 -- the subtrie is not one node alone
 abbrev pub IsPartSubtrie : Subtrie → Type 0
-IsPartSubtrie (Place (Leaf n)) = Unit {0}
-IsPartSubtrie (Place (Node n h)) = ⊥
-IsPartSubtrie (Fork q x y) = Unit {0}
+IsPartSubtrie (Place (Leaf number)) = Unit {0}
+IsPartSubtrie (Place (Node number height)) = ⊥
+IsPartSubtrie (Fork position left right) = Unit {0}
 
 -- all entries of the subtrie are below this height, a leaf counting 0
 abbrev pub IsLowerSubtrie : ℕ → Subtrie → Type 0
-IsLowerSubtrie h (Place (Leaf n)) = 0 < h
-IsLowerSubtrie h (Place (Node n g)) = g < h
-IsLowerSubtrie h (Fork q x y) = IsLowerSubtrie h x × IsLowerSubtrie h y
+IsLowerSubtrie h (Place (Leaf number)) = 0 < h
+IsLowerSubtrie h (Place (Node number height)) = height < h
+IsLowerSubtrie h (Fork position left right) = IsLowerSubtrie h left × IsLowerSubtrie h right
 
 -- The subtrie's first fork is before `p`.
 abbrev pub FirstForkIsBefore : ℕ → Subtrie → Type 0
-FirstForkIsBefore p (Place e) = ⊥
-FirstForkIsBefore p (Fork q x y) = q < p
+FirstForkIsBefore p (Place entry) = ⊥
+FirstForkIsBefore p (Fork position left right) = position < p
 
 -- the subtrie is one entry
 abbrev pub IsTipSubtrie : Subtrie → Type 0
-IsTipSubtrie (Place e) = Unit {0}
-IsTipSubtrie (Fork q x y) = ⊥
+IsTipSubtrie (Place entry) = Unit {0}
+IsTipSubtrie (Fork position left right) = ⊥

@@ -12,13 +12,13 @@ pub record Item : Type 0 where
 
 -- the leaf of this number, key and value
 abbrev pub item : ℕ → Key → ℕ → Item
-item n k v = record { number = n; key = k; value = v }
+item n key v = record { number = n; key = key; value = v }
 
 -- the leaves of a tree, in order
 abbrev pub items : Tree → List Item
-items (leaf n k v) = record { number = n; key = k; value = v } ∷ []
-items (node n h b) = items b
-items (fork p a b) = items a ++ items b
+items (leaf number key value) = record { number = number; key = key; value = value } ∷ []
+items (node number fixed body) = items body
+items (fork position left right) = items left ++ items right
 
 -- The keys and values of items, in order: a finite map as a list.
 abbrev pub pairs : List Item → List (Key × ℕ)
@@ -45,20 +45,21 @@ pub data IsExchange (x y : Item) : List Item → List Item → Type 0 where
   exchanged : {xs : List Item} → IsExchange x y (x ∷ xs) (y ∷ xs)
   past_one : {z : Item} {xs ys : List Item} → IsExchange x y xs ys → IsExchange x y (z ∷ xs) (z ∷ ys)
 
--- The tree's first fork is above `p`; a leaf has none, so its stem has no end.
+-- The tree's first fork is above the position; a leaf has none, so its stem has no end.
 abbrev pub IsAbove : ℕ → Tree → Type 0
-IsAbove p (leaf n k v) = Unit {0}
-IsAbove p (node n h b) = IsAbove p b
-IsAbove p (fork q a b) = p < q
+IsAbove position (leaf number key value) = Unit {0}
+IsAbove position (node number fixed body) = IsAbove position body
+IsAbove position (fork q left right) = position < q
 
 -- the key of a tree's first leaf
 abbrev pub first : Tree → Key
-first (leaf n k v) = k
-first (node n h b) = first b
-first (fork p a b) = first a
+first (leaf number key value) = key
+first (node number fixed body) = first body
+first (fork position left right) = first left
 
 -- Each leaf has a key. Each fork stands above the next ones, and parts the first keys of its two sides.
 abbrev pub IsLocal : Tree → Type 0
-IsLocal (leaf n k v) = IsKey k
-IsLocal (node n h b) = IsLocal b
-IsLocal (fork p a b) = IsLocal a × IsLocal b × IsAbove p a × IsAbove p b × IsParted p (first a) (first b)
+IsLocal (leaf number key value) = IsKey key
+IsLocal (node number fixed body) = IsLocal body
+IsLocal (fork position left right) =
+    IsLocal left × IsLocal right × IsAbove position left × IsAbove position right × IsParted position (first left) (first right)

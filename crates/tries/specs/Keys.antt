@@ -8,20 +8,20 @@ Key = List ℕ
 
 -- The key's bit at a position, by the rule of `bit_of`; shut, since few proofs look into it.
 unfoldable pub bit : Key → ℕ → Bool
-bit k p = bit_of k p
+bit key position = bit_of key position
 
--- The two keys have the same bits before position `p`.
+-- The two keys have the same bits before this position.
 abbrev pub AgreeBelow : ℕ → Key → Key → Type 0
-AgreeBelow p k l = (q : ℕ) → q < p → bit k q ≡ bit l q
+AgreeBelow position key other = (q : ℕ) → q < position → bit key q ≡ bit other q
 
 -- The two keys part at this position: the first has 0 there, the second 1.
 abbrev pub IsParted : ℕ → Key → Key → Type 0
-IsParted p k l = AgreeBelow p k l × (bit k p ≡ false) × (bit l p ≡ true)
+IsParted position key other = AgreeBelow position key other × (bit key position ≡ false) × (bit other position ≡ true)
 
 -- The first key comes before the second: where they part, it has 0.
 abbrev pub IsBefore : Key → Key → Type 0
-IsBefore k l = (p : ℕ) × IsParted p k l
+IsBefore key other = (p : ℕ) × IsParted p key other
 
 -- the first key is the second or comes before it
 abbrev pub IsAtMost : Key → Key → Type 0
-IsAtMost k l = (k ≡ l) ⊎ IsBefore k l
+IsAtMost key other = (key ≡ other) ⊎ IsBefore key other

@@ -8,42 +8,42 @@ use Rattle.tries.specs.Content.{Item}
 
 -- The key agrees with the tree's stem: with all of its keys before its first fork, or with the whole key of a leaf.
 abbrev pub Follows : Key → Tree → Type 0
-Follows k (leaf n l v) = k ≡ l
-Follows k (node n h b) = Follows k b
-Follows k (fork p a b) = (l : Key) → Has a l ⊎ Has b l → AgreeBelow p k l
+Follows key (leaf number own_key value) = key ≡ own_key
+Follows key (node number fixed body) = Follows key body
+Follows key (fork position left right) = (other : Key) → Has left other ⊎ Has right other → AgreeBelow position key other
 
 -- The tree to which a key's search goes on from a body.
 abbrev pub child : Key → Tree → Tree
-child k (leaf n l v) = leaf n l v
-child k (node n h b) = node n h b
-child k (fork p a b) = if bit k p then child k b else child k a
+child key (leaf number own_key value) = leaf number own_key value
+child key (node number fixed body) = node number fixed body
+child key (fork position left right) = if bit key position then child key right else child key left
 
 -- the leaf at which a key's search ends
 abbrev pub found : Key → Tree → Item
-found k (leaf n l v) = record { number = n; key = l; value = v }
-found k (node n x b) = found k b
-found k (fork p a b) = if bit k p then found k b else found k a
+found key (leaf number own_key value) = record { number = number; key = own_key; value = value }
+found key (node number fixed body) = found key body
+found key (fork position left right) = if bit key position then found key right else found key left
 
 -- The entry to which a key's search leads in a subtrie.
 abbrev pub seek : Key → Subtrie → Entry
-seek k (Place e) = e
-seek k (Fork p a b) = if bit k p then seek k b else seek k a
+seek key (Place entry) = entry
+seek key (Fork position left right) = if bit key position then seek key right else seek key left
 
 -- Two bodies of one record in two versions: the same forks with the same stems.
 pub data Kin : Tree → Tree → Type 0 where
   tips : {a b : Tree} → IsTip a → IsTip b → Kin a b
-  forks : {p : ℕ} {a b c d : Tree} → ((k l : Key) → Has a k ⊎ Has b k → Has c l ⊎ Has d l → AgreeBelow p k l) →
+  forks : {p : ℕ} {a b c d : Tree} → ((key other : Key) → Has a key ⊎ Has b key → Has c other ⊎ Has d other → AgreeBelow p key other) →
       Kin a c → Kin b d → Kin (fork p a b) (fork p c d)
 
 -- The position of the fork between slots i and j of a subtrie, i below j.
 abbrev pub between : Subtrie → ℕ → ℕ → ℕ
-between (Place e) i j = 0
-between (Fork p x y) i j =
-    if nat_lt j (size x) then between x i j
-    else (if nat_lt i (size x) then p else between y (i - size x) (j - size x))
+between (Place entry) i j = 0
+between (Fork position left right) i j =
+    if nat_lt j (size left) then between left i j
+    else (if nat_lt i (size left) then position else between right (i - size left) (j - size left))
 
 -- The key is below entry `i` of the body.
 abbrev pub IsUnder : Tree → ℕ → Key → Type 0
-IsUnder (leaf n k v) i l = (i ≡ 0) × Has (leaf n k v) l
-IsUnder (node n h b) i l = (i ≡ 0) × Has (node n h b) l
-IsUnder (fork p a b) i l = IsUnder a i l ⊎ ((j : ℕ) × (i ≡ size (subtrie a) + j) × IsUnder b j l)
+IsUnder (leaf number own_key value) i key = (i ≡ 0) × Has (leaf number own_key value) key
+IsUnder (node number fixed body) i key = (i ≡ 0) × Has (node number fixed body) key
+IsUnder (fork position left right) i key = IsUnder left i key ⊎ ((j : ℕ) × (i ≡ size (subtrie left) + j) × IsUnder right j key)

@@ -10,26 +10,29 @@ use Rattle.tries.specs.Content.{Item, items, pairs, IsMore, IsExchange, IsLocal}
 
 -- The keys of a trie's leaves rise strictly in byte order.
 abbrev pub ContentRises : Type 0
-ContentRises = (t : Tree) → IsTrie t → IsStrictlySortedBy (slice_cmp nat_cmp) (keys_of (pairs (items t)))
+ContentRises = (tree : Tree) → IsTrie tree → IsStrictlySortedBy (slice_cmp nat_cmp) (keys_of (pairs (items tree)))
 
 -- A tree is a trie exactly if the local rules hold in it.
 abbrev pub LocalIsTrie : Type 0
-LocalIsTrie = (t : Tree) → IsLocal t ↔ IsTrie t
+LocalIsTrie = (tree : Tree) → IsLocal tree ↔ IsTrie tree
 
 -- With one leaf more, the key was absent before, and has the value after.
 abbrev pub AddingInserts : Type 0
 AddingInserts =
-    (s t : Tree) (x : Item) → IsTrie t → IsMore x (items s) (items t) →
-    (lookup (is_at (slice_cmp nat_cmp x.key)) (pairs (items s)) ≡ None) × (insert_entry (slice_cmp nat_cmp) (pairs (items s)) x.key x.value ≡ pairs (items t))
+    (s t : Tree) (item : Item) → IsTrie t → IsMore item (items s) (items t) →
+    (lookup (is_at (slice_cmp nat_cmp item.key)) (pairs (items s)) ≡ None) ×
+    (insert_entry (slice_cmp nat_cmp) (pairs (items s)) item.key item.value ≡ pairs (items t))
 
 -- With one leaf for another of the same key, the key has the new value.
 abbrev pub ExchangeReplaces : Type 0
 ExchangeReplaces =
-    (s t : Tree) (y x : Item) → IsTrie s → IsExchange y x (items s) (items t) → y.key ≡ x.key →
-    (lookup (is_at (slice_cmp nat_cmp x.key)) (pairs (items s)) ≡ Some y.value) × (insert_entry (slice_cmp nat_cmp) (pairs (items s)) x.key x.value ≡ pairs (items t))
+    (s t : Tree) (item other : Item) → IsTrie s → IsExchange item other (items s) (items t) → item.key ≡ other.key →
+    (lookup (is_at (slice_cmp nat_cmp other.key)) (pairs (items s)) ≡ Some item.value) ×
+    (insert_entry (slice_cmp nat_cmp) (pairs (items s)) other.key other.value ≡ pairs (items t))
 
 -- With one leaf less, the key had the value before, and is absent after.
 abbrev pub TakingRemoves : Type 0
 TakingRemoves =
-    (s t : Tree) (x : Item) → IsTrie s → IsMore x (items t) (items s) →
-    (lookup (is_at (slice_cmp nat_cmp x.key)) (pairs (items s)) ≡ Some x.value) × (remove_entry (is_at (slice_cmp nat_cmp x.key)) (pairs (items s)) ≡ pairs (items t))
+    (s t : Tree) (item : Item) → IsTrie s → IsMore item (items t) (items s) →
+    (lookup (is_at (slice_cmp nat_cmp item.key)) (pairs (items s)) ≡ Some item.value) ×
+    (remove_entry (is_at (slice_cmp nat_cmp item.key)) (pairs (items s)) ≡ pairs (items t))

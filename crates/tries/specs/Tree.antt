@@ -26,69 +26,70 @@ pub data Tree : Type 0 where
 
 -- What a node whose body this is shows. A tree that begins with a record is one entry.
 abbrev pub subtrie : Tree → Subtrie
-subtrie (leaf n k v) = Place (Leaf n)
-subtrie (node n x b) = Place (Node n x.height)
-subtrie (fork p a b) = Fork p (subtrie a) (subtrie b)
+subtrie (leaf number key value) = Place (Leaf number)
+subtrie (node number fixed body) = Place (Node number fixed.height)
+subtrie (fork position left right) = Fork position (subtrie left) (subtrie right)
 
 -- A leaf of the tree has the key.
 abbrev pub Has : Tree → Key → Type 0
-Has (leaf n k v) l = l ≡ k
-Has (node n h b) l = Has b l
-Has (fork p a b) l = Has a l ⊎ Has b l
+Has (leaf number own_key value) key = key ≡ own_key
+Has (node number fixed body) key = Has body key
+Has (fork position left right) key = Has left key ⊎ Has right key
 
 -- A leaf of the tree has the key and the value.
 abbrev pub Holds : Tree → Key → ℕ → Type 0
-Holds (leaf n k v) l w = (l ≡ k) × (w ≡ v)
-Holds (node n h b) l w = Holds b l w
-Holds (fork p a b) l w = Holds a l w ⊎ Holds b l w
+Holds (leaf number own_key value) key w = (key ≡ own_key) × (w ≡ value)
+Holds (node number fixed body) key w = Holds body key w
+Holds (fork position left right) key w = Holds left key w ⊎ Holds right key w
 
 -- Each leaf has a key. All keys below a fork agree before its position. They have 0 there on its first side, and 1 on its second.
 abbrev pub IsTrie : Tree → Type 0
-IsTrie (leaf n k v) = IsKey k
-IsTrie (node n h b) = IsTrie b
-IsTrie (fork p a b) =
-    IsTrie a × IsTrie b × ((k l : Key) → Has a k ⊎ Has b k → Has a l ⊎ Has b l → AgreeBelow p k l) ×
-    ((k : Key) → Has a k → bit k p ≡ false) ×
-    ((k : Key) → Has b k → bit k p ≡ true)
+IsTrie (leaf number key value) = IsKey key
+IsTrie (node number fixed body) = IsTrie body
+IsTrie (fork position left right) =
+    IsTrie left × IsTrie right ×
+    ((key other : Key) → Has left key ⊎ Has right key → Has left other ⊎ Has right other → AgreeBelow position key other) ×
+    ((key : Key) → Has left key → bit key position ≡ false) ×
+    ((key : Key) → Has right key → bit key position ≡ true)
 
 -- A body has two entries or more.
 abbrev pub IsFork : Tree → Type 0
-IsFork (fork p a b) = Unit {0}
-IsFork t = ⊥
+IsFork (fork position left right) = Unit {0}
+IsFork tree = ⊥
 
 -- The heights of the entries are below `h`, a leaf counting 0.
 abbrev pub IsLower : ℕ → Tree → Type 0
-IsLower h (leaf n k v) = 0 < h
-IsLower h (node n x b) = x.height < h
-IsLower h (fork p a b) = IsLower h a × IsLower h b
+IsLower h (leaf number key value) = 0 < h
+IsLower height (node number fixed body) = fixed.height < height
+IsLower h (fork position left right) = IsLower h left × IsLower h right
 
 -- The position of a subtrie's first fork, or 0 for one entry.
 abbrev pub first_position : Subtrie → ℕ
-first_position (Place e) = 0
-first_position (Fork p a b) = p
+first_position (Place entry) = 0
+first_position (Fork position left right) = position
 
 -- A node's fixed part fits its subtrie: the rows show it, and there is room for its entries. Its height and first position add up to at
 -- most the number of positions that a key has.
-pub record IsFit (x : Fixed) (p : Subtrie) : Type 0 where
-  pub positions : IsColumns x.columns
-  pub shows : ShowsPiece x.columns x.rows (places p) p
-  pub room : size p ≤ 32
-  pub bound : x.height + first_position p ≤ 9 * MAX_BYTES
+pub record IsFit (fixed : Fixed) (trie : Subtrie) : Type 0 where
+  pub positions : IsColumns fixed.columns
+  pub shows : ShowsPiece fixed.columns fixed.rows (places trie) trie
+  pub room : size trie ≤ 32
+  pub bound : fixed.height + first_position trie ≤ 9 * MAX_BYTES
 
 -- Each node has two entries or more, a height above theirs, and a fixed part that fits its subtrie.
 abbrev pub IsBuilt : Tree → Type 0
-IsBuilt (leaf n k v) = Unit {0}
-IsBuilt (node n x b) = IsFork b × IsLower x.height b × IsBuilt b × IsFit x (subtrie b)
-IsBuilt (fork p a b) = IsBuilt a × IsBuilt b
+IsBuilt (leaf number key value) = Unit {0}
+IsBuilt (node number fixed body) = IsFork body × IsLower fixed.height body × IsBuilt body × IsFit fixed (subtrie body)
+IsBuilt (fork position left right) = IsBuilt left × IsBuilt right
 
 -- The tree stands somewhere in the other one, or is that tree.
-pub data Within (s : Tree) : Tree → Type 0 where
-  here : Within s s
-  inside : {n : ℕ} {x : Fixed} {b : Tree} → Within s b → Within s (node n x b)
-  zero_side : {p : ℕ} {a b : Tree} → Within s a → Within s (fork p a b)
-  one_side : {p : ℕ} {a b : Tree} → Within s b → Within s (fork p a b)
+pub data Within (tree : Tree) : Tree → Type 0 where
+  here : Within tree tree
+  inside : {n : ℕ} {x : Fixed} {b : Tree} → Within tree b → Within tree (node n x b)
+  zero_side : {p : ℕ} {a b : Tree} → Within tree a → Within tree (fork p a b)
+  one_side : {p : ℕ} {a b : Tree} → Within tree b → Within tree (fork p a b)
 
 -- The tree begins with a record.
 abbrev pub IsTip : Tree → Type 0
-IsTip (fork p a b) = ⊥
-IsTip t = Unit {0}
+IsTip (fork position left right) = ⊥
+IsTip tree = Unit {0}

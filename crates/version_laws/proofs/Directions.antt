@@ -6,10 +6,10 @@ use Rattle.tries.specs.Keys.{Key}
 use Rattle.compound_node.specs.declared.entries.Entry.TheVariants.{Leaf, Node}
 use Rattle.tries.specs.Tree.{Subtrie}
 use Rattle.node_tries.specs.Piece.{size}
-use Rattle.versions.specs.State.{Past, IsKeptSince, IsSteady}
+use Rattle.versions.specs.State.{Past, IsKeptSince, KeepsFixedWordsSince}
 use Rattle.record_words.specs.declared.records.Rec.TheVariants.{Node as a_node}
 use Rattle.tries.specs.Place.{spot}
-use Rattle.version_laws.specs.Scan.{IsPlaced, IsShaped, IsRead, MayStandAt, HadKeyBelow, Frame, IsStack, Pair, Every, IsKeyListed, Range, IsInRange}
+use Rattle.version_laws.specs.Scan.{IsPlaced, HadShapeSince, IsRead, MayStandAt, HadKeyBelow, Frame, IsStack, Pair, Every, IsKeyListed, Range, IsInRange}
 use Rattle.version_laws.specs.Directions.{gap_before, gap_behind, first_gap, to_come, first_key, last_key, IsEarlier, IsNoLater, IsToCome, WasPassed, MayStandBeforeFrames, HasPassed, ComesOnWay, Comes, IsScanBy, IsComplete, IsCut, IsReachedBy}
 use Rattle.packed_pairs.specs.declared.direction.Direction.{Direction}
 use Rattle.packed_pairs.specs.declared.direction.Direction.TheVariants.{Upwards, Downwards}
@@ -21,7 +21,7 @@ every_map P Q [] f h = tt
 every_map P Q (x ∷ xs) f h = (f x h.0, every_map P Q xs f h.1)
 
 -- The topmost frame's forks are known.
-pub stack_shape : (s : Past) (m : ℕ) (f : Frame) (fs : List Frame) → IsStack s m (f ∷ fs) → IsShaped s m f.number f.shape
+pub stack_shape : (s : Past) (m : ℕ) (f : Frame) (fs : List Frame) → IsStack s m (f ∷ fs) → HadShapeSince s m f.number f.shape
 stack_shape s m f [] h = h.1
 stack_shape s m f (g ∷ gs) h = h.1
 
@@ -91,12 +91,12 @@ up_to_last Upwards g k r = r.1
 up_to_last Downwards g k r = r.0
 
 -- A key at a passed place is earlier than one at a place to come.
-pub may_stand_earlier : (d : Direction) (s : Past) (m : ℕ) → IsSteady s m → (r gap i j : ℕ) (y z : Key) → WasPassed d gap i → IsToCome d gap j →
+pub may_stand_earlier : (d : Direction) (s : Past) (m : ℕ) → KeepsFixedWordsSince s m → (r gap i j : ℕ) (y z : Key) → WasPassed d gap i → IsToCome d gap j →
     MayStandAt s m r i y → MayStandAt s m r j z → IsEarlier d y z
 may_stand_earlier Upwards s m law r gap i j y z passed come x w = may_stand_in_order s m law r i j (omega (arith, passed, come)) y z x w
 may_stand_earlier Downwards s m law r gap i j y z passed come x w = may_stand_in_order s m law r j i (omega (arith, passed, come)) z y w x
 
-module _ (d : Direction) (s : Past) (m : ℕ) (law : IsSteady s m) where
+module _ (d : Direction) (s : Past) (m : ℕ) (law : KeepsFixedWordsSince s m) where
   -- A key that was passed on the way is earlier than those at the place of the first of these frames, or behind it.
   way_earlier : (f : Frame) (fs : List Frame) → IsStack s m (f ∷ fs) → (k z : Key) → MayStandBeforeFrames d s m k (f ∷ fs) → (j : ℕ) → IsToCome d (gap_before d f.place) j →
       MayStandAt s m f.number j z → IsEarlier d k z
@@ -148,7 +148,7 @@ comes_next : (d : Direction) (s : Past) (m : ℕ) (k : Key) (f : Frame) (fs : Li
 comes_next d s m k f fs (inr x) = inr (inr x)
 comes_next d s m k f fs (inl (on, come)) = ⊎_elim (λ e. inl (on, e)) (λ h. inr (inl (on, h))) (come_further d f.place (spot k f.shape) come)
 
-module _ (s : Past) (m : ℕ) (g : Range) (law : IsSteady s m) where
+module _ (s : Past) (m : ℕ) (g : Range) (law : KeepsFixedWordsSince s m) where
   -- From one way to another of which as much is known.
   scan_moved : (d : Direction) (fs gs : List Frame) (xs : List Pair) → IsScanBy d s m g fs xs → IsStack s m gs → ((k : Key) → HasPassed d s m k fs → HasPassed d s m k gs) →
       ((k : Key) → IsKeptSince s m k → IsInRange g k → IsKeyListed k xs ⊎ Comes d s m k fs → IsKeyListed k xs ⊎ Comes d s m k gs) → IsScanBy d s m g gs xs
@@ -164,7 +164,7 @@ module _ (s : Past) (m : ℕ) (g : Range) (law : IsSteady s m) where
 
   -- A node is loaded at the place: one frame more.
   pub scan_pushed : (d : Direction) (f : Frame) (fs : List Frame) (xs : List Pair) → IsScanBy d s m g (before d f ∷ fs) xs → (c h : ℕ) (p : Subtrie) →
-      IsPlaced s m f.number f.place (Node c h) → IsShaped s m c p → IsScanBy d s m g (record { number = c; height = h; shape = p; place = first_gap d (size p) } ∷ f ∷ fs) xs
+      IsPlaced s m f.number f.place (Node c h) → HadShapeSince s m c p → IsScanBy d s m g (record { number = c; height = h; shape = p; place = first_gap d (size p) } ∷ f ∷ fs) xs
   scan_pushed d f fs xs w c h p at sh =
       scan_moved d (before d f ∷ fs) (top ∷ f ∷ fs) xs w (at, sh, stack_place s m f f.place fs w.stack) (λ k y. inr y)
       (λ k kept r. ⊎_elim (λ y. inl y) (λ y. inr (go k kept (comes_next d s m k f fs y))))

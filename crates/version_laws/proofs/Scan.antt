@@ -12,10 +12,10 @@ use Rattle.compound_node.specs.declared.entries.Entry.TheVariants.{Leaf, Node}
 use Rattle.node_tries.proofs.Piece.{size_pos}
 use Rattle.node_tries.specs.Piece.{Place, Fork, size}
 use Rattle.tries.specs.Search.{Follows, child, Kin, tips, forks, between, IsUnder}
-use Rattle.versions.specs.State.{rec_of, IsRecord, Past, Stands, IsHeldSince, IsKeptSince, WasAbsentSince, IsLed, IsSteady}
+use Rattle.versions.specs.State.{rec_of, IsRecord, Past, Stands, IsHeldSince, IsKeptSince, WasAbsentSince, IsLed, KeepsFixedWordsSince}
 use Rattle.record_words.specs.declared.records.Rec.TheVariants.{Node as a_node, Leaf as a_leaf}
 use Rattle.tries.specs.Place.{spot, shape}
-use Rattle.version_laws.specs.Scan.{at_place, AgreeUpToPlace, Stood, IsRooted, IsPlaced, IsShaped, IsRead, MayStandAt, HadKeyBelow}
+use Rattle.version_laws.specs.Scan.{at_place, AgreeUpToPlace, Stood, IsRooted, IsPlaced, HadShapeSince, IsRead, MayStandAt, HadKeyBelow}
 use Rattle.tries.proofs.Tree.{has_first, has_within, within_trans, trie_within, built_within, rises, has_if_follows, follows_if_has, follows_kin, descend, has_child, has_under, under_below, between_low, between_mid, between_high, parting, kin_tips}
 use Rattle.versions.proofs.State.{record_of_subtrie}
 use Rattle.tries.proofs.Content.{before_irrefl}
@@ -150,21 +150,21 @@ alike_deep (fork q a b) j p c d i w x y f = (
     ]
 
 -- What is known of bodies of one record in two versions.
-pub stood_trie : (s : Past) (m : ℕ) → IsSteady s m → (r : ℕ) (b : Tree) → Stood s m r b → IsTrie b
+pub stood_trie : (s : Past) (m : ℕ) → KeepsFixedWordsSince s m → (r : ℕ) (b : Tree) → Stood s m r b → IsTrie b
 stood_trie s m law r b st = trie_within (within_trans (inside here) st.stands.within) (law.trees st.at st.stands.tree st.until st.stands.is_version).0
 
-stood_built : (s : Past) (m : ℕ) → IsSteady s m → (r : ℕ) (b : Tree) → (st : Stood s m r b) → IsBuilt (node r st.fixed b)
+stood_built : (s : Past) (m : ℕ) → KeepsFixedWordsSince s m → (r : ℕ) (b : Tree) → (st : Stood s m r b) → IsBuilt (node r st.fixed b)
 stood_built s m law r b st = built_within st.stands.within (law.trees st.at st.stands.tree st.until st.stands.is_version).1
 
-pub stood_kin : (s : Past) (m : ℕ) → IsSteady s m → (r : ℕ) (b c : Tree) → Stood s m r b → Stood s m r c → Kin b c
+pub stood_kin : (s : Past) (m : ℕ) → KeepsFixedWordsSince s m → (r : ℕ) (b c : Tree) → Stood s m r b → Stood s m r c → Kin b c
 stood_kin s m law r b c st su =
     (law.same (a_node r) st.at su.at (node r st.fixed b) (node r su.fixed c) st.since st.until su.since su.until st.stands su.stands).1
 
-pub shaped : (s : Past) (m : ℕ) → IsSteady s m → (r : ℕ) (p : Subtrie) (b : Tree) → IsShaped s m r p → Stood s m r b → shape (subtrie b) ≡ p
+pub shaped : (s : Past) (m : ℕ) → KeepsFixedWordsSince s m → (r : ℕ) (p : Subtrie) (b : Tree) → HadShapeSince s m r p → Stood s m r b → shape (subtrie b) ≡ p
 shaped s m law r p b (c, st, e) su = sym (kin_shape (stood_kin s m law r c b st su)) ∙ e
 
 -- A key left of the place of another is before it.
-pub may_stand_in_order : (s : Past) (m : ℕ) → IsSteady s m → (r i j : ℕ) → i < j → (y z : Key) → MayStandAt s m r i y → MayStandAt s m r j z → IsBefore y z
+pub may_stand_in_order : (s : Past) (m : ℕ) → KeepsFixedWordsSince s m → (r i j : ℕ) → i < j → (y z : Key) → MayStandAt s m r i y → MayStandAt s m r j z → IsBefore y z
 may_stand_in_order s m law r i j lt y z (b, k, st, u, f) (c, l, su, v, g) =
     let kin : Kin b c = stood_kin s m law r b c st su in
     let to = under_below c j l v in
@@ -220,7 +220,7 @@ fit_kin s m r j i b l z st t lt (forks {p = p} {a = a} {b = a'} {c = c} {d = d} 
   alike_deep b j p a a' t w (first a) z (λ q h. e (first a) l (inl (has_first a)) (has_under (fork p c d) i l u) q h ∙ g q h),
 )
 
-body_may_stand : (s : Past) (m : ℕ) → IsSteady s m → (r j c h i : ℕ) (l z : Key) → IsPlaced s m r j (Node c h) → (d : Tree) → Stood s m c d → IsUnder d i l →
+body_may_stand : (s : Past) (m : ℕ) → KeepsFixedWordsSince s m → (r j c h i : ℕ) (l z : Key) → IsPlaced s m r j (Node c h) → (d : Tree) → Stood s m c d → IsUnder d i l →
     AgreeBelow (first_position (subtrie d)) l z → MayStandAt s m r j z
 body_may_stand s m law r j c h i l z (b, st, lt, pg) d su v g =
     let o = node_of c h (at_place b j) pg in
@@ -231,17 +231,17 @@ body_may_stand s m law r j c h i l z (b, st, lt, pg) d su v g =
     (subst (λ u. Within o.1 u) (sym o.2) (inside here)) v g
 
 -- A key that may stand in a child may stand at the child's place.
-pub may_stand_at_child_place : (s : Past) (m : ℕ) → IsSteady s m → (r j c h i : ℕ) (z : Key) → IsPlaced s m r j (Node c h) → MayStandAt s m c i z → MayStandAt s m r j z
+pub may_stand_at_child_place : (s : Past) (m : ℕ) → KeepsFixedWordsSince s m → (r j c h i : ℕ) (z : Key) → IsPlaced s m r j (Node c h) → MayStandAt s m c i z → MayStandAt s m r j z
 may_stand_at_child_place s m law r j c h i z at (d, l, su, v, g) = body_may_stand s m law r j c h i l z at d su v (alike_first (subtrie d) i l z g)
 
 -- And so may one that agrees with it before the child's first fork.
-pub near_may_stand : (s : Past) (m : ℕ) → IsSteady s m → (r j c h i : ℕ) (p : Subtrie) (y z : Key) → IsPlaced s m r j (Node c h) → IsShaped s m c p → MayStandAt s m c i y →
+pub near_may_stand : (s : Past) (m : ℕ) → KeepsFixedWordsSince s m → (r j c h i : ℕ) (p : Subtrie) (y z : Key) → IsPlaced s m r j (Node c h) → HadShapeSince s m c p → MayStandAt s m c i y →
     AgreeBelow (first_position p) y z → MayStandAt s m r j z
 near_may_stand s m law r j c h i p y z at sh (d, l, su, v, g) near =
     let e : first_position (subtrie d) ≡ first_position p = sym (first_shape (subtrie d)) ∙ ap first_position (shaped s m law c p d sh su) in
     body_may_stand s m law r j c h i l z at d su v (λ q b. alike_first (subtrie d) i l y g q b ∙ near q (subst (λ n. q < n) e b))
 
-pub leaf_may_stand : (s : Past) (m : ℕ) → IsSteady s m → (r j n : ℕ) (k : Key) (v : ℕ) → IsPlaced s m r j (Leaf n) → IsRead s m n k v → MayStandAt s m r j k
+pub leaf_may_stand : (s : Past) (m : ℕ) → KeepsFixedWordsSince s m → (r j n : ℕ) (k : Key) (v : ℕ) → IsPlaced s m r j (Leaf n) → IsRead s m n k v → MayStandAt s m r j k
 leaf_may_stand s m law r j n k v (b, st, lt, pg) (o, lo, hi, sn) =
     let w = leaf_of n (at_place b j) pg in
     let sd : Stands s st.at (a_leaf n) (leaf n w.0 w.1) = subst (λ u. Stands s st.at (a_leaf n) u) w.2 (placed_stands s m r j b st (Leaf n) pg) in
@@ -258,7 +258,7 @@ on_stood s m r k (n, u, lo, hi, st, h) =
     )
 
 -- It has two places or more.
-pub shaped_several : (s : Past) (m : ℕ) → IsSteady s m → (r : ℕ) (p : Subtrie) → IsShaped s m r p → 2 ≤ size p
+pub shaped_several : (s : Past) (m : ℕ) → KeepsFixedWordsSince s m → (r : ℕ) (p : Subtrie) → HadShapeSince s m r p → 2 ≤ size p
 shaped_several s m law r p (b, st, e) = subst (λ x. 2 ≤ size x) e (subst (λ n. 2 ≤ n) (sym (shape_tips (subtrie b))) (several b (stood_built s m law r b st).0))
   where
     several : (b : Tree) → IsFork b → 2 ≤ size (subtrie b)
@@ -266,10 +266,10 @@ shaped_several s m law r p (b, st, e) = subst (λ x. 2 ≤ size x) e (subst (λ 
     several (node n x c) f = elim f [ ]
     several (fork q a c) f = let x = size_pos (subtrie a) in let y = size_pos (subtrie c) in omega (arith, x, y)
 
-shaped_spot : (s : Past) (m : ℕ) → IsSteady s m → (r : ℕ) (p : Subtrie) (b : Tree) (k : Key) → IsShaped s m r p → Stood s m r b → spot k (subtrie b) ≡ spot k p
+shaped_spot : (s : Past) (m : ℕ) → KeepsFixedWordsSince s m → (r : ℕ) (p : Subtrie) (b : Tree) (k : Key) → HadShapeSince s m r p → Stood s m r b → spot k (subtrie b) ≡ spot k p
 shaped_spot s m law r p b k sh st = sym (spot_shape k (subtrie b)) ∙ ap (spot k) (shaped s m law r p b sh st)
 
-pub had_key_may_stand : (s : Past) (m : ℕ) → IsSteady s m → (r : ℕ) (p : Subtrie) (k : Key) → IsShaped s m r p → HadKeyBelow s m k (a_node r) → MayStandAt s m r (spot k p) k
+pub had_key_may_stand : (s : Past) (m : ℕ) → KeepsFixedWordsSince s m → (r : ℕ) (p : Subtrie) (k : Key) → HadShapeSince s m r p → HadKeyBelow s m k (a_node r) → MayStandAt s m r (spot k p) k
 had_key_may_stand s m law r p k sh on =
     let o = on_stood s m r k on in
     let e = shaped_spot s m law r p o.0 k sh o.1 in
@@ -278,7 +278,7 @@ had_key_may_stand s m law r p k sh on =
 kept_has : (s : Past) (m : ℕ) (k : Key) → IsKeptSince s m k → (n : ℕ) (t : Tree) → m ≤ n → n ≤ s.now → s.version n ≡ Some t → Has t k
 kept_has s m k kept n t lo hi e = let o = kept n lo hi in subst (λ z. Has z k) (some_same (sym o.1 ∙ e)) o.2
 
-pub child_had_key : (s : Past) (m : ℕ) → IsSteady s m → (k : Key) → IsKeptSince s m k → (r j : ℕ) (p : Subtrie) (e : Entry) → IsShaped s m r p →
+pub child_had_key : (s : Past) (m : ℕ) → KeepsFixedWordsSince s m → (k : Key) → IsKeptSince s m k → (r j : ℕ) (p : Subtrie) (e : Entry) → HadShapeSince s m r p →
     HadKeyBelow s m k (a_node r) → spot k p ≡ j → IsPlaced s m r j e → HadKeyBelow s m k (rec_of e)
 child_had_key s m law k kept r j p e sh on at (b, st, lt, pg) =
     let o = on_stood s m r k on in
@@ -300,7 +300,7 @@ pub root_had_key : (s : Past) (m : ℕ) (k : Key) → IsKeptSince s m k → (e :
 root_had_key s m k kept e (n, t, lo, hi, g, pg) =
     (n, t, lo, hi, record { tree = t; is_version = g; within = here; is_record = record_of_subtrie e t pg }, kept_has s m k kept n t lo hi g)
 
-pub leaf_had_key : (s : Past) (m : ℕ) → IsSteady s m → (n : ℕ) (k l : Key) (v : ℕ) → HadKeyBelow s m k (a_leaf n) → IsRead s m n l v → k ≡ l
+pub leaf_had_key : (s : Past) (m : ℕ) → KeepsFixedWordsSince s m → (n : ℕ) (k l : Key) (v : ℕ) → HadKeyBelow s m k (a_leaf n) → IsRead s m n l v → k ≡ l
 leaf_had_key s m law n k l v (o, u, lo, hi, st, h) (a, la, ha, sa) =
     let w = record_leaf n u st.is_record in
     let e : l ≡ w.0 = (law.same (a_leaf n) a o (leaf n l v) (leaf n w.0 w.1) la ha lo hi sa (subst (λ z. Stands s o (a_leaf n) z) w.2 st)) in
@@ -310,7 +310,7 @@ pub read_held : (s : Past) (m n : ℕ) (k : Key) (v : ℕ) → IsRead s m n k v 
 read_held s m n k v (o, lo, hi, st) = (o, st.tree, lo, hi, st.is_version, holds_within st.within k v (refl, refl))
 
 -- A search that goes by placed entries is led: `hindsight` without the state.
-pub led_placed : (s : Past) (m : ℕ) → IsSteady s m → (k : Key) (r h j : ℕ) (p : Subtrie) (e : Entry) → IsShaped s m r p → spot k p ≡ j → IsPlaced s m r j e →
+pub led_placed : (s : Past) (m : ℕ) → KeepsFixedWordsSince s m → (k : Key) (r h j : ℕ) (p : Subtrie) (e : Entry) → HadShapeSince s m r p → spot k p ≡ j → IsPlaced s m r j e →
     IsLed s m k (Node r h) → IsLed s m k e
 led_placed s m law k r h j p e sh at (b, st, lt, pe) (n, u, lo, hi, su, pg, f) =
     (st.at, at_place b j, st.since, st.until, placed_stands s m r j b st e pe, pe, go f)

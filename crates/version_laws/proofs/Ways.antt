@@ -11,7 +11,7 @@ use Rattle.tries.specs.Search.{child, seek, Kin, tips, forks, found}
 use Rattle.tries.specs.Content.{Item, first}
 use Rattle.tries.specs.Place.{spot, shape}
 use Rattle.tries.proofs.Tree.{has_first, has_within, within_trans, trie_within, built_within, rises, within_child}
-use Rattle.versions.specs.State.{Past, Stands, StoodWithKeys, IsSteady}
+use Rattle.versions.specs.State.{Past, Stands, StoodWithKeys, KeepsFixedWordsSince}
 use Rattle.record_words.specs.declared.records.Rec.TheVariants.{Node as a_node, Leaf as a_leaf}
 use Rattle.versions.proofs.Heap.Stored.{lower_within}
 use Rattle.version_laws.specs.Scan.{IsRooted, IsBlank, at_place, IsPlaced}
@@ -34,7 +34,7 @@ kin_like r like (forks {p = p} {a = a} {b = b} e x y) i t f z h = λ q low. f (f
     go (inr h) = h
     go (inl h) = absurd (false≢true (sym (t.3 (first a) (has_first a)) ∙ (sym (f (first a) (inl (has_first a)) p h) ∙ (f (first b) (inr (has_first b)) p h ∙ t.4 (first b) (has_first b)))))
 
-near_placed : (s : Past) (m : ℕ) → IsSteady s m → (r : ℕ) (like : Key) (n h j : ℕ) (e : Entry) →
+near_placed : (s : Past) (m : ℕ) → KeepsFixedWordsSince s m → (r : ℕ) (like : Key) (n h j : ℕ) (e : Entry) →
     StoodWithKeys s m (λ y. AgreeBelow r like y) (Node n h) → IsPlaced s m n j e → StoodWithKeys s m (λ y. AgreeBelow r like y) e
 near_placed s m steady r like n h j e (o, u, lo, hi, st, pg, f) (b, stood, low, pe) = go (node_of n h u pg)
   where

@@ -13,47 +13,49 @@ use Rattle.tries.specs.Place.{shape}
 
 -- What stands in a slot of a body.
 abbrev pub at_place : Tree → ℕ → Tree
-at_place (leaf n k v) i = leaf n k v
-at_place (node n x b) i = node n x b
-at_place (fork p a b) i = if nat_lt i (size (subtrie a)) then at_place a i else at_place b (i - size (subtrie a))
+at_place (leaf number key value) i = leaf number key value
+at_place (node number fixed body) i = node number fixed body
+at_place (fork position left right) i = if nat_lt i (size (subtrie left)) then at_place left i else at_place right (i - size (subtrie left))
 
 -- The keys have the same bits up to and at the position of each fork on the path to a slot.
 abbrev pub AgreeUpToPlace : Subtrie → ℕ → Key → Key → Type 0
-AgreeUpToPlace (Place e) i x y = Unit {0}
-AgreeUpToPlace (Fork p a b) i x y =
-    AgreeBelow (suc p) x y × (i < size a → AgreeUpToPlace a i x y) × (size a ≤ i → AgreeUpToPlace b (i - size a) x y)
+AgreeUpToPlace (Place entry) i key other = Unit {0}
+AgreeUpToPlace (Fork position left right) i key other =
+    AgreeBelow (suc position) key other × (i < size left → AgreeUpToPlace left i key other) ×
+    (size left ≤ i → AgreeUpToPlace right (i - size left) key other)
 
 -- In a version since `m` the node record had this body.
-pub record Stood (s : Past) (m r : ℕ) (b : Tree) : Type 0 where
+pub record Stood (past : Past) (m r : ℕ) (tree : Tree) : Type 0 where
   pub at : ℕ
   pub since : m ≤ at
-  pub until : at ≤ s.now
+  pub until : at ≤ past.now
   pub fixed : Fixed
-  pub stands : Stands s at (a_node r) (node r fixed b)
+  pub stands : Stands past at (a_node r) (node r fixed tree)
 
 -- A fact of a load of the root: in a version since `m` it had this entry.
 abbrev pub IsRooted : Past → ℕ → Entry → Type 0
-IsRooted s m e = (n : ℕ) × (t : Tree) × (m ≤ n) × (n ≤ s.now) × (s.version n ≡ Some t) × (subtrie t ≡ Place e)
+IsRooted past m entry = (n : ℕ) × (tree : Tree) × (m ≤ n) × (n ≤ past.now) × (past.version n ≡ Some tree) × (subtrie tree ≡ Place entry)
 
--- A fact of a load of an entry: in a version since `m` node record `r` had this entry in slot `j`.
+-- A fact of a load of an entry: in a version from `since` on node record `r` had this entry in slot `j`.
 abbrev pub IsPlaced : Past → ℕ → ℕ → ℕ → Entry → Type 0
-IsPlaced s m r j e = (b : Tree) × Stood s m r b × (j < size (subtrie b)) × (subtrie (at_place b j) ≡ Place e)
+IsPlaced past since r j entry = (tree : Tree) × Stood past since r tree × (j < size (subtrie tree)) × (subtrie (at_place tree j) ≡ Place entry)
 
--- A fact of the loads of a head: in a version since `m` node record `r` had these forks.
-abbrev pub IsShaped : Past → ℕ → ℕ → Subtrie → Type 0
-IsShaped s m r p = (b : Tree) × Stood s m r b × (shape (subtrie b) ≡ p)
+-- A fact of the loads of a head: in a version from `since` on node record `r` had these forks.
+abbrev pub HadShapeSince : Past → ℕ → ℕ → Subtrie → Type 0
+HadShapeSince past since r trie = (tree : Tree) × Stood past since r tree × (shape (subtrie tree) ≡ trie)
 
 -- A fact of the loads of a leaf: in a version since `m` leaf record `r` had this key and value.
 abbrev pub IsRead : Past → ℕ → ℕ → Key → ℕ → Type 0
-IsRead s m r k v = (n : ℕ) × (m ≤ n) × (n ≤ s.now) × Stands s n (a_leaf r) (leaf r k v)
+IsRead past m r key v = (n : ℕ) × (m ≤ n) × (n ≤ past.now) × Stands past n (a_leaf r) (leaf r key v)
 
--- A key that may stand in slot `i` of node record `r`, by some version since `m`.
+-- A key that may stand in slot `i` of node record `r`, by some version from `since` on.
 abbrev pub MayStandAt : Past → ℕ → ℕ → ℕ → Key → Type 0
-MayStandAt s m r i y = (b : Tree) × (k : Key) × Stood s m r b × IsUnder b i k × AgreeUpToPlace (subtrie b) i k y
+MayStandAt past since r i key =
+    (tree : Tree) × (other : Key) × Stood past since r tree × IsUnder tree i other × AgreeUpToPlace (subtrie tree) i other key
 
 -- In a version since `m` the key stood below the record.
 abbrev pub HadKeyBelow : Past → ℕ → Key → Rec → Type 0
-HadKeyBelow s m k r = (n : ℕ) × (u : Tree) × (m ≤ n) × (n ≤ s.now) × Stands s n r u × Has u k
+HadKeyBelow past m key rec = (n : ℕ) × (tree : Tree) × (m ≤ n) × (n ≤ past.now) × Stands past n rec tree × Has tree key
 
 -- A node on the path of a scan: its number, its forks, and a slot. For the topmost frame it is the gap where the scan is, for others the
 -- slot below which the scan is.
@@ -65,10 +67,10 @@ pub record Frame : Type 0 where
 
 -- The frames, topmost first, are the path of a scan from the root.
 abbrev pub IsStack : Past → ℕ → List Frame → Type 0
-IsStack s m [] = Unit {0}
-IsStack s m (f ∷ []) = IsRooted s m (Node f.number f.height) × IsShaped s m f.number f.shape
-IsStack s m (f ∷ g ∷ gs) =
-    IsPlaced s m g.number g.place (Node f.number f.height) × IsShaped s m f.number f.shape × IsStack s m (g ∷ gs)
+IsStack past m [] = Unit {0}
+IsStack past m (f ∷ []) = IsRooted past m (Node f.number f.height) × HadShapeSince past m f.number f.shape
+IsStack past since (f ∷ g ∷ gs) =
+    IsPlaced past since g.number g.place (Node f.number f.height) × HadShapeSince past since f.number f.shape × IsStack past since (g ∷ gs)
 
 -- A pair that a scan lists.
 pub record Pair : Type 0 where
@@ -82,8 +84,8 @@ Every P (x ∷ xs) = P x × Every P xs
 
 -- one of the pairs has the key
 abbrev pub IsKeyListed : Key → List Pair → Type 0
-IsKeyListed k [] = ⊥
-IsKeyListed k (x ∷ xs) = (k ≡ x.key) ⊎ IsKeyListed k xs
+IsKeyListed key [] = ⊥
+IsKeyListed key (x ∷ xs) = (key ≡ x.key) ⊎ IsKeyListed key xs
 
 -- What a scan is asked for: its first and last key, and its limit.
 pub record Range : Type 0 where
@@ -93,15 +95,16 @@ pub record Range : Type 0 where
 
 -- the key is in the range
 abbrev pub IsInRange : Range → Key → Type 0
-IsInRange g k = IsAtMost g.from k × IsAtMost k g.upto
+IsInRange range key = IsAtMost range.from key × IsAtMost key range.upto
 
--- In a version since `m` the record that the entry names stood in the tree, with the entry's height.
+-- In a version from `since` on the record that the entry names stood in the tree, with the entry's height.
 abbrev pub EntryStoodSince : Past → ℕ → Entry → Type 0
-EntryStoodSince s m e = (n : ℕ) × (u : Tree) × (m ≤ n) × (n ≤ s.now) × Stands s n (rec_of e) u × (subtrie u ≡ Place e)
+EntryStoodSince past since entry =
+    (n : ℕ) × (tree : Tree) × (since ≤ n) × (n ≤ past.now) × Stands past n (rec_of entry) tree × (subtrie tree ≡ Place entry)
 
 -- In a version since `m` the index had no key.
 abbrev pub IsBlank : Past → ℕ → Type 0
-IsBlank s m = (n : ℕ) × (m ≤ n) × (n ≤ s.now) × (s.version n ≡ None)
+IsBlank past m = (n : ℕ) × (m ≤ n) × (n ≤ past.now) × (past.version n ≡ None)
 
 -- The pairs in the order in which they were taken.
 abbrev pub in_order_taken : List Pair → List (Key × ℕ)

@@ -14,31 +14,31 @@ use Rattle.versions.specs.Core.{InTree, BareCore}
 use Rattle.version_laws.specs.Writer.{IsSubtrieStored}
 
 -- A node in the tree that the pass has locked.
-pub record IsLockedNode (c : BareCore) (q n : ℕ) : Type 0 where
-  pub lock : c.lock n ≡ Some q
+pub record IsLockedNode (core : BareCore) (pass n : ℕ) : Type 0 where
+  pub lock : core.lock n ≡ Some pass
   pub linked : ℕ
-  pub fate : c.fate (a_node n) ≡ InTree linked
+  pub fate : core.fate (a_node n) ≡ InTree linked
 
--- The pass holds the lock of a spot on the key's path, at which the entry `d` stands. It holds the anchor's lock, and `d` is the root. Or
--- it holds that of a node in the tree, and `d` is its entry on the path.
-pub data HoldsSpot (c : BareCore) (q : ℕ) (k : Key) (d : Entry) : Type 0 where
-  by_anchor : c.anchor ≡ Some q → c.root ≡ Some d → HoldsSpot c q k d
-  by_node : (o : ℕ) → IsLockedNode c q o → seek k (c.heap.nodes o).subtrie ≡ d → HoldsSpot c q k d
+-- The pass holds the lock of a spot on the key's path, at which this entry stands. It holds the anchor's lock, and the entry is the root. Or
+-- it holds that of a node in the tree, and the entry is that node's on the path.
+pub data HoldsSpot (core : BareCore) (pass : ℕ) (key : Key) (entry : Entry) : Type 0 where
+  by_anchor : core.anchor ≡ Some pass → core.root ≡ Some entry → HoldsSpot core pass key entry
+  by_node : (o : ℕ) → IsLockedNode core pass o → seek key (core.heap.nodes o).subtrie ≡ entry → HoldsSpot core pass key entry
 
 -- The entry may stand at the spot: in a node it is lower than the node.
 abbrev pub IsLowAt : {c : BareCore} {q : ℕ} {k : Key} {d : Entry} → HoldsSpot c q k d → Entry → Type 0
-IsLowAt (by_anchor lock root) e = Unit {0}
-IsLowAt {c = c} (by_node o locked names) e = IsLowerSubtrie (c.heap.nodes o).fixed.height (Place e)
+IsLowAt (by_anchor lock root) entry = Unit {0}
+IsLowAt {c = c} (by_node o locked names) entry = IsLowerSubtrie (c.heap.nodes o).fixed.height (Place entry)
 
 -- An insertion affects no more of the subtrie `x` than the entry on the key's path, with the subtrie `r` below it. The first fork of `r` is
 -- before `p`, where the key first differs, or one entry of `x` is affected.
 abbrev pub AffectsOne : ℕ → Key → Subtrie → Subtrie → Type 0
-AffectsOne p k x r = FirstForkIsBefore p r ⊎ IsTipSubtrie (subtrie_affected p k x)
+AffectsOne p key x r = FirstForkIsBefore p r ⊎ IsTipSubtrie (subtrie_affected p key x)
 
 -- What there is below an entry: the subtrie of a node, or the leaf alone.
 abbrev pub subtrie_below : Heap → Entry → Subtrie
-subtrie_below heap (Leaf j) = Place (Leaf j)
-subtrie_below heap (Node n h) = (heap.nodes n).subtrie
+subtrie_below heap (Leaf number) = Place (Leaf number)
+subtrie_below heap (Node number height) = (heap.nodes number).subtrie
 
 -- An insertion affects no more of a node than the entry at the spot, where the key first differs at `p`.
 abbrev pub AffectsSpotAloneInCore : {c : BareCore} {q : ℕ} {k : Key} {d : Entry} → HoldsSpot c q k d → ℕ → Type 0
@@ -47,6 +47,6 @@ AffectsSpotAloneInCore {c = c} {k = k} {d = d} (by_node o locked names) p = Affe
 
 -- A store of this entry at the spot, and of nothing else, makes this heap and this root.
 abbrev pub IsStoredAt : {c : BareCore} {q : ℕ} {k : Key} {d : Entry} → HoldsSpot c q k d → Heap → Option Entry → Entry → Type 0
-IsStoredAt {c = c} (by_anchor lock root) heap top e = (heap ≡ c.heap) × (top ≡ Some e)
-IsStoredAt {c = c} {k = k} (by_node o locked names) heap top e =
-    IsSubtrieStored c.heap heap o (with_entry (c.heap.nodes o).subtrie (spot k (c.heap.nodes o).subtrie) e) × (top ≡ c.root)
+IsStoredAt {c = c} (by_anchor lock root) heap top entry = (heap ≡ c.heap) × (top ≡ Some entry)
+IsStoredAt {c = c} {k = k} (by_node o locked names) heap top entry =
+    IsSubtrieStored c.heap heap o (with_entry (c.heap.nodes o).subtrie (spot k (c.heap.nodes o).subtrie) entry) × (top ≡ c.root)

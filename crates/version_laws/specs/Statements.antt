@@ -12,7 +12,7 @@ use Rattle.tries.specs.Content.{Item, item}
 use Rattle.tries.specs.Place.{subtrie_collapsed, subtrie_without, spot, entry_at, shape}
 use Rattle.tries.specs.Affected.{subtrie_forked, FirstForkIsBefore}
 use Rattle.versions.specs.Heap.{Heap}
-use Rattle.versions.specs.State.{State, Past, IsLawfulState, IsReach, IsSteady, IsLed, WasAbsentSince, IsHeldSince}
+use Rattle.versions.specs.State.{State, Past, IsLawfulState, IsReach, KeepsFixedWordsSince, IsLed, WasAbsentSince, IsHeldSince}
 use Rattle.record_words.specs.declared.records.Rec.{Rec}
 use Rattle.record_words.specs.declared.records.Rec.TheVariants.{Node as a_node, Leaf as a_leaf}
 use Rattle.versions.specs.Trades.{HasTraded}
@@ -23,7 +23,7 @@ use Rattle.versions.specs.Steps.{IsVersionPublish}
 use Rattle.version_laws.specs.Writer.{added_change, replaced_change, removed_change, IsFoundBelow, IsNewLeaf, Newcomer}
 use Rattle.version_laws.specs.Spots.{HoldsSpot, IsLowAt, AffectsSpotAloneInCore, IsStoredAt}
 use Rattle.version_laws.specs.Rise.{IsNewSubtrie, IsEntryFor, IsUpper, IsLeafOf, IsBesideNode, subtrie_merged, entry, IsRise, linked_for_entry, linked_by_rise, unlinked_by_rise}
-use Rattle.version_laws.specs.Scan.{Pair, Range, in_order_taken, IsRooted, IsPlaced, IsShaped, IsRead, EntryStoodSince}
+use Rattle.version_laws.specs.Scan.{Pair, Range, in_order_taken, IsRooted, IsPlaced, HadShapeSince, IsRead, EntryStoodSince}
 use Rattle.version_laws.specs.Directions.{IsAnswer, IsLawfulBy}
 use Rattle.packed_pairs.specs.declared.direction.Direction.{Direction}
 use Rattle.compound_node.specs.Nodes.{height_of}
@@ -31,122 +31,137 @@ use Rattle.versions.specs.Frames.{IsGrown}
 
 -- The store is a legal publish of this tree, which may be empty, and tells this change by the change's pass. The leaves are others than
 -- before. Just the records `new` are linked anew, and just the records `gone` are linked no more.
-pub record IsPublished (c : BareCore) (heap : Heap) (root : Option Entry) (x : Change) (new gone : List Rec) : Type 0 where
+pub record IsPublished (core : BareCore) (heap : Heap) (root : Option Entry) (change : Change) (new gone : List Rec) : Type 0 where
   pub tree : Option Tree
-  pub legal : IsVersionPublish c x.pass heap root tree x
-  pub differs : items_of (c.past.version c.past.now) ≢ items_of tree
-  pub trade : HasTraded (c.past.version c.past.now) tree new gone
+  pub legal : IsVersionPublish core change.pass heap root tree change
+  pub differs : items_of (core.past.version core.past.now) ≢ items_of tree
+  pub trade : HasTraded (core.past.version core.past.now) tree new gone
 
 -- An insertion may store the one entry that has risen from node `n` at the spot of `n`. So the entry names a copy of the node, an
 -- intermediate node or a new root.
 abbrev pub InsertAtSpot : Type 0
 InsertAtSpot =
-    (c : BareCore) (q : ℕ) → IsLawfulState (view c) → (x : Newcomer) → IsNewLeaf c q x.item → (n h : ℕ) (e : Entry) →
-    (i : IsRise c q x (entry n) (Place e)) → (s : HoldsSpot c q x.item.key (Node n h)) → AffectsSpotAloneInCore s x.mismatch → IsLowAt s e →
-    (heap : Heap) (root : Option Entry) → IsStoredAt s heap root e → IsPublished c heap root (added_change q x.item) (linked_by_rise i) (unlinked_by_rise i)
+    (core : BareCore) (pass : ℕ) → IsLawfulState (view core) → (newcomer : Newcomer) → IsNewLeaf core pass newcomer.item →
+    (n height : ℕ) (e : Entry) →
+    (i : IsRise core pass newcomer (entry n) (Place e)) → (s : HoldsSpot core pass newcomer.item.key (Node n height)) →
+    AffectsSpotAloneInCore s newcomer.mismatch → IsLowAt s e →
+    (heap : Heap) (root : Option Entry) → IsStoredAt s heap root e →
+    IsPublished core heap root (added_change pass newcomer.item) (linked_by_rise i) (unlinked_by_rise i)
 
 -- If a locked node's entry for the node below is all that an insertion affects, the node's own first fork is before `p`. So the node above
 -- it needs no other check than that its entry names it.
 abbrev pub UpperGoesOn : Type 0
-UpperGoesOn = (c : BareCore) (q : ℕ) → IsLawfulState (view c) → (k : Key) (p o n : ℕ) → IsUpper c q k p o n → FirstForkIsBefore p (c.heap.nodes o).subtrie
+UpperGoesOn =
+    (core : BareCore) (pass : ℕ) → IsLawfulState (view core) → (key : Key) (p o n : ℕ) → IsUpper core pass key p o n →
+    FirstForkIsBefore p (core.heap.nodes o).subtrie
 
 -- An insertion that affects one leaf alone may store a new node of that leaf and the new one. In a node this is a leaf pushdown, at the
 -- root it adds the second key.
 abbrev pub PairAtSpot : Type 0
 PairAtSpot =
-    (c : BareCore) (q : ℕ) → IsLawfulState (view c) → (x : Item) (p : ℕ) → IsNewLeaf c q x → (j m : ℕ) (g : Fixed) →
-    (s : HoldsSpot c q x.key (Leaf j)) → AffectsSpotAloneInCore s p → AgreeBelow p x.key (c.heap.leaves j).key → bit x.key p ≢ bit (c.heap.leaves j).key p →
-    IsNewSubtrie c q m g (subtrie_forked (bit x.key p) p (Leaf x.number) (Place (Leaf j))) → IsLowAt s (Node m g.height) →
-    (heap : Heap) (root : Option Entry) → IsStoredAt s heap root (Node m g.height) →
-    IsPublished c heap root (added_change q x) (a_node m ∷ a_leaf x.number ∷ []) []
+    (core : BareCore) (q : ℕ) → IsLawfulState (view core) → (x : Item) (position : ℕ) → IsNewLeaf core q x → (j m : ℕ) (fixed : Fixed) →
+    (s : HoldsSpot core q x.key (Leaf j)) → AffectsSpotAloneInCore s position → AgreeBelow position x.key (core.heap.leaves j).key →
+    bit x.key position ≢ bit (core.heap.leaves j).key position →
+    IsNewSubtrie core q m fixed (subtrie_forked (bit x.key position) position (Leaf x.number) (Place (Leaf j))) → IsLowAt s (Node m fixed.height) →
+    (heap : Heap) (root : Option Entry) → IsStoredAt s heap root (Node m fixed.height) →
+    IsPublished core heap root (added_change q x) (a_node m ∷ a_leaf x.number ∷ []) []
 
 -- An insertion into an empty index may store the new leaf at the root.
 abbrev pub FirstKey : Type 0
 FirstKey =
-    (c : BareCore) (q : ℕ) → IsLawfulState (view c) → (x : Item) → c.anchor ≡ Some q → c.root ≡ None → IsNewLeaf c q x →
-    IsPublished c c.heap (Some (Leaf x.number)) (added_change q x) (a_leaf x.number ∷ []) []
+    (core : BareCore) (pass : ℕ) → IsLawfulState (view core) → (x : Item) → core.anchor ≡ Some pass → core.root ≡ None → IsNewLeaf core pass x →
+    IsPublished core core.heap (Some (Leaf x.number)) (added_change pass x) (a_leaf x.number ∷ []) []
 
 -- An upsert of a held key may store a new leaf in place of the old one.
 abbrev pub UpsertAtSpot : Type 0
 UpsertAtSpot =
-    (c : BareCore) (q : ℕ) → IsLawfulState (view c) → (x : Item) → IsNewLeaf c q x → (j : ℕ) (s : HoldsSpot c q x.key (Leaf j)) → (c.heap.leaves j).key ≡ x.key →
+    (core : BareCore) (pass : ℕ) → IsLawfulState (view core) → (x : Item) → IsNewLeaf core pass x → (j : ℕ) (s : HoldsSpot core pass x.key (Leaf j)) →
+    (core.heap.leaves j).key ≡ x.key →
     (heap : Heap) (root : Option Entry) → IsStoredAt s heap root (Leaf x.number) →
-    IsPublished c heap root (replaced_change q x) (a_leaf x.number ∷ []) (a_leaf j ∷ [])
+    IsPublished core heap root (replaced_change pass x) (a_leaf x.number ∷ []) (a_leaf j ∷ [])
 
 -- A removal may store what is left of the leaf's node, one entry or a new node, in place of the node.
 abbrev pub RemoveAtSpot : Type 0
 RemoveAtSpot =
-    (c : BareCore) (q : ℕ) → IsLawfulState (view c) → (k : Key) (n j : ℕ) → IsLeafOf c q k n j → (h : ℕ) (e : Entry) →
-    (i : IsEntryFor c q (subtrie_without k (c.heap.nodes n).subtrie) e) → (s : HoldsSpot c q k (Node n h)) → IsLowAt s e →
+    (core : BareCore) (pass : ℕ) → IsLawfulState (view core) → (key : Key) (n j : ℕ) → IsLeafOf core pass key n j → (height : ℕ) (e : Entry) →
+    (i : IsEntryFor core pass (subtrie_without key (core.heap.nodes n).subtrie) e) → (s : HoldsSpot core pass key (Node n height)) → IsLowAt s e →
     (heap : Heap) (root : Option Entry) → IsStoredAt s heap root e →
-    IsPublished c heap root (removed_change q (item j k (c.heap.leaves j).value)) (linked_for_entry i) (a_node n ∷ a_leaf j ∷ [])
+    IsPublished core heap root (removed_change pass (item j key (core.heap.leaves j).value)) (linked_for_entry i) (a_node n ∷ a_leaf j ∷ [])
 
 -- A removal may merge what is left of the leaf's node with the node beside it. Their new node's entry closes the fork between them in the
 -- node above. What is left of that, one entry or a new node, takes its place.
 abbrev pub MergeAtSpot : Type 0
 MergeAtSpot =
-    (c : BareCore) (q : ℕ) → IsLawfulState (view c) → (k : Key) (n j : ℕ) → IsLeafOf c q k n j → (o m : ℕ) (b : IsBesideNode c q k o n m) →
-    (z : ℕ) (g : Fixed) → IsNewSubtrie c q z g (subtrie_merged c q k o n m b) →
-    (h : ℕ) (e : Entry) (i : IsEntryFor c q (subtrie_collapsed k (Node z g.height) (c.heap.nodes o).subtrie) e) →
-    (s : HoldsSpot c q k (Node o h)) → IsLowAt s e → (heap : Heap) (root : Option Entry) → IsStoredAt s heap root e →
-    IsPublished c heap root (removed_change q (item j k (c.heap.leaves j).value)) (linked_for_entry i ++ a_node z ∷ [])
+    (core : BareCore) (pass : ℕ) → IsLawfulState (view core) → (key : Key) (n j : ℕ) → IsLeafOf core pass key n j →
+    (o m : ℕ) (b : IsBesideNode core pass key o n m) →
+    (z : ℕ) (fixed : Fixed) → IsNewSubtrie core pass z fixed (subtrie_merged core pass key o n m b) →
+    (height : ℕ) (e : Entry) (i : IsEntryFor core pass (subtrie_collapsed key (Node z fixed.height) (core.heap.nodes o).subtrie) e) →
+    (s : HoldsSpot core pass key (Node o height)) → IsLowAt s e → (heap : Heap) (root : Option Entry) → IsStoredAt s heap root e →
+    IsPublished core heap root (removed_change pass (item j key (core.heap.leaves j).value)) (linked_for_entry i ++ a_node z ∷ [])
     (a_node o ∷ a_node n ∷ a_node m ∷ a_leaf j ∷ [])
 
 -- A removal of the last key may empty the root.
 abbrev pub RemoveLast : Type 0
 RemoveLast =
-    (c : BareCore) (q : ℕ) → IsLawfulState (view c) → (j : ℕ) → c.anchor ≡ Some q → c.root ≡ Some (Leaf j) →
-    IsPublished c c.heap None (removed_change q (item j (c.heap.leaves j).key (c.heap.leaves j).value)) [] (a_leaf j ∷ [])
+    (core : BareCore) (pass : ℕ) → IsLawfulState (view core) → (j : ℕ) → core.anchor ≡ Some pass → core.root ≡ Some (Leaf j) →
+    IsPublished core core.heap None (removed_change pass (item j (core.heap.leaves j).key (core.heap.leaves j).value)) [] (a_leaf j ∷ [])
 
 -- A search that was led to a leaf has its result from the leaf's key. The search's key was held with the leaf's value, or was absent, in a
 -- version since its start.
 abbrev pub GetEnds : Type 0
 GetEnds =
-    (s : State) → IsLawfulState s → (m : ℕ) → IsReach s m → (k : Key) (n : ℕ) → IsLed s.past m k (Leaf n) →
-    ((k ≡ (s.heap.leaves n).key) × IsHeldSince s.past m k (s.heap.leaves n).value) ⊎ ((k ≢ (s.heap.leaves n).key) × WasAbsentSince s.past m k)
+    (state : State) → IsLawfulState state → (since : ℕ) → IsReach state since → (key : Key) (n : ℕ) → IsLed state.past since key (Leaf n) →
+    ((key ≡ (state.heap.leaves n).key) × IsHeldSince state.past since key (state.heap.leaves n).value) ⊎
+    ((key ≢ (state.heap.leaves n).key) × WasAbsentSince state.past since key)
 
 -- A scan in this direction is lawful in the fronts, whether it came to its end or was cut at the limit.
 abbrev pub ScanIsLawful : Type 0
 ScanIsLawful =
-    (d : Direction) (more : Bool) (s : Past) (before rest : List Change) (m : ℕ) → IsSteady s m → TellChanges s (before ++ rest) →
-    (g : Range) → IsKey g.from → IsKey g.upto →
-    (xs : List Pair) (scan : Answer) → scan.pairs.items ≡ in_order_taken xs → scan.more ≡ more → IsAnswer d s (length before) g xs more →
-    IsLawfulBy d before (before ++ rest) g.from g.upto g.limit scan
+    (direction : Direction) (more : Bool) (past : Past) (before rest : List Change) (m : ℕ) → KeepsFixedWordsSince past m →
+    TellChanges past (before ++ rest) →
+    (range : Range) → IsKey range.from → IsKey range.upto →
+    (xs : List Pair) (scan : Answer) → scan.pairs.items ≡ in_order_taken xs → scan.more ≡ more →
+    IsAnswer direction past (length before) range xs more →
+    IsLawfulBy direction before (before ++ rest) range.from range.upto range.limit scan
 
 -- A load of the root in a lawful state leaves its fact.
 abbrev pub LoadsRoot : Type 0
-LoadsRoot = (s : State) → IsLawfulState s → (m : ℕ) → m ≤ s.now → (e : Entry) → s.root ≡ Some e → IsRooted s.past m e
+LoadsRoot = (state : State) → IsLawfulState state → (m : ℕ) → m ≤ state.now → (e : Entry) → state.root ≡ Some e → IsRooted state.past m e
 
 -- A load of an entry of a node in reach leaves its fact.
 abbrev pub LoadsPlace : Type 0
 LoadsPlace =
-    (s : State) → IsLawfulState s → (m : ℕ) → IsReach s m → (c h : ℕ) → EntryStoodSince s.past m (Node c h) → (j : ℕ) → j < size (s.heap.nodes c).subtrie →
-    IsPlaced s.past m c j (entry_at (s.heap.nodes c).subtrie j) × (height_of (entry_at (s.heap.nodes c).subtrie j) < h)
+    (state : State) → IsLawfulState state → (since : ℕ) → IsReach state since → (c height : ℕ) → EntryStoodSince state.past since (Node c height) →
+    (j : ℕ) → j < size (state.heap.nodes c).subtrie →
+    IsPlaced state.past since c j (entry_at (state.heap.nodes c).subtrie j) × (height_of (entry_at (state.heap.nodes c).subtrie j) < height)
 
 -- The loads of the head of a node in reach leave their fact.
 abbrev pub LoadsShape : Type 0
-LoadsShape = (s : State) → IsLawfulState s → (m : ℕ) → IsReach s m → (c h : ℕ) → EntryStoodSince s.past m (Node c h) →
-    IsShaped s.past m c (shape (s.heap.nodes c).subtrie)
+LoadsShape =
+    (state : State) → IsLawfulState state → (since : ℕ) → IsReach state since → (c height : ℕ) → EntryStoodSince state.past since (Node c height) →
+    HadShapeSince state.past since c (shape (state.heap.nodes c).subtrie)
 
 -- The loads of the words of a leaf in reach leave their fact.
 abbrev pub LoadsLeaf : Type 0
 LoadsLeaf =
-    (s : State) → IsLawfulState s → (m : ℕ) → IsReach s m → (n : ℕ) → EntryStoodSince s.past m (Leaf n) →
-    IsRead s.past m n (s.heap.leaves n).key (s.heap.leaves n).value
+    (state : State) → IsLawfulState state → (since : ℕ) → IsReach state since → (n : ℕ) → EntryStoodSince state.past since (Leaf n) →
+    IsRead state.past since n (state.heap.leaves n).key (state.heap.leaves n).value
 
 -- After a load of an empty root, each key was absent.
 abbrev pub LoadsNone : Type 0
-LoadsNone = (s : State) → IsLawfulState s → (m : ℕ) → m ≤ s.now → (k : Key) → s.root ≡ None → WasAbsentSince s.past m k
+LoadsNone = (state : State) → IsLawfulState state → (m : ℕ) → m ≤ state.now → (key : Key) → state.root ≡ None → WasAbsentSince state.past m key
 
 -- A search is led from a node to the entry on its path, whichever versions of the node's life it was loaded in.
 abbrev pub LedPlaced : Type 0
 LedPlaced =
-    (s : Past) (m : ℕ) → IsSteady s m → (k : Key) (r h j : ℕ) (p : Subtrie) (e : Entry) → IsShaped s m r p → spot k p ≡ j → IsPlaced s m r j e →
-    IsLed s m k (Node r h) → IsLed s m k e
+    (past : Past) (since : ℕ) → KeepsFixedWordsSince past since → (key : Key) (r height j : ℕ) (trie : Subtrie) (e : Entry) →
+    HadShapeSince past since r trie → spot key trie ≡ j → IsPlaced past since r j e →
+    IsLed past since key (Node r height) → IsLed past since key e
 
 -- What a writer has found below a locked node stays true while the versions grow. It asks that the writer keeps the lock, with the words
 -- that the node had, and its pin.
 abbrev pub FoundIsKept : Type 0
 FoundIsKept =
-    (c d : BareCore) (q : ℕ) (x : Newcomer) (n : ℕ) (pin : Pin) → IsLawfulState (view d) → IsGrown c.past d.past →
-    d.lock n ≡ Some q → d.heap.nodes n ≡ c.heap.nodes n → d.pins q ≡ Some pin → pin.version ≤ x.since → IsFoundBelow c q x n → IsFoundBelow d q x n
+    (old new : BareCore) (pass : ℕ) (newcomer : Newcomer) (n : ℕ) (pin : Pin) → IsLawfulState (view new) → IsGrown old.past new.past →
+    new.lock n ≡ Some pass → new.heap.nodes n ≡ old.heap.nodes n → new.pins pass ≡ Some pin → pin.version ≤ newcomer.since →
+    IsFoundBelow old pass newcomer n → IsFoundBelow new pass newcomer n

@@ -11,7 +11,7 @@ use Rattle.versions.specs.State.{Out, Links, IsLinked, IsLawfulState}
 use Rattle.record_words.specs.declared.records.Rec.{Rec}
 use Rattle.record_words.specs.declared.records.Rec.TheVariants.{Node as a_node, Leaf as a_leaf}
 use Rattle.finite_map.specs.declared.Change.{Change}
-use Rattle.versions.specs.Core.{has_seen, Fate, Free, Held, Ready, InTree, Unlinked, Marked, life_of, BareCore, pin_version, view, IsPaced}
+use Rattle.versions.specs.Core.{has_seen, Fate, Free, Held, Ready, InTree, Unlinked, Marked, life_of, BareCore, pin_version, view, HasLawfulEpochs}
 use Rattle.versions.specs.declared.Pin.{Pin}
 use Rattle.versions.specs.Steps.{same_rec, with_fate, links, is_linked, next_fate, after_publish, IsVersionPublish, after_set_pin, with_pin}
 use Rattle.versions.proofs.State.Publish.{publish_lawful, IsNext, comes, stays_out, stays, goes, gone}
@@ -87,7 +87,7 @@ pin_of None m e = absurd cc
 pin_of (Some p) m e = (p, refl, let x : p.version ≡ m = cc in x)
 
 -- GiveBack keeps the core lawful: no pinned pass can find the record.
-pub give_back_lawful : (c : BareCore) → IsLawfulState (view c) → IsPaced c.shared → (o : ℕ) (r : Rec) (f l s : ℕ) → c.fate r ≡ Marked f l s →
+pub give_back_lawful : (c : BareCore) → IsLawfulState (view c) → HasLawfulEpochs c.shared → (o : ℕ) (r : Rec) (f l s : ℕ) → c.fate r ≡ Marked f l s →
     s < (c.rounds o).bound → ((q : ℕ) (p : Pin) → c.pins q ≡ Some p → has_seen (c.rounds o).seen q ≡ true) → IsLawfulState (view (record c { shared = with_fate c.shared r Free }))
 give_back_lawful c law pace o r f l s e h all =
     quiet_lawful (view c) law c.heap (λ i. life_of (if same_rec i r then Free else c.fate i)) (λ q. pin_version (c.pins q)) (record {

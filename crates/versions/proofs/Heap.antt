@@ -8,7 +8,7 @@ use Rattle.tries.specs.Tree.{Subtrie, Tree, leaf, node, fork, subtrie, Has, IsTr
 use Rattle.node_tries.specs.Piece.{Place, Fork}
 use Rattle.tries.specs.Search.{Kin, tips, forks}
 use Rattle.tries.proofs.Tree.{has_within}
-use Rattle.versions.specs.Heap.{NodeWords, LeafWords, Heap, IsCopied, IsShown, IsNear}
+use Rattle.versions.specs.Heap.{NodeWords, LeafWords, Heap, IsCopied, IsShown, KeepsAllButOneEntry}
 use Rattle.tries.specs.Place.{Swap, in_zero, in_one}
 use Rattle.record_words.specs.declared.records.Rec.TheVariants.{Node as a_node, Leaf as a_leaf}
 
@@ -92,13 +92,13 @@ kept_side p x y (fork q c d) (inr (in_one w)) = (c, zero_side here, inl refl)
 abbrev pub IsNearSubtrie : Subtrie → Subtrie → Type 0
 IsNearSubtrie x y = (x ≡ y) ⊎ Swap x y
 
-pub near_subtrie : (m o : Heap) → IsNear m o → {n q : ℕ} {x y : NodeWords} → n ≡ q → m.nodes n ≡ x → o.nodes q ≡ y → IsNearSubtrie x.subtrie y.subtrie
+pub near_subtrie : (m o : Heap) → KeepsAllButOneEntry m o → {n q : ℕ} {x y : NodeWords} → n ≡ q → m.nodes n ≡ x → o.nodes q ≡ y → IsNearSubtrie x.subtrie y.subtrie
 near_subtrie m o near {n} {q} {x} {y} e i j =
     subst (λ z. IsNearSubtrie x.subtrie z) (ap (λ (z : NodeWords). z.subtrie) (ap o.nodes e ∙ j))
     (subst (λ z. IsNearSubtrie z (o.nodes n).subtrie) (ap (λ (z : NodeWords). z.subtrie) i) (near.2 n))
 
 -- Where each subtrie changes at one place at most, what one entry shows before and after has a key in common.
-pub common : (m o : Heap) → IsNear m o → (s t : Tree) → IsBuilt s → IsShown m s → IsShown o t → subtrie s ≡ subtrie t → IsCommon s t
+pub common : (m o : Heap) → KeepsAllButOneEntry m o → (s t : Tree) → IsBuilt s → IsShown m s → IsShown o t → subtrie s ≡ subtrie t → IsCommon s t
 common m o near (leaf n k v) (leaf q l w) b i j e =
     (k, refl, ap (λ (z : LeafWords). z.key) (sym i) ∙ (near.0 n ∙ ap (λ (z : LeafWords). z.key) (ap o.leaves (leaf_parts e) ∙ j)))
 common m o near (leaf n k v) (node q l w) b i j e = absurd cc
@@ -128,7 +128,7 @@ near_sides (inr (in_zero s)) = (refl, inr s, inl refl, inr refl)
 near_sides (inr (in_one s)) = (refl, inl refl, inr s, inl refl)
 
 -- So the bodies of one record before and after are kin.
-pub kin_step : (m o : Heap) → IsNear m o → (s t : Tree) → IsBuilt s → IsTrie s → IsTrie t → IsShown m s → IsShown o t →
+pub kin_step : (m o : Heap) → KeepsAllButOneEntry m o → (s t : Tree) → IsBuilt s → IsTrie s → IsTrie t → IsShown m s → IsShown o t →
     IsNearSubtrie (subtrie s) (subtrie t) → Kin s t
 kin_step m o near (leaf n k v) (leaf q c d) b l r i j e = tips tt tt
 kin_step m o near (leaf n k v) (node q c d) b l r i j e = tips tt tt
@@ -153,5 +153,5 @@ kin_step m o near (fork p x y) (fork q c d) b l r i j e =
     shared (inl v) = let z = common m o near x c b.0 i.0 j.0 v in (z.0, inl z.1, inl z.2)
     shared (inr v) = let z = common m o near y d b.1 i.1 j.1 v in (z.0, inr z.1, inr z.2)
 
-pub near_refl : (m : Heap) → IsNear m m
+pub near_refl : (m : Heap) → KeepsAllButOneEntry m m
 near_refl m = (λ n. refl, λ n. refl, λ n. inl refl)

@@ -9,7 +9,7 @@ use Rattle.compound_node.specs.declared.entries.Entry.TheVariants.{Leaf, Node}
 use Rattle.node_tries.specs.Piece.{Place}
 use Rattle.tries.specs.Search.{Follows, child, seek, between, IsUnder}
 use Rattle.versions.specs.Heap.{NodeWords, IsCopied}
-use Rattle.versions.specs.State.{rec_of, IsRecord, Life, Out, Linked, Retired, Spans, last_of, State, Stands, IsSameRecord, IsReach, IsLawfulState, WasAbsentSince, IsLed, IsLived, IsSteady}
+use Rattle.versions.specs.State.{rec_of, IsRecord, Life, Out, Linked, Retired, Spans, last_of, State, Stands, IsSameRecord, IsReach, IsLawfulState, WasAbsentSince, IsLed, IsLived, KeepsFixedWordsSince}
 use Rattle.record_words.specs.declared.records.Rec.{Rec}
 use Rattle.record_words.specs.declared.records.Rec.TheVariants.{Node as a_node}
 use Rattle.tries.proofs.Tree.{within_trans, trie_within, built_within, descend, within_child, subtrie_child, follows_kin, kin_trans, kin_sym, parting}
@@ -137,7 +137,7 @@ same_sym (node n h b) (fork p a c) f = elim f [ ]
 same_sym (fork p a b) v f = elim f [ ]
 
 -- What is in reach keeps its fixed words and stems.
-pub steady : (s : State) → IsLawfulState s → (m : ℕ) → IsReach s m → IsSteady s.past m
+pub steady : (s : State) → IsLawfulState s → (m : ℕ) → IsReach s m → KeepsFixedWordsSince s.past m
 steady s law m reach = record {
   trees = law.trees;
   same = λ r n o u v ln hn lo ho st su.

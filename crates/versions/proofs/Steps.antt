@@ -10,7 +10,7 @@ use Rattle.record_words.specs.declared.records.Rec.{Rec}
 use Rattle.record_words.specs.declared.records.Rec.TheVariants.{Node as a_node, Leaf as a_leaf}
 use Rattle.versions.specs.Core.{Fate, Free, Held, Ready, InTree, Unlinked, Marked, life_of, BareCore, view, pin_version}
 use Rattle.versions.specs.declared.Pin.{Pin}
-use Rattle.versions.specs.Steps.{bare_opening, same_rec, with_fate, is_linked, next_fate, IsVersionPublish, with_lock, unlocked, after_mark, FillsOnly, IsLockable, IsLawfulCore, IsCoreStep, claims, fills, readies, releases, locks_anchor, unlocks_anchor, locks, unlocks, publishes, marks, loads_epoch, advances, pins, unpins, loads_pin, gives_back}
+use Rattle.versions.specs.Steps.{bare_opening, same_rec, with_fate, is_linked, next_fate, IsVersionPublish, with_lock, unlocked, after_mark, ChangesNoOther, IsLockable, IsLawfulCore, IsCoreStep, claims, fills, readies, releases, locks_anchor, unlocks_anchor, locks, unlocks, publishes, marks, loads_epoch, advances, pins, unpins, loads_pin, gives_back}
 use Rattle.versions.proofs.Core.{same_rec_refl, same_rec_true, linked_cases, legal_publish_lawful, fate_lawful, give_back_lawful, fill_lawful, set_pin_lawful, clear_pin_lawful}
 use Rattle.versions.proofs.Core.Pace.{set_pin_paced, load_epoch_paced, load_pin_paced, mark_paced, publish_paced, fate_paced, lock_paced, anchor_paced, advance_paced, clear_pin_paced, reach_kept}
 use Rattle.versions.proofs.Told.{publish_told, content_in_order}
@@ -44,7 +44,7 @@ module _ (c : BareCore) (q : ℕ) (law : IsLawfulCore c) where
     locked = fate_locked c r f g law e none;
   }
 
-  fill_step : (r : Rec) (heap : Heap) → c.fate r ≡ Held q → FillsOnly c.heap heap r → IsLawfulCore (record c { heap = heap })
+  fill_step : (r : Rec) (heap : Heap) → c.fate r ≡ Held q → ChangesNoOther c.heap heap r → IsLawfulCore (record c { heap = heap })
   fill_step r heap e f = record {
     state = fill_lawful c heap law.state
         (λ n. either (a_node n) (λ h. f.nodes n h)) (λ n. either (a_leaf n) (λ h. f.leaves n h));

@@ -20,10 +20,10 @@ pub data Fate : Type 0 where
 -- the life of a record that its fate tells
 abbrev pub life_of : Fate → Life
 life_of Free = Out
-life_of (Held q) = Out
-life_of (Ready q) = Out
+life_of (Held pass) = Out
+life_of (Ready pass) = Out
 life_of (InTree f) = Linked f
-life_of (Unlinked f l q) = Retired f l
+life_of (Unlinked f l pass) = Retired f l
 life_of (Marked f l s) = Retired f l
 
 -- the pass is among those whose pins the round has loaded
@@ -53,16 +53,22 @@ pub record BareCore : Type 0 where
 -- the version since which a pass is pinned
 abbrev pub pin_version : Option Pin → Option ℕ
 pin_version None = None
-pin_version (Some p) = Some p.version
+pin_version (Some pin) = Some pin.version
 
 -- The core without locks and epochs, as versions see it.
 abbrev pub view : BareCore → State
-view c = record { heap = c.heap; root = c.root; past = c.past; life = λ r. life_of (c.fate r); pin = λ q. pin_version (c.pins q) }
+view core =
+    record { heap = core.heap; root = core.root; past = core.past; life = λ r. life_of (core.fate r); pin = λ pass. pin_version (core.pins pass) }
 
 -- What holds of epochs. The mark of a retired record is not below the epoch at which a pass was pinned that may have found it linked.
-pub record IsPaced (c : Shared) : Type 0 where
-  pub floors : (q : ℕ) (p : Pin) → c.pins q ≡ Some p → (p.word ≤ p.floor) × (p.floor ≤ c.epoch) × (p.version ≤ c.past.now)
-  pub loads : (q : ℕ) → ((c.rounds q).epoch ≤ c.epoch) × ((c.rounds q).version ≤ c.past.now) × ((c.rounds q).bound ≤ (c.rounds q).epoch)
-  pub after : (q o : ℕ) (p : Pin) → c.pins q ≡ Some p → (p.floor ≤ (c.rounds o).epoch) ⊎ ((c.rounds o).version ≤ p.version)
-  pub marks : (r : Rec) (f l s : ℕ) → c.fate r ≡ Marked f l s → (q : ℕ) (p : Pin) → c.pins q ≡ Some p → (p.floor ≤ s) ⊎ (l < p.version)
-  pub bounds : (q o : ℕ) (p : Pin) → c.pins q ≡ Some p → has_seen (c.rounds o).seen q ≡ true → (c.rounds o).bound ≤ p.floor
+pub record HasLawfulEpochs (shared : Shared) : Type 0 where
+  pub floors : (pass : ℕ) (pin : Pin) → shared.pins pass ≡ Some pin → (pin.word ≤ pin.floor) × (pin.floor ≤ shared.epoch) ×
+      (pin.version ≤ shared.past.now)
+  pub loads : (pass : ℕ) → ((shared.rounds pass).epoch ≤ shared.epoch) × ((shared.rounds pass).version ≤ shared.past.now) ×
+      ((shared.rounds pass).bound ≤ (shared.rounds pass).epoch)
+  pub after : (pass o : ℕ) (pin : Pin) → shared.pins pass ≡ Some pin → (pin.floor ≤ (shared.rounds o).epoch) ⊎
+      ((shared.rounds o).version ≤ pin.version)
+  pub marks : (rec : Rec) (f l s : ℕ) → shared.fate rec ≡ Marked f l s → (pass : ℕ) (pin : Pin) → shared.pins pass ≡ Some pin → (pin.floor ≤ s) ⊎
+      (l < pin.version)
+  pub bounds : (pass o : ℕ) (pin : Pin) → shared.pins pass ≡ Some pin → has_seen (shared.rounds o).seen pass ≡ true →
+      (shared.rounds o).bound ≤ pin.floor

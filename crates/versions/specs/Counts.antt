@@ -9,5 +9,6 @@ use Rattle.record_words.specs.declared.records.Rec.TheVariants.{Node as a_node}
 -- The node records in the tree, each listed once, are fewer than the keys of the map. If that has none, there is none.
 abbrev pub NodesInTreeAreFewer : Type 0
 NodesInTreeAreFewer =
-    (c : BareCore) → IsLawfulCore c → (numbers : List ℕ) → AreApart numbers → All (λ n. (since : ℕ) × (c.fate (a_node n) ≡ InTree since)) numbers →
-    length numbers ≤ length (map_of c.changes) - 1
+    (core : BareCore) → IsLawfulCore core → (numbers : List ℕ) → AreApart numbers →
+    All (λ n. (since : ℕ) × (core.fate (a_node n) ≡ InTree since)) numbers →
+    length numbers ≤ length (map_of core.changes) - 1

@@ -3,6 +3,6 @@ use Rattle.std.specs.Prelude.{◌≡◌, ℕ, ◌≤◌}
 use Rattle.versions.specs.State.{Past}
 
 -- The second past goes on from the first.
-pub record IsGrown (a b : Past) : Type 0 where
-  pub longer : a.now ≤ b.now
-  pub kept : (n : ℕ) → n ≤ a.now → b.version n ≡ a.version n
+pub record IsGrown (old new : Past) : Type 0 where
+  pub longer : old.now ≤ new.now
+  pub kept : (n : ℕ) → n ≤ old.now → new.version n ≡ old.version n

@@ -21,18 +21,18 @@ pub record Heap : Type 0 where
 
 -- The record with which the tree begins has the words that the tree tells.
 abbrev pub IsCopied : Heap → Tree → Type 0
-IsCopied m (leaf n k v) = m.leaves n ≡ record { key = k; value = v }
-IsCopied m (node n x b) = m.nodes n ≡ record { fixed = x; subtrie = subtrie b }
-IsCopied m (fork p a b) = Unit {0}
+IsCopied heap (leaf number key value) = heap.leaves number ≡ record { key = key; value = value }
+IsCopied heap (node number fixed body) = heap.nodes number ≡ record { fixed = fixed; subtrie = subtrie body }
+IsCopied heap (fork position left right) = Unit {0}
 
 -- Each record of the tree has the words that the tree tells.
 abbrev pub IsShown : Heap → Tree → Type 0
-IsShown m (leaf n k v) = m.leaves n ≡ record { key = k; value = v }
-IsShown m (node n x b) = (m.nodes n ≡ record { fixed = x; subtrie = subtrie b }) × IsShown m b
-IsShown m (fork p a b) = IsShown m a × IsShown m b
+IsShown heap (leaf number key value) = heap.leaves number ≡ record { key = key; value = value }
+IsShown heap (node number fixed body) = (heap.nodes number ≡ record { fixed = fixed; subtrie = subtrie body }) × IsShown heap body
+IsShown heap (fork position left right) = IsShown heap left × IsShown heap right
 
 -- From one heap to the next, each leaf keeps its key, and each node its fixed words. Each subtrie keeps all entries but one at most.
-abbrev pub IsNear : Heap → Heap → Type 0
-IsNear m o =
-    ((n : ℕ) → (m.leaves n).key ≡ (o.leaves n).key) × ((n : ℕ) → ((m.nodes n).fixed ≡ (o.nodes n).fixed)) ×
-    ((n : ℕ) → ((m.nodes n).subtrie ≡ (o.nodes n).subtrie) ⊎ Swap (m.nodes n).subtrie (o.nodes n).subtrie)
+abbrev pub KeepsAllButOneEntry : Heap → Heap → Type 0
+KeepsAllButOneEntry old new =
+    ((n : ℕ) → (old.leaves n).key ≡ (new.leaves n).key) × ((n : ℕ) → ((old.nodes n).fixed ≡ (new.nodes n).fixed)) ×
+    ((n : ℕ) → ((old.nodes n).subtrie ≡ (new.nodes n).subtrie) ⊎ Swap (old.nodes n).subtrie (new.nodes n).subtrie)

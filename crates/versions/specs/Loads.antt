@@ -13,42 +13,43 @@ use Rattle.versions.specs.Steps.{IsLawfulCore, at_first, is_linked}
 
 -- a fork of two trees, or the one that is there
 abbrev pub forked : ℕ → Option Tree → Option Tree → Option Tree
-forked p None b = b
-forked p (Some a) None = Some a
-forked p (Some a) (Some b) = Some (fork p a b)
+forked p None tree = tree
+forked p (Some tree) None = Some tree
+forked position (Some a) (Some b) = Some (fork position a b)
 
 -- the tree of the first i leaves alone, with their forks and without nodes
 abbrev pub first_leaves : Tree → ℕ → Option Tree
-first_leaves (leaf n k v) zero = None
-first_leaves (leaf n k v) (suc i) = Some (leaf n k v)
-first_leaves (node n x b) i = first_leaves b i
-first_leaves (fork p a b) i = forked p (first_leaves a i) (first_leaves b (i - length (items a)))
+first_leaves (leaf number key value) zero = None
+first_leaves (leaf number key value) (suc i) = Some (leaf number key value)
+first_leaves (node number fixed body) i = first_leaves body i
+first_leaves (fork position left right) i = forked position (first_leaves left i) (first_leaves right (i - length (items left)))
 
 -- the tree of the first i leaves of a tree, if there is one
 abbrev pub first_leaves_of : Option Tree → ℕ → Option Tree
 first_leaves_of None i = None
-first_leaves_of (Some t) i = first_leaves t i
+first_leaves_of (Some tree) i = first_leaves tree i
 
 -- The versions of an index into which a tree was loaded. Version i has its first i leaves, and the last one is the tree.
 abbrev pub loaded_past : Option Tree → Past
-loaded_past t = record { now = length (items_of t); version = with_version (first_leaves_of t) (length (items_of t)) t }
+loaded_past tree = record { now = length (items_of tree); version = with_version (first_leaves_of tree) (length (items_of tree)) tree }
 
 -- What passes share after pass q has loaded the tree. Its records are linked since the last version, and each leaf was added in turn.
 abbrev pub loaded_by : Shared → ℕ → Option Entry → Option Tree → Shared
-loaded_by s q root t = record s {
+loaded_by shared q root tree = record shared {
   root = root;
-  past = loaded_past t;
-  changes = s.changes ++ map (added_change q) (items_of t);
-  fate = λ r. if is_linked t r then InTree (length (items_of t)) else s.fate r;
+  past = loaded_past tree;
+  changes = shared.changes ++ map (added_change q) (items_of tree);
+  fate = λ r. if is_linked tree r then InTree (length (items_of tree)) else shared.fate r;
 }
 
 -- The leaves of a bit trie, as answered insertions, are legal calls of the pass that adds them.
 abbrev pub LoadIsLegal : Type 0
 LoadIsLegal =
-    (q : ℕ) (t : Option Tree) → ((u : Tree) → t ≡ Some u → IsTrie u) → LegalCalls (map (added_change q) (items_of t)) q (added_notes 0 (items_of t))
+    (pass : ℕ) (tree : Option Tree) → ((u : Tree) → tree ≡ Some u → IsTrie u) →
+    LegalCalls (map (added_change pass) (items_of tree)) pass (added_notes 0 (items_of tree))
 
 -- The core is lawful after a load of a lawful tree that the words show.
 abbrev pub LoadIsLawful : Type 0
 LoadIsLawful =
-    (heap : Heap) (q : ℕ) (root : Option Entry) (t : Option Tree) → IsTop heap root t → ((u : Tree) → t ≡ Some u → IsTrie u × IsBuilt u) →
-    IsLawfulCore (record { heap = heap; shared = loaded_by at_first q root t })
+    (heap : Heap) (pass : ℕ) (root : Option Entry) (tree : Option Tree) → IsTop heap root tree → ((u : Tree) → tree ≡ Some u → IsTrie u × IsBuilt u) →
+    IsLawfulCore (record { heap = heap; shared = loaded_by at_first pass root tree })

@@ -8,7 +8,7 @@ use Rattle.versions.specs.Heap.{Heap}
 
 -- the tree that the words show from an entry on, if no path of it has more than so many nodes
 abbrev pub read : Heap → ℕ → Entry → Option Tree
-read m f (Leaf n) = Some (leaf n (m.leaves n).key (m.leaves n).value)
-read m zero (Node n h) = None
-read m (suc f) (Node n h) =
-    if nat_eq (m.nodes n).fixed.height h then join_node n (m.nodes n).fixed (read_subtrie (read m f) (m.nodes n).subtrie) else None
+read heap f (Leaf number) = Some (leaf number (heap.leaves number).key (heap.leaves number).value)
+read heap zero (Node number height) = None
+read heap (suc f) (Node number height) =
+    if nat_eq (heap.nodes number).fixed.height height then join_node number (heap.nodes number).fixed (read_subtrie (read heap f) (heap.nodes number).subtrie) else None

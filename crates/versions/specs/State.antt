@@ -12,20 +12,20 @@ use Rattle.versions.specs.Heap.{Heap, IsCopied, IsShown}
 
 -- the record that an entry names
 abbrev pub rec_of : Entry → Rec
-rec_of (Leaf n) = a_leaf n
-rec_of (Node n h) = a_node n
+rec_of (Leaf number) = a_leaf number
+rec_of (Node number height) = a_node number
 
 -- The tree begins with this record.
 abbrev pub IsRecord : Rec → Tree → Type 0
-IsRecord r (leaf n k v) = r ≡ a_leaf n
-IsRecord r (node n h b) = r ≡ a_node n
-IsRecord r (fork p a b) = ⊥
+IsRecord rec (leaf number key value) = rec ≡ a_leaf number
+IsRecord rec (node number fixed body) = rec ≡ a_node number
+IsRecord rec (fork position left right) = ⊥
 
 -- The record is linked in the tree.
 abbrev pub Links : Tree → Rec → Type 0
-Links (leaf n k v) r = r ≡ a_leaf n
-Links (node n h b) r = (r ≡ a_node n) ⊎ Links b r
-Links (fork p a b) r = Links a r ⊎ Links b r
+Links (leaf number key value) rec = rec ≡ a_leaf number
+Links (node number fixed body) rec = (rec ≡ a_node number) ⊎ Links body rec
+Links (fork position left right) rec = Links left rec ⊎ Links right rec
 
 -- The present life of a record. It was not linked since it was last free, is linked since a version, or was linked from one version to
 -- another.
@@ -67,11 +67,11 @@ pub record State : Type 0 where
   pub pin : ℕ → Option ℕ
 
 -- In version `n` the record stands in the tree as `u`.
-pub record Stands (s : Past) (n : ℕ) (r : Rec) (u : Tree) : Type 0 where
+pub record Stands (past : Past) (n : ℕ) (rec : Rec) (u : Tree) : Type 0 where
   pub tree : Tree
-  pub is_version : s.version n ≡ Some tree
+  pub is_version : past.version n ≡ Some tree
   pub within : Within u tree
-  pub is_record : IsRecord r u
+  pub is_record : IsRecord rec u
 
 -- Two trees of one record: the same fixed words and kin bodies, or the same key.
 abbrev pub IsSameRecord : Tree → Tree → Type 0
@@ -81,73 +81,78 @@ IsSameRecord s t = ⊥
 
 -- The words show this tree from the root's entry on, or no tree where the root has none.
 abbrev pub IsTop : Heap → Option Entry → Option Tree → Type 0
-IsTop m None None = Unit {0}
-IsTop m None (Some t) = ⊥
-IsTop m (Some e) None = ⊥
-IsTop m (Some e) (Some t) = (subtrie t ≡ Place e) × IsShown m t
+IsTop heap None None = Unit {0}
+IsTop heap None (Some tree) = ⊥
+IsTop heap (Some entry) None = ⊥
+IsTop heap (Some entry) (Some tree) = (subtrie tree ≡ Place entry) × IsShown heap tree
 
 -- Each record that was linked in a version since `m` is still in the life that it had there.
 abbrev pub IsReach : State → ℕ → Type 0
-IsReach s m = (n : ℕ) → m ≤ n → n ≤ s.now → (r : Rec) (u : Tree) → Stands s.past n r u → Spans s.now (s.life r) n
+IsReach state m = (n : ℕ) → m ≤ n → n ≤ state.now → (rec : Rec) (tree : Tree) → Stands state.past n rec tree → Spans state.now (state.life rec) n
 
 -- What holds in each state of the words, the versions and the lives.
-pub record IsLawfulState (s : State) : Type 0 where
-  pub trees : (n : ℕ) (t : Tree) → n ≤ s.now → s.version n ≡ Some t → IsTrie t × IsBuilt t
-  pub top : IsTop s.heap s.root (s.version s.now)
-  pub lived : (r : Rec) → IsLived s.now (s.life r)
+pub record IsLawfulState (state : State) : Type 0 where
+  pub trees : (n : ℕ) (t : Tree) → n ≤ state.now → state.version n ≡ Some t → IsTrie t × IsBuilt t
+  pub top : IsTop state.heap state.root (state.version state.now)
+  pub lived : (rec : Rec) → IsLived state.now (state.life rec)
   -- a record is linked in each version of its life
-  pub alive : (r : Rec) (n : ℕ) → Spans s.now (s.life r) n → (u : Tree) × Stands s.past n r u
+  pub alive : (rec : Rec) (n : ℕ) → Spans state.now (state.life rec) n → (u : Tree) × Stands state.past n rec u
   -- what is linked now is in its life
-  pub present : IsReach s s.now
+  pub present : IsReach state state.now
   -- a record's words are those of the last version of its life
-  pub frozen : (r : Rec) (u : Tree) → Spans s.now (s.life r) (last_of s.now (s.life r)) → Stands s.past (last_of s.now (s.life r)) r u → IsCopied s.heap u
+  pub frozen : (rec : Rec) (u : Tree) → Spans state.now (state.life rec) (last_of state.now (state.life rec)) →
+      Stands state.past (last_of state.now (state.life rec)) rec u → IsCopied state.heap u
   -- a record's fixed words and stems are those of each version of its life
-  pub same : (r : Rec) (n : ℕ) (u v : Tree) → Spans s.now (s.life r) n → Stands s.past n r u → Stands s.past (last_of s.now (s.life r)) r v → IsSameRecord u v
+  pub same : (rec : Rec) (n : ℕ) (u v : Tree) → Spans state.now (state.life rec) n → Stands state.past n rec u →
+      Stands state.past (last_of state.now (state.life rec)) rec v → IsSameRecord u v
   -- what was linked in a version since a pass's pin is still in the life of that version
-  pub reach : (q m : ℕ) → s.pin q ≡ Some m → IsReach s m
+  pub reach : (pass m : ℕ) → state.pin pass ≡ Some m → IsReach state m
 
 -- The key is in no leaf of the version.
 abbrev pub IsAbsent : Past → ℕ → Key → Type 0
-IsAbsent s n k = (t : Tree) → s.version n ≡ Some t → Has t k → ⊥
+IsAbsent past n key = (tree : Tree) → past.version n ≡ Some tree → Has tree key → ⊥
 
 -- The key was absent in a version since `m`.
 abbrev pub WasAbsentSince : Past → ℕ → Key → Type 0
-WasAbsentSince s m k = (n : ℕ) × (m ≤ n) × (n ≤ s.now) × IsAbsent s n k
+WasAbsentSince past m key = (n : ℕ) × (m ≤ n) × (n ≤ past.now) × IsAbsent past n key
 
--- What a search for the key knows of an entry that it was led to. The entry's record was linked in a version since `m`. The key follows its
--- stem, or was absent since.
+-- What a search for the key knows of an entry that it was led to. The entry's record was linked in a version from `since` on. The key
+-- follows its stem, or was absent since.
 abbrev pub IsLed : Past → ℕ → Key → Entry → Type 0
-IsLed s m k e =
-    (n : ℕ) × (u : Tree) × (m ≤ n) × (n ≤ s.now) × Stands s n (rec_of e) u × (subtrie u ≡ Place e) × (Follows k u ⊎ WasAbsentSince s m k)
+IsLed past since key entry =
+    (n : ℕ) × (tree : Tree) × (since ≤ n) × (n ≤ past.now) × Stands past n (rec_of entry) tree × (subtrie tree ≡ Place entry) ×
+    (Follows key tree ⊎ WasAbsentSince past since key)
 
 -- The subtrie's first fork is at `p` or later.
 abbrev pub FirstForkIsFrom : ℕ → Subtrie → Type 0
-FirstForkIsFrom p (Place e) = Unit {0}
-FirstForkIsFrom p (Fork q x y) = p ≤ q
+FirstForkIsFrom p (Place entry) = Unit {0}
+FirstForkIsFrom p (Fork position left right) = p ≤ position
 
 -- The entry's record was linked in a version since `m`, and all of its keys there have the property.
 abbrev pub StoodWithKeys : Past → ℕ → (Key → Type 0) → Entry → Type 0
-StoodWithKeys s m P e =
-    (n : ℕ) × (u : Tree) × (m ≤ n) × (n ≤ s.now) × Stands s n (rec_of e) u × (subtrie u ≡ Place e) × ((y : Key) → Has u y → P y)
+StoodWithKeys past m P entry =
+    (n : ℕ) × (tree : Tree) × (m ≤ n) × (n ≤ past.now) × Stands past n (rec_of entry) tree × (subtrie tree ≡ Place entry) ×
+    ((key : Key) → Has tree key → P key)
 
 -- The record is linked in the version, which may be empty.
 abbrev pub IsLinked : Option Tree → Rec → Type 0
-IsLinked None r = ⊥
-IsLinked (Some t) r = Links t r
+IsLinked None rec = ⊥
+IsLinked (Some tree) rec = Links tree rec
 
--- The versions, with `t` as version n.
+-- The versions, with this tree as version n.
 abbrev pub with_version : (ℕ → Option Tree) → ℕ → Option Tree → ℕ → Option Tree
-with_version f n t i = if nat_eq i n then t else f i
+with_version f n tree i = if nat_eq i n then tree else f i
 
 -- The key had the value in a version since `m`.
 abbrev pub IsHeldSince : Past → ℕ → Key → ℕ → Type 0
-IsHeldSince s m k v = (n : ℕ) × (t : Tree) × (m ≤ n) × (n ≤ s.now) × (s.version n ≡ Some t) × Holds t k v
+IsHeldSince past m key v = (n : ℕ) × (tree : Tree) × (m ≤ n) × (n ≤ past.now) × (past.version n ≡ Some tree) × Holds tree key v
 
 -- The key was held in each version since `m`.
 abbrev pub IsKeptSince : Past → ℕ → Key → Type 0
-IsKeptSince s m k = (n : ℕ) → m ≤ n → n ≤ s.now → (t : Tree) × (s.version n ≡ Some t) × Has t k
+IsKeptSince past m key = (n : ℕ) → m ≤ n → n ≤ past.now → (tree : Tree) × (past.version n ≡ Some tree) × Has tree key
 
 -- The records keep their fixed words and stems from version `m` on.
-pub record IsSteady (s : Past) (m : ℕ) : Type 0 where
-  pub trees : (n : ℕ) (t : Tree) → n ≤ s.now → s.version n ≡ Some t → IsTrie t × IsBuilt t
-  pub same : (r : Rec) (n o : ℕ) (u v : Tree) → m ≤ n → n ≤ s.now → m ≤ o → o ≤ s.now → Stands s n r u → Stands s o r v → IsSameRecord u v
+pub record KeepsFixedWordsSince (past : Past) (m : ℕ) : Type 0 where
+  pub trees : (n : ℕ) (t : Tree) → n ≤ past.now → past.version n ≡ Some t → IsTrie t × IsBuilt t
+  pub same : (rec : Rec) (n o : ℕ) (u v : Tree) → m ≤ n → n ≤ past.now → m ≤ o → o ≤ past.now → Stands past n rec u → Stands past o rec v →
+      IsSameRecord u v

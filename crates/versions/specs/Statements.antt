@@ -17,15 +17,16 @@ use Rattle.versions.specs.Steps.{IsLawfulCore, IsCoreStep, bare_opening}
 -- A search may go on in a node that has changed since it was led there.
 abbrev pub StateHindsight : Type 0
 StateHindsight =
-    (s : State) → IsLawfulState s → (m : ℕ) → IsReach s m → (k : Key) (n h : ℕ) →
-    IsLed s.past m k (Node n h) → IsLed s.past m k (seek k (s.heap.nodes n).subtrie)
+    (state : State) → IsLawfulState state → (since : ℕ) → IsReach state since → (key : Key) (n height : ℕ) →
+    IsLed state.past since key (Node n height) → IsLed state.past since key (seek key (state.heap.nodes n).subtrie)
 
 -- Keys below two slots of a node are parted by the fork between the slots, whichever versions they are of.
 abbrev pub StateParting : Type 0
 StateParting =
-    (s : State) → IsLawfulState s → (r : Rec) (n o x y : ℕ) (g h : Fixed) (b c : Tree) → n ≤ s.now → o ≤ s.now →
-    Spans s.now (s.life r) n → Spans s.now (s.life r) o → Stands s.past n r (node x g b) → Stands s.past o r (node y h c) →
-    (i j : ℕ) → i < j → (k l : Key) → IsUnder b i k → IsUnder c j l → IsParted (between (subtrie b) i j) k l
+    (state : State) → IsLawfulState state → (rec : Rec) (n o x y : ℕ) (g h : Fixed) (b c : Tree) → n ≤ state.now → o ≤ state.now →
+    Spans state.now (state.life rec) n → Spans state.now (state.life rec) o → Stands state.past n rec (node x g b) →
+    Stands state.past o rec (node y h c) →
+    (i j : ℕ) → i < j → (key other : Key) → IsUnder b i key → IsUnder c j other → IsParted (between (subtrie b) i j) key other
 
 -- The opening core is lawful.
 abbrev pub BareOpeningIsLawful : Type 0
@@ -33,22 +34,22 @@ BareOpeningIsLawful = (heap : Heap) → IsLawfulCore (bare_opening heap)
 
 -- Each legal step keeps the core lawful.
 abbrev pub StepKeepsLawful : Type 0
-StepKeepsLawful = (c : BareCore) (q : ℕ) (d : BareCore) → IsLawfulCore c → IsCoreStep c q d → IsLawfulCore d
+StepKeepsLawful = (old : BareCore) (pass : ℕ) (new : BareCore) → IsLawfulCore old → IsCoreStep old pass new → IsLawfulCore new
 
 -- The content of each version, in strict key order, is the map of the changes before it.
 abbrev pub ContentIsMap : Type 0
 ContentIsMap =
-    (c : BareCore) → IsLawfulCore c → (n : ℕ) → n ≤ c.past.now →
-    (content (c.past.version n) ≡ map_of (take n c.changes)) × IsRising (content (c.past.version n))
+    (core : BareCore) → IsLawfulCore core → (n : ℕ) → n ≤ core.past.now →
+    (content (core.past.version n) ≡ map_of (take n core.changes)) × IsRising (content (core.past.version n))
 
 -- No record of a pinned pass's reach is free or held.
 abbrev pub BareReachIsKept : Type 0
 BareReachIsKept =
-    (c : BareCore) → IsLawfulCore c → (q : ℕ) (p : Pin) → c.pins q ≡ Some p → (n : ℕ) → p.version ≤ n → n ≤ c.past.now →
-    (r : Rec) (u : Tree) → Stands c.past n r u → (c.fate r ≢ Free) × ((o : ℕ) → c.fate r ≢ Held o)
+    (core : BareCore) → IsLawfulCore core → (pass : ℕ) (pin : Pin) → core.pins pass ≡ Some pin → (n : ℕ) → pin.version ≤ n → n ≤ core.past.now →
+    (rec : Rec) (tree : Tree) → Stands core.past n rec tree → (core.fate rec ≢ Free) × ((o : ℕ) → core.fate rec ≢ Held o)
 
 -- In all versions since a pass's pin, a node of its reach has the same fixed words and stems. A leaf has the same key.
 abbrev pub ReachIsSteady : Type 0
 ReachIsSteady =
-    (c : BareCore) → IsLawfulCore c → (q : ℕ) (p : Pin) → c.pins q ≡ Some p → (r : Rec) (n o : ℕ) (u v : Tree) →
-    p.version ≤ n → n ≤ c.past.now → p.version ≤ o → o ≤ c.past.now → Stands c.past n r u → Stands c.past o r v → IsSameRecord u v
+    (core : BareCore) → IsLawfulCore core → (pass : ℕ) (pin : Pin) → core.pins pass ≡ Some pin → (rec : Rec) (n o : ℕ) (u v : Tree) →
+    pin.version ≤ n → n ≤ core.past.now → pin.version ≤ o → o ≤ core.past.now → Stands core.past n rec u → Stands core.past o rec v → IsSameRecord u v

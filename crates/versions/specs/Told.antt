@@ -15,27 +15,27 @@ use Rattle.versions.specs.State.{Past}
 -- the leaves of a version, which may be empty
 abbrev pub items_of : Option Tree → List Item
 items_of None = []
-items_of (Some t) = items t
+items_of (Some tree) = items tree
 
 -- The keys and values of a version's leaves, in order.
 abbrev pub content : Option Tree → Map
-content t = pairs (items_of t)
+content tree = pairs (items_of tree)
 
 -- The leaf record of this number, with a change's key and value.
 abbrev pub item_of : ℕ → Change → Item
-item_of n x = record { number = n; key = x.key; value = x.value }
+item_of n change = record { number = n; key = change.key; value = change.value }
 
--- The change by which pass `q` adds this leaf.
+-- The change by which the pass adds this leaf.
 abbrev pub added_change : ℕ → Item → Change
-added_change q x = record { pass = q; key = x.key; value = x.value; kind = Added }
+added_change pass item = record { pass = pass; key = item.key; value = item.value; kind = Added }
 
--- the change by which pass `q` gives a key the value of this leaf
+-- the change by which the pass gives a key the value of this leaf
 abbrev pub replaced_change : ℕ → Item → Change
-replaced_change q x = record { pass = q; key = x.key; value = x.value; kind = Replaced }
+replaced_change pass item = record { pass = pass; key = item.key; value = item.value; kind = Replaced }
 
--- the change by which pass `q` removes this leaf
+-- the change by which the pass removes this leaf
 abbrev pub removed_change : ℕ → Item → Change
-removed_change q x = record { pass = q; key = x.key; value = x.value; kind = Removed }
+removed_change pass item = record { pass = pass; key = item.key; value = item.value; kind = Removed }
 
 -- the notes of answered insertions of these leaves, one after the other, at places from n on
 abbrev pub added_notes : ℕ → List Item → List Note
@@ -44,17 +44,17 @@ added_notes n (x ∷ xs) = record { place = n; call = Insert x.key x.value; repl
 
 -- What a change of this kind makes of a list of leaves: one more, one for another of the same key, or one less.
 abbrev pub IsChanged : Kind → Item → List Item → List Item → Type 0
-IsChanged Added x xs ys = IsMore x xs ys
-IsChanged Replaced x xs ys = (y : Item) × (y.key ≡ x.key) × IsExchange y x xs ys
-IsChanged Removed x xs ys = IsMore x ys xs
+IsChanged Added item xs ys = IsMore item xs ys
+IsChanged Replaced item xs ys = (other : Item) × (other.key ≡ item.key) × IsExchange other item xs ys
+IsChanged Removed item xs ys = IsMore item ys xs
 
 -- From one version to the next one leaf changes, as the change tells.
 abbrev pub IsChange : Option Tree → Change → Option Tree → Type 0
-IsChange s x t = (n : ℕ) × IsChanged x.kind (item_of n x) (items_of s) (items_of t)
+IsChange s change t = (n : ℕ) × IsChanged change.kind (item_of n change) (items_of s) (items_of t)
 
 -- Each number of changes has its version, whose content is the map of so many first changes. Each change is legal on the map of those
 -- before it.
-pub record TellChanges (s : Past) (changes : List Change) : Type 0 where
-  pub count : length changes ≡ s.now
-  pub content_is : (n : ℕ) → n ≤ s.now → content (s.version n) ≡ map_of (take n changes)
+pub record TellChanges (past : Past) (changes : List Change) : Type 0 where
+  pub count : length changes ≡ past.now
+  pub content_is : (n : ℕ) → n ≤ past.now → content (past.version n) ≡ map_of (take n changes)
   pub legal : LegalFront changes

@@ -17,8 +17,8 @@ AreApart (x ∷ xs) = (¬ (IsOneOf x xs)) × AreApart xs
 -- From version `s` to the next, `t`, just the records `new` are linked anew. Just the records `gone`, each listed once, are linked no more.
 -- Either version may be empty.
 pub record HasTraded (s t : Option Tree) (new gone : List Rec) : Type 0 where
-  pub comes : (i : Rec) → IsLinked t i → IsLinked s i ⊎ IsOneOf i new
-  pub came : (i : Rec) → IsOneOf i new → IsLinked t i × (IsLinked s i → ⊥)
-  pub goes : (i : Rec) → IsLinked s i → IsLinked t i ⊎ IsOneOf i gone
-  pub went : (i : Rec) → IsOneOf i gone → IsLinked s i × (IsLinked t i → ⊥)
+  pub comes : (rec : Rec) → IsLinked t rec → IsLinked s rec ⊎ IsOneOf rec new
+  pub came : (rec : Rec) → IsOneOf rec new → IsLinked t rec × (IsLinked s rec → ⊥)
+  pub goes : (rec : Rec) → IsLinked s rec → IsLinked t rec ⊎ IsOneOf rec gone
+  pub went : (rec : Rec) → IsOneOf rec gone → IsLinked s rec × (IsLinked t rec → ⊥)
   pub apart : AreApart gone

@@ -26,19 +26,19 @@ use Rattle.versions.specs.State.{Links}
 use Rattle.rowex_core.specs.Cores.{heap_of}
 use Rattle.rowex_core.specs.Reading.{IsPacked}
 use Rattle.rowex_core.proofs.Reading.{node_is}
-use Rattle.bulk_load.specs.Slots.{slot, slots_of, IsSlot, AreSlotsOf}
-use Rattle.bulk_load.specs.declared.slots.Slot.{Slot}
-use Rattle.bulk_load.specs.Stacks.{LeftPiece, whole_of, position_of, front_slots, with_right}
+use Rattle.bulk_load.specs.Tips.{tip, tips_of, MayBeTip, AreTipsOf}
+use Rattle.bulk_load.specs.declared.tips.Tip.{Tip}
+use Rattle.bulk_load.specs.Stacks.{LeftPiece, whole_of, position_of, front_tips, with_right}
 use Rattle.bulk_load.specs.declared.builder.Builder.{Builder}
 use Rattle.bulk_load.specs.Loading.{IsPiece, size_right}
 use Rattle.bulk_load.specs.Tables.{IsPut, HoldsTree}
 use Rattle.rowex_core.specs.Cores.{fields_in}
-use Rattle.bulk_load.proofs.slots.Rows.{slots_split as piece_split}
+use Rattle.bulk_load.proofs.tips.Rows.{tips_split as piece_split}
 use Rattle.bulk_load.proofs.records.Fields.{node_field, node_fields_long}
 use Rattle.bulk_load.proofs.Tables.Putting.{IsAddedTo, added, still_shown}
-use Rattle.bulk_load.proofs.Stacks.{slots_joined, length_slots, built_inner, built_joined, shown_joined, links_inner, links_kept, links_added, local_inner, IsAboveHead, above_head, local_joined}
+use Rattle.bulk_load.proofs.Stacks.{tips_joined, length_tips, built_inner, built_joined, shown_joined, links_inner, links_kept, links_added, local_inner, IsAboveHead, above_head, local_joined}
 
--- ---- slots of a lawful tree
+-- ---- tips of a lawful tree
 IsFrom : ℕ → Tree → Type 0
 IsFrom low (leaf n k v) = Unit {0}
 IsFrom low (node n x b) = Unit {0}
@@ -56,8 +56,8 @@ rises_from low (leaf n k v) i f = tt
 rises_from low (node n x b) i f = tt
 rises_from low (fork q a b) i f = (omega (arith, f), rises_from (q + 1) a i.0 (from_above q a i.2), rises_from (q + 1) b i.1 (from_above q b i.3))
 
-pub taken_part : (a b n m : ℕ) (xs ys : List Slot) → a ≡ n → b ≡ m → xs ≡ ys → take a (drop b xs) ≡ take n (drop m ys)
-taken_part a b n m xs ys e f g = rw (e, f, g) refl
+pub taken_piece : (a b n m : ℕ) (xs ys : List Tip) → a ≡ n → b ≡ m → xs ≡ ys → take a (drop b xs) ≡ take n (drop m ys)
+taken_piece a b n m xs ys e f g = rw (e, f, g) refl
 
 rises_local : (t : Tree) → IsLocal t → RisesFrom 0 (subtrie t)
 unfolding IsFrom
@@ -75,29 +75,29 @@ position_small : (ls : List LeftPiece) (t : Tree) → IsLocal (whole_of ls t) �
 position_small [] t i = omega arith
 position_small (l ∷ ls) t i = fork_small l.position l.tree t (local_inner ls (fork l.position l.tree t) i)
 
-slots_lawful : (p : ℕ) (t : Tree) → p < 65535 → IsLocal t → IsBuilt t → All IsSlot (slots_of p (subtrie t))
-slots_lawful p (leaf n k v) h i b = All-from_recursion IsSlot (slot p (Leaf n) ∷ []) ((tt, h), tt)
-slots_lawful p (node n x c) h i b =
-    All-from_recursion IsSlot (slot p (Node n x.height) ∷ []) ((All-head IsEntry (Node n x.height) [] (children_are (node n x c) b), h), tt)
-slots_lawful p (fork q a c) h i b =
-    All-append IsSlot (slots_of p (subtrie a)) (slots_of q (subtrie c)) (slots_lawful p a h i.0 b.0) (slots_lawful q c (fork_small q a c i) i.1 b.1)
+tips_lawful : (p : ℕ) (t : Tree) → p < 65535 → IsLocal t → IsBuilt t → All MayBeTip (tips_of p (subtrie t))
+tips_lawful p (leaf n k v) h i b = All-from_recursion MayBeTip (tip p (Leaf n) ∷ []) ((tt, h), tt)
+tips_lawful p (node n x c) h i b =
+    All-from_recursion MayBeTip (tip p (Node n x.height) ∷ []) ((All-head IsEntry (Node n x.height) [] (children_are (node n x c) b), h), tt)
+tips_lawful p (fork q a c) h i b =
+    All-append MayBeTip (tips_of p (subtrie a)) (tips_of q (subtrie c)) (tips_lawful p a h i.0 b.0) (tips_lawful q c (fork_small q a c i) i.1 b.1)
 
--- ---- where the slots of a piece stand
-abbrev pub right_slots : Option LeftPiece → List Slot
-right_slots None = []
-right_slots (Some r) = slots_of r.position (subtrie r.tree)
+-- ---- where the tips of a piece stand
+abbrev pub right_tips : Option LeftPiece → List Tip
+right_tips None = []
+right_tips (Some r) = tips_of r.position (subtrie r.tree)
 
-beside : (p : ℕ) (z : Tree) (right : Option LeftPiece) → slots_of p (subtrie (with_right z right)) ≡ slots_of p (subtrie z) ++ right_slots right
-beside p z None = sym (append-nil (slots_of p (subtrie z)))
+beside : (p : ℕ) (z : Tree) (right : Option LeftPiece) → tips_of p (subtrie (with_right z right)) ≡ tips_of p (subtrie z) ++ right_tips right
+beside p z None = sym (append-nil (tips_of p (subtrie z)))
 beside p z (Some r) = refl
 
-slots_split : (ls : List LeftPiece) (z : Tree) (right : Option LeftPiece) →
-    slots_of 0 (subtrie (whole_of ls (with_right z right))) ≡ front_slots ls ++ (slots_of (position_of ls) (subtrie z) ++ right_slots right)
-slots_split ls z right = slots_joined ls (with_right z right) ∙ ap (λ ss. front_slots ls ++ ss) (beside (position_of ls) z right)
+tips_split : (ls : List LeftPiece) (z : Tree) (right : Option LeftPiece) →
+    tips_of 0 (subtrie (whole_of ls (with_right z right))) ≡ front_tips ls ++ (tips_of (position_of ls) (subtrie z) ++ right_tips right)
+tips_split ls z right = tips_joined ls (with_right z right) ∙ ap (λ ss. front_tips ls ++ ss) (beside (position_of ls) z right)
 
-length_right : (right : Option LeftPiece) → length (right_slots right) ≡ size_right right
+length_right : (right : Option LeftPiece) → length (right_tips right) ≡ size_right right
 length_right None = refl
-length_right (Some r) = length_slots r.position (subtrie r.tree)
+length_right (Some r) = length_tips r.position (subtrie r.tree)
 
 local_left : (z : Tree) (right : Option LeftPiece) → IsLocal (with_right z right) → IsLocal z
 local_left z None i = i
@@ -114,70 +114,70 @@ module _ (l : Builder) (ls : List LeftPiece) (z : Tree) (right : Option LeftPiec
   built_z : IsBuilt z
   built_z = built_left z right (built_inner ls (with_right z right) p.tree.built)
 
-  abbrev front : List Slot
-  front = front_slots ls
+  abbrev front : List Tip
+  front = front_tips ls
 
-  abbrev own : List Slot
-  own = slots_of (position_of ls) (subtrie z)
+  abbrev own : List Tip
+  own = tips_of (position_of ls) (subtrie z)
 
   abbrev pub start : ℕ
-  start = length (front_slots ls)
+  start = length (front_tips ls)
 
-  split : l.slots.items ≡ front ++ (own ++ right_slots right)
-  split = p.tree.slots_are ∙ slots_split ls z right
+  split : l.tips.items ≡ front ++ (own ++ right_tips right)
+  split = p.tree.tips_are ∙ tips_split ls z right
 
   own_long : length own ≡ count
-  own_long = length_slots (position_of ls) (subtrie z) ∙ sym p.count_is
+  own_long = length_tips (position_of ls) (subtrie z) ∙ sym p.count_is
 
-  pub fits : start + count + behind ≡ length l.slots.items
+  pub fits : start + count + behind ≡ length l.tips.items
   fits =
-      let a = ap length split in let b = length-append front (own ++ right_slots right) in let c = length-append own (right_slots right) in
+      let a = ap length split in let b = length-append front (own ++ right_tips right) in let c = length-append own (right_tips right) in
       let d = length_right right in let e = p.behind_is in omega (arith, a, b, c, d, e, own_long)
 
-  own_is : take count (drop start l.slots.items) ≡ own
-  own_is = ap (λ ss. take count (drop start ss)) split ∙ (ap (take count) (drop_at front (own ++ right_slots right) start refl) ∙ take_at own (right_slots right) count own_long)
+  own_is : take count (drop start l.tips.items) ≡ own
+  own_is = ap (λ ss. take count (drop start ss)) split ∙ (ap (take count) (drop_at front (own ++ right_tips right) start refl) ∙ take_at own (right_tips right) count own_long)
 
-  pub slots_given : (ss : List Slot) → ss ≡ take count (drop start l.slots.items) → AreSlotsOf ss (position_of ls) (subtrie z)
-  slots_given ss e = record { are = e ∙ own_is; rises = rises_local z local_z }
+  pub tips_given : (ss : List Tip) → ss ≡ take count (drop start l.tips.items) → AreTipsOf ss (position_of ls) (subtrie z)
+  tips_given ss e = record { are = e ∙ own_is; rises = rises_local z local_z }
 
-  pub each_given : (ss : List Slot) → ss ≡ take count (drop start l.slots.items) → All IsSlot ss
-  each_given ss e = subst (All IsSlot) (sym (e ∙ own_is)) (slots_lawful (position_of ls) z (position_small ls (with_right z right) p.tree.ordered) local_z built_z)
+  pub each_given : (ss : List Tip) → ss ≡ take count (drop start l.tips.items) → All MayBeTip ss
+  each_given ss e = subst (All MayBeTip) (sym (e ∙ own_is)) (tips_lawful (position_of ls) z (position_small ls (with_right z right) p.tree.ordered) local_z built_z)
 
-  -- ---- the slots with one in the place of the piece's
-  pub merged : (e : Entry) (d : Slot) (ss : List Slot) → 1 ≤ count → length ss + count ≡ length l.slots.items + 1 →
-      ((i : ℕ) → i < start → get_or ss i d ≡ get_or l.slots.items i d) → get_or ss start d ≡ slot (get_or l.slots.items start d).fork e →
-      ((i : ℕ) → get_or ss (start + 1 + i) d ≡ get_or l.slots.items (start + count + i) d) →
-      ss ≡ front ++ (slot (position_of ls) e ∷ right_slots right)
-  merged e d ss some long before here behind_it = ext_get_or d ss (front ++ (slot (position_of ls) e ∷ right_slots right))
-      (omega (arith, long, fits, p.behind_is, length_right right, length-append front (slot (position_of ls) e ∷ right_slots right)))
+  -- ---- the tips with one in the place of the piece's
+  pub merged : (e : Entry) (d : Tip) (ss : List Tip) → 1 ≤ count → length ss + count ≡ length l.tips.items + 1 →
+      ((i : ℕ) → i < start → get_or ss i d ≡ get_or l.tips.items i d) → get_or ss start d ≡ tip (get_or l.tips.items start d).fork e →
+      ((i : ℕ) → get_or ss (start + 1 + i) d ≡ get_or l.tips.items (start + count + i) d) →
+      ss ≡ front ++ (tip (position_of ls) e ∷ right_tips right)
+  merged e d ss some long before here behind_it = ext_get_or d ss (front ++ (tip (position_of ls) e ∷ right_tips right))
+      (omega (arith, long, fits, p.behind_is, length_right right, length-append front (tip (position_of ls) e ∷ right_tips right)))
       (λ i h. elim (cases_order i start) [ inl same ↦ at_start i same | inr o ↦ elim o [ inl less ↦ at_front i less | inr more ↦ at_right i more ] ])
     where
-      rest : (i : ℕ) → start ≤ i → get_or l.slots.items i d ≡ get_or (own ++ right_slots right) (i - start) d
-      rest i h = ap (λ ss. get_or ss i d) split ∙ get_or-append_right front (own ++ right_slots right) start i d refl h
+      rest : (i : ℕ) → start ≤ i → get_or l.tips.items i d ≡ get_or (own ++ right_tips right) (i - start) d
+      rest i h = ap (λ ss. get_or ss i d) split ∙ get_or-append_right front (own ++ right_tips right) start i d refl h
 
-      target : (i : ℕ) → start ≤ i → get_or (front ++ (slot (position_of ls) e ∷ right_slots right)) i d ≡ get_or (slot (position_of ls) e ∷ right_slots right) (i - start) d
-      target i h = get_or-append_right front (slot (position_of ls) e ∷ right_slots right) start i d refl h
+      target : (i : ℕ) → start ≤ i → get_or (front ++ (tip (position_of ls) e ∷ right_tips right)) i d ≡ get_or (tip (position_of ls) e ∷ right_tips right) (i - start) d
+      target i h = get_or-append_right front (tip (position_of ls) e ∷ right_tips right) start i d refl h
 
-      at_front : (i : ℕ) → i < start → get_or ss i d ≡ get_or (front ++ (slot (position_of ls) e ∷ right_slots right)) i d
-      at_front i h = before i h ∙ (ap (λ ss. get_or ss i d) split ∙ (get_or-append front (own ++ right_slots right) d i h ∙ sym (get_or-append front (slot (position_of ls) e ∷ right_slots right) d i h)))
+      at_front : (i : ℕ) → i < start → get_or ss i d ≡ get_or (front ++ (tip (position_of ls) e ∷ right_tips right)) i d
+      at_front i h = before i h ∙ (ap (λ ss. get_or ss i d) split ∙ (get_or-append front (own ++ right_tips right) d i h ∙ sym (get_or-append front (tip (position_of ls) e ∷ right_tips right) d i h)))
 
-      first_fork : (get_or l.slots.items start d).fork ≡ position_of ls
-      first_fork = ap (λ (s : Slot). s.fork) (rest start (omega arith)) ∙
-          (ap (λ n. (get_or (own ++ right_slots right) n d).fork) (let z0 : start - start ≡ 0 = omega arith in z0) ∙
-          ap (λ ss. (get_or (ss ++ right_slots right) 0 d).fork) (piece_split (position_of ls) (subtrie z)))
+      first_fork : (get_or l.tips.items start d).fork ≡ position_of ls
+      first_fork = ap (λ (s : Tip). s.fork) (rest start (omega arith)) ∙
+          (ap (λ n. (get_or (own ++ right_tips right) n d).fork) (let z0 : start - start ≡ 0 = omega arith in z0) ∙
+          ap (λ ss. (get_or (ss ++ right_tips right) 0 d).fork) (piece_split (position_of ls) (subtrie z)))
 
-      at_start : (i : ℕ) → i ≡ start → get_or ss i d ≡ get_or (front ++ (slot (position_of ls) e ∷ right_slots right)) i d
-      at_start i same = rw same (here ∙ (ap (λ n. slot n e) first_fork ∙ sym (target start (omega arith) ∙
-          ap (λ n. get_or (slot (position_of ls) e ∷ right_slots right) n d) (let z0 : start - start ≡ 0 = omega arith in z0))))
+      at_start : (i : ℕ) → i ≡ start → get_or ss i d ≡ get_or (front ++ (tip (position_of ls) e ∷ right_tips right)) i d
+      at_start i same = rw same (here ∙ (ap (λ n. tip n e) first_fork ∙ sym (target start (omega arith) ∙
+          ap (λ n. get_or (tip (position_of ls) e ∷ right_tips right) n d) (let z0 : start - start ≡ 0 = omega arith in z0))))
 
-      at_right : (i : ℕ) → start < i → get_or ss i d ≡ get_or (front ++ (slot (position_of ls) e ∷ right_slots right)) i d
+      at_right : (i : ℕ) → start < i → get_or ss i d ≡ get_or (front ++ (tip (position_of ls) e ∷ right_tips right)) i d
       at_right i h =
           let k = i - start - 1 in let is : i ≡ start + 1 + k = omega (arith, h) in
           let low : start + count + k - start ≡ count + k = omega arith in
           let high : i - start ≡ suc k = omega (arith, h) in
-          ap (λ n. get_or ss n d) is ∙ (behind_it k ∙ (rest (start + count + k) (omega arith) ∙ (ap (λ n. get_or (own ++ right_slots right) n d) low ∙
-          (get_or-append_right own (right_slots right) count (count + k) d own_long (omega arith) ∙ (ap (λ n. get_or (right_slots right) n d) (let back : count + k - count ≡ k = omega arith in back) ∙
-          sym (target i (omega (arith, h)) ∙ ap (λ n. get_or (slot (position_of ls) e ∷ right_slots right) n d) high))))))
+          ap (λ n. get_or ss n d) is ∙ (behind_it k ∙ (rest (start + count + k) (omega arith) ∙ (ap (λ n. get_or (own ++ right_tips right) n d) low ∙
+          (get_or-append_right own (right_tips right) count (count + k) d own_long (omega arith) ∙ (ap (λ n. get_or (right_tips right) n d) (let back : count + k - count ≡ k = omega arith in back) ∙
+          sym (target i (omega (arith, h)) ∙ ap (λ n. get_or (tip (position_of ls) e ∷ right_tips right) n d) high))))))
 
   -- ---- the node that stands for the piece
   module _ (v : NodeView) (new : List ℕ) (b : IsBuiltFrom v (subtrie z)) (has : HasNodeWords v) (put : IsPut l.layout l.words.items new (a_node l.nodes))
@@ -268,6 +268,6 @@ module _ (l : Builder) (ls : List LeftPiece) (z : Tree) (right : Option LeftPiec
     pub taken_closed : (n : ℕ) → Links (whole_of ls (with_right closed right)) (a_node n) → n < l.nodes + 1
     taken_closed n h = elim (to (a_node n) h) [ inl x ↦ (let low = p.tree.taken n x in omega (arith, low)) | inr e ↦ (let same = node_number e in omega (arith, same)) ]
 
-    -- the slots are those of the tree
-    pub slots_closed : (ss : List Slot) → ss ≡ front ++ (slot (position_of ls) (Node l.nodes v.height) ∷ right_slots right) → ss ≡ slots_of 0 (subtrie (whole_of ls (with_right closed right)))
-    slots_closed ss e = e ∙ sym (slots_split ls closed right)
+    -- the tips are those of the tree
+    pub tips_closed : (ss : List Tip) → ss ≡ front ++ (tip (position_of ls) (Node l.nodes v.height) ∷ right_tips right) → ss ≡ tips_of 0 (subtrie (whole_of ls (with_right closed right)))
+    tips_closed ss e = e ∙ sym (tips_split ls closed right)

@@ -11,20 +11,20 @@ use Rattle.tries.specs.Tree.{Tree, fork, subtrie}
 use Rattle.std.specs.Vec.{vec_len}
 use Rattle.record_words.specs.declared.layout.Layout.{Layout}
 use Rattle.bulk_load.specs.declared.builder.Builder.{Builder}
-use Rattle.bulk_load.specs.declared.builder.Part.{Part}
+use Rattle.bulk_load.specs.declared.builder.StackedPiece.{StackedPiece}
 use Rattle.std.proofs.lemmas.Bool.{cases_order}
-use Rattle.bulk_load.specs.Loading.{CanJoin, HasParts, IsAlone, IsEmpty, IsJoined, IsLoading, CanPart, FitsOneNode, HasNodesFor, IsLow, IsReady, IsPiece, IsStackOf, IsTreeOf, StandsFor, greatest_key}
-use Rattle.bulk_load.specs.Stacks.{LeftPiece, left_piece, whole_of, counts, position_of, front_slots, with_right}
-use Rattle.bulk_load.proofs.Stacks.{fronts, items_joined, last_joined, local_inner, slots_joined}
-use Rattle.bulk_load.proofs.slots.Rows.{head_entry, slots_split as piece_split}
+use Rattle.bulk_load.specs.Loading.{CanJoin, HasPieces, IsOnePiece, HasTakenNone, IsJoined, IsLoading, CanPart, FitsOneNode, HasNodesFor, IsOfLeaves, MayStandBeside, IsPiece, IsStackOf, IsTreeOf, StandsFor, greatest_key}
+use Rattle.bulk_load.specs.Stacks.{LeftPiece, left_piece, whole_of, counts, position_of, front_tips, with_right}
+use Rattle.bulk_load.proofs.Stacks.{fronts, items_joined, last_joined, local_inner, tips_joined}
+use Rattle.bulk_load.proofs.tips.Rows.{head_entry, tips_split as piece_split}
 use Rattle.bulk_load.proofs.Stacks.Closing.{fits}
 use Rattle.bulk_load.proofs.builder.Pushing.{has_last}
 use Rattle.tries.proofs.Content.{trie_if_local}
 use Rattle.node_tries.proofs.Piece.{size_pos}
-use Rattle.bulk_load.specs.declared.slots.Slot.{Slot}
-use Rattle.bulk_load.specs.Slots.{slot, slots_of}
+use Rattle.bulk_load.specs.declared.tips.Tip.{Tip}
+use Rattle.bulk_load.specs.Tips.{tip, tips_of}
 
-abbrev count_of : Part → ℕ
+abbrev count_of : StackedPiece → ℕ
 count_of p = p.count
 
 -- ---- how many entries the pieces have
@@ -51,36 +51,36 @@ last_of us a i d e = get_or-append_right us (a ∷ []) i i d e (omega arith) ∙
 last_count : (ls : List LeftPiece) (t : Tree) (i d : ℕ) → length ls ≡ i → get_or (counts ls t) i d ≡ size (subtrie t)
 last_count ls t i d e = ap (λ us. get_or us i d) (counts_split ls t) ∙ last_of (below ls) (size (subtrie t)) i d (below_long ls ∙ e)
 
-part_count : (ps : List Part) (us : List ℕ) (i : ℕ) (x : Part) → map count_of ps ≡ us → i < length ps → x ≡ get_or ps i x → x.count ≡ get_or us i 0
-part_count ps us i x e h is = ap count_of is ∙ (sym (get_or-map count_of ps i x 0 h) ∙ ap (λ us. get_or us i 0) e)
+piece_count : (ps : List StackedPiece) (us : List ℕ) (i : ℕ) (x : StackedPiece) → map count_of ps ≡ us → i < length ps → x ≡ get_or ps i x → x.count ≡ get_or us i 0
+piece_count ps us i x e h is = ap count_of is ∙ (sym (get_or-map count_of ps i x 0 h) ∙ ap (λ us. get_or us i 0) e)
 
-map_take : (n : ℕ) (ps : List Part) → map count_of (take n ps) ≡ take n (map count_of ps)
+map_take : (n : ℕ) (ps : List StackedPiece) → map count_of (take n ps) ≡ take n (map count_of ps)
 map_take zero ps = refl
 map_take (suc n) [] = refl
 map_take (suc n) (p ∷ ps) = ap (λ us. p.count ∷ us) (map_take n ps)
 
-pub parts_long : (l : Builder) (ls : List LeftPiece) (top : Tree) → HasParts l ls top → length l.parts.items ≡ length ls + 1
-parts_long l ls top h = sym (length-map l.parts.items count_of) ∙ (ap length h.counts_are ∙ counts_long ls top)
+pub pieces_long : (l : Builder) (ls : List LeftPiece) (top : Tree) → HasPieces l ls top → length l.pieces.items ≡ length ls + 1
+pieces_long l ls top h = sym (length-map l.pieces.items count_of) ∙ (ap length h.counts_are ∙ counts_long ls top)
 
-pub top_count : (l : Builder) (ls : List LeftPiece) (top : Tree) (h : HasParts l ls top) (i : ℕ) (x : Part) → i + 1 ≡ length l.parts.items → x ≡ get_or l.parts.items i x →
+pub top_count : (l : Builder) (ls : List LeftPiece) (top : Tree) (h : HasPieces l ls top) (i : ℕ) (x : StackedPiece) → i + 1 ≡ length l.pieces.items → x ≡ get_or l.pieces.items i x →
     x.count ≡ size (subtrie top)
 top_count l ls top h i x e is =
-    part_count l.parts.items (counts ls top) i x h.counts_are (omega (arith, e)) is ∙ last_count ls top i 0 (omega (arith, e, parts_long l ls top h))
+    piece_count l.pieces.items (counts ls top) i x h.counts_are (omega (arith, e)) is ∙ last_count ls top i 0 (omega (arith, e, pieces_long l ls top h))
 
-pub next_count : (l : Builder) (m : LeftPiece) (ms : List LeftPiece) (top : Tree) (h : HasParts l (m ∷ ms) top) (i : ℕ) (x : Part) → i + 2 ≡ length l.parts.items →
-    x ≡ get_or l.parts.items i x → x.count ≡ size (subtrie m.tree)
+pub next_count : (l : Builder) (m : LeftPiece) (ms : List LeftPiece) (top : Tree) (h : HasPieces l (m ∷ ms) top) (i : ℕ) (x : StackedPiece) → i + 2 ≡ length l.pieces.items →
+    x ≡ get_or l.pieces.items i x → x.count ≡ size (subtrie m.tree)
 next_count l m ms top h i x e is =
-    let long = parts_long l (m ∷ ms) top h in
-    part_count l.parts.items (counts (m ∷ ms) top) i x h.counts_are (omega (arith, e)) is ∙
+    let long = pieces_long l (m ∷ ms) top h in
+    piece_count l.pieces.items (counts (m ∷ ms) top) i x h.counts_are (omega (arith, e)) is ∙
     (get_or-append (counts ms m.tree) (size (subtrie top) ∷ []) 0 i (omega (arith, e, long, counts_long ms m.tree)) ∙ last_count ms m.tree i 0 (omega (arith, e, long)))
 
-pub each_few : (l : Builder) (ls : List LeftPiece) (top : Tree) (h : HasParts l ls top) (i : ℕ) (x : Part) → i < length l.parts.items → x ≡ get_or l.parts.items i x → x.count ≤ 32
+pub each_few : (l : Builder) (ls : List LeftPiece) (top : Tree) (h : HasPieces l ls top) (i : ℕ) (x : StackedPiece) → i < length l.pieces.items → x ≡ get_or l.pieces.items i x → x.count ≤ 32
 each_few l ls top h i x less is =
-    subst (λ n. n ≤ 32) (sym (part_count l.parts.items (counts ls top) i x h.counts_are less is))
-    (All-get_or (λ n. n ≤ 32) (counts ls top) i 0 (omega (arith, less, parts_long l ls top h, counts_long ls top)) h.few)
+    subst (λ n. n ≤ 32) (sym (piece_count l.pieces.items (counts ls top) i x h.counts_are less is))
+    (All-get_or (λ n. n ≤ 32) (counts ls top) i 0 (omega (arith, less, pieces_long l ls top h, counts_long ls top)) h.few)
 
--- ---- the parts, once the last two are one
-pub counts_joined : (m : LeftPiece) (ms : List LeftPiece) (top a b : Tree) (q i : ℕ) (ps : List Part) (x : Part) → map count_of ps ≡ counts (m ∷ ms) top → i + 2 ≡ length ps →
+-- ---- the pieces, once the last two are one
+pub counts_joined : (m : LeftPiece) (ms : List LeftPiece) (top a b : Tree) (q i : ℕ) (ps : List StackedPiece) (x : StackedPiece) → map count_of ps ≡ counts (m ∷ ms) top → i + 2 ≡ length ps →
     x.count ≡ size (subtrie a) + size (subtrie b) → map count_of (slice_set (take (i + 1) ps) i x) ≡ counts ms (fork q a b)
 counts_joined m ms top a b q i ps x e long is =
     let n : length ms ≡ i = omega (arith, long, length-map ps count_of, ap length e, counts_long (m ∷ ms) top) in
@@ -111,119 +111,119 @@ items_same ls t u e = items_joined ls t ∙ (ap (λ ys. fronts ls ++ ys) e ∙ s
 abbrev pub one_if : Bool → ℕ
 one_if b = if b then 1 else 0
 
--- how many slots a piece has, once it is closed if it is to be
+-- how many tips a piece has, once it is closed if it is to be
 abbrev pub left_of : Bool → ℕ → ℕ
 left_of b count = if b then 1 else count
 
--- closing a piece takes no more than one node, and as many slots at least as nodes
-pub record IsClosed (n slots m left count : ℕ) : Type 0 where
+-- closing a piece takes no more than one node, and as many tips at least as nodes
+pub record IsClosed (n tips m left count : ℕ) : Type 0 where
   pub few : m ≤ n + 1
-  pub spared : m + left ≤ n + slots
+  pub spared : m + left ≤ n + tips
   pub grows : n ≤ m
 
-pub closed_one : (n slots m left count result : ℕ) (b : Bool) → (IsTrue b → 2 ≤ count) → m ≡ n + one_if b → result ≡ left_of b count → left + count ≡ slots + result → IsClosed n slots m left count
-closed_one n slots m left count result true two a e l = let h = two refl in record { few = omega (arith, a); spared = omega (arith, a, e, l, h); grows = omega (arith, a) }
-closed_one n slots m left count result false two a e l = record { few = omega (arith, a); spared = omega (arith, a, e, l); grows = omega (arith, a) }
+pub closed_one : (n tips m left count result : ℕ) (b : Bool) → (IsTrue b → 2 ≤ count) → m ≡ n + one_if b → result ≡ left_of b count → left + count ≡ tips + result → IsClosed n tips m left count
+closed_one n tips m left count result true two a e l = let h = two refl in record { few = omega (arith, a); spared = omega (arith, a, e, l, h); grows = omega (arith, a) }
+closed_one n tips m left count result false two a e l = record { few = omega (arith, a); spared = omega (arith, a, e, l); grows = omega (arith, a) }
 
-pub piece_closed : (l m : Builder) (count result : ℕ) (b : Bool) → (IsTrue b → 2 ≤ count) → m.nodes ≡ l.nodes + one_if b → result ≡ left_of b count → vec_len m.slots + count ≡ vec_len l.slots + result →
-    IsClosed l.nodes (length l.slots.items) m.nodes (length m.slots.items) count
-piece_closed l m count result b two a e h = closed_one l.nodes (length l.slots.items) m.nodes (length m.slots.items) count result b two a e (omega (arith, h, l.slots.ok.0, m.slots.ok.0))
+pub piece_closed : (l m : Builder) (count result : ℕ) (b : Bool) → (IsTrue b → 2 ≤ count) → m.nodes ≡ l.nodes + one_if b → result ≡ left_of b count → vec_len m.tips + count ≡ vec_len l.tips + result →
+    IsClosed l.nodes (length l.tips.items) m.nodes (length m.tips.items) count
+piece_closed l m count result b two a e h = closed_one l.nodes (length l.tips.items) m.nodes (length m.tips.items) count result b two a e (omega (arith, h, l.tips.ok.0, m.tips.ok.0))
 
 -- a node is left for the first piece, and for the second one
-pub first_node : (n max parts slots count : ℕ) → (n + 2 * (parts + 0) ≤ max) ⊎ ((n + slots + 0 ≤ max) ⊎ ((n ≡ 0) × (slots + 0 ≤ 32) × (2 ≤ max))) →
-    2 ≤ parts → 2 ≤ count → count ≤ slots → n < max
-first_node n max parts slots count (inl h) p c s = omega (arith, h, p)
-first_node n max parts slots count (inr (inl h)) p c s = omega (arith, h, c, s)
-first_node n max parts slots count (inr (inr h)) p c s = omega (arith, h.0, h.2)
+pub first_node : (n max pieces tips count : ℕ) → (n + 2 * (pieces + 0) ≤ max) ⊎ ((n + tips + 0 ≤ max) ⊎ ((n ≡ 0) × (tips + 0 ≤ 32) × (2 ≤ max))) →
+    2 ≤ pieces → 2 ≤ count → count ≤ tips → n < max
+first_node n max pieces tips count (inl h) p c s = omega (arith, h, p)
+first_node n max pieces tips count (inr (inl h)) p c s = omega (arith, h, c, s)
+first_node n max pieces tips count (inr (inr h)) p c s = omega (arith, h.0, h.2)
 
-pub second_node : (n max parts slots m left count other : ℕ) → (n + 2 * (parts + 0) ≤ max) ⊎ ((n + slots + 0 ≤ max) ⊎ ((n ≡ 0) × (slots + 0 ≤ 32) × (2 ≤ max))) →
-    IsClosed n slots m left other → 2 ≤ parts → 2 ≤ count → count ≤ left → m < max
-second_node n max parts slots m left count other (inl h) i p c s = omega (arith, h, p, i.few)
-second_node n max parts slots m left count other (inr (inl h)) i p c s = omega (arith, h, c, s, i.spared)
-second_node n max parts slots m left count other (inr (inr h)) i p c s = omega (arith, h.0, h.2, i.few)
+pub second_node : (n max pieces tips m left count other : ℕ) → (n + 2 * (pieces + 0) ≤ max) ⊎ ((n + tips + 0 ≤ max) ⊎ ((n ≡ 0) × (tips + 0 ≤ 32) × (2 ≤ max))) →
+    IsClosed n tips m left other → 2 ≤ pieces → 2 ≤ count → count ≤ left → m < max
+second_node n max pieces tips m left count other (inl h) i p c s = omega (arith, h, p, i.few)
+second_node n max pieces tips m left count other (inr (inl h)) i p c s = omega (arith, h, c, s, i.spared)
+second_node n max pieces tips m left count other (inr (inr h)) i p c s = omega (arith, h.0, h.2, i.few)
 
 -- two pieces have become one
-pub nodes_joined : (n max parts slots m left o last parts_then other count more : ℕ) → IsClosed n slots m left other → IsClosed m left o last count → parts_then + 1 ≡ parts →
-    (n ≡ 0 → slots ≤ 32 → (o ≡ 0) × (last ≡ slots)) → (n + 2 * (parts + more) ≤ max) ⊎ ((n + slots + more ≤ max) ⊎ ((n ≡ 0) × (slots + more ≤ 32) × (2 ≤ max))) →
-    (o + 2 * (parts_then + more) ≤ max) ⊎ ((o + last + more ≤ max) ⊎ ((o ≡ 0) × (last + more ≤ 32) × (2 ≤ max)))
-nodes_joined n max parts slots m left o last parts_then other count more i j e bare (inl h) = inl (omega (arith, h, e, i.few, j.few))
-nodes_joined n max parts slots m left o last parts_then other count more i j e bare (inr (inl h)) = inr (inl (omega (arith, h, i.spared, j.spared)))
-nodes_joined n max parts slots m left o last parts_then other count more i j e bare (inr (inr h)) =
+pub nodes_joined : (n max pieces tips m left o last pieces_then other count more : ℕ) → IsClosed n tips m left other → IsClosed m left o last count → pieces_then + 1 ≡ pieces →
+    (n ≡ 0 → tips ≤ 32 → (o ≡ 0) × (last ≡ tips)) → (n + 2 * (pieces + more) ≤ max) ⊎ ((n + tips + more ≤ max) ⊎ ((n ≡ 0) × (tips + more ≤ 32) × (2 ≤ max))) →
+    (o + 2 * (pieces_then + more) ≤ max) ⊎ ((o + last + more ≤ max) ⊎ ((o ≡ 0) × (last + more ≤ 32) × (2 ≤ max)))
+nodes_joined n max pieces tips m left o last pieces_then other count more i j e bare (inl h) = inl (omega (arith, h, e, i.few, j.few))
+nodes_joined n max pieces tips m left o last pieces_then other count more i j e bare (inr (inl h)) = inr (inl (omega (arith, h, i.spared, j.spared)))
+nodes_joined n max pieces tips m left o last pieces_then other count more i j e bare (inr (inr h)) =
     let stays = bare h.0 (omega (arith, h.1)) in inr (inr (stays.0, omega (arith, h.1, stays.1), h.2))
 
--- a piece that is not closed takes no node, and its slots stay
-pub none_closed : (n m slots left count result : ℕ) (b : Bool) → b ≡ false → m ≡ n + one_if b → result ≡ left_of b count → left + count ≡ slots + result → (m ≡ n) × (left ≡ slots)
-none_closed n m slots left count result false same a e l = (omega (arith, a), omega (arith, e, l))
-none_closed n m slots left count result true same a e l = cc
+-- a piece that is not closed takes no node, and its tips stay
+pub none_closed : (n m tips left count result : ℕ) (b : Bool) → b ≡ false → m ≡ n + one_if b → result ≡ left_of b count → left + count ≡ tips + result → (m ≡ n) × (left ≡ tips)
+none_closed n m tips left count result false same a e l = (omega (arith, a), omega (arith, e, l))
+none_closed n m tips left count result true same a e l = cc
 
 -- where no node is taken then, none was taken before, and none is closed
 pub none_before : (n m : ℕ) (b : Bool) → m ≡ n + one_if b → m ≡ 0 → (n ≡ 0) × (b ≡ false)
 none_before n m false a z = (omega (arith, a, z), refl)
 none_before n m true a z = absurd (omega (arith, a, z))
 
--- the parts are low, once the last two are one that is
-pub low_joined : (ps : List Part) (i : ℕ) (whole : Part) → All IsLow ps → whole.height ≡ 1 → All IsLow (slice_set (take (i + 1) ps) i whole)
-low_joined ps i whole h one = All-set IsLow (take (i + 1) ps) i whole (omega (arith, one), λ more. omega (arith, one)) (All-take IsLow (i + 1) ps h)
+-- the pieces are low, once the last two are one that is
+pub low_joined : (ps : List StackedPiece) (i : ℕ) (whole : StackedPiece) → All IsOfLeaves ps → whole.height ≡ 1 → All IsOfLeaves (slice_set (take (i + 1) ps) i whole)
+low_joined ps i whole h one = All-set IsOfLeaves (take (i + 1) ps) i whole (omega (arith, one), λ more. omega (arith, one)) (All-take IsOfLeaves (i + 1) ps h)
 
 -- each part is
-pub each_low : (ps : List Part) (i : ℕ) (x : Part) → All IsLow ps → i < length ps → x ≡ get_or ps i x → IsLow x
-each_low ps i x h less is = subst IsLow (sym is) (All-get_or IsLow ps i x less h)
+pub each_low : (ps : List StackedPiece) (i : ℕ) (x : StackedPiece) → All IsOfLeaves ps → i < length ps → x ≡ get_or ps i x → IsOfLeaves x
+each_low ps i x h less is = subst IsOfLeaves (sym is) (All-get_or IsOfLeaves ps i x less h)
 
-pub nodes_then : (l m o : Builder) (left right parts more : ℕ) → IsClosed l.nodes (length l.slots.items) m.nodes (length m.slots.items) right →
-    IsClosed m.nodes (length m.slots.items) o.nodes (length o.slots.items) left → o.layout ≡ l.layout → parts + 1 ≡ length l.parts.items →
-    (l.nodes ≡ 0 → length l.slots.items ≤ 32 → (o.nodes ≡ 0) × (length o.slots.items ≡ length l.slots.items)) → HasNodesFor l more →
-    (o.nodes + 2 * (parts + more) ≤ o.layout.nodes) ⊎ ((o.nodes + length o.slots.items + more ≤ o.layout.nodes) ⊎ FitsOneNode o more)
-nodes_then l m o left right parts more i j same e bare h =
-    subst (λ (y : Layout). (o.nodes + 2 * (parts + more) ≤ y.nodes) ⊎ ((o.nodes + length o.slots.items + more ≤ y.nodes) ⊎
-    ((o.nodes ≡ 0) × (length o.slots.items + more ≤ 32) × (2 ≤ y.nodes)))) (sym same)
-    (nodes_joined l.nodes l.layout.nodes (length l.parts.items) (length l.slots.items) m.nodes (length m.slots.items) o.nodes (length o.slots.items) parts right left more i j e bare h)
+pub nodes_then : (l m o : Builder) (left right pieces more : ℕ) → IsClosed l.nodes (length l.tips.items) m.nodes (length m.tips.items) right →
+    IsClosed m.nodes (length m.tips.items) o.nodes (length o.tips.items) left → o.layout ≡ l.layout → pieces + 1 ≡ length l.pieces.items →
+    (l.nodes ≡ 0 → length l.tips.items ≤ 32 → (o.nodes ≡ 0) × (length o.tips.items ≡ length l.tips.items)) → HasNodesFor l more →
+    (o.nodes + 2 * (pieces + more) ≤ o.layout.nodes) ⊎ ((o.nodes + length o.tips.items + more ≤ o.layout.nodes) ⊎ FitsOneNode o more)
+nodes_then l m o left right pieces more i j same e bare h =
+    subst (λ (y : Layout). (o.nodes + 2 * (pieces + more) ≤ y.nodes) ⊎ ((o.nodes + length o.tips.items + more ≤ y.nodes) ⊎
+    ((o.nodes ≡ 0) × (length o.tips.items + more ≤ 32) × (2 ≤ y.nodes)))) (sym same)
+    (nodes_joined l.nodes l.layout.nodes (length l.pieces.items) (length l.tips.items) m.nodes (length m.tips.items) o.nodes (length o.tips.items) pieces right left more i j e bare h)
 
 -- ---- the two pieces
-pub first_piece : (l : Builder) (xs : List Item) (s : IsStackOf l xs) (i : ℕ) (x : Part) → i + 1 ≡ length l.parts.items → x ≡ get_or l.parts.items i x →
+pub first_piece : (l : Builder) (xs : List Item) (s : IsStackOf l xs) (i : ℕ) (x : StackedPiece) → i + 1 ≡ length l.pieces.items → x ≡ get_or l.pieces.items i x →
     IsPiece l s.levels s.top None x.count 0
-first_piece l xs s i x e is = record { tree = s.tree; count_is = top_count l s.levels s.top s.parts i x e is; behind_is = refl }
+first_piece l xs s i x e is = record { tree = s.tree; count_is = top_count l s.levels s.top s.pieces i x e is; behind_is = refl }
 
-next_piece : (l new : Builder) (m : LeftPiece) (ms : List LeftPiece) (top : Tree) (h : HasParts l (m ∷ ms) top) (i : ℕ) (x : Part) → i + 2 ≡ length l.parts.items → x ≡ get_or l.parts.items i x →
+next_piece : (l new : Builder) (m : LeftPiece) (ms : List LeftPiece) (top : Tree) (h : HasPieces l (m ∷ ms) top) (i : ℕ) (x : StackedPiece) → i + 2 ≡ length l.pieces.items → x ≡ get_or l.pieces.items i x →
     (y : Tree) (behind : ℕ) → StandsFor y top behind → IsTreeOf new (whole_of (m ∷ ms) y) → IsPiece new ms m.tree (Some (left_piece y m.position)) x.count behind
 next_piece l new m ms top h i x e is y behind st t = record { tree = t; count_is = next_count l m ms top h i x e is; behind_is = sym st.count_is }
 
-pub second_piece : (l new : Builder) (ls : List LeftPiece) (top : Tree) (h : HasParts l ls top) (i : ℕ) (x : Part) → i + 2 ≡ length l.parts.items → x ≡ get_or l.parts.items i x →
+pub second_piece : (l new : Builder) (ls : List LeftPiece) (top : Tree) (h : HasPieces l ls top) (i : ℕ) (x : StackedPiece) → i + 2 ≡ length l.pieces.items → x ≡ get_or l.pieces.items i x →
     (y : Tree) (behind : ℕ) → StandsFor y top behind → IsTreeOf new (whole_of ls y) → (ms : List LeftPiece) × (z : Tree) × (right : Option LeftPiece) × IsPiece new ms z right x.count behind
-second_piece l new [] top h i x e is y behind st t = absurd (let long = parts_long l [] top h in omega (arith, e, long))
+second_piece l new [] top h i x e is y behind st t = absurd (let long = pieces_long l [] top h in omega (arith, e, long))
 second_piece l new (m ∷ ms) top h i x e is y behind st t = (ms, m.tree, Some (left_piece y m.position), next_piece l new m ms top h i x e is y behind st t)
 
--- both are among the slots
-pub both_fit : (l : Builder) (xs : List Item) (s : IsStackOf l xs) (i j : ℕ) (left right : Part) → i + 2 ≡ length l.parts.items → left ≡ get_or l.parts.items i left →
-    j + 1 ≡ length l.parts.items → right ≡ get_or l.parts.items j right → right.count + left.count ≤ length l.slots.items
+-- both are among the tips
+pub both_fit : (l : Builder) (xs : List Item) (s : IsStackOf l xs) (i j : ℕ) (left right : StackedPiece) → i + 2 ≡ length l.pieces.items → left ≡ get_or l.pieces.items i left →
+    j + 1 ≡ length l.pieces.items → right ≡ get_or l.pieces.items j right → right.count + left.count ≤ length l.tips.items
 both_fit l xs s i j left right long left_is longer right_is =
     let p = first_piece l xs s j right longer right_is in
     let same : StandsFor s.top s.top right.count = record { count_is = sym p.count_is; same_items = refl; same_first = refl; same_last = refl; above = λ q h. h } in
-    let (ms, z, beside, q) = second_piece l l s.levels s.top s.parts i left long left_is s.top right.count same s.tree in
+    let (ms, z, beside, q) = second_piece l l s.levels s.top s.pieces i left long left_is s.top right.count same s.tree in
     omega (arith, fits l ms z beside left.count right.count q)
 
--- no piece is closed while no node is taken and one takes all slots
-pub stays_bare : (l m o : Builder) (xs : List Item) (s : IsStackOf l xs) (i j : ℕ) (left right : Part) (a b : Bool) (result behind : ℕ) → i + 2 ≡ length l.parts.items →
-    left ≡ get_or l.parts.items i left → j + 1 ≡ length l.parts.items → right ≡ get_or l.parts.items j right →
-    (IsLow left → IsLow right → left.count + right.count ≤ 32 → (a ≡ false) × (b ≡ false)) →
-    m.nodes ≡ l.nodes + one_if b → behind ≡ left_of b right.count → vec_len m.slots + right.count ≡ vec_len l.slots + behind →
-    o.nodes ≡ m.nodes + one_if a → result ≡ left_of a left.count → vec_len o.slots + left.count ≡ vec_len m.slots + result →
-    l.nodes ≡ 0 → length l.slots.items ≤ 32 → (o.nodes ≡ 0) × (length o.slots.items ≡ length l.slots.items)
-stays_bare l m o xs s i j left right a b result behind long left_is longer right_is even m_nodes b_is m_slots o_nodes r_is o_slots z small =
-    let none = even (each_low l.parts.items i left (s.low z) (omega (arith, long)) left_is) (each_low l.parts.items j right (s.low z) (omega (arith, longer)) right_is)
+-- no piece is closed while no node is taken and one takes all tips
+pub stays_bare : (l m o : Builder) (xs : List Item) (s : IsStackOf l xs) (i j : ℕ) (left right : StackedPiece) (a b : Bool) (result behind : ℕ) → i + 2 ≡ length l.pieces.items →
+    left ≡ get_or l.pieces.items i left → j + 1 ≡ length l.pieces.items → right ≡ get_or l.pieces.items j right →
+    (IsOfLeaves left → IsOfLeaves right → left.count + right.count ≤ 32 → (a ≡ false) × (b ≡ false)) →
+    m.nodes ≡ l.nodes + one_if b → behind ≡ left_of b right.count → vec_len m.tips + right.count ≡ vec_len l.tips + behind →
+    o.nodes ≡ m.nodes + one_if a → result ≡ left_of a left.count → vec_len o.tips + left.count ≡ vec_len m.tips + result →
+    l.nodes ≡ 0 → length l.tips.items ≤ 32 → (o.nodes ≡ 0) × (length o.tips.items ≡ length l.tips.items)
+stays_bare l m o xs s i j left right a b result behind long left_is longer right_is even m_nodes b_is m_tips o_nodes r_is o_tips z small =
+    let none = even (each_low l.pieces.items i left (s.low z) (omega (arith, long)) left_is) (each_low l.pieces.items j right (s.low z) (omega (arith, longer)) right_is)
     (omega (arith, small, both_fit l xs s i j left right long left_is longer right_is)) in
-    let first = none_closed l.nodes m.nodes (vec_len l.slots) (vec_len m.slots) right.count behind b none.1 m_nodes b_is m_slots in
-    let second = none_closed m.nodes o.nodes (vec_len m.slots) (vec_len o.slots) left.count result a none.0 o_nodes r_is o_slots in
-    (omega (arith, first.0, second.0, z), omega (arith, first.1, second.1, l.slots.ok.0, o.slots.ok.0))
+    let first = none_closed l.nodes m.nodes (vec_len l.tips) (vec_len m.tips) right.count behind b none.1 m_nodes b_is m_tips in
+    let second = none_closed m.nodes o.nodes (vec_len m.tips) (vec_len o.tips) left.count result a none.0 o_nodes r_is o_tips in
+    (omega (arith, first.0, second.0, z), omega (arith, first.1, second.1, l.tips.ok.0, o.tips.ok.0))
 
 -- the stack then
-module _ (l between closed new : Builder) (xs : List Item) (i : ℕ) (left whole : Part) (long : i + 2 ≡ length l.parts.items) (left_is : left ≡ get_or l.parts.items i left) (count behind : ℕ)
+module _ (l between closed new : Builder) (xs : List Item) (i : ℕ) (left whole : StackedPiece) (long : i + 2 ≡ length l.pieces.items) (left_is : left ≡ get_or l.pieces.items i left) (count behind : ℕ)
     (sum : whole.count ≡ count + behind) (small : count + behind ≤ 32) (same_tree : (t : Tree) → IsTreeOf closed t → IsTreeOf new t)
-    (parts_are : new.parts.items ≡ slice_set (take (i + 1) l.parts.items) i whole) (same_last : new.last ≡ l.last) (room : HasNodesFor new 0) (few : new.nodes + length new.slots.items ≤ length xs)
-    (low : new.nodes ≡ 0 → All IsLow new.parts.items) (bare : length xs ≤ 32 → new.nodes ≡ 0)
+    (pieces_are : new.pieces.items ≡ slice_set (take (i + 1) l.pieces.items) i whole) (same_last : new.last ≡ l.last) (room : HasNodesFor new 0) (few : new.nodes + length new.tips.items ≤ length xs)
+    (low : new.nodes ≡ 0 → All IsOfLeaves new.pieces.items) (bare : length xs ≤ 32 → new.nodes ≡ 0)
     (closes : (ms : List LeftPiece) (z : Tree) (right : Option LeftPiece) → IsPiece between ms z right left.count behind → (w : Tree) × StandsFor w z count × IsTreeOf closed (whole_of ms (with_right w right))) where
-  pub joined_stack : (ls : List LeftPiece) (top : Tree) → HasParts l ls top → items (whole_of ls top) ≡ xs → l.last ≡ greatest_key (whole_of ls top) → (y : Tree) → StandsFor y top behind →
+  pub joined_stack : (ls : List LeftPiece) (top : Tree) → HasPieces l ls top → items (whole_of ls top) ≡ xs → l.last ≡ greatest_key (whole_of ls top) → (y : Tree) → StandsFor y top behind →
       IsTreeOf between (whole_of ls y) → IsJoined new xs ls
-  joined_stack [] top h content last y st t = absurd (let more = parts_long l [] top h in omega (arith, long, more))
+  joined_stack [] top h content last y st t = absurd (let more = pieces_long l [] top h in omega (arith, long, more))
   joined_stack (m ∷ ms) top h content last y st t =
       let (w, sw, tw) = closes ms m.tree (Some (left_piece y m.position)) (next_piece l between m ms top h i left long left_is y behind st t) in
       let sizes : whole.count ≡ size (subtrie w) + size (subtrie y) = omega (arith, sum, sw.count_is, st.count_is) in
@@ -233,8 +233,8 @@ module _ (l between closed new : Builder) (xs : List Item) (i : ℕ) (left whole
           levels = ms;
           top = fork m.position w y;
           tree = same_tree (whole_of ms (fork m.position w y)) tw;
-          parts = record {
-            counts_are = ap (map count_of) parts_are ∙ counts_joined m ms top w y m.position i l.parts.items whole h.counts_are long sizes;
+          pieces = record {
+            counts_are = ap (map count_of) pieces_are ∙ counts_joined m ms top w y m.position i l.pieces.items whole h.counts_are long sizes;
             few = few_joined m ms top w y m.position h.few (omega (arith, small, sw.count_is, st.count_is));
           };
           content = items_same ms (fork m.position w y) (fork m.position m.tree top)
@@ -249,22 +249,22 @@ module _ (l between closed new : Builder) (xs : List Item) (i : ℕ) (left whole
         above = λ p h. h;
       }
 
--- ---- the slots of the piece at the top
-pub top_fits : (l : Builder) (ls : List LeftPiece) (top : Tree) → IsTreeOf l (whole_of ls top) → length (front_slots ls) + size (subtrie top) ≡ length l.slots.items
+-- ---- the tips of the piece at the top
+pub top_fits : (l : Builder) (ls : List LeftPiece) (top : Tree) → IsTreeOf l (whole_of ls top) → length (front_tips ls) + size (subtrie top) ≡ length l.tips.items
 top_fits l ls top t = let whole = fits l ls top None (size (subtrie top)) 0 (record { tree = t; count_is = refl; behind_is = refl }) in omega (arith, whole)
 
-first_slot : (l : Builder) (ls : List LeftPiece) (top : Tree) → IsTreeOf l (whole_of ls top) → (i : ℕ) (x : Slot) → i + size (subtrie top) ≡ length l.slots.items → x ≡ get_or l.slots.items i x →
-    x ≡ slot (position_of ls) (head_entry (subtrie top))
-first_slot l ls top t i x at is =
-    let start : length (front_slots ls) ≡ i = omega (arith, at, top_fits l ls top t) in
-    is ∙ (ap (λ ss. get_or ss i x) (t.slots_are ∙ slots_joined ls top) ∙
-    (get_or-append_right (front_slots ls) (slots_of (position_of ls) (subtrie top)) i i x start (omega arith) ∙
-    (ap (λ n. get_or (slots_of (position_of ls) (subtrie top)) n x) (let z : i - i ≡ 0 = omega arith in z) ∙
+first_tip : (l : Builder) (ls : List LeftPiece) (top : Tree) → IsTreeOf l (whole_of ls top) → (i : ℕ) (x : Tip) → i + size (subtrie top) ≡ length l.tips.items → x ≡ get_or l.tips.items i x →
+    x ≡ tip (position_of ls) (head_entry (subtrie top))
+first_tip l ls top t i x at is =
+    let start : length (front_tips ls) ≡ i = omega (arith, at, top_fits l ls top t) in
+    is ∙ (ap (λ ss. get_or ss i x) (t.tips_are ∙ tips_joined ls top) ∙
+    (get_or-append_right (front_tips ls) (tips_of (position_of ls) (subtrie top)) i i x start (omega arith) ∙
+    (ap (λ n. get_or (tips_of (position_of ls) (subtrie top)) n x) (let z : i - i ≡ 0 = omega arith in z) ∙
     ap (λ ss. get_or ss 0 x) (piece_split (position_of ls) (subtrie top)))))
 
-pub fork_at_top : (l : Builder) (ls : List LeftPiece) (top : Tree) → IsTreeOf l (whole_of ls top) → (i : ℕ) (x : Slot) → i + size (subtrie top) ≡ length l.slots.items → x ≡ get_or l.slots.items i x →
+pub fork_at_top : (l : Builder) (ls : List LeftPiece) (top : Tree) → IsTreeOf l (whole_of ls top) → (i : ℕ) (x : Tip) → i + size (subtrie top) ≡ length l.tips.items → x ≡ get_or l.tips.items i x →
     x.fork ≡ position_of ls
-fork_at_top l ls top t i x at is = ap (λ (s : Slot). s.fork) (first_slot l ls top t i x at is)
+fork_at_top l ls top t i x at is = ap (λ (s : Tip). s.fork) (first_tip l ls top t i x at is)
 
 -- ---- forks behind a position
 -- the last key has 1 where the fork before the piece at the top is
@@ -276,16 +276,16 @@ last_is_set : (l : Builder) (ls : List LeftPiece) (top : Tree) (m : LeftPiece) (
 last_is_set l ls top m ms e t last =
     ap (λ k. bit k m.position) (last ∙ last_joined ls top) ∙ last_bit l [] m ms top (subst (λ us. IsTreeOf l (whole_of us top)) e t)
 
--- a loader with parts has a stack
-pub stack_of : (l : Builder) (xs : List Item) (p : ℕ) → 0 < length l.parts.items → CanJoin l xs p → IsReady l xs p
-stack_of l xs p h (inl e) = absurd (let none = ap length e.no_parts in omega (arith, h, none))
+-- a loader with pieces has a stack
+pub stack_of : (l : Builder) (xs : List Item) (p : ℕ) → 0 < length l.pieces.items → CanJoin l xs p → MayStandBeside l xs p
+stack_of l xs p h (inl e) = absurd (let none = ap length e.no_pieces in omega (arith, h, none))
 stack_of l xs p h (inr r) = r
 
--- the piece at the top has slots, which are among the loader's
-pub top_within : (l : Builder) (xs : List Item) (s : IsStackOf l xs) (i : ℕ) (x : Part) → i + 1 ≡ length l.parts.items → x ≡ get_or l.parts.items i x →
-    (1 ≤ x.count) × (x.count ≤ length l.slots.items)
+-- the piece at the top has tips, which are among the loader's
+pub top_within : (l : Builder) (xs : List Item) (s : IsStackOf l xs) (i : ℕ) (x : StackedPiece) → i + 1 ≡ length l.pieces.items → x ≡ get_or l.pieces.items i x →
+    (1 ≤ x.count) × (x.count ≤ length l.tips.items)
 top_within l xs s i x e is =
-    let count = top_count l s.levels s.top s.parts i x e is in let whole = top_fits l s.levels s.top s.tree in let some = size_pos (subtrie s.top) in
+    let count = top_count l s.levels s.top s.pieces i x e is in let whole = top_fits l s.levels s.top s.tree in let some = size_pos (subtrie s.top) in
     (omega (arith, count, some), omega (arith, count, whole))
 
 no_levels : (ls : List LeftPiece) → length ls ≡ 0 → ls ≡ []
@@ -293,26 +293,26 @@ no_levels [] e = refl
 no_levels (m ∷ ms) e = absurd (omega (arith, e))
 
 -- no piece is left that may be joined
-pub parting_alone : (l : Builder) (xs : List Item) (p : ℕ) → length l.parts.items ≤ 1 → CanJoin l xs p → CanPart l xs p
+pub parting_alone : (l : Builder) (xs : List Item) (p : ℕ) → length l.pieces.items ≤ 1 → CanJoin l xs p → CanPart l xs p
 parting_alone l xs p h (inl e) = inl e
 parting_alone l xs p h (inr r) = inr (record {
   stack = r.stack;
   above = r.above;
-  low = inl (no_levels r.stack.levels (omega (arith, h, parts_long l r.stack.levels r.stack.top r.stack.parts)));
+  low = inl (no_levels r.stack.levels (omega (arith, h, pieces_long l r.stack.levels r.stack.top r.stack.pieces)));
 })
 
-pub parting_low : (l : Builder) (xs : List Item) (p i : ℕ) (x : Part) (j : ℕ) (y : Slot) → i + 1 ≡ length l.parts.items → x ≡ get_or l.parts.items i x →
-    j + x.count ≡ length l.slots.items → y ≡ get_or l.slots.items j y → y.fork < p → CanJoin l xs p → CanPart l xs p
+pub parting_low : (l : Builder) (xs : List Item) (p i : ℕ) (x : StackedPiece) (j : ℕ) (y : Tip) → i + 1 ≡ length l.pieces.items → x ≡ get_or l.pieces.items i x →
+    j + x.count ≡ length l.tips.items → y ≡ get_or l.tips.items j y → y.fork < p → CanJoin l xs p → CanPart l xs p
 parting_low l xs p i x j y e is at here less can =
-    let r = stack_of l xs p (omega (arith, e)) can in let s = r.stack in let count = top_count l s.levels s.top s.parts i x e is in
+    let r = stack_of l xs p (omega (arith, e)) can in let s = r.stack in let count = top_count l s.levels s.top s.pieces i x e is in
     let fork = fork_at_top l s.levels s.top s.tree j y (omega (arith, at, count)) here in
     inr (record { stack = s; above = r.above; low = inr (omega (arith, less, fork)) })
 
 -- the joined piece may stand beside the leaf, too
-pub next_ready : (l new : Builder) (xs : List Item) (p i : ℕ) (x : Part) (j : ℕ) (y : Slot) → i + 1 ≡ length l.parts.items → x ≡ get_or l.parts.items i x →
-    j + x.count ≡ length l.slots.items → y ≡ get_or l.slots.items j y → p ≤ y.fork → new.last ≡ l.last → (r : IsReady l xs p) → IsJoined new xs r.stack.levels → IsReady new xs p
+pub next_ready : (l new : Builder) (xs : List Item) (p i : ℕ) (x : StackedPiece) (j : ℕ) (y : Tip) → i + 1 ≡ length l.pieces.items → x ≡ get_or l.pieces.items i x →
+    j + x.count ≡ length l.tips.items → y ≡ get_or l.tips.items j y → p ≤ y.fork → new.last ≡ l.last → (r : MayStandBeside l xs p) → IsJoined new xs r.stack.levels → MayStandBeside new xs p
 next_ready l new xs p i x j y e is at here less last r joint =
-    let s = r.stack in let count = top_count l s.levels s.top s.parts i x e is in
+    let s = r.stack in let count = top_count l s.levels s.top s.pieces i x e is in
     let fork = fork_at_top l s.levels s.top s.tree j y (omega (arith, at, count)) here in
     let same : position_of s.levels ≡ joint.joint.position = ap position_of joint.were in
     let set : bit l.last joint.joint.position ≡ true = last_is_set l s.levels s.top joint.joint joint.stack.levels joint.were s.tree s.last in
@@ -328,14 +328,14 @@ next_ready l new xs p i x j y e is at here less last r joint =
     not_both b e f = cc
 
 -- the one piece that is left is the tree
-pub alone : (l : Builder) (xs : List Item) → IsStackOf l xs → length l.parts.items ≤ 1 → (t : Tree) × IsAlone l t xs
+pub alone : (l : Builder) (xs : List Item) → IsStackOf l xs → length l.pieces.items ≤ 1 → (t : Tree) × IsOnePiece l t xs
 alone l xs s h =
-    let long = parts_long l s.levels s.top s.parts in let e : s.levels ≡ [] = no_levels s.levels (omega (arith, h, long)) in (
+    let long = pieces_long l s.levels s.top s.pieces in let e : s.levels ≡ [] = no_levels s.levels (omega (arith, h, long)) in (
       s.top,
       record {
         tree = subst (λ ls. IsTreeOf l (whole_of ls s.top)) e s.tree;
         content = subst (λ ls. items (whole_of ls s.top) ≡ xs) e s.content;
-        few = All-head (λ n. n ≤ 32) (size (subtrie s.top)) [] (subst (λ ls. All (λ n. n ≤ 32) (counts ls s.top)) e s.parts.few);
+        few = All-head (λ n. n ≤ 32) (size (subtrie s.top)) [] (subst (λ ls. All (λ n. n ≤ 32) (counts ls s.top)) e s.pieces.few);
         room = elim s.room [
           | inl a ↦ inl (omega (arith, a, long))
           | inr b ↦ elim b [ inl d ↦ inr (omega (arith, d)) | inr o ↦ inl (omega (arith, o.0, o.2)) ]
@@ -343,11 +343,11 @@ alone l xs s h =
       },
     )
 
--- a loader with parts has a stack
-pub stack_loaded : (l : Builder) (xs : List Item) → 0 < length l.parts.items → IsLoading l xs → IsStackOf l xs
-stack_loaded l xs h (c, inl e) = absurd (let none = ap length e.no_parts in omega (arith, h, none))
+-- a loader with pieces has a stack
+pub stack_loaded : (l : Builder) (xs : List Item) → 0 < length l.pieces.items → IsLoading l xs → IsStackOf l xs
+stack_loaded l xs h (c, inl e) = absurd (let none = ap length e.no_pieces in omega (arith, h, none))
 stack_loaded l xs h (c, inr r) = r.stack
 
-pub none_loaded : (l : Builder) (xs : List Item) → length l.parts.items ≡ 0 → IsLoading l xs → IsEmpty l xs
+pub none_loaded : (l : Builder) (xs : List Item) → length l.pieces.items ≡ 0 → IsLoading l xs → HasTakenNone l xs
 none_loaded l xs h (c, inl e) = e
-none_loaded l xs h (c, inr r) = absurd (let long = parts_long l r.stack.levels r.stack.top r.stack.parts in omega (arith, h, long))
+none_loaded l xs h (c, inr r) = absurd (let long = pieces_long l r.stack.levels r.stack.top r.stack.pieces in omega (arith, h, long))

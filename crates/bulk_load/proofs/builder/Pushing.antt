@@ -21,14 +21,14 @@ use Rattle.rowex_core.specs.Cores.{heap_of}
 use Rattle.rowex_core.specs.Reading.{IsPacked}
 use Rattle.rowex_core.proofs.Reading.Leafing.{leaf_is, leaf_size_is}
 use Rattle.bulk_load.specs.declared.builder.Builder.{Builder}
-use Rattle.bulk_load.specs.declared.builder.Part.{Part}
-use Rattle.bulk_load.specs.Loading.{greatest_key, IsLow, IsTreeOf}
-use Rattle.bulk_load.specs.Slots.{slot, slots_of}
-use Rattle.bulk_load.specs.Stacks.{LeftPiece, whole_of, position_of, front_slots}
+use Rattle.bulk_load.specs.declared.builder.StackedPiece.{StackedPiece}
+use Rattle.bulk_load.specs.Loading.{greatest_key, IsOfLeaves, IsTreeOf}
+use Rattle.bulk_load.specs.Tips.{tip, tips_of}
+use Rattle.bulk_load.specs.Stacks.{LeftPiece, whole_of, position_of, front_tips}
 use Rattle.bulk_load.specs.Tables.{IsPut, HoldsTree, state_in}
 use Rattle.rowex_core.specs.Cores.{fields_in}
 use Rattle.bulk_load.proofs.Tables.Putting.{IsAddedTo, added, still_shown}
-use Rattle.bulk_load.proofs.Stacks.{fronts, items_joined, slots_joined, built_joined, shown_joined, links_inner, links_kept, links_added, local_inner, IsAboveHead, local_joined}
+use Rattle.bulk_load.proofs.Stacks.{fronts, items_joined, tips_joined, built_joined, shown_joined, links_inner, links_kept, links_added, local_inner, IsAboveHead, local_joined}
 
 pub has_last : (t : Tree) → Has t (greatest_key t)
 has_last (leaf n k v) = refl
@@ -41,7 +41,7 @@ ends_agree p (leaf n k v) i a q l = refl
 ends_agree p (node n x b) i a q l = ends_agree p b i a q l
 ends_agree p (fork r a b) i h q l = i.2 (first a) (greatest_key b) (inl (has_first a)) (inr (has_last b)) q (omega (arith, h, l))
 
--- what parts from its last key parts from its first one
+-- what pieces from its last key pieces from its first one
 parted_first : (p : ℕ) (t : Tree) (k : Key) → IsTrie t → IsAbove p t → IsParted p (greatest_key t) k → IsParted p (first t) k
 parted_first p t k i a h =
     (λ q l. ends_agree p t i a q (omega (arith, l)) ∙ h.0 q l, ends_agree p t i a p (omega arith) ∙ h.1, h.2)
@@ -94,10 +94,10 @@ module _ (l : Builder) (ls : List LeftPiece) (top : Tree) (p n value : ℕ) (key
   pub taken_grown : (i : ℕ) → Links (whole_of ls grown) (a_node i) → i < l.nodes
   taken_grown i h = elim (to (a_node i) h) [ inl x ↦ t.taken i x | inr e ↦ absurd (node_leaf e) ]
 
-  pub slots_grown : l.slots.items ++ slot p (Leaf n) ∷ [] ≡ slots_of 0 (subtrie (whole_of ls grown))
-  slots_grown =
-      ap (λ ss. ss ++ slot p (Leaf n) ∷ []) (t.slots_are ∙ slots_joined ls top) ∙
-      (append_assoc (front_slots ls) (slots_of (position_of ls) (subtrie top)) (slot p (Leaf n) ∷ []) ∙ sym (slots_joined ls grown))
+  pub tips_grown : l.tips.items ++ tip p (Leaf n) ∷ [] ≡ tips_of 0 (subtrie (whole_of ls grown))
+  tips_grown =
+      ap (λ ss. ss ++ tip p (Leaf n) ∷ []) (t.tips_are ∙ tips_joined ls top) ∙
+      (append_assoc (front_tips ls) (tips_of (position_of ls) (subtrie top)) (tip p (Leaf n) ∷ []) ∙ sym (tips_joined ls grown))
 
   pub content_grown : items (whole_of ls grown) ≡ items whole ++ item n key value ∷ []
   content_grown =
@@ -134,13 +134,13 @@ parted_by p a b d h = (d.agree, go (bit_of a p) refl, h)
     go false e = e
 
 -- nodes are left for one leaf less, once that is taken
-pub nodes_grown : (n max parts slots parts_then slots_then : ℕ) → parts_then ≡ parts + 1 → slots_then ≡ slots + 1 →
-    (n + 2 * (parts + 1) ≤ max) ⊎ ((n + slots + 1 ≤ max) ⊎ ((n ≡ 0) × (slots + 1 ≤ 32) × (2 ≤ max))) →
-    (n + 2 * (parts_then + 0) ≤ max) ⊎ ((n + slots_then + 0 ≤ max) ⊎ ((n ≡ 0) × (slots_then + 0 ≤ 32) × (2 ≤ max)))
-nodes_grown n max parts slots parts_then slots_then p s (inl h) = inl (omega (arith, p, h))
-nodes_grown n max parts slots parts_then slots_then p s (inr (inl h)) = inr (inl (omega (arith, s, h)))
-nodes_grown n max parts slots parts_then slots_then p s (inr (inr h)) = inr (inr (h.0, omega (arith, s, h.1), h.2))
+pub nodes_grown : (n max pieces tips pieces_then tips_then : ℕ) → pieces_then ≡ pieces + 1 → tips_then ≡ tips + 1 →
+    (n + 2 * (pieces + 1) ≤ max) ⊎ ((n + tips + 1 ≤ max) ⊎ ((n ≡ 0) × (tips + 1 ≤ 32) × (2 ≤ max))) →
+    (n + 2 * (pieces_then + 0) ≤ max) ⊎ ((n + tips_then + 0 ≤ max) ⊎ ((n ≡ 0) × (tips_then + 0 ≤ 32) × (2 ≤ max)))
+nodes_grown n max pieces tips pieces_then tips_then p s (inl h) = inl (omega (arith, p, h))
+nodes_grown n max pieces tips pieces_then tips_then p s (inr (inl h)) = inr (inl (omega (arith, s, h)))
+nodes_grown n max pieces tips pieces_then tips_then p s (inr (inr h)) = inr (inr (h.0, omega (arith, s, h.1), h.2))
 
 -- a leaf more is a low piece
-pub low_grown : (ps : List Part) → All IsLow ps → All IsLow (ps ++ record { count = 1; height = 0 } ∷ [])
-low_grown ps h = All-push IsLow ps (record { count = 1; height = 0 }) h (omega arith, λ more. absurd (omega (arith, more)))
+pub low_grown : (ps : List StackedPiece) → All IsOfLeaves ps → All IsOfLeaves (ps ++ record { count = 1; height = 0 } ∷ [])
+low_grown ps h = All-push IsOfLeaves ps (record { count = 1; height = 0 }) h (omega arith, λ more. absurd (omega (arith, more)))

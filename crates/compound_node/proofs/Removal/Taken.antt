@@ -99,7 +99,7 @@ left_in node lawful head new at height same here more is tall =
     subst (λ h. IsBuiltFrom (node_of h (remove node.entries at)) (without at (piece node))) (sym new_is) (left_built node lawful at (omega (arith, here, counted)) (omega (arith, more, counted)))
 
 -- ---- the words of the head
-module _ (head : HeadView) (count at height : ℕ) (sparse : List ℕ) (rows_are : head.rows ≡ take count sparse) (fits : FitsHead count sparse head)
+module _ (head : HeadView) (count at height : ℕ) (padded_rows : List ℕ) (rows_are : head.rows ≡ take count padded_rows) (fits : FitsHead count padded_rows head)
     (here : at < count) (more : 2 < count) (positive : 0 < height) (bound : height ≤ 65535) where
   abbrev after : HeadView
   after = head_without height at head
@@ -120,15 +120,15 @@ module _ (head : HeadView) (count at height : ℕ) (sparse : List ℕ) (rows_are
   rest_counted = sym (length-map rest (squeezed (or_all rest))) ∙ counted
 
   -- the words without row `at`, before they are squeezed
-  module _ (words : List ℕ) (is : words ≡ removed_row at (take count sparse) ++ 4294967295 ∷ drop count sparse) where
-    is_rest : words ≡ rest ++ 4294967295 ∷ drop count sparse
-    is_rest = is ∙ ap (λ rows. removed_row at rows ++ 4294967295 ∷ drop count sparse) (sym rows_are)
+  module _ (words : List ℕ) (is : words ≡ removed_row at (take count padded_rows) ++ 4294967295 ∷ drop count padded_rows) where
+    is_rest : words ≡ rest ++ 4294967295 ∷ drop count padded_rows
+    is_rest = is ∙ ap (λ rows. removed_row at rows ++ 4294967295 ∷ drop count padded_rows) (sym rows_are)
 
     taken_rows : take (count - 1) words ≡ rest
-    taken_rows = ap (take (count - 1)) is_rest ∙ take_at rest (4294967295 ∷ drop count sparse) (count - 1) rest_counted
+    taken_rows = ap (take (count - 1)) is_rest ∙ take_at rest (4294967295 ∷ drop count padded_rows) (count - 1) rest_counted
 
-    taken_behind : drop (count - 1) words ≡ 4294967295 ∷ drop count sparse
-    taken_behind = ap (drop (count - 1)) is_rest ∙ drop_at rest (4294967295 ∷ drop count sparse) (count - 1) rest_counted
+    taken_behind : drop (count - 1) words ≡ 4294967295 ∷ drop count padded_rows
+    taken_behind = ap (drop (count - 1)) is_rest ∙ drop_at rest (4294967295 ∷ drop count padded_rows) (count - 1) rest_counted
 
     pub words_used : IsRowOver (length head.columns) (or_all (take (count - 1) words))
     words_used = subst (λ rows. IsRowOver (length head.columns) (or_all rows)) (sym taken_rows) (left_used (node_of head (leaves count)) fits.lawful at (omega (arith, whole, here)))
@@ -139,20 +139,20 @@ module _ (head : HeadView) (count at height : ℕ) (sparse : List ℕ) (rows_are
     -- and then
     module _ (columns squeezed_words : List ℕ) (columns_are : columns ≡ kept (used_bits (or_all (take (count - 1) words))) head.columns)
         (squeezed_is : squeezed_words ≡ map (squeezed (or_all (take (count - 1) words))) (take (count - 1) words) ++ drop (count - 1) words) where
-      words_are : squeezed_words ≡ after.rows ++ 4294967295 ∷ drop count sparse
+      words_are : squeezed_words ≡ after.rows ++ 4294967295 ∷ drop count padded_rows
       words_are = squeezed_is ∙ (ap (λ rows. map (squeezed (or_all rows)) rows ++ drop (count - 1) words) taken_rows ∙ ap (λ ys. after.rows ++ ys) taken_behind)
 
-      behind : 4294967295 ∷ drop count sparse ≡ replicate (32 - length after.rows) 4294967295
+      behind : 4294967295 ∷ drop count padded_rows ≡ replicate (32 - length after.rows) 4294967295
       behind =
           let same : length head.rows ≡ count = fits.counted in
-          let old : drop count sparse ≡ replicate (32 - count) 4294967295 =
+          let old : drop count padded_rows ≡ replicate (32 - count) 4294967295 =
           ap (drop count) fits.padded ∙ (drop_at head.rows (replicate (32 - length head.rows) 4294967295) count same ∙ ap (λ n. replicate (32 - n) 4294967295) same) in
           ap (λ ys. 4294967295 ∷ ys) old ∙ ap (λ n. replicate n 4294967295) (let e : suc (32 - count) ≡ 32 - length after.rows = omega (arith, counted, here, fits.lawful.room, whole) in e)
 
       pub is_after : ◌≡◌ {A = HeadView} (record { height = height; columns = columns; rows = take (count - 1) squeezed_words }) after
       is_after =
           let columns_after : columns ≡ after.columns = columns_are ∙ ap (λ rows. kept (used_bits (or_all rows)) head.columns) taken_rows in
-          let rows_after : take (count - 1) squeezed_words ≡ after.rows = ap (take (count - 1)) words_are ∙ take_at after.rows (4294967295 ∷ drop count sparse) (count - 1) counted in
+          let rows_after : take (count - 1) squeezed_words ≡ after.rows = ap (take (count - 1)) words_are ∙ take_at after.rows (4294967295 ∷ drop count padded_rows) (count - 1) counted in
           rw (columns_after, rows_after) refl
 
       pub fits_after : FitsHead (count - 1) squeezed_words (record { height = height; columns = columns; rows = take (count - 1) squeezed_words })

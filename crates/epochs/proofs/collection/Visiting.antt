@@ -19,7 +19,7 @@ use Rattle.rowex_table.specs.Runs.{silent, Steps}
 use Rattle.rowex_table.specs.Seats.{TableView, SeatView}
 use Rattle.rowex_table.proofs.Runs.{in_turn_more, does_none}
 use Rattle.epochs.specs.Runs.{collecting}
-use Rattle.epochs.specs.Rounds.{Visits, VisitEach, has_given, VisitsOne, VisitsAll, VisitsSome}
+use Rattle.epochs.specs.Rounds.{Visits, VisitEach, has_given, VisitsOne, VisitsFirst, VisitsSome}
 use Rattle.epochs.proofs.Runs.{does_one, collects, collects_look, collects_append}
 
 -- Where records begin
@@ -67,8 +67,8 @@ module _ {G : Type 0} (table : TableView) (becomes : G → Event → G → Type 
   -- Visits in turn
 
   -- one more record, given back or not
-  pub visits_more : (bound : ℕ) (kind : ℕ → Rec) (n given more : ℕ) (t : Bool) (a m b : SeatView × G) → VisitsAll table becomes bound kind n given a m → VisitsOne table becomes bound (kind n) t m b
-      → more ≡ given + (if t then 1 else 0) → VisitsAll table becomes bound kind (n + 1) more a b
+  pub visits_more : (bound : ℕ) (kind : ℕ → Rec) (n given more : ℕ) (t : Bool) (a m b : SeatView × G) → VisitsFirst table becomes bound kind n given a m → VisitsOne table becomes bound (kind n) t m b
+      → more ≡ given + (if t then 1 else 0) → VisitsFirst table becomes bound kind (n + 1) more a b
   visits_more bound kind n given more t a m b all one is = (
     all.0 ++ one.0,
     in_turn_more (λ m. Visits bound (kind m)) n all.0 one.0 all.1 one.1,

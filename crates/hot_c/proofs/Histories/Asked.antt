@@ -30,7 +30,7 @@ use Rattle.hot_index_calls.specs.declared.census.RecordCounts.{RecordCounts}
 use Rattle.hot_index_calls.specs.declared.refusals.Refusal.{Refusal}
 use Rattle.hot_index_calls.specs.declared.refusals.Refusal.TheVariants.{Busy as IsBusy, HeldBack, Full as IsFull}
 use Rattle.linearizability.specs.Histories.{answers}
-use Rattle.linearizability.specs.Moments.{Happening, refuses, responds}
+use Rattle.linearizability.specs.Configurations.{Happening, refuses, responds}
 use Rattle.index_laws.specs.Joined.{HasEndedAs, answered, refused}
 use Rattle.index_laws.proofs.Joined.{silent_steps_end}
 use Rattle.hot_c.specs.Calls.{TellsOutcome}

@@ -29,12 +29,12 @@ key_at : (pairs : List (List ℕ × ℕ)) (i : ℕ) (d : List ℕ × ℕ) → ge
 key_at pairs i d = get_or-map (λ (e : List ℕ × ℕ). e.0) pairs i d
 
 -- of keys in this order, of which one is near another where it isn't above it
-module _ (order : List ℕ → List ℕ → Ordering) (total : IsTotalOrder order) (IsNear : List ℕ → List ℕ → Type 0) (apart : (one other : List ℕ) → order one other ≡ Less → IsNear other one → ⊥) where
+module _ (order : List ℕ → List ℕ → Ordering) (total : IsTotalOrder order) (KeepsAllButOneEntry : List ℕ → List ℕ → Type 0) (apart : (one other : List ℕ) → order one other ≡ Less → KeepsAllButOneEntry other one → ⊥) where
   abbrev pub AreSorted : Map → Type 0
   AreSorted pairs = IsStrictlySortedBy order (keys_of pairs)
 
   abbrev pub IsReached : Map → List ℕ → Type 0
-  IsReached pairs key = Any (λ e. IsNear key e.0) pairs
+  IsReached pairs key = Any (λ e. KeepsAllButOneEntry key e.0) pairs
 
   abbrev pub IsBeyond : Map → List ℕ → Type 0
   IsBeyond pairs key = All (λ e. order e.0 key ≡ Less) pairs

@@ -13,7 +13,7 @@ use Rattle.rowex_table.specs.Rule.{with_front}
 use Rattle.rowex_table.specs.Seats.{IsShownAll, SeatView, TableView}
 use Rattle.rowex_table.specs.Traces.{OthersStepOn, RunBeginsWith}
 use Rattle.rowex_table.proofs.Onward.{begins_itself, begins_on, next_begins, others_begin}
-use Rattle.linearizability.specs.Moments.{Happening, invokes, shows, steps}
+use Rattle.linearizability.specs.Configurations.{Happening, invokes, shows, steps}
 use Rattle.index_laws.specs.Joined.{HasEndedAs, happenings_of, pass_in, KeepCallsWhole}
 use Rattle.index_laws.specs.Traced.{ContractsLeadOn, Instant, IsTracedExecution, MakesEvent}
 use Rattle.index_laws.proofs.Traced.Reaching.{before, before-new, before-old, traced_more, upto, upto-new, upto-old}
@@ -81,7 +81,7 @@ put_all P f q r own others p = ⊎_elim
     (λ (ne : p ≢ q). subst (P p) (sym (put-other f q r p ne)) (others p ne))
     (cases_eq p q)
 
--- pass q's call has begun at moment `since`, and is pending at moment n
+-- pass q's call has begun at time `since`, and is pending at time n
 pub record IsWaiting (at : ℕ → Instant) (n q : ℕ) (o : Begun) : Type 0 where
   pub since : ℕ
   pub low : since ≤ n

@@ -23,7 +23,7 @@ use Rattle.rowex_table.specs.Traces.{OthersStepOn, RunBeginsWith}
 use Rattle.rowex_table.proofs.Onward.{begins_on, others_begin}
 use Rattle.rowex_table.proofs.Runs.{runs_same}
 use Rattle.hot_index_calls.specs.Traces.{untold}
-use Rattle.linearizability.specs.Moments.{Happening, invokes, responds, shows, steps}
+use Rattle.linearizability.specs.Configurations.{Happening, invokes, responds, shows, steps}
 use Rattle.index_laws.specs.Joined.{HasGoneThrough, HasEndedAs, HaveEndedInOneRun, IsExecutionOf, call_of, called, happenings_of, loaded, loader, new, notes_of_end, shown, stamped, steps_of, KeepCallsWhole}
 use Rattle.index_laws.specs.Traced.{Instant, MakesEvent}
 use Rattle.index_laws.specs.Executions.{insertion_notes, insertions}

@@ -12,10 +12,10 @@ use Rattle.rowex_core.specs.Knowing.{learned}
 use Rattle.rowex_table.specs.Seats.{SeatView, TableView}
 use Rattle.rowex_table.specs.Traces.{OthersStepOn}
 use Rattle.rowex_table.proofs.Onward.{others_more, others_none}
-use Rattle.linearizability.specs.Moments.{Happening, Pending, invokes, refuses, responds, shows, steps}
+use Rattle.linearizability.specs.Configurations.{Happening, Pending, invokes, refuses, responds, shows, steps}
 use Rattle.index_laws.specs.Executions.{IsReturning}
 use Rattle.index_laws.specs.Joined.{HasEndedAs, answered, loaded, looked_up, pass_in, quiet, refused, KeepCallsWhole}
-use Rattle.index_laws.specs.Traced.{ContractsLeadOn, Instant, IsSeatShowing, IsSeatStep, IsSeatTurn, IsShownItself, IsShownSteps, MakesEvent, moment_of}
+use Rattle.index_laws.specs.Traced.{ContractsLeadOn, Instant, IsSeatShowing, IsSeatStep, IsSeatTurn, IsShownItself, IsShownSteps, MakesEvent, configuration_of}
 use Rattle.index_laws.proofs.Traced.Reaching.{upto, upto-new, upto-old}
 use Rattle.index_laws.proofs.Joined.Coming.{Begun, IsWaiting, MakesStep, Reached, Rest, Shows, Waits, put, reached_more, waits_on}
 
@@ -270,7 +270,7 @@ module _ (table : TableView) (whole : ℕ → List Happening) (q : ℕ) (below :
     abbrev call : Pending
     call = record { since = w.since; calls = o.calls }
 
-    returning : IsReturning (λ i. moment_of table.layout (at_end i)) q n call o.from m
+    returning : IsReturning (λ i. configuration_of table.layout (at_end i)) q n call o.from m
     returning =
         let low : w.since ≤ n = w.low in
         record {

@@ -19,9 +19,9 @@ use Rattle.rowex_table.specs.Runs.{root_load}
 use Rattle.rowex_table.specs.Seats.{SeatView, TableView}
 use Rattle.rowex_table.specs.Traces.{OthersStepOn, RunBeginsWith}
 use Rattle.rowex_table.proofs.Onward.{begins_on, others_more, others_none}
-use Rattle.linearizability.specs.Moments.{Happening, IsSoundMoment, Pending, invokes, refuses, responds, shows, steps}
-use Rattle.linearizability.proofs.Moments.{runs_stay_sound}
-use Rattle.index_laws.specs.Traced.{ContractsLeadOn, Instant, IsSeatShowing, IsSeatStep, IsSeatTurn, IsShownItself, IsShownSteps, IsTracedExecution, LoadsAreMoments, core_led_to, moment_of}
+use Rattle.linearizability.specs.Configurations.{Happening, IsSoundConfiguration, Pending, invokes, refuses, responds, shows, steps}
+use Rattle.linearizability.proofs.Configurations.{runs_stay_sound}
+use Rattle.index_laws.specs.Traced.{ContractsLeadOn, Instant, IsSeatShowing, IsSeatStep, IsSeatTurn, IsShownItself, IsShownSteps, IsTracedExecution, LoadsAreMoments, core_led_to, configuration_of}
 use Rattle.index_laws.proofs.Executions.{executions_are_runs}
 use Rattle.index_laws.proofs.Traced.{core_is, traced_are_executions}
 
@@ -61,7 +61,7 @@ last_or_before (x ∷ run) (y ∷ before) more e l is =
     (λ (h : (run ≡ before) × (e ≡ l)). inr ((λ i. head i ∷ h.0 i), h.1))
     (last_or_before run before more e l tail)
 
--- From moment to moment
+-- From time to time
 
 -- behind the trace of a pass others alone step on
 abbrev OthersBehind : Instant → ℕ → Type 0
@@ -119,18 +119,18 @@ module _ (table : TableView) (at : ℕ → Instant) (t : ℕ) where
   next_behind (responds q notes) x o h = turn_behind q None x.2 o h
   next_behind (refuses q) x o h = turn_behind q None x.2 o h
 
--- From the first moment on
+-- From the first time on
 
 module _ (table : TableView) (last : ℕ) (at : ℕ → Instant) (happens : ℕ → Happening) (x : IsTracedExecution table last at happens) where
   behind_to : (n : ℕ) → n ≤ last → (o : ℕ) → OthersBehind (at n) o
   behind_to zero low o = subst (λ (z : List Event × List Event). OthersStepOn o z.1 z.0) (λ i. (sym x.run i, sym (x.seats o).2 i)) (others_none o [])
   behind_to (suc n) low o = next_behind table at n (happens n) (x.next n (omega (arith, low))) o (behind_to n (omega (arith, low)) o)
 
-  -- from moment i up to j the step has been made, behind these
+  -- from time i up to j the step has been made, behind these
   abbrev IsMade : List Event → Event → ℕ → ℕ → Type 0
   IsMade before l i j = (m : ℕ) × (notes : List Note) × (i ≤ m) × (m < j) × (happens m ≡ steps l.pass l.act notes) × ((at m).run ≡ before)
 
-  -- or it stands in the run at moment i
+  -- or it stands in the run at time i
   abbrev IsMadeOrOld : List Event → Event → ℕ → ℕ → Type 0
   IsMadeOrOld before l i j = RunBeginsWith (at i).run (before ++ l ∷ []) ⊎ IsMade before l i j
 
@@ -138,7 +138,7 @@ module _ (table : TableView) (last : ℕ) (at : ℕ → Instant) (happens : ℕ 
   made_later before l i j (inl old) = inl old
   made_later before l i j (inr (m, notes, from, to, is, run)) = let to_next : m < suc j = omega (arith, to) in inr (m, notes, from, to_next, is, run)
 
-  -- in the run at the next moment it stands last, or stood before
+  -- in the run at the next time it stands last, or stood before
   made_next : (before : List Event) (l : Event) (i j : ℕ) → i ≤ j → (RunBeginsWith (at j).run (before ++ l ∷ []) → IsMadeOrOld before l i j) → RunBeginsWith (at (suc j)).run (before ++ l ∷ []) →
       ((at (suc j)).run ≡ (at j).run) ⊎ ((e : Event) × IsStep table at j (happens j) e) → IsMadeOrOld before l i (suc j)
   made_next before l i j below earlier h (inl same) = made_later before l i j (earlier (subst (λ r. RunBeginsWith r (before ++ l ∷ [])) same h))
@@ -155,9 +155,9 @@ module _ (table : TableView) (last : ℕ) (at : ℕ → Instant) (happens : ℕ 
       (λ (more : suc j ≤ i). inl (subst (λ n. RunBeginsWith (at n).run (before ++ l ∷ [])) (let e : suc j ≡ i = omega (arith, low, more) in e) h))
       (cases_lt i (suc j))
 
-  sound : (t : ℕ) → t ≤ last → IsSoundMoment table.layout (moment_of table.layout (at t))
-  sound = runs_stay_sound table.layout last (λ t. moment_of table.layout (at t)) happens
-      (executions_are_runs table.layout last (λ t. moment_of table.layout (at t)) happens (traced_are_executions table last at happens x))
+  sound : (t : ℕ) → t ≤ last → IsSoundConfiguration table.layout (configuration_of table.layout (at t))
+  sound = runs_stay_sound table.layout last (λ t. configuration_of table.layout (at t)) happens
+      (executions_are_runs table.layout last (λ t. configuration_of table.layout (at t)) happens (traced_are_executions table last at happens x))
 
 pub loads_are_moments : LoadsAreMoments
 loads_are_moments table last at happens x q i j below order upto loads = ⊎_elim
@@ -180,7 +180,7 @@ loads_are_moments table last at happens x q i j below order upto loads = ⊎_eli
         let behind = behind_to table last at happens x j upto q in
         begins_on (loads.run ++ l ∷ []) ((at j).seat q).trace (at j).run (loads.rest, loads.until ∙ sym (append_assoc loads.run (l ∷ []) loads.rest)) (behind.0, behind.1)
 
-    -- the load was of the moment's core
+    -- the load was of the time's core
     loaded : (m : ℕ) → (at m).run ≡ loads.run → ((at j).seat q).known.fresh.front ≡ (core_led_to (opening table.layout) (at m).run).changes
     loaded m run = ap (λ (z : Fresh). z.front) loads.sees.fresh ∙
         (ap (λ (z : Core). z.changes) (core_is (opening table.layout) loads.run loads.sees.core loads.led) ∙ ap (λ r. (core_led_to (opening table.layout) r).changes) (sym run))

@@ -3,9 +3,9 @@ use Rattle.std.proofs.Common.{◌≡◌, ⊎_elim, ℕ, suc, ◌<◌, ◌≤◌,
 use Rattle.std.proofs.lemmas.Bool.{cases_lt, le-leb, lt-leb, lt-ltb, le-ltb}
 use Rattle.finite_map.specs.declared.Note.{Note}
 use Rattle.rowex_table.specs.Seats.{IsNewSeatOf, SeatView, TableView}
-use Rattle.linearizability.specs.Moments.{Happening, Moment, Pending, invokes, refuses, responds, shows, steps}
+use Rattle.linearizability.specs.Configurations.{Happening, Configuration, Pending, invokes, refuses, responds, shows, steps}
 use Rattle.index_laws.specs.Executions.{HasReturned, IsReturning}
-use Rattle.index_laws.specs.Traced.{ContractsLeadOn, Instant, IsSeatShowing, IsSeatStep, IsSeatTurn, IsTracedExecution, moment_of}
+use Rattle.index_laws.specs.Traced.{ContractsLeadOn, Instant, IsSeatShowing, IsSeatStep, IsSeatTurn, IsTracedExecution, configuration_of}
 
 -- Lists that go on at one place
 
@@ -29,7 +29,7 @@ before-old n f b t low = ap (λ z. cond z (f t) b) (lt-ltb t n low)
 pub before-new : {A : Type 0} (n : ℕ) (f : ℕ → A) (b : A) → before n f b n ≡ b
 before-new n f b = ap (λ z. cond z (f n) b) (le-ltb n n (le_refl n))
 
--- Where the first moments of two executions are the same
+-- Where the first times of two executions are the same
 
 module _ (table : TableView) (at to : ℕ → Instant) (t : ℕ) (same : (s : ℕ) → s ≤ suc t → to s ≡ at s) where
   here : to t ≡ at t
@@ -41,8 +41,8 @@ module _ (table : TableView) (at to : ℕ → Instant) (t : ℕ) (same : (s : �
   both : (P : Instant → Instant → Type 0) → P (at t) (at (suc t)) → P (to t) (to (suc t))
   both P h = subst (λ a. P a (to (suc t))) (sym here) (subst (P (at t)) (sym there) h)
 
-  abbrev moments : (ℕ → Instant) → ℕ → Moment
-  moments f i = moment_of table.layout (f i)
+  abbrev moments : (ℕ → Instant) → ℕ → Configuration
+  moments f i = configuration_of table.layout (f i)
 
   returning : (q : ℕ) (call : Pending) (s e : SeatView) → IsReturning (moments at) q t call s e → IsReturning (moments to) q t call s e
   returning q call s e x =

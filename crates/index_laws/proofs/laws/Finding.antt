@@ -45,7 +45,7 @@ use Rattle.rowex_table.specs.Publishes.{HasPublished, Publishes}
 use Rattle.publish_laws.proofs.Insertions.Inserting.{first_made}
 use Rattle.hot_index_calls.specs.Answers.{IsNoted}
 use Rattle.hot_index_calls.specs.Passes.{AreByPasses, pass_of}
-use Rattle.linearizability.specs.Moments.{Happening, responds}
+use Rattle.linearizability.specs.Configurations.{Happening, responds}
 use Rattle.index_laws.specs.Joined.{AnInsertIsFound, HasGoneThrough, HaveEndedInOneRun, answered, call_of, called, new, of_two}
 use Rattle.index_laws.proofs.Joined.{both_done, of_both}
 use Rattle.finite_map.specs.declared.Change.{Change}

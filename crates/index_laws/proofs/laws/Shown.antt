@@ -24,22 +24,22 @@ use Rattle.rowex_table.proofs.Rule.{learned_pass}
 use Rattle.rowex_table.proofs.Onward.{others_none}
 use Rattle.hot_index_calls.specs.Answers.{IsNoted}
 use Rattle.hot_index_calls.specs.Passes.{pass_of}
-use Rattle.linearizability.specs.Moments.{Happening, IsCallTurn, IsMomentStep, IsSoundMoment, Moment, Pending, invokes, responds, shows, steps}
+use Rattle.linearizability.specs.Configurations.{Happening, IsCallTurn, IsConfigurationStep, IsSoundConfiguration, Configuration, Pending, invokes, responds, shows, steps}
 use Rattle.index_laws.specs.Executions.{LeadsOn, IsExecution}
 use Rattle.index_laws.specs.Statements.{AGetReturns}
 use Rattle.index_laws.specs.Traced.{AGetIsTraced, ContractsLeadOn, Instant, IsSeatStep, IsSeatTurn, IsTracedExecution}
 use Rattle.index_laws.proofs.Executions.{executions_are_runs, opening_is_new}
-use Rattle.linearizability.proofs.Moments.{runs_stay_sound}
+use Rattle.linearizability.proofs.Configurations.{runs_stay_sound}
 
--- the moment after a step
-abbrev pub stepped : Moment → ℕ → Act → List Note → Moment
+-- the time after a step
+abbrev pub stepped : Configuration → ℕ → Act → List Note → Configuration
 stepped a q act notes = record {
   core = after a.core q act;
   known = λ o. cond (nat_eq o q) (record (learned a.core act (a.known q)) { notes = (a.known q).notes ++ notes }) (a.known o);
   pending = a.pending;
 }
 
-pub is_step : (a : Moment) (q : ℕ) (act : Act) (notes : List Note) (call : Pending) → Legal a.core q act → a.pending q ≡ Some call → IsMomentStep a (stepped a q act notes) q act notes
+pub is_step : (a : Configuration) (q : ℕ) (act : Act) (notes : List Note) (call : Pending) → Legal a.core q act → a.pending q ≡ Some call → IsConfigurationStep a (stepped a q act notes) q act notes
 is_step a q act notes call legal called = record {
   legal = legal;
   core = refl;
@@ -50,11 +50,11 @@ is_step a q act notes call legal called = record {
   pending = refl;
 }
 
--- the moment at which pass q has this call pending, if any
-abbrev turned : Moment → ℕ → Option Pending → Moment
+-- the time at which pass q has this call pending, if any
+abbrev turned : Configuration → ℕ → Option Pending → Configuration
 turned a q call = record { core = a.core; known = a.known; pending = λ o. cond (nat_eq o q) call (a.pending o) }
 
-is_turn : (layout : Layout) (a : Moment) (q : ℕ) (call : Option Pending) → q < layout.passes → IsCallTurn layout a (turned a q call) q call
+is_turn : (layout : Layout) (a : Configuration) (q : ℕ) (call : Option Pending) → q < layout.passes → IsCallTurn layout a (turned a q call) q call
 is_turn layout a q call below = record {
   pass = below;
   core = refl;
@@ -70,28 +70,28 @@ module _ (layout : Layout) (below : 0 < layout.passes) (table : TableId) (key : 
   abbrev note : Note
   note = record { place = 0; call = Get key; reply = Absent }
 
-  abbrev new : Moment
+  abbrev new : Configuration
   new = record { core = opening layout; known = opening_of; pending = λ _. None }
 
-  abbrev invoked : Moment
+  abbrev invoked : Configuration
   invoked = turned new 0 (Some asked)
 
-  abbrev begun : Moment
+  abbrev begun : Configuration
   begun = stepped invoked 0 (LoadEpoch 1) []
 
-  abbrev pinned : Moment
+  abbrev pinned : Configuration
   pinned = stepped begun 0 (SetPin 1) []
 
-  abbrev loaded : Moment
+  abbrev loaded : Configuration
   loaded = stepped pinned 0 (LoadRef Root 0) []
 
-  abbrev unpinned : Moment
+  abbrev unpinned : Configuration
   unpinned = stepped loaded 0 ClearPin (note ∷ [])
 
-  abbrev responded : Moment
+  abbrev responded : Configuration
   responded = turned unpinned 0 None
 
-  abbrev at : ℕ → Moment
+  abbrev at : ℕ → Configuration
   at zero = new
   at (suc zero) = invoked
   at (suc (suc zero)) = begun
@@ -159,11 +159,11 @@ module _ (layout : Layout) (below : 0 < layout.passes) (table : TableId) (key : 
   abbrev event : Act → Event
   event act = record { pass = 0; act = act }
 
-  -- the seats at a moment, where all steps so far are pass 0's
-  abbrev seen : Moment → List Event → Instant
+  -- the seats at a time, where all steps so far are pass 0's
+  abbrev seen : Configuration → List Event → Instant
   seen a run = record { run = run; seat = λ q. record { table = table; id = q; known = a.known q; trace = cond (nat_eq q 0) run []; asides = 0; touches = 0 }; pending = a.pending }
 
-  seat_step : (a b : Moment) (run : List Event) (act : Act) (notes : List Note) → IsSoundMoment layout a → IsMomentStep a b 0 act notes → EventsLead (opening layout) run a.core →
+  seat_step : (a b : Configuration) (run : List Event) (act : Act) (notes : List Note) → IsSoundConfiguration layout a → IsConfigurationStep a b 0 act notes → EventsLead (opening layout) run a.core →
       IsSeatStep made (seen a run) (seen b (run ++ event act ∷ [])) 0 act notes
   seat_step a b run act notes s x led = record {
     said = λ k. notes;
@@ -193,10 +193,10 @@ module _ (layout : Layout) (below : 0 < layout.passes) (table : TableId) (key : 
   abbrev instant : ℕ → Instant
   instant t = seen (at t) (ran t)
 
-  sound : (t : ℕ) → t ≤ 6 → IsSoundMoment layout (at t)
+  sound : (t : ℕ) → t ≤ 6 → IsSoundConfiguration layout (at t)
   sound t low = runs_stay_sound layout 6 at happens (executions_are_runs layout 6 at happens returns) t low
 
-  turn : (a : Moment) (run : List Event) (call : Option Pending) → IsSeatTurn layout (seen a run) (seen (turned a 0 call) run) 0 call
+  turn : (a : Configuration) (run : List Event) (call : Option Pending) → IsSeatTurn layout (seen a run) (seen (turned a 0 call) run) 0 call
   turn a run call = let x = is_turn layout a 0 call below in record { pass = x.pass; run = refl; seats = refl; own = x.own; others = x.others }
 
   contracts : (t : ℕ) → t < 6 → ContractsLeadOn made instant t (happens t)

@@ -15,8 +15,8 @@ use Rattle.plain_index.specs.Times.{noted}
 use Rattle.record_words.specs.declared.layout.Layout.{Layout}
 use Rattle.rowex_core.specs.declared.known.Known.{Known}
 use Rattle.linearizability.specs.Histories.{answers, complete_calls}
-use Rattle.linearizability.specs.Moments.{Continues, Happening, IsSoundMoment, IsWholeRun, Moment, Pending, invokes, refuses, responds, shows, steps}
-use Rattle.linearizability.proofs.Moments.{cancelled, runs_stay_sound}
+use Rattle.linearizability.specs.Configurations.{Continues, Happening, IsSoundConfiguration, IsWholeRun, Configuration, Pending, invokes, refuses, responds, shows, steps}
+use Rattle.linearizability.proofs.Configurations.{cancelled, runs_stay_sound}
 use Rattle.linearizability.proofs.Histories.Passes.{notes_more, notes_same, passes_below}
 
 -- Fronts
@@ -31,7 +31,7 @@ others_until q a b c h g m =
     let same : h.0 ≡ g.0 ++ m.0 = cancelled a h.0 (g.0 ++ m.0) (sym h.1 ∙ m.1 ∙ ap (λ z. z ++ m.0) g.1 ∙ append_assoc a g.0 m.0) in
     (g.0, g.1, all_before (λ x. x.pass ≢ q) g.0 m.0 (subst (All (λ x. x.pass ≢ q)) same h.2))
 
-module _ (at : ℕ → Moment) (q : ℕ) where
+module _ (at : ℕ → Configuration) (q : ℕ) where
   -- between two calls a pass's notes are legal in its front, and when it invoked the call that is pending they were
   abbrev pub LegalUpTo : ℕ → Option Pending → Type 0
   LegalUpTo t None = LegalCalls ((at t).known q).front q ((at t).known q).notes
@@ -53,7 +53,7 @@ module _ (at : ℕ → Moment) (q : ℕ) where
 abbrev legal_in : ℕ → Known → Type 0
 legal_in q k = LegalCalls k.front q k.notes
 
-module _ (layout : Layout) (at : ℕ → Moment) (t : ℕ) (s : IsSoundMoment layout (at t)) (q : ℕ) (low : q < layout.passes) where
+module _ (layout : Layout) (at : ℕ → Configuration) (t : ℕ) (s : IsSoundConfiguration layout (at t)) (q : ℕ) (low : q < layout.passes) where
   -- the pass is shown more
   shown_legal : (front : List Change) → BeginsWith front ((at t).known q).front → BeginsWith (at t).core.changes front →
       LegalUpTo at q t None → LegalCalls front q ((at t).known q).notes
@@ -86,8 +86,8 @@ module _ (layout : Layout) (at : ℕ → Moment) (t : ℕ) (s : IsSoundMoment la
       (λ ne. subst (LegalUpTo at q (suc t)) (sym (x.2.others q ne)) (goes_on at q t ((at t).pending q) h (λ none legal. subst (λ (f : ℕ → Known). legal_in q (f q)) (sym x.2.known) legal)))
       (cases_eq q p)
 
--- which pass notes what between two moments, and that no other does
-module _ (layout : Layout) (at : ℕ → Moment) (t : ℕ) where
+-- which pass notes what between two times, and that no other does
+module _ (layout : Layout) (at : ℕ → Configuration) (t : ℕ) where
   abbrev notes_at : ℕ → ℕ → List Note
   notes_at t q = notes_up_to at q t ((at t).pending q)
 
@@ -145,7 +145,7 @@ no_notes : (f : ℕ → List Note) → ((q : ℕ) → f q ≡ []) → (n : ℕ) 
 no_notes f h zero = refl
 no_notes f h (suc n) = ap (λ xs. xs ++ notes_of (passes_below f n)) (h n) ∙ no_notes f h n
 
-module _ (layout : Layout) (last : ℕ) (at : ℕ → Moment) (happens : ℕ → Happening) (run : IsWholeRun layout last at happens) where
+module _ (layout : Layout) (last : ℕ) (at : ℕ → Configuration) (happens : ℕ → Happening) (run : IsWholeRun layout last at happens) where
   pub calls_legal : (t : ℕ) → t ≤ last → (q : ℕ) → q < layout.passes → LegalUpTo at q t ((at t).pending q)
   calls_legal zero within q low =
       let sound = runs_stay_sound layout last at happens run 0 within in

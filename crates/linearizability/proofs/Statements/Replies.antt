@@ -1,4 +1,4 @@
--- Each reply is the map's at a moment of its call.
+-- Each reply is the map's at a time of its call.
 use Rattle.std.proofs.Common.{◌≡◌, ℕ, ◌<◌, ◌≤◌, Bool, true, false, suc, List, Option, None, Some, get_or, length, nat_eq, take, refl, sym, ap, subst, ◌∙◌, arith, ⊎_elim}
 use Rattle.std.specs.Prelude.{All}
 use Rattle.std.proofs.Math.Seq.{take-append_seam}
@@ -13,11 +13,11 @@ use Rattle.finite_map.specs.Fronts.{BeginsWith, map_of}
 use Rattle.finite_map.specs.Maps.{Map, key_of, reply_of, step_if, step_where, value_at}
 use Rattle.record_words.specs.declared.layout.Layout.{Layout}
 use Rattle.rowex_core.proofs.Knowing.Keeping.{seen_by}
-use Rattle.linearizability.specs.Moments.{Happening, IsNotedBetween, IsWholeRun, Moment}
+use Rattle.linearizability.specs.Configurations.{Happening, IsNotedBetween, IsWholeRun, Configuration}
 use Rattle.linearizability.specs.Scanning.{map_at}
 use Rattle.linearizability.specs.Statements.{RepliesInTime}
-pub use Rattle.linearizability.proofs.Moments.{all_behind as behind}
-use Rattle.linearizability.proofs.Moments.{grown, loaded_since, longer, runs_stay_sound}
+pub use Rattle.linearizability.proofs.Configurations.{all_behind as behind}
+use Rattle.linearizability.proofs.Configurations.{grown, loaded_since, longer, runs_stay_sound}
 use Rattle.linearizability.proofs.Scanning.{IsLoading, goes_through, held_by_all}
 
 -- a reply is told by what the map holds for the call's key
@@ -45,7 +45,7 @@ reply_in (RemoveIf key expected) (Some held) m n = either_reply (nat_eq held exp
 reply_same : (m n : Map) (call : Call) → value_at m (key_of call) ≡ value_at n (key_of call) → reply_of m call ≡ reply_of n call
 reply_same m n call e = ap (λ h. (step_where h m call).1) e ∙ reply_in call (value_at n (key_of call)) m n
 
-module _ (layout : Layout) (last : ℕ) (at : ℕ → Moment) (happens : ℕ → Happening) (run : IsWholeRun layout last at happens) (q t : ℕ) (below : q < layout.passes) (within : t ≤ last) where
+module _ (layout : Layout) (last : ℕ) (at : ℕ → Configuration) (happens : ℕ → Happening) (run : IsWholeRun layout last at happens) (q t : ℕ) (below : q < layout.passes) (within : t ≤ last) where
   abbrev front : List Change
   front = ((at t).known q).front
 
@@ -74,7 +74,7 @@ module _ (layout : Layout) (last : ℕ) (at : ℕ → Moment) (happens : ℕ →
           let more = grown layout last at happens run m t upto within in
           ap (λ k. take k made) (sym is) ∙ ap (take (length (at m).core.changes)) more.1 ∙ take-append_seam (at m).core.changes more.0
 
-      -- pairs were loaded at the moment: a key that was not there yet was not before it, and one that was there is after it
+      -- pairs were loaded at the time: a key that was not there yet was not before it, and one that was there is after it
       loaded_at : (m : ℕ) → since ≤ m → m < t → IsLoading (at m).core (at (suc m)).core → n.place < length (at (suc m)).core.changes → n.reply ≡ reply_of (map_of (take n.place made)) n.call →
           (m : ℕ) × (since ≤ m) × (m ≤ t) × (n.reply ≡ reply_of (map_at at m) n.call)
       loaded_at m from before loads few answers = by_held (value_at (map_of (take n.place cs)) (key_of n.call)) refl

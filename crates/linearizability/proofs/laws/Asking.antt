@@ -1,4 +1,4 @@
--- A call that responds has changed the map as it asks, at each moment before.
+-- A call that responds has changed the map as it asks, at each time before.
 use Rattle.std.proofs.Common.{◌≡◌, ◌≢◌, ◌⊎◌, inl, inr, ℕ, zero, suc, ◌<◌, ◌≤◌, List, [], ◌∷◌, ◌++◌, length, take, map, cond, eqb, Option, Some, None, refl, sym, ap, subst, ◌∙◌, arith, ⊎_elim, append-nil, append_assoc}
 use Rattle.std.specs.List.{All, slice_get, cons_option}
 use Rattle.std.proofs.Math.Seq.{take-append_seam}
@@ -17,10 +17,10 @@ use Rattle.finite_map.proofs.Calls.{legal_longer, pass-change_of, same_value}
 use Rattle.finite_map.proofs.Fronts.{nothing_before}
 use Rattle.record_words.specs.declared.layout.Layout.{Layout}
 use Rattle.linearizability.specs.Histories.{ChangesAsAsked, HasChangedOnce, replied}
-use Rattle.linearizability.specs.Moments.{Happening, IsNotedBetween, IsRefusal, IsResponse, IsSoundMoment, IsWholeRun, Moment, Pending}
+use Rattle.linearizability.specs.Configurations.{Happening, IsNotedBetween, IsRefusal, IsResponse, IsSoundConfiguration, IsWholeRun, Configuration, Pending}
 use Rattle.linearizability.specs.Statements.{RefusedChangeNothing, RespondersChangeAsAsked}
 use Rattle.linearizability.proofs.Histories.Calling.{LegalUpTo, calls_legal}
-use Rattle.linearizability.proofs.Moments.{all_behind, cancelled, grown, loaded_since, longer, runs_stay_sound}
+use Rattle.linearizability.proofs.Configurations.{all_behind, cancelled, grown, loaded_since, longer, runs_stay_sound}
 
 -- another order of one thing is that thing alone
 one_alone : {X : Type 0} (x : X) (ys : List X) → IsPermutation (x ∷ []) ys → ys ≡ x ∷ []
@@ -154,8 +154,8 @@ module _ (q : ℕ) (front now later : List Change) (ns notes : List Note) (more 
             );
           }
 
-module _ (layout : Layout) (last : ℕ) (at : ℕ → Moment) (happens : ℕ → Happening) (run : IsWholeRun layout last at happens) (q t : ℕ) (call : Pending) (below : q < layout.passes) (within : t ≤ last) where
-  sound_at : (k : ℕ) → k ≤ last → IsSoundMoment layout (at k)
+module _ (layout : Layout) (last : ℕ) (at : ℕ → Configuration) (happens : ℕ → Happening) (run : IsWholeRun layout last at happens) (q t : ℕ) (call : Pending) (below : q < layout.passes) (within : t ≤ last) where
+  sound_at : (k : ℕ) → k ≤ last → IsSoundConfiguration layout (at k)
   sound_at = runs_stay_sound layout last at happens run
 
   legal_at : (k : ℕ) → k ≤ last → LegalCalls ((at k).known q).front q ((at k).known q).notes → LegalCalls (at k).core.changes q ((at k).known q).notes

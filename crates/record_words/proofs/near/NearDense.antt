@@ -18,7 +18,7 @@ use Rattle.partial_keys.specs.Rows.{dense_of}
 use Rattle.partial_keys.proofs.Windows.{every, every_one, same_bool}
 use Rattle.record_words.specs.Kinds.{AreNearLanes, bit_mask, first_byte, near_position}
 use Rattle.record_words.proofs.near.NearLanes.{first_lowest}
-use Rattle.record_words.proofs.OfKinds.{AreNear, IsNear, near_of}
+use Rattle.record_words.proofs.OfKinds.{AreNear, KeepsAllButOneEntry, near_of}
 use Rattle.record_words.proofs.HeadParts.{index_is, indexes_long, mask_is, masks_long}
 use lib.Lanes.{mask_l, top, zip2}
 
@@ -59,7 +59,7 @@ byte_tells o byte low small = same_bool _ _ (every_one (tells o) 256 (every_one 
 
 module _ (key : List ℕ) (bytes : (k : ℕ) → get_or key k 0 < 256) where
   -- of a near column
-  pub column_tells : (first p : ℕ) → IsNear first p → p / 9 < 240 → not (eqb (bit_and (get_or (with_zeros key) (p / 9) 0) (bit_mask p)) 0) ≡ bit_of key p
+  pub column_tells : (first p : ℕ) → KeepsAllButOneEntry first p → p / 9 < 240 → not (eqb (bit_and (get_or (with_zeros key) (p / 9) 0) (bit_mask p)) 0) ≡ bit_of key p
   column_tells first p near inside =
       let o : ℕ = p % 9 - 1 in
       let there : p % 9 ≢ 0 = near.a_bit in
@@ -165,7 +165,7 @@ module _ (columns indexes masks key : List ℕ) (first : ℕ) (lanes : AreNearLa
         (λ (used : 15 - i < length columns).
         let same : position i ≡ get_or columns (15 - i) 0 = get_or_default columns (15 - i) (9 * first_byte columns) 0 used in
         let w = in_window i in
-        let its_near : IsNear (first_byte columns) (position i) = subst (IsNear (first_byte columns)) (sym same) (near.each (15 - i) used) in
+        let its_near : KeepsAllButOneEntry (first_byte columns) (position i) = subst (KeepsAllButOneEntry (first_byte columns)) (sym same) (near.each (15 - i) used) in
         column_tells key bytes (first_byte columns) (position i) its_near (omega (arith, w.1, window_within)) ∙ (ap (bit_of key) same ∙ sym (get_or-map (bit_of key) columns (15 - i) 0 false used)))
         (λ (past : length columns ≤ 15 - i).
         let none : position i ≡ 9 * first_byte columns = get_or_past columns (15 - i) (9 * first_byte columns) past in

@@ -6,13 +6,13 @@ use Rattle.record_words.specs.Kinds.{bit_mask, first_byte, kind_of}
 use Rattle.record_words.specs.declared.kind.HeadKind.TheVariants.{Wide}
 use Rattle.record_words.specs.declared.numbers.HeadNumbers.{HeadNumbers}
 use Rattle.record_words.proofs.near.NearLanes.{first_lowest, mask_some}
-use Rattle.record_words.proofs.OfKinds.{IsNear, OfKind, is_middle, is_narrow, is_wide, of_kind}
+use Rattle.record_words.proofs.OfKinds.{KeepsAllButOneEntry, OfKind, is_middle, is_narrow, is_wide, of_kind}
 
 -- each column of a near head is near
-pub near_one : (columns : List ℕ) → kind_of columns ≢ Wide → (i : ℕ) → i < length columns → IsNear (first_byte columns) (get_or columns i 0)
+pub near_one : (columns : List ℕ) → kind_of columns ≢ Wide → (i : ℕ) → i < length columns → KeepsAllButOneEntry (first_byte columns) (get_or columns i 0)
 near_one columns other i used = go (of_kind columns)
   where
-    go : OfKind columns → IsNear (first_byte columns) (get_or columns i 0)
+    go : OfKind columns → KeepsAllButOneEntry (first_byte columns) (get_or columns i 0)
     go (is_wide e) = absurd (other e)
     go (is_narrow e near) = near.each i used
     go (is_middle e near) = near.each i used

@@ -16,7 +16,7 @@ use Rattle.versions.proofs.State.{spans_last, spans_ended, reach_later}
 use Rattle.rowex_core.specs.declared.known.Fact.TheVariants.{Placed, Fixed as FixedWord, Valued}
 use Rattle.record_words.specs.Decoding.{entry_of}
 use Rattle.rowex_core.specs.Reading.{node_words_of, leaf_of, IsPacked, entry_in, head_value, HasWordAt}
-use Rattle.rowex_core.specs.Cores.{Core, IsLawful, IsWhole, heap_of, bare}
+use Rattle.rowex_core.specs.Cores.{Core, IsLawful, MustSpellValue, heap_of, bare}
 use Rattle.rowex_core.specs.Words.{record_word}
 use Rattle.rowex_core.specs.Events.{IsFixedOffset}
 use Rattle.rowex_core.specs.Knowing.{StoodBetween, IsFact}
@@ -39,7 +39,7 @@ pub record LastOf (c : Core) (since : ℕ) (r : Rec) : Type 0 where
   pub copied : IsCopied (heap_of c.words) tree
   pub packed : IsPacked r (c.words r)
 
-spanned_whole : (now : ℕ) (f : Fate) (n : ℕ) → Spans now (life_of f) n → IsWhole f
+spanned_whole : (now : ℕ) (f : Fate) (n : ℕ) → Spans now (life_of f) n → MustSpellValue f
 spanned_whole now Free n h = absurd h
 spanned_whole now (HeldBy q) n h = absurd h
 spanned_whole now (ReadyBy q) n h = tt

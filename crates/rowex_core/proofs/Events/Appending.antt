@@ -7,7 +7,7 @@ use Rattle.versions.proofs.State.Publish.{version_old}
 use Rattle.rowex_core.specs.declared.event.Act.TheVariants.{Claim, Lock, Unlock, Publish, Mark, Advance, GiveBack, Load}
 use Rattle.rowex_core.specs.declared.event.Target.TheVariants.{Anchor, Node as NodeTarget}
 use Rattle.rowex_core.specs.Events.{claimed, marked, given_back, anchored, locked_where, advanced, next_tree, next_change}
-use Rattle.rowex_core.specs.Statements.{OnlyPublishAppends}
+use Rattle.rowex_core.specs.Statements.{EachActAppends}
 
 -- neither the changes nor the versions are others
 abbrev Leaves : Shared → Shared → Type 0
@@ -39,7 +39,7 @@ locked_leaves s n q found = either_leaves (nat_eq found 2) s (with_lock s n (Som
 advanced_leaves : (s : Shared) (expected : ℕ) → Leaves s (advanced s expected)
 advanced_leaves s expected = either_leaves (nat_eq s.epoch expected) s (with_epoch s (suc s.epoch)) (refl, refl)
 
-pub only_publish_appends : OnlyPublishAppends
+pub only_publish_appends : EachActAppends
 only_publish_appends c q (Publish spot w) = (next_change c q spot w, refl, refl, λ n h. version_old c.past.version (suc c.past.now) (next_tree c spot w) n (omega arith))
 only_publish_appends c q (Claim r found) = claimed_leaves c.shared q r (c.fate r)
 only_publish_appends c q (Lock Anchor found) = anchored_leaves c.shared q c.anchor

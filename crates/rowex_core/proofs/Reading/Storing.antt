@@ -11,7 +11,7 @@ use Rattle.node_tries.specs.Positions.{front_below}
 use Rattle.node_tries.specs.Piece.{Fork}
 use Rattle.tries.specs.Place.{Swap, swap, in_zero, in_one}
 use Rattle.record_words.specs.declared.records.Rec.TheVariants.{Node as a_node}
-use Rattle.versions.specs.Heap.{IsNear}
+use Rattle.versions.specs.Heap.{KeepsAllButOneEntry}
 use Rattle.versions.specs.Steps.{same_rec}
 use Rattle.versions.proofs.Heap.{near_refl}
 use Rattle.versions.proofs.Core.{same_rec_true}
@@ -66,7 +66,7 @@ subtrie_stays words j w =
     (⊎_elim (λ e. inl (rw e refl)) (λ e. rw e (shown_near (Leaf 0) 32 (fixed_of (take 25 words)).columns (fixed_of (take 25 words)).rows (entries_of (get_or (take 25 words) 0 0 % 256) (drop 25 words)) j (unwrap_or (entry_of w) (Leaf 0))))
     (entries_near (get_or (take 25 words) 0 0 % 256) (drop 25 words) j w))
 
-pub near_store : (c : Core) (spot : Spot) (w : ℕ) → IsNear (heap_of c.words) (heap_of (stored_words c spot w))
+pub near_store : (c : Core) (spot : Spot) (w : ℕ) → KeepsAllButOneEntry (heap_of c.words) (heap_of (stored_words c spot w))
 near_store c Root w = near_refl (heap_of c.words)
 near_store c (Value l) w = (key_stays c l w, λ i. refl, λ i. inl refl)
 near_store c (Slot n j) w = (λ i. refl, λ i. fixed i (cases_Bool (same_rec (a_node i) (a_node n))), λ i. subtries i (cases_Bool (same_rec (a_node i) (a_node n))))

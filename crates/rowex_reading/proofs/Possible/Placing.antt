@@ -14,7 +14,7 @@ use Rattle.tries.proofs.Place.{shape_tips}
 use Rattle.tries.proofs.Tree.{built_within}
 use Rattle.versions.specs.declared.Pin.{Pin}
 use Rattle.record_words.specs.declared.records.Rec.TheVariants.{Node as a_node}
-use Rattle.versions.specs.State.{Past, Stands, IsSteady}
+use Rattle.versions.specs.State.{Past, Stands, KeepsFixedWordsSince}
 use Rattle.rowex_core.specs.declared.event.Act.TheVariants.{LoadRef}
 use Rattle.rowex_core.specs.declared.event.Spot.TheVariants.{Slot}
 use Rattle.rowex_core.specs.declared.known.Fact.TheVariants.{Placed}
@@ -46,7 +46,7 @@ few_places layout k m n h i possible (led, room) =
     let known = recalls possible.core k possible.knows in
     let r = room possible.core possible.lawful known in
     let s = r.1 in
-    let steady : IsSteady (seen possible.core k) m = seen_steady possible.lawful known led.0 in
+    let steady : KeepsFixedWordsSince (seen possible.core k) m = seen_steady possible.lawful known led.0 in
     let st = s.1.stands in
     let built : IsBuilt (node n s.1.fixed s.0) = built_within st.within (steady.trees s.1.at st.tree s.1.until st.is_version).1 in
     let most : size r.0 ≤ 32 = subst (λ z. z ≤ 32) (sym (shape_tips (subtrie s.0)) ∙ ap size s.2) built.3.room in

@@ -9,14 +9,14 @@ use Rattle.tries.specs.Tree.{Subtrie}
 use Rattle.rowex_core.specs.declared.known.Known.{Known}
 use Rattle.rowex_core.specs.Knowing.{IsPinnedSince}
 use Rattle.rowex_core.proofs.Sharing.Owning.{recalls}
-use Rattle.version_laws.specs.Scan.{IsShaped}
+use Rattle.version_laws.specs.Scan.{HadShapeSince}
 use Rattle.version_laws.proofs.Scan.{shaped}
 use Rattle.rowex_reading.specs.Possible.{IsPossible}
 use Rattle.rowex_reading.specs.Seen.{HasPlace, HasMorePlaces, Sure, seen, shape_of}
 use Rattle.rowex_reading.proofs.Seen.{seen_steady}
 
 -- forks that were read twice
-pub same_shape : (layout : Layout) (k : Known) (m n : ℕ) (x y : Subtrie) → IsPossible layout k → IsPinnedSince k m → Sure k (λ past. IsShaped past m n x) → Sure k (λ past. IsShaped past m n y) → x ≡ y
+pub same_shape : (layout : Layout) (k : Known) (m n : ℕ) (x y : Subtrie) → IsPossible layout k → IsPinnedSince k m → Sure k (λ past. HadShapeSince past m n x) → Sure k (λ past. HadShapeSince past m n y) → x ≡ y
 same_shape layout k m n x y possible since one two =
     let c = possible.core in
     let known = recalls c k possible.knows in
@@ -28,7 +28,7 @@ pub rows_are : (head : HeadView) → IsLawfulNode (node_of head (leaves (length 
 rows_are head lawful = let v = node_of head (leaves (length head.rows)) in same_count v lawful ∙ sym (size-piece v lawful)
 
 -- the forks that were read of a node have the place that it has
-pub place_inside : (layout : Layout) (k : Known) (m n h i : ℕ) (x : Subtrie) → IsPossible layout k → HasPlace k m n h i → Sure k (λ past. IsShaped past m n x) → i < size x
+pub place_inside : (layout : Layout) (k : Known) (m n h i : ℕ) (x : Subtrie) → IsPossible layout k → HasPlace k m n h i → Sure k (λ past. HadShapeSince past m n x) → i < size x
 place_inside layout k m n h i x possible has shape_read =
     let c = possible.core in
     let known = recalls c k possible.knows in

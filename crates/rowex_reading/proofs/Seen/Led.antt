@@ -25,7 +25,7 @@ use Rattle.rowex_core.specs.Knowing.{IsEvent, IsPinnedSince, version_of}
 use Rattle.rowex_table.specs.Runs.{Runs, Steps, silent}
 use Rattle.rowex_table.specs.Seats.{TableView, SeatView, MakesNoAside, IsSeatOf}
 use Rattle.rowex_table.proofs.Runs.{runs_append, runs_one, runs_same, same_more}
-use Rattle.version_laws.specs.Scan.{EntryStoodSince, IsPlaced, IsShaped}
+use Rattle.version_laws.specs.Scan.{EntryStoodSince, IsPlaced, HadShapeSince}
 use Rattle.version_laws.proofs.Scan.Loads.{placed_seen, rooted_seen}
 use Rattle.rowex_reading.specs.Possible.{IsPossible}
 use Rattle.rowex_reading.specs.Reads.{IsBelowRoot, IsReader, Reads, ReadsRoot, Looks, entries_in, loads_entry}
@@ -38,7 +38,7 @@ use Rattle.rowex_reading.proofs.Seen.{later_reflexive, later_trans, since_later,
 
 -- it was led to the node, and has read its forks
 abbrev pub HasShape : Known → ℕ → ℕ → ℕ → Subtrie → Type 0
-HasShape k m n h x = IsLedTo k m (Node n h) × Sure k (λ s. IsShaped s m n x)
+HasShape k m n h x = IsLedTo k m (Node n h) × Sure k (λ s. HadShapeSince s m n x)
 
 -- One load
 
@@ -162,7 +162,7 @@ module _ {G : Type 0} {table : TableView} {becomes : G → Event → G → Type 
   led_on m e x (pinned, sure) = (since_later (reads_later x) pinned, sure_later {P = λ s. EntryStoodSince s m e} (seen_stable m e) (reads_later x) sure)
 
   -- a node that it was led to, with the forks that it has read
-  pub led_shape : {e n : ℕ} {a b : SeatView × G} (m c h : ℕ) (x : Subtrie) → Reads table becomes e n a b → IsLedTo a.0.known m (Node c h) → Sure b.0.known (λ s. IsShaped s m c x) →
+  pub led_shape : {e n : ℕ} {a b : SeatView × G} (m c h : ℕ) (x : Subtrie) → Reads table becomes e n a b → IsLedTo a.0.known m (Node c h) → Sure b.0.known (λ s. HadShapeSince s m c x) →
       HasShape b.0.known m c h x
   led_shape m c h x r led shaped = (led_on m (Node c h) r led, shaped)
 

@@ -9,7 +9,7 @@ use Rattle.tries.specs.Place.{spot}
 use Rattle.tries.specs.Tree.{Subtrie}
 use Rattle.record_words.specs.declared.records.Rec.{Rec}
 use Rattle.record_words.specs.declared.records.Rec.TheVariants.{Leaf as a_leaf, Node as a_node}
-use Rattle.version_laws.specs.Scan.{IsPlaced, IsRead, IsShaped}
+use Rattle.version_laws.specs.Scan.{IsPlaced, IsRead, HadShapeSince}
 use Rattle.rowex_core.specs.declared.known.Known.{Known}
 use Rattle.rowex_table.specs.Rule.{record_number}
 use Rattle.rowex_reading.specs.Seen.{AreHeadWords, HasPlace, IsHeadSeen, IsLedTo, Sure, shape_of}
@@ -17,7 +17,7 @@ use Rattle.rowex_reading.specs.Ways.{step_at}
 
 -- what a search of the head of node n tells, a load of its entry, and the loads of leaf n
 abbrev pub TellsSlot : Known → Known → Key → ℕ → ℕ → Type 0
-TellsSlot k j key slot n = (m h : ℕ) → IsLedTo k m (Node n h) → (forks : Subtrie) × Sure j (λ s. IsShaped s m n forks) × (slot ≡ spot key forks)
+TellsSlot k j key slot n = (m h : ℕ) → IsLedTo k m (Node n h) → (forks : Subtrie) × Sure j (λ s. HadShapeSince s m n forks) × (slot ≡ spot key forks)
 
 abbrev pub TellsStep : Known → Known → Key → PathNode → ℕ → Type 0
 TellsStep k j key step n = (m h : ℕ) → IsLedTo k m (Node n h) → (head : HeadView) × IsHeadSeen j m n h head × (step ≡ step_at head n (spot key (shape_of head)))

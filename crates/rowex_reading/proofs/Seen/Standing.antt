@@ -16,7 +16,7 @@ use Rattle.versions.specs.State.{Stands, IsReach, rec_of}
 use Rattle.versions.specs.Core.{Fate, Free, Held, Ready, InTree, Unlinked, Marked, pin_version}
 use Rattle.versions.proofs.State.{reach_later}
 use Rattle.rowex_core.specs.declared.known.Known.{Known}
-use Rattle.rowex_core.specs.Cores.{Core, IsLawful, IsWhole, HasRecord, FitsIn}
+use Rattle.rowex_core.specs.Cores.{Core, IsLawful, MustSpellValue, HasRecord, FitsIn}
 use Rattle.rowex_core.specs.Events.{IsFixedOffset}
 use Rattle.rowex_core.specs.Knowing.{Recalls, IsPinnedSince}
 use Rattle.rowex_core.proofs.Sharing.Owning.{recalls}
@@ -29,7 +29,7 @@ use Rattle.rowex_reading.specs.Seen.{seen, IsLedTo}
 use Rattle.rowex_reading.proofs.Seen.{seen_within, stands_in}
 use Rattle.rowex_core.proofs.Cores.Loading.{view}
 
-whole : (f : Fate) → f ≢ Free → ((o : ℕ) → f ≢ Held o) → IsWhole f
+whole : (f : Fate) → f ≢ Free → ((o : ℕ) → f ≢ Held o) → MustSpellValue f
 whole Free a b = absurd (a refl)
 whole (Held q) a b = absurd (b q refl)
 whole (Ready q) a b = tt

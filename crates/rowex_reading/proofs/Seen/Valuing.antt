@@ -9,7 +9,7 @@ use Rattle.record_words.proofs.Leaves.{IsLeafOf, leaf_words_parts}
 use Rattle.tries.specs.Keys.{Key}
 use Rattle.tries.specs.Tree.{leaf}
 use Rattle.record_words.specs.declared.records.Rec.TheVariants.{Leaf as a_leaf}
-use Rattle.versions.specs.State.{Past, IsSteady, Stands}
+use Rattle.versions.specs.State.{Past, KeepsFixedWordsSince, Stands}
 use Rattle.versions.proofs.Core.Growth.{stands_grown}
 use Rattle.rowex_core.specs.declared.event.Act.TheVariants.{LoadRef}
 use Rattle.rowex_core.specs.declared.event.Spot.TheVariants.{Value}
@@ -73,7 +73,7 @@ pub valued_stable : (m n value : ℕ) → IsStable (λ s. StoodWithValue s m n v
 valued_stable m n value a b g (o, u, lo, hi, st, is) = (o, u, lo, le_trans hi g.longer, stands_grown a b g o (a_leaf n) u hi st, is)
 
 -- where it had the value it had the key
-read_so : (s : Past) (m n : ℕ) → IsSteady s m → (key : Key) (value : ℕ) → StoodWithKey s m n key → StoodWithValue s m n value → IsRead s m n key value
+read_so : (s : Past) (m n : ℕ) → KeepsFixedWordsSince s m → (key : Key) (value : ℕ) → StoodWithKey s m n key → StoodWithValue s m n value → IsRead s m n key value
 read_so s m n steady key value (v, (o, lo, hi, st)) (a, u, from, to, stands, is) = go (record_leaf n u stands.is_record)
   where
     go : (k : Key) × (w : ℕ) × (u ≡ leaf n k w) → IsRead s m n key value

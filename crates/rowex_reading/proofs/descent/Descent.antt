@@ -24,7 +24,7 @@ use Rattle.rowex_core.specs.declared.known.Known.{Known}
 use Rattle.rowex_core.specs.Knowing.{IsPinnedSince}
 use Rattle.rowex_table.specs.Made.{IsLater}
 use Rattle.rowex_table.specs.Seats.{TableView, SeatView}
-use Rattle.version_laws.specs.Scan.{EntryStoodSince, IsRooted, IsPlaced, IsShaped, IsRead}
+use Rattle.version_laws.specs.Scan.{EntryStoodSince, IsRooted, IsPlaced, HadShapeSince, IsRead}
 use Rattle.rowex_reading.specs.Lookups.{HasFound, search_touches}
 use Rattle.rowex_reading.specs.Possible.{IsPossible}
 use Rattle.rowex_reading.specs.Reads.{Reads}
@@ -187,7 +187,7 @@ module _ {G : Type 0} {table : TableView} {becomes : G → Event → G → Type 
             forks = shape_of head;
             range = led_in_table table.layout b.0.known (since b.0.known) (Node n height) possible led;
             seen = sure_later {P = λ s. EntryStoodSince s (since b.0.known) (Node n height)} (seen_stable (since b.0.known) (Node n height)) (reads_later both) led.1;
-            shaped = sure_later {P = λ s. IsShaped s (since b.0.known) n (shape_of head)} (shaped_stable (since b.0.known) n (shape_of head)) (reads_later one) seen.shaped;
+            shaped = sure_later {P = λ s. HadShapeSince s (since b.0.known) n (shape_of head)} (shaped_stable (since b.0.known) n (shape_of head)) (reads_later one) seen.shaped;
             placed = stood.1;
             at = spot_is;
             below = stood.0;

@@ -11,10 +11,10 @@ use Rattle.tries.specs.Search.{Follows}
 use Rattle.tries.specs.Place.{spot}
 use Rattle.tries.proofs.Place.{spot_below}
 use Rattle.tries.proofs.Tree.{has?, follows_if_has}
-use Rattle.versions.specs.State.{Past, IsSteady, IsLed, WasAbsentSince, IsHeldSince}
+use Rattle.versions.specs.State.{Past, KeepsFixedWordsSince, IsLed, WasAbsentSince, IsHeldSince}
 use Rattle.record_words.specs.declared.records.Rec.TheVariants.{Leaf as a_leaf}
 use Rattle.versions.proofs.State.{record_of_subtrie}
-use Rattle.version_laws.specs.Scan.{EntryStoodSince, IsRooted, IsBlank, IsPlaced, IsShaped, IsRead}
+use Rattle.version_laws.specs.Scan.{EntryStoodSince, IsRooted, IsBlank, IsPlaced, HadShapeSince, IsRead}
 use Rattle.version_laws.proofs.Scan.{led_placed, read_held}
 use Rattle.record_words.specs.declared.TheConstants.{HEAD_WORDS, LEAF_FIELDS}
 use Rattle.rowex_core.specs.declared.event.Event.{Event}
@@ -38,7 +38,7 @@ blank_missed : (s : Past) (m : ℕ) (k : Key) → IsBlank s m → WasAbsentSince
 blank_missed s m k (n, lo, hi, none) = (n, lo, hi, λ t is h. absurd (let no : None ≡ Some t = sym none ∙ is in cc))
 
 -- A search begins at the root's entry.
-rooted_led : (s : Past) (m : ℕ) → IsSteady s m → (k : Key) (e : Entry) → IsRooted s m e → IsLed s m k e
+rooted_led : (s : Past) (m : ℕ) → KeepsFixedWordsSince s m → (k : Key) (e : Entry) → IsRooted s m e → IsLed s m k e
 rooted_led s m steady k e (n, t, lo, hi, is, pg) =
     (n, t, lo, hi, record { tree = t; is_version = is; within = here; is_record = record_of_subtrie e t pg }, pg, choose (has? t k))
   where
@@ -50,7 +50,7 @@ rooted_led s m steady k e (n, t, lo, hi, is, pg) =
         same e = cc
 
 -- It ends at a leaf: the leaf's key tells whether the key was held or absent.
-leaf_missed : (s : Past) (m : ℕ) → IsSteady s m → (k : Key) (n : ℕ) (l : Key) (v : ℕ) → IsLed s m k (Leaf n) → IsRead s m n l v → k ≢ l → WasAbsentSince s m k
+leaf_missed : (s : Past) (m : ℕ) → KeepsFixedWordsSince s m → (k : Key) (n : ℕ) (l : Key) (v : ℕ) → IsLed s m k (Leaf n) → IsRead s m n l v → k ≢ l → WasAbsentSince s m k
 leaf_missed s m steady k n l v (o, u, lo, hi, st, pg, inr missed) r ne = missed
 leaf_missed s m steady k n l v (o, leaf a y w, lo, hi, st, pg, inl follows) (p, la, ha, sa) ne =
     absurd (ne (follows ∙ steady.same (a_leaf n) o p (leaf a y w) (leaf n l v) lo hi la ha st sa))
@@ -82,7 +82,7 @@ module _ {G : Type 0} {table : TableView} {becomes : G → Event → G → Type 
 
   -- It has led to a node, whose forks are known: there is an entry at the key's place.
   module _ {b c : SeatView × G} {key : Key} (n height : ℕ) (forks : Subtrie) (place : ℕ) (way : HasComeTo b.0.known key (Node n height)) {loads : ℕ} (reads : Reads table becomes 0 loads b c)
-      (shaped : Sure c.0.known (λ s. IsShaped s (since b.0.known) n forks)) (leads : place ≡ spot key forks) where
+      (shaped : Sure c.0.known (λ s. HadShapeSince s (since b.0.known) n forks)) (leads : place ≡ spot key forks) where
     abbrev m : ℕ
     m = since b.0.known
 
@@ -107,7 +107,7 @@ module _ {G : Type 0} {table : TableView} {becomes : G → Event → G → Type 
         pinned : IsPinnedSince i.0.known m
         pinned = since_later (reads_later both) way.pinned
 
-        shapes : Sure i.0.known (λ s. IsShaped s m n forks)
+        shapes : Sure i.0.known (λ s. HadShapeSince s m n forks)
         shapes = sure_later (shaped_stable m n forks) (reads_later one) shaped
 
         leads_on : Sure i.0.known (λ s. IsLed s m key (Node n height))
@@ -171,7 +171,7 @@ module _ {G : Type 0} {table : TableView} {becomes : G → Event → G → Type 
 
     -- It is a node, whose forks are known: there is an entry at the key's place.
     module _ {c : SeatView × G} (n height : ℕ) (forks : Subtrie) (place : ℕ) (is : d ≡ Node n height) {loads : ℕ} (most : loads ≤ HEAD_WORDS) (reads : Reads table becomes 0 loads b c)
-        (shaped : Sure c.0.known (λ s. IsShaped s (since b.0.known) n forks)) (leads : place ≡ spot key forks) where
+        (shaped : Sure c.0.known (λ s. HadShapeSince s (since b.0.known) n forks)) (leads : place ≡ spot key forks) where
       way : HasComeTo b.0.known key (Node n height)
       way = subst (HasComeTo b.0.known key) is at.way
 

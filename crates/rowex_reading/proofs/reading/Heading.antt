@@ -33,7 +33,7 @@ use Rattle.rowex_core.specs.Knowing.{Recalls}
 use Rattle.rowex_core.proofs.Sharing.Owning.{recalls}
 use Rattle.rowex_core.specs.Reading.{IsPacked}
 use Rattle.rowex_core.proofs.Reading.{head_is, node_is}
-use Rattle.version_laws.specs.Scan.{EntryStoodSince, IsShaped}
+use Rattle.version_laws.specs.Scan.{EntryStoodSince, HadShapeSince}
 use Rattle.version_laws.proofs.Scan.Loads.{loads_shape}
 use Rattle.version_laws.proofs.Statements.Search.{same_record_now}
 use Rattle.version_laws.proofs.Scan.{node_of as node_there, shaped}
@@ -140,16 +140,16 @@ module _ (layout : Layout) (k j : Known) (n : ℕ) (part words : List ℕ) (poss
             (head_reach led_there.0 led_there.2 (le_trans led_there.3 (seen_within lawful before)) (a_node n) (node n x b) st) st in
             ap (λ (z : HeadView). z.height) (sym head_same ∙ (ap (λ (z : NodeWords). z.fixed) (sym there.nodes_are) ∙ same_fixed (heap_of c.words) n x b w.0 w.1.is_record w.2 w.3)) ∙ high
 
-    head_shaped : IsShaped (seen c j) m n (shape_of its)
+    head_shaped : HadShapeSince (seen c j) m n (shape_of its)
     head_shaped = go (node_there n h led_there.1 led_there.5)
       where
-        go : (x : Fixed) × (b : Tree) × (led_there.1 ≡ node n x b) × (x.height ≡ h) → IsShaped (seen c j) m n (shape_of its)
+        go : (x : Fixed) × (b : Tree) × (led_there.1 ≡ node n x b) × (x.height ≡ h) → HadShapeSince (seen c j) m n (shape_of its)
         go (x, b, is_node, high) =
             let inside : led_there.0 ≤ length j.front = le_trans led_there.3 (seen_grown c loaded.later).longer in
             let past : led_there.0 ≤ c.past.now = le_trans led_there.3 (seen_within lawful before) in
             let st = stands_in c k led_there.4 in
             let p = shape ((heap_of c.words).nodes n).subtrie in
-            let shape_there : IsShaped c.past m n p = loads_shape (view c) lawful.core.state m head_reach n h (seen_stable m (Node n h) (seen c k) c.past (seen_past lawful before) led_there) in
+            let shape_there : HadShapeSince c.past m n p = loads_shape (view c) lawful.core.state m head_reach n h (seen_stable m (Node n h) (seen c k) c.past (seen_past lawful before) led_there) in
             let same : shape (subtrie b) ≡ p = shaped c.past m (steady (view c) lawful.core.state m head_reach) n p b shape_there (stood_if_stands c.past m n led_there.0 led_there.1 x b is_node led_there.2 past st) in (
               b,
               stood_if_stands (seen c j) m n led_there.0 led_there.1 x b is_node led_there.2 inside (stands_seen c j st),

@@ -13,7 +13,7 @@ use Rattle.rowex_core.specs.declared.event.Act.TheVariants.{Publish}
 use Rattle.rowex_core.specs.declared.event.Spot.TheVariants.{Root, Slot}
 use Rattle.record_words.specs.Decoding.{entry_of}
 use Rattle.rowex_core.specs.Reading.{IsPacked}
-use Rattle.rowex_core.specs.Cores.{Core, IsLawful, IsWhole}
+use Rattle.rowex_core.specs.Cores.{Core, IsLawful, MustSpellValue}
 use Rattle.rowex_core.specs.Events.{LegalAct, after, stored_words}
 use Rattle.rowex_core.proofs.Reading.{entry_of_word}
 use Rattle.rowex_replay_state.specs.Records.{RecordsView, AreRecordsOf, lock_in, with_words_in}
@@ -58,7 +58,7 @@ entry_packed : (s : StateView) (c : Core) (n j w : ℕ) (x y : List ℕ) → IsL
     AreWordsPacked c (stored_words c (Slot n j) w)
 entry_packed s c n j w x y lawful h at is packed = λ r whole. go r whole (cases_Bool (same_rec r (a_node n)))
   where
-    go : (r : Rec) → IsWhole (c.fate r) → ((same_rec r (a_node n) ≡ true) ⊎ (same_rec r (a_node n) ≡ false)) → IsPacked r (stored_words c (Slot n j) w r)
+    go : (r : Rec) → MustSpellValue (c.fate r) → ((same_rec r (a_node n) ≡ true) ⊎ (same_rec r (a_node n) ≡ false)) → IsPacked r (stored_words c (Slot n j) w r)
     go r whole (inl e) = subst (λ z. IsPacked z (stored_words c (Slot n j) w z)) (sym (same_rec_true r (a_node n) e))
         (subst (IsPacked (a_node n)) (sym (stored_here c n j w x y (h.records.words_are (a_node n) x at) is)) packed)
     go r whole (inr e) = rw e (lawful.records.packed r whole)

@@ -16,7 +16,7 @@ use Rattle.versions.specs.Core.{Fate, Free, Held, Ready as ReadyBy, InTree as In
 use Rattle.versions.specs.Steps.{is_linked}
 use Rattle.versions.proofs.Core.{linked_cases}
 use Rattle.rowex_core.specs.Reading.{leaf_of}
-use Rattle.rowex_core.specs.Cores.{Core, HasRecord, IsWhole, heap_of}
+use Rattle.rowex_core.specs.Cores.{Core, HasRecord, MustSpellValue, heap_of}
 use Rattle.rowex_core.specs.Events.{AreSame, tree_of}
 use Rattle.rowex_core.proofs.Events.Finding.{by_number, top_items}
 use Rattle.rowex_replay_state.specs.Versions.{AreWordsOf, HasRecordIn, IsVersion, Tells, Table}
@@ -61,7 +61,7 @@ of_table s layout words fate lock a (a_node n) h = subst (λ z. n < z) a.node_co
 of_table s layout words fate lock a (a_leaf n) h = subst (λ z. n < z) a.leaf_count.0 h
 
 -- what is in the tree or made ready is whole and used
-whole : (q : ℕ) (f : Fate) → ((since : ℕ) × (f ≡ InTreeSince since)) ⊎ (f ≡ ReadyBy q) → IsWhole f × (f ≢ Free)
+whole : (q : ℕ) (f : Fate) → ((since : ℕ) × (f ≡ InTreeSince since)) ⊎ (f ≡ ReadyBy q) → MustSpellValue f × (f ≢ Free)
 whole q f (inl (since, e)) = rw e (tt, λ x. cc)
 whole q f (inr e) = rw e (tt, λ x. cc)
 

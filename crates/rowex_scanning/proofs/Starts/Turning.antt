@@ -6,7 +6,7 @@ use Rattle.insert_cases.proofs.Ways.{some_injective}
 use Rattle.insert_cases.specs.declared.choice.PathNode.{PathNode}
 use Rattle.compound_node.specs.declared.entries.Entry.{Entry}
 use Rattle.compound_node.specs.declared.entries.Entry.TheVariants.{Leaf}
-use Rattle.versions.specs.State.{IsSteady}
+use Rattle.versions.specs.State.{KeepsFixedWordsSince}
 use Rattle.record_words.specs.declared.layout.Layout.{Layout}
 use Rattle.rowex_core.proofs.Sharing.Owning.{recalls}
 use Rattle.rowex_core.specs.Cores.{Core, IsLawful}
@@ -205,7 +205,7 @@ module _ (layout : Layout) (k j : Known) (m : ℕ) (key : Key) (way : List PathN
       now : Recalls possible.core j
       now = recalls possible.core j possible.knows
 
-      fixed_then : IsSteady (seen possible.core j) m
+      fixed_then : KeepsFixedWordsSince (seen possible.core j) m
       fixed_then = seen_steady possible.lawful now pinned
 
       found_low : IsBefore w.found_at.0 key

@@ -15,7 +15,7 @@ use Rattle.rowex_table.specs.Rule.{IsStartOf}
 use Rattle.version_laws.specs.Scan.{Range, EntryStoodSince, IsPlaced}
 use Rattle.rowex_reading.specs.Seen.{HasPlace, HasMorePlaces, IsLedTo, Sure, since}
 use Rattle.rowex_reading.proofs.Seen.{placed_stable, room_stable, seen_stable, since_later, sure_later}
-use Rattle.rowex_scanning.specs.Ahead.{AreAhead, AreNext, AreStarts, AreStartsOf, AreTaken, HasPlaces, HavePassed, IsNodeAhead}
+use Rattle.rowex_scanning.specs.Ahead.{AreAhead, AreNext, LeavesBeginAt, FirstLeavesBeginAt, AreTaken, HasPlaces, HavePassed, IsNodeAhead}
 use Rattle.version_laws.specs.Directions.{first_key, gap_after, gap_before, gap_behind, place_ahead, to_come}
 use Rattle.rowex_scanning.specs.Scanning.{IsBound, IsLeafTaken, IsReached, IsWalk, Request}
 use Rattle.rowex_scanning.specs.Tallies.{IsKept, Tally}
@@ -66,7 +66,7 @@ module _ (d : Direction) (m : ℕ) (top : PathNode) where
 
 -- Where the records of leaves begin: one more, and the first of them with no others.
 module _ (layout : Layout) where
-  pub starts_more : (i : ℕ) (leaves starts : List ℕ) (n start : ℕ) → AreStartsOf layout i leaves starts → i < length leaves → i < length starts → IsStartOf layout (a_leaf n) start → AreStartsOf layout (i + 1) (set leaves i n) (set starts i start)
+  pub starts_more : (i : ℕ) (leaves starts : List ℕ) (n start : ℕ) → FirstLeavesBeginAt layout i leaves starts → i < length leaves → i < length starts → IsStartOf layout (a_leaf n) start → FirstLeavesBeginAt layout (i + 1) (set leaves i n) (set starts i start)
   starts_more i leaves starts n start are room wide begins o low = ⊎_elim
       (λ (less : o < i). subst (λ z. IsStartOf layout (a_leaf z) (get_or (set starts i start) o 0)) (sym (get_or-set_other leaves i o n 0 (omega arith)))
       (subst (λ z. IsStartOf layout (a_leaf (get_or leaves o 0)) z) (sym (get_or-set_other starts i o start 0 (omega arith))) (are o less)))
@@ -75,7 +75,7 @@ module _ (layout : Layout) where
       (subst (λ z. IsStartOf layout (a_leaf n) z) (sym (get_or-set_at starts i o start 0 is wide)) begins))
       (cases_lt o i)
 
-  pub starts_first : (count : ℕ) (leaves starts : List ℕ) → count ≤ length leaves → count ≤ length starts → AreStartsOf layout count leaves starts → AreStarts layout (take count leaves) (take count starts)
+  pub starts_first : (count : ℕ) (leaves starts : List ℕ) → count ≤ length leaves → count ≤ length starts → FirstLeavesBeginAt layout count leaves starts → LeavesBeginAt layout (take count leaves) (take count starts)
   starts_first count leaves starts fits wide are =
       let long = length-take-le count leaves fits in let more = length-take-le count starts wide in (
         more ∙ sym long,

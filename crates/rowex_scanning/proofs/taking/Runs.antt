@@ -4,7 +4,7 @@ use Rattle.std.proofs.lemmas.Bool.{cases_lt}
 use Rattle.compound_node.specs.declared.entries.Entry.TheVariants.{Leaf}
 use Rattle.insert_cases.specs.declared.choice.PathNode.{PathNode}
 use Rattle.tries.specs.Keys.{Key, IsBefore}
-use Rattle.versions.specs.State.{IsSteady, Past, Stands}
+use Rattle.versions.specs.State.{KeepsFixedWordsSince, Past, Stands}
 use Rattle.record_words.specs.declared.records.Rec.TheVariants.{Leaf as a_leaf}
 use Rattle.rowex_core.specs.declared.known.Known.{Known}
 use Rattle.rowex_table.specs.Made.{IsLater}
@@ -55,7 +55,7 @@ placed_read s m r i n (b, stood, low, is) =
     let (key, value, e) = leaf_of n _ is in (key, value, (stood.at, stood.since, stood.until, subst (Stands s stood.at (a_leaf n)) e (placed_stands s m r i b stood (Leaf n) is)))
 
 -- A leaf's key belongs to the range where the same leaf or one behind it has a key that is not past it.
-module _ (d : Direction) (s : Past) (m : ℕ) (steady : IsSteady s m) (g : Range) (r count gap : ℕ) (there : IsPastKey d s m (first_key d g) r gap) where
+module _ (d : Direction) (s : Past) (m : ℕ) (steady : KeepsFixedWordsSince s m) (g : Range) (r count gap : ℕ) (there : IsPastKey d s m (first_key d g) r gap) where
   read_within : (i j a b : ℕ) (key last : Key) (value other : ℕ) → i < j → j < to_come d count gap → IsPlaced s m r (place_ahead d gap i) (Leaf a) → IsRead s m a key value →
       IsPlaced s m r (place_ahead d gap j) (Leaf b) → IsRead s m b last other → IsNoLater d last (last_key d g) → IsInRange g key
   read_within i j a b key last value other low come placed read behind further late =

@@ -29,7 +29,7 @@ use Rattle.rowex_reading.specs.Possible.{IsPossible}
 use Rattle.rowex_reading.specs.Reads.{Looks, Reads}
 use Rattle.rowex_reading.proofs.Seen.Led.{looked_at, looks_same, reads_later, reads_same, reads_sees}
 use Rattle.publish_laws.specs.Ending.{IsAtRest}
-use Rattle.version_laws.specs.Scan.{IsShaped}
+use Rattle.version_laws.specs.Scan.{HadShapeSince}
 use Rattle.rowex_table.specs.Made.{IsLater}
 use Rattle.rowex_reading.specs.Lookups.{HasFound, HasSearched}
 use Rattle.rowex_core.specs.Knowing.{IsPinnedSince}
@@ -78,7 +78,7 @@ affected_later : (k j : Known) (m : ℕ) (key : Key) (way : List PathNode) (foun
 affected_later k j m key way Nothing first last later a = tt
 affected_later k j m key way (Leaf n v None) first last later a = tt
 affected_later k j m key way (Leaf n v (Some p)) first last later a = λ level s is at.
-    let (forks, shaped, affects) = a level s is at in (forks, sure_later {P = λ past. IsShaped past m s.number forks} (shaped_stable m s.number forks) later shaped, affects)
+    let (forks, shaped, affects) = a level s is at in (forks, sure_later {P = λ past. HadShapeSince past m s.number forks} (shaped_stable m s.number forks) later shaped, affects)
 
 pub planned_later : (k j : Known) (m : ℕ) (key : Key) (way : List PathNode) (aim : Aim) (found : Found) (plan : Plan) → IsLater k j → IsPlanned k m key way aim found plan →
     IsPlanned j m key way aim found plan

@@ -18,7 +18,7 @@ use Rattle.rowex_core.specs.declared.event.Act.TheVariants.{LoadRef, LoadFixed}
 use Rattle.rowex_core.specs.declared.event.Event.{Event}
 use Rattle.rowex_core.specs.declared.event.Spot.TheVariants.{Slot}
 use Rattle.rowex_core.specs.declared.known.Known.{Known}
-use Rattle.rowex_core.specs.Cores.{IsWhole}
+use Rattle.rowex_core.specs.Cores.{MustSpellValue}
 use Rattle.rowex_core.specs.Knowing.{IsEvent}
 use Rattle.rowex_core.specs.Reading.{IsPacked, node_words_of}
 use Rattle.rowex_core.specs.Sharing.{IsLocked}
@@ -87,7 +87,7 @@ module _ {layout : Layout} {act : Act} {k j : Known} (e : IsEvent layout act sil
   unfolding IsPacked
   locked_spells n words h =
       let (lock, tree, same) = all_of (IsLocked k.pass e.core) (record { node = n; words = words }) k.locks (knows_all e.core k e.knows).locks h in
-      let (view, has, spells) = e.lawful.records.packed (a_node n) (subst IsWhole (sym tree.1) tt) in
+      let (view, has, spells) = e.lawful.records.packed (a_node n) (subst MustSpellValue (sym tree.1) tt) in
       let shows = node_is view (e.core.words (a_node n)) (e.lawful.records.sized (a_node n)).1 has spells in
       (view, record { has = has; spells = spells ∙ same; shows = ap node_words_of (sym same) ∙ shows })
 
@@ -172,6 +172,6 @@ unfolding IsPacked
 locked_node layout k n words possible h =
     let c = possible.core in
     let (lock, tree, same) = all_of (IsLocked k.pass c) (record { node = n; words = words }) k.locks (knows_all c k possible.knows).locks h in
-    let (view, has, spells) = possible.lawful.records.packed (a_node n) (subst IsWhole (sym tree.1) tt) in
+    let (view, has, spells) = possible.lawful.records.packed (a_node n) (subst MustSpellValue (sym tree.1) tt) in
     let shows = node_is view (c.words (a_node n)) (possible.lawful.records.sized (a_node n)).1 has spells in
     (view, record { has = has; spells = spells ∙ same; shows = ap node_words_of (sym same) ∙ shows })

@@ -12,7 +12,7 @@ use Rattle.tries.specs.Tree.{Subtrie, Tree, Fixed, node, subtrie, first_position
 use Rattle.tries.proofs.Place.{shape_tips, spot_shape}
 use Rattle.record_words.specs.declared.records.Rec.TheVariants.{Node as a_node}
 use Rattle.versions.specs.Heap.{NodeWords}
-use Rattle.versions.specs.State.{Past, Stands, IsSteady}
+use Rattle.versions.specs.State.{Past, Stands, KeepsFixedWordsSince}
 use Rattle.versions.proofs.Core.Growth.{in_tree_now}
 use Rattle.versions.proofs.Trades.{all_of}
 use Rattle.rowex_core.specs.declared.known.Known.{Known}
@@ -21,7 +21,7 @@ use Rattle.rowex_core.specs.Knowing.{IsPinnedSince}
 use Rattle.rowex_core.specs.Reading.{node_words_of}
 use Rattle.rowex_core.specs.Sharing.{IsLocked}
 use Rattle.rowex_core.proofs.Sharing.Owning.{knows_all, recalls}
-use Rattle.version_laws.specs.Scan.{EntryStoodSince, IsShaped}
+use Rattle.version_laws.specs.Scan.{EntryStoodSince, HadShapeSince}
 use Rattle.version_laws.proofs.Scan.{shaped, node_of as node_named, first_shape}
 use Rattle.rowex_reading.specs.Possible.{IsPossible}
 use Rattle.rowex_reading.specs.Seen.{seen, Sure}
@@ -34,7 +34,7 @@ use Rattle.rowex_reading.specs.Ways.{IsWayNode}
 use Rattle.rowex_core.proofs.Cores.Loading.{view}
 
 -- A node that stands now has the forks and the height of before.
-now_shaped : (s : Past) (m n h : ℕ) (x : Subtrie) (w : NodeWords) (b : Tree) → IsSteady s m → m ≤ s.now → EntryStoodSince s m (Node n h) → IsShaped s m n x →
+now_shaped : (s : Past) (m n h : ℕ) (x : Subtrie) (w : NodeWords) (b : Tree) → KeepsFixedWordsSince s m → m ≤ s.now → EntryStoodSince s m (Node n h) → HadShapeSince s m n x →
     Stands s s.now (a_node n) (node n w.fixed b) → subtrie b ≡ w.subtrie → (shape w.subtrie ≡ x) × (w.fixed.height ≡ h)
 now_shaped s m n h x w b steady low (o, u, lo, hi, st, pg) shape_is now same_subtrie =
     let (y, d, is, high) = node_named n h u pg in
@@ -46,7 +46,7 @@ now_shaped s m n h x w b steady low (o, u, lo, hi, st, pg) shape_is now same_sub
 
 -- of a node to which the pass was led since its pin
 pub locked_shape : (layout : Layout) (k : Known) (m n h : ℕ) (x : Subtrie) (words : List ℕ) → IsPossible layout k → IsPinnedSince k m → Sure k (λ past. EntryStoodSince past m (Node n h)) →
-    Sure k (λ past. IsShaped past m n x) → HasLocked k n words → (shape (node_words_of words).subtrie ≡ x) × ((node_words_of words).fixed.height ≡ h)
+    Sure k (λ past. HadShapeSince past m n x) → HasLocked k n words → (shape (node_words_of words).subtrie ≡ x) × ((node_words_of words).fixed.height ≡ h)
 locked_shape layout k m n h x words possible since sees shape_is locked =
     let c = possible.core in
     let law = possible.lawful in

@@ -14,7 +14,7 @@ use Rattle.rowex_table.specs.Seats.{TableView, SeatView, IsSeatOf}
 use Rattle.publish_laws.proofs.Loops.{later_transitive}
 use Rattle.rowex_writing.specs.locks.Going.{HasLocked, IsNodeOf, WorksOn}
 use Rattle.rowex_writing.specs.locks.Jobs.{HoldsSpan}
-use Rattle.rowex_writing.specs.merging.Merging.{IsWide}
+use Rattle.rowex_writing.specs.merging.Merging.{HasWiderLocks}
 use Rattle.rowex_writing.specs.build.Taking.{HasClaimed, IsLeftOfNode, TakesOn, TakesStill, lower}
 use Rattle.rowex_writing.specs.declared.plan.job.Job.{Job}
 use Rattle.rowex_reading.specs.Ways.{IsWayOf}
@@ -35,7 +35,7 @@ pub left_on : (k j : Known) (job : Job) (left : List ℕ) → j.locks ≡ k.lock
 left_on k j job left same is = record { words = is.words; has = locked_on k j (lower job).number is.words same is.has; built = is.built }
 
 -- so under the wider locks
-module _ (table : TableView) (b : SeatView) (job : Job) (number : ℕ) (w : IsWide table b job number) where
+module _ (table : TableView) (b : SeatView) (job : Job) (number : ℕ) (w : HasWiderLocks table b job number) where
   pub left_wider : (k : Known) (left : List ℕ) → w.taking.before.known.locks ≡ k.locks → IsLeftOfNode k job left → IsLeftOfNode b.known job left
   left_wider k left same is = record {
     words = is.words;

@@ -60,7 +60,7 @@ use Rattle.rowex_writing.specs.locks.Checks.{HasTakenPlan}
 use Rattle.rowex_writing.specs.locks.Going.{HasLocked, IsNodeOf, WorksOn}
 use Rattle.rowex_writing.specs.locks.Jobs.{HoldsSpan}
 use Rattle.rowex_writing.specs.locks.Locks.{numbers_of, span_numbers}
-use Rattle.rowex_writing.specs.merging.Merging.{AreNoNode, ClosesFork, IsNeighbour, IsWide, LocksAbove, MayMergeInto, by_anchor, by_node, merged_gone, HasListed}
+use Rattle.rowex_writing.specs.merging.Merging.{AreNoNode, ClosesFork, IsNeighbour, HasWiderLocks, LocksAbove, MayMergeInto, by_anchor, by_node, merged_gone, HasListed}
 use Rattle.rowex_writing.specs.build.Taking.{HasHeight, IsTaking, TakesOn, lower, no_step, upper}
 use Rattle.rowex_writing.specs.build.Putting.{IsSpotAbove, AreInTable, IsAnchored}
 use Rattle.rowex_writing.specs.declared.plan.job.Job.{Job}
@@ -129,7 +129,7 @@ held_above held key way found end j l (by_anchor top locks anchor) i = subst (Is
 held_above held key way found end j l (by_node s low at ((words, is), new) free names) i = subst (IsOneOf l) (sym is) (inr i)
 
 -- the pass goes on
-abbrev pub wide_on : {G : Type 0} (table : TableView) (becomes : G → Event → G → Type 0) (a b : SeatView × G) (job : Job) (number : ℕ) → WorksOn table becomes a b → IsWide table a.0 job number → IsWide table b.0 job number
+abbrev pub wide_on : {G : Type 0} (table : TableView) (becomes : G → Event → G → Type 0) (a b : SeatView × G) (job : Job) (number : ℕ) → WorksOn table becomes a b → HasWiderLocks table a.0 job number → HasWiderLocks table b.0 job number
 wide_on table becomes a b job number goes w = record {
   taking = w.taking;
   seat = seat_of table becomes a b goes w.seat;
@@ -149,7 +149,7 @@ wide_on table becomes a b job number goes w = record {
 abbrev pub beside_on : (a b : Known) (job : Job) (x : Merge) → b.locks ≡ a.locks → IsNeighbour a job x → IsNeighbour b job x
 beside_on a b job x same is = record { words = is.words; has = locked_on a b (upper job).number is.words same is.has; forks = is.forks; height = is.height; sibling = is.sibling }
 
-module _ (table : TableView) (b : SeatView) (job : Job) (number : ℕ) (w : IsWide table b job number) where
+module _ (table : TableView) (b : SeatView) (job : Job) (number : ℕ) (w : HasWiderLocks table b job number) where
   abbrev t : IsTaking table job
   t = w.taking
 
@@ -320,7 +320,7 @@ module _ (table : TableView) (b : SeatView) (job : Job) (number : ℕ) (w : IsWi
             fits = λ e low. lower_entry (node_words_of words).fixed.height e (let g = shows.height in omega (arith, low, under, g));
           }
 
-module _ (table : TableView) (b : SeatView) (job : Job) (number : ℕ) (w : IsWide table b job number) (x : Merge) (same : x.number ≡ number) (is : IsNeighbour b.known job x) where
+module _ (table : TableView) (b : SeatView) (job : Job) (number : ℕ) (w : HasWiderLocks table b job number) (x : Merge) (same : x.number ≡ number) (is : IsNeighbour b.known job x) where
   abbrev its : IsTaking table job
   its = w.taking
 
@@ -475,9 +475,9 @@ closed_height view shown None none Q built made = tt
 closed_height view shown (Some e) none Q built (m, is, rest) = subst HasHeight (sym is) (omega (arith, built.height_is), omega (arith, built.lawful.bound))
 
 -- ---- one node of the two, some loads later
-module _ {G : Type 0} (table : TableView) (becomes : G → Event → G → Type 0) (a b : SeatView × G) (job : Job) (x : Merge) (goes : WorksOn table becomes a b) (w : IsWide table a.0 job x.number) (is : IsNeighbour a.0.known job x) (view : NodeView)
+module _ {G : Type 0} (table : TableView) (becomes : G → Event → G → Type 0) (a b : SeatView × G) (job : Job) (x : Merge) (goes : WorksOn table becomes a b) (w : HasWiderLocks table a.0 job x.number) (is : IsNeighbour a.0.known job x) (view : NodeView)
     (joined : (leaf : ℕ) (s : AreBeside a.0.known.locks job.key.now (upper job).number (lower job).number x.number leaf) → s.position ≡ x.position → IsBuiltFrom view (merged s)) where
-  abbrev pub wide_now : IsWide table b.0 job x.number
+  abbrev pub wide_now : HasWiderLocks table b.0 job x.number
   wide_now = wide_on table becomes a b job x.number goes w
 
   abbrev pub beside_now : IsNeighbour b.0.known job x
@@ -506,7 +506,7 @@ module _ {G : Type 0} (table : TableView) (becomes : G → Event → G → Type 
       (us, subst (λ z. IsSide (subtrie_collapsed job.key.now (Node n z) (node_words_of is.words).subtrie) e us) high side, built)
 
 -- so under the wider locks
-pub beside_wider : (table : TableView) (k : Known) (b : SeatView) (job : Job) (x : Merge) (w : IsWide table b job x.number) → w.taking.before.known.locks ≡ k.locks → IsNeighbour k job x → IsNeighbour b.known job x
+pub beside_wider : (table : TableView) (k : Known) (b : SeatView) (job : Job) (x : Merge) (w : HasWiderLocks table b job x.number) → w.taking.before.known.locks ≡ k.locks → IsNeighbour k job x → IsNeighbour b.known job x
 beside_wider table k b job x w same is = record {
   words = is.words;
   has = held_wide table b job x.number w (upper job).number is.words (locked_on k w.taking.before.known (upper job).number is.words same is.has);
@@ -548,7 +548,7 @@ merge_told k q job number leaf value x was is takes loaded other (inr (inr (inr 
 merge_told k q job number leaf value x was is takes loaded other (inr (inr (inr (inr h)))) = absurd h
 
 -- for a removal that merges
-pub merge_store : (table : TableView) (a : SeatView) (build : Build) (shown : List PathNode) (job : Job) (number : ℕ) (e : Entry) (spot : Spot) (w : IsWide table a job number) (may : MayMergeInto table a build.made.items job number e) → HasLoadedFound a.known job.found →
+pub merge_store : (table : TableView) (a : SeatView) (build : Build) (shown : List PathNode) (job : Job) (number : ℕ) (e : Entry) (spot : Spot) (w : HasWiderLocks table a job number) (may : MayMergeInto table a build.made.items job number e) → HasLoadedFound a.known job.found →
     HasListed build.gone.items job number → shown ≡ slice_range job.way.now (job.span.end - 1 - 1) (job.span.end - 1) → IsSpotAbove job.way.now (job.span.end - 1) spot → MayStore table a build shown spot (Some e) may.change may.was
 merge_store table a build shown job number e spot w may loaded listed kept_is over =
     let t = w.taking in

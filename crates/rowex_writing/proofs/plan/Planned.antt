@@ -13,7 +13,7 @@ use Rattle.tries.specs.Keys.{Key}
 use Rattle.tries.specs.Place.{spot}
 use Rattle.tries.specs.Tree.{Subtrie}
 use Rattle.rowex_core.specs.declared.known.Known.{Known}
-use Rattle.version_laws.specs.Scan.{IsShaped}
+use Rattle.version_laws.specs.Scan.{HadShapeSince}
 use Rattle.rowex_table.specs.Made.{IsLater}
 use Rattle.rowex_reading.specs.Possible.{IsPossible}
 use Rattle.rowex_reading.specs.Seen.{Sure}
@@ -66,10 +66,10 @@ some_affected key p x =
     (first, count + first - 1, record { from = refl; upto = omega (arith, some) })
 
 at_level : (k : Known) (m : ℕ) (key : Key) (way : List PathNode) (n v p first last level : ℕ) (s : PathNode) (x : Subtrie) → IsLevel way p level → slice_get way level ≡ Some s →
-    Sure k (λ past. IsShaped past m s.number x) → AffectsJust key p first last x → AreAffected k m key way (Leaf n v (Some p)) first last
+    Sure k (λ past. HadShapeSince past m s.number x) → AffectsJust key p first last x → AreAffected k m key way (Leaf n v (Some p)) first last
 at_level k m key way n v p first last level s x is at shapes affects = λ other t also there.
     let same : t ≡ s = (let z : Some t ≡ Some s = sym there ∙ (ap (slice_get way) (one_level way p other level also is) ∙ at) in cc) in
-    (x, subst (λ (z : PathNode). Sure k (λ past. IsShaped past m z.number x)) (sym same) shapes, affects)
+    (x, subst (λ (z : PathNode). Sure k (λ past. HadShapeSince past m z.number x)) (sym same) shapes, affects)
 
 -- of whatever was found, there are some
 pub are_affected : (layout : Layout) (k : Known) (m : ℕ) (key : Key) (way : List PathNode) (found : Found) → IsWayOf layout k m key way found → (first : ℕ) × (last : ℕ) × AreAffected k m key way found first last
@@ -93,7 +93,7 @@ are_affected layout k m key way (Leaf n v (Some p)) w = ⊎_elim some none (case
 
 -- by the forks that were loaded at the level
 pub affected_there : (layout : Layout) (k j : Known) (m : ℕ) (key : Key) (way : List PathNode) (n v p first last level : ℕ) (s : PathNode) (x : Subtrie) → IsPossible layout j → IsLater k j →
-    IsWayOf layout k m key way (Leaf n v (Some p)) → IsLevel way p level → slice_get way level ≡ Some s → Sure j (λ past. IsShaped past m s.number x) →
+    IsWayOf layout k m key way (Leaf n v (Some p)) → IsLevel way p level → slice_get way level ≡ Some s → Sure j (λ past. HadShapeSince past m s.number x) →
     affected_first p s.slot x ≡ first → affected_count p s.slot x + first ≡ last + 1 → AreAffected j m key way (Leaf n v (Some p)) first last
 affected_there layout k j m key way n v p first last level s x possible later w is at shapes from upto =
     let node = (w.nodes level s at).2 in
@@ -110,7 +110,7 @@ module _ (layout : Layout) (k j : Known) (m : ℕ) (key : Key) (way : List PathN
   known_planned found plan is w = let (first, last, are) = are_affected layout k m key way found w in (first, last, is first last, are)
 
   pub beside_planned : (found : Found) (plan : Plan) (p first last level : ℕ) (s : PathNode) (x : Subtrie) → DiffersAt found p → IsPossible layout j → IsLater k j →
-      IsWayOf layout k m key way found → IsLevel way p level → slice_get way level ≡ Some s → Sure j (λ past. IsShaped past m s.number x) →
+      IsWayOf layout k m key way found → IsLevel way p level → slice_get way level ≡ Some s → Sure j (λ past. HadShapeSince past m s.number x) →
       affected_first p s.slot x ≡ first → affected_count p s.slot x + first ≡ last + 1 → IsPlan way first last aim found plan → IsPlanned j m key way aim found plan
   beside_planned found plan p first last level s x (n, v, differs) possible later w is at shapes from upto planned = (
     first,

@@ -14,7 +14,7 @@ use Rattle.tries.specs.Tree.{leaf, Holds}
 use Rattle.tries.proofs.Content.Maps.{holds_value}
 use Rattle.version_laws.specs.Scan.{IsRead}
 use Rattle.version_laws.proofs.Statements.Search.{holds_within}
-use Rattle.versions.specs.State.{IsSteady, Past, Stands}
+use Rattle.versions.specs.State.{KeepsFixedWordsSince, Past, Stands}
 use Rattle.versions.specs.Trades.{IsOneOf}
 use Rattle.record_words.specs.declared.records.Rec.TheVariants.{Leaf as a_leaf}
 use Rattle.rowex_core.specs.declared.event.Act.TheVariants.{LoadRef, Publish}
@@ -68,7 +68,7 @@ use Rattle.rowex_reading.proofs.Seen.Standing.{led_in_table}
 use Rattle.rowex_writing.proofs.build.Putting.{some_spot}
 
 -- ---- in one version a leaf has one value
-one_value : (s : Past) (m n : ℕ) → IsSteady s m → (key : Key) (v w : ℕ) → IsRead s m n key v → IsRead s m n key w → v ≢ w → m < s.now
+one_value : (s : Past) (m n : ℕ) → KeepsFixedWordsSince s m → (key : Key) (v w : ℕ) → IsRead s m n key v → IsRead s m n key w → v ≢ w → m < s.now
 one_value s m n steady key v w (o, lo, hi, st) (a, la, ha, sa) differ = go (cases_lt m s.now)
   where
     same : s.now ≤ m → v ≡ w

@@ -55,22 +55,23 @@ pub record AreAttemptSteps (layout : Layout) (acts : List Act) : Type 0 where
 
 -- the pass makes the steps of an attempt, but for its pin, and the gate is told each
 abbrev pub HasAttempted : {G : Type 0} → TableView → (G → Event → G → Type 0) → SeatView × G → SeatView × G → Type 0
-HasAttempted table becomes a b = (acts : List Act) × AreAttemptSteps table.layout acts × Runs table becomes acts a b
+HasAttempted table becomes old new = (acts : List Act) × AreAttemptSteps table.layout acts × Runs table becomes acts old new
 
 -- What a call found that changed nothing. Its reply is that of a key with this value, or none, in a version since the last load of the
 -- root.
 abbrev pub HasLooked : Known → Call → Reply → Type 0
-HasLooked j call reply = (held : Option ℕ) × HasFound j (key_of call) held × (reply ≡ reply_to call held) × (effect_of call reply ≡ None)
+HasLooked known call reply = (held : Option ℕ) × HasFound known (key_of call) held × (reply ≡ reply_to call held) × (effect_of call reply ≡ None)
 
 -- the change of a call with this reply, whose key had this value before, or none
 abbrev pub IsChangeOf : ℕ → Call → Reply → Change → Option ℕ → Type 0
-IsChangeOf q call reply x was = (reply ≡ reply_to call was) × (change_of q (record { place = 0; call = call; reply = reply }) ≡ Some x)
+IsChangeOf pass call reply change was =
+    (reply ≡ reply_to call was) × (change_of pass (record { place = 0; call = call; reply = reply }) ≡ Some change)
 
 -- Why a planned change was not made: another pass has made one since the search, or no record was free.
 abbrev pub HasFailed : Layout → Job → Known → Known → List Rec → TryFault → Type 0
-HasFailed layout job k j made Busy = IsAtRest j × IsLater k j × HasMoved layout job k j
-HasFailed layout job k j made FullNodes = HasNoRoom layout job.key.now k j made Nodes
-HasFailed layout job k j made FullLeaves = HasNoRoom layout job.key.now k j made Leaves
+HasFailed layout job old new made Busy = IsAtRest new × IsLater old new × HasMoved layout job old new
+HasFailed layout job old new made FullNodes = HasNoRoom layout job.key.now old new made Nodes
+HasFailed layout job old new made FullLeaves = HasNoRoom layout job.key.now old new made Leaves
 
 -- the fault of a change for which no record of the kind was free
 abbrev pub refusal_of : Full → TryFault
@@ -79,8 +80,8 @@ refusal_of Leaves = FullLeaves
 
 -- The attempt was answered. It has looked alone, and others have made all changes since. Or it has made just the change of its reply.
 abbrev pub HasAnswered : Known → Known → Call → Reply → Type 0
-HasAnswered k j call reply = (HasLooked j call reply × OthersGoOn k.pass k.front j.front) ⊎
-    ((x : Change) × (was : Option ℕ) × IsChangeOf k.pass call reply x was × HasChanged k j x was)
+HasAnswered old new call reply = (HasLooked new call reply × OthersGoOn old.pass old.front new.front) ⊎
+    ((change : Change) × (was : Option ℕ) × IsChangeOf old.pass call reply change was × HasChanged old new change was)
 
 -- the result is no refusal for want of a leaf record, if the call removes
 abbrev pub LacksNoLeaf : {F : Type 0} → F → Call → Result Reply F → Type 0
@@ -91,9 +92,9 @@ LacksNoLeaf leaves call result = Unit {0}
 -- Why an attempt was refused. As busy, a lock found its target taken by another pass, or the pass has seen a change since its pin. As full,
 -- no node record was free, or no leaf record with room for the key.
 abbrev pub IsAttemptCause : Layout → Key → Known → Known → List Rec → TryFault → Type 0
-IsAttemptCause layout key k j made Busy = HasMetLock layout k j ⊎ ((m : ℕ) × IsPinnedSince k m × (m < length j.front))
-IsAttemptCause layout key k j made FullNodes = IsFull layout key k j made Nodes
-IsAttemptCause layout key k j made FullLeaves = IsFull layout key k j made Leaves
+IsAttemptCause layout key old new made Busy = HasMetLock layout old new ⊎ ((since : ℕ) × IsPinnedSince old since × (since < length new.front))
+IsAttemptCause layout key old new made FullNodes = IsFull layout key old new made Nodes
+IsAttemptCause layout key old new made FullLeaves = IsFull layout key old new made Leaves
 
 -- the fault is that no record was free
 abbrev pub IsFullFault : TryFault → Type 0
@@ -102,26 +103,26 @@ IsFullFault fault = Unit {0}
 
 -- the key was absent in a version since the pass's pin
 abbrev pub HasSeenKeyAbsent : Known → Key → Type 0
-HasSeenKeyAbsent j key = (m : ℕ) × IsPinnedSince j m × Sure j (λ s. WasAbsentSince s m key)
+HasSeenKeyAbsent known key = (since : ℕ) × IsPinnedSince known since × Sure known (λ past. WasAbsentSince past since key)
 
 -- the key had this value in a version since the pass's pin
 abbrev pub HasSeenKeyHeld : Known → Key → ℕ → Type 0
-HasSeenKeyHeld j key value = (m : ℕ) × IsPinnedSince j m × Sure j (λ s. IsHeldSince s m key value)
+HasSeenKeyHeld known key value = (since : ℕ) × IsPinnedSince known since × Sure known (λ past. IsHeldSince past since key value)
 
 -- A call may lack a record. An insertion or an upsert may whose search has not found the key. A removal may whose search has found it, with
 -- the value that it expects.
 abbrev pub WantsRecord : Known → Call → Type 0
-WantsRecord j (Insert key value) = HasSeenKeyAbsent j key
-WantsRecord j (Upsert key value) = HasSeenKeyAbsent j key
-WantsRecord j (Remove key) = (value : ℕ) × HasSeenKeyHeld j key value
-WantsRecord j (RemoveIf key expected) = HasSeenKeyHeld j key expected
-WantsRecord j call = ⊥
+WantsRecord known (Insert key value) = HasSeenKeyAbsent known key
+WantsRecord known (Upsert key value) = HasSeenKeyAbsent known key
+WantsRecord known (Remove key) = (value : ℕ) × HasSeenKeyHeld known key value
+WantsRecord known (RemoveIf key expected) = HasSeenKeyHeld known key expected
+WantsRecord known call = ⊥
 
 -- the fault is that no record was free only if the call may lack one
 abbrev pub IsFullOnlyIfWanting : Known → Call → TryFault → Type 0
-IsFullOnlyIfWanting j call fault = IsFullFault fault → WantsRecord j call
+IsFullOnlyIfWanting known call fault = IsFullFault fault → WantsRecord known call
 
 -- The attempt was refused, and made no change. Others have made all changes since.
-pub record HasRefused (layout : Layout) (key : Key) (k j : Known) (made : List Rec) (fault : TryFault) : Type 0 where
-  pub others : OthersGoOn k.pass k.front j.front
-  pub cause : IsAttemptCause layout key k j made fault
+pub record HasRefused (layout : Layout) (key : Key) (old new : Known) (made : List Rec) (fault : TryFault) : Type 0 where
+  pub others : OthersGoOn old.pass old.front new.front
+  pub cause : IsAttemptCause layout key old new made fault

@@ -77,54 +77,55 @@ pub record IsGrownFrom (old : Entry) (was : NodeView) (new : NewLeaf) (risen : R
 
 -- A pass is making a change. These are the records that it has made, the last one first, and it has no others of its own. `made` lists them
 -- by number, the first one first.
-pub record IsBuilding (table : TableView) (a : SeatView) (made : List Rec) (news : List Made) : Type 0 where
-  pub seat : IsSeatOf table a
-  pub possible : IsPossible table.layout a.known
-  pub holds : HoldsMade a.known news
+pub record IsBuilding (table : TableView) (view : SeatView) (made : List Rec) (news : List Made) : Type 0 where
+  pub seat : IsSeatOf table view
+  pub possible : IsPossible table.layout view.known
+  pub holds : HoldsMade view.known news
   pub packed : AreMadePacked table.layout news
   pub listed : made ≡ reverse (recs_of news)
 
--- A node record was wanted, and none was free. The pass has those that it has made so far.
-pub record HasNotMade (table : TableView) (b : SeatView) (made : List Rec) : Type 0 where
+-- What is left where a record could not be made: the pass has those that it has made so far, and no others of its own.
+pub record HasNotMade (table : TableView) (seat : SeatView) (made : List Rec) : Type 0 where
   pub news : List Made
-  pub building : IsBuilding table b made news
+  pub building : IsBuilding table seat made news
 
--- What rises in place of the loaded node with a new leaf, whether the node stays whole, and the records made. Or no record was free.
+-- What rises in place of the loaded node with a new leaf, whether the node stays whole, and the records made. Or a record could not be made.
 abbrev pub MakesGrown : TableView → SeatView × List Rec → SeatView × List Rec → LoadedNode → NewLeaf → Option (Risen × Bool) → Type 0
-MakesGrown table (a, made) (b, built) loaded new result =
-    (news : List Made) (node : NodeView) → AwaitsLeaf loaded.words node new → IsBuilding table a made news → MatchOption result (HasNotMade table b built)
-    (λ r. (after : List Made) × IsGrownFrom (Node loaded.number node.height) node new r.0 r.1 news after × IsBuilding table b built after)
+MakesGrown table (before, made) (later, built) loaded new result =
+    (news : List Made) (node : NodeView) → AwaitsLeaf loaded.words node new → IsBuilding table before made news →
+    MatchOption result (HasNotMade table later built)
+    (λ r. (after : List Made) × IsGrownFrom (Node loaded.number node.height) node new r.0 r.1 news after × IsBuilding table later built after)
 
 -- The record of this leaf is made, and no other.
-pub record HasLeafMade (table : TableView) (a : SeatView) (made : List Rec) (x : Item) : Type 0 where
+pub record HasLeafMade (table : TableView) (seat : SeatView) (made : List Rec) (item : Item) : Type 0 where
   pub fresh : List ℕ
-  pub spelled : SpellsLeaf x fresh
-  pub building : IsBuilding table a made (made_of_leaf x fresh ∷ [])
+  pub spelled : SpellsLeaf item fresh
+  pub building : IsBuilding table seat made (made_of_leaf item fresh ∷ [])
 
 -- ---- on the way up
 -- A pass is adding the newcomer, whose record is made. The subtrie takes the place of the node's body or entry, and the records `gone` are
 -- to be unlinked.
-pub record IsRaising (table : TableView) (a : SeatView) (made : List Rec) (gone : List Rec) (x : Newcomer) (d : Side) (r : Subtrie) : Type 0 where
+pub record IsRaising (table : TableView) (seat : SeatView) (made : List Rec) (gone : List Rec) (newcomer : Newcomer) (side : Side) (trie : Subtrie) : Type 0 where
   pub news : List Made
-  pub building : IsBuilding table a made news
-  pub leaf : HasLeaf news x.item
-  pub risen : HasRisen table.layout a.known a.known.locks news x d r gone
+  pub building : IsBuilding table seat made news
+  pub leaf : HasLeaf news newcomer.item
+  pub risen : HasRisen table.layout seat.known seat.known.locks news newcomer side trie gone
 
 -- What has risen takes the place of the entry of this locked node.
-pub record IsRisenAt (table : TableView) (a : SeatView) (made : List Rec) (number : ℕ) (risen : Risen) : Type 0 where
+pub record IsRisenAt (table : TableView) (seat : SeatView) (made : List Rec) (number : ℕ) (risen : Risen) : Type 0 where
   pub gone : List Rec
   pub newcomer : Newcomer
   pub words : List ℕ
-  pub locked : HasLocked a.known number words
-  pub raising : IsRaising table a made gone newcomer (entry number) (subtrie_of risen)
+  pub locked : HasLocked seat.known number words
+  pub raising : IsRaising table seat made gone newcomer (entry number) (subtrie_of risen)
 
 -- What has risen so far is a fork of two entries. It is to take the place of the lower node's entry in the locked node above, which is
 -- higher than both.
-pub record GetsFork (table : TableView) (a : SeatView) (made : List Rec) (above : ℕ) (fork : Fork) : Type 0 where
+pub record GetsFork (table : TableView) (seat : SeatView) (made : List Rec) (above : ℕ) (fork : Fork) : Type 0 where
   pub lower : ℕ
-  pub here : IsRisenAt table a made lower (Split fork.position fork.zero fork.one)
+  pub here : IsRisenAt table seat made lower (Split fork.position fork.zero fork.one)
   pub key_is : fork.key.now ≡ here.newcomer.item.key
-  pub over : IsLockedAbove a.known.locks here.newcomer.item.key here.newcomer.mismatch above lower
+  pub over : IsLockedAbove seat.known.locks here.newcomer.item.key here.newcomer.mismatch above lower
   pub zero_low : height_of fork.zero < (node_words_of over.upper).fixed.height
   pub one_low : height_of fork.one < (node_words_of over.upper).fixed.height
 
@@ -160,19 +161,20 @@ FitsAbove words e =
 
 -- the entry may take the place of the locked node at this index of the path
 abbrev pub FitsOnWay : Known → List PathNode → ℕ → Option Entry → Type 0
-FitsOnWay k way end answer = (s : PathNode) (words : List ℕ) → slice_get way end ≡ Some s → HasLocked k s.number words → IfSome answer (FitsAbove words)
+FitsOnWay known way end answer =
+    (node : PathNode) (words : List ℕ) → slice_get way end ≡ Some node → HasLocked known node.number words → IfSome answer (FitsAbove words)
 
 -- ---- at the lower end
 -- The new leaf is made and no other record. The locked node is where it goes: its search took the entry in the leaf's slot there.
-pub record GetsLeaf (table : TableView) (a : SeatView) (made : List Rec) (number : ℕ) (new : NewLeaf) : Type 0 where
+pub record GetsLeaf (table : TableView) (seat : SeatView) (made : List Rec) (number : ℕ) (new : NewLeaf) : Type 0 where
   pub since : ℕ
   pub item : Item
   pub like : Key
   pub words : List ℕ
   pub key_is : new.key.now ≡ item.key
   pub leaf_is : new.number ≡ item.number
-  pub made_leaf : HasLeafMade table a made item
-  pub found : HasFoundBelow a.known a.known.locks (record { since = since; item = item; mismatch = new.position; like = like }) number words
+  pub made_leaf : HasLeafMade table seat made item
+  pub found : HasFoundBelow seat.known seat.known.locks (record { since = since; item = item; mismatch = new.position; like = like }) number words
   pub part : IsPartSubtrie (subtrie_affected new.position item.key (node_words_of words).subtrie)
   pub leads : spot item.key (node_words_of words).subtrie ≡ new.slot
 
@@ -195,16 +197,16 @@ pub record IsLockedSpan (nodes : ℕ) (held : List Locked) (way : List PathNode)
       (words : List ℕ) → IsOneOf (record { node = s.number; words = words }) held → size (node_words_of words).subtrie ≡ 32
 
 -- What has risen takes the place of the node's entry at its level. It is to rise on to `rise.end`.
-pub record Rises (table : TableView) (a : SeatView) (made : List Rec) (way : List PathNode) (rise : Rise) : Type 0 where
+pub record Rises (table : TableView) (seat : SeatView) (made : List Rec) (way : List PathNode) (rise : Rise) : Type 0 where
   pub step : PathNode
   pub at : slice_get way rise.level ≡ Some step
   pub upto : rise.end ≤ rise.level
-  pub here : IsRisenAt table a made step.number rise.risen
+  pub here : IsRisenAt table seat made step.number rise.risen
   pub key_is : rise.key.now ≡ here.newcomer.item.key
-  pub low : (other : List ℕ) → HasLocked a.known step.number other → IsLowRisen (node_words_of other).fixed.height rise.risen
+  pub low : (other : List ℕ) → HasLocked seat.known step.number other → IsLowRisen (node_words_of other).fixed.height rise.risen
   pub split : rise.end < rise.level → IsSplit rise.risen
-  pub single : (other : List ℕ) → HasLocked a.known step.number other → size (node_words_of other).subtrie < 32 → IsSingle rise.risen
-  pub chain : IsLockedSpan table.layout.nodes a.known.locks way here.newcomer.item.key here.newcomer.mismatch rise.end rise.level
+  pub single : (other : List ℕ) → HasLocked seat.known step.number other → size (node_words_of other).subtrie < 32 → IsSingle rise.risen
+  pub chain : IsLockedSpan table.layout.nodes seat.known.locks way here.newcomer.item.key here.newcomer.mismatch rise.end rise.level
 
 -- how many nodes are above what has risen, through which it is to rise on
 abbrev pub levels_above : Rise → ℕ
@@ -212,18 +214,18 @@ levels_above rise = rise.level - rise.end
 
 -- the records to unlink, with the nodes of the path from `end` to before `level`
 abbrev pub gone_with_way : List PathNode → (end level : ℕ) → List Rec → List Rec
-gone_with_way way end level gone = map (λ (s : PathNode). a_node s.number) (drop end (take level way)) ++ gone
+gone_with_way way end level gone = map (λ (node : PathNode). a_node node.number) (drop end (take level way)) ++ gone
 
 -- one entry has risen so far that it takes the place of the entry of the node at `end`
-abbrev pub HasRisenTo : (table : TableView) (a : SeatView) (made : List Rec) (way : List PathNode) (x : Newcomer) (end : ℕ) (gone : List Rec) (e : Entry) → Type 0
+abbrev pub HasRisenTo : (table : TableView) (seat : SeatView) (made : List Rec) (way : List PathNode) (newcomer : Newcomer) (end : ℕ) (gone : List Rec) (e : Entry) → Type 0
 HasRisenTo table a made way x end gone e = (top : PathNode) × (slice_get way end ≡ Some top) × IsRaising table a made gone x (entry top.number) (Place e)
 
 -- The lowest node of the span gets the new leaf. What comes of it rises to the span's topmost node.
-pub record IsGrowing (table : TableView) (a : SeatView) (made : List Rec) (way : List PathNode) (span : Span) (new : NewLeaf) : Type 0 where
+pub record IsGrowing (table : TableView) (seat : SeatView) (made : List Rec) (way : List PathNode) (span : Span) (new : NewLeaf) : Type 0 where
   pub step : PathNode
   pub at : slice_get way (span.len - 1) ≡ Some step
   pub upto : span.end ≤ span.len - 1
   pub low : step.number < table.layout.nodes
-  pub lowest : GetsLeaf table a made step.number new
+  pub lowest : GetsLeaf table seat made step.number new
   pub full : span.end < span.len - 1 → size (node_words_of lowest.words).subtrie ≡ 32
-  pub chain : IsLockedSpan table.layout.nodes a.known.locks way lowest.item.key new.position span.end (span.len - 1)
+  pub chain : IsLockedSpan table.layout.nodes seat.known.locks way lowest.item.key new.position span.end (span.len - 1)

@@ -37,37 +37,39 @@ use Rattle.rowex_writing.specs.declared.plan.Full.TheVariants.{Nodes, Leaves}
 -- ---- the plan
 -- the job and its deed are planned by a search since some version
 abbrev pub HasPlanned : Layout → Known → Job → Deed → Type 0
-HasPlanned layout k job deed =
-    (m : ℕ) × (aim : Aim) × IsJobFrom layout k m job × IsPlanned k m job.key.now job.way.now aim job.found (change job.span.len job.span.end deed)
+HasPlanned layout known job deed =
+    (m : ℕ) × (aim : Aim) × IsJobFrom layout known m job ×
+    IsPlanned known m job.key.now job.way.now aim job.found (change job.span.len job.span.end deed)
 
 -- ---- the store
 -- the pass has loaded this value of each leaf among the records
 abbrev pub KnowsWas : Known → List Rec → Option ℕ → Type 0
-KnowsWas k gone was = (leaf : ℕ) → IsOneOf (a_leaf leaf) gone → (value : ℕ) × (was ≡ Some value) × HasLoaded k leaf value
+KnowsWas known gone was = (leaf : ℕ) → IsOneOf (a_leaf leaf) gone → (value : ℕ) × (was ≡ Some value) × HasLoaded known leaf value
 
 -- Once the records that it has made are ready, the pass may publish the change by this store. It must have loaded the value of the leaf
 -- that is unlinked.
-pub record MayPublishOnceReady (table : TableView) (a : SeatView) (made : List Rec) (spot : Spot) (w : ℕ) (x : Change) (was : Option ℕ) (gone : List Rec) : Type 0 where
+pub record MayPublishOnceReady (table : TableView) (seat : SeatView) (made : List Rec) (spot : Spot) (word : ℕ) (x : Change) (was : Option ℕ) (gone : List Rec) : Type 0 where
   pub news : List Made
-  pub building : IsBuilding table a made news
-  pub publishes : (j : Known) → IsLater a.known j → HasReady j a.known.locks news → j.anchor ≡ a.known.anchor → KnowsWas j gone was →
-      Publishes table.layout j spot w x was gone
+  pub building : IsBuilding table seat made news
+  pub publishes : (known : Known) → IsLater seat.known known → HasReady known seat.known.locks news → known.anchor ≡ seat.known.anchor →
+      KnowsWas known gone was →
+      Publishes table.layout known spot word x was gone
 
 -- ---- what is left
 -- The pass has made the change x, where `was` was the key's value. It is the last change that the pass has seen, and those before are
 -- others'. Its last load of the root was before x. The pass has no records of its own and no locks.
-pub record HasChanged (k j : Known) (x : Change) (was : Option ℕ) : Type 0 where
-  pub rest : IsAtRest j
+pub record HasChanged (old new : Known) (x : Change) (was : Option ℕ) : Type 0 where
+  pub rest : IsAtRest new
   pub before : List Change
-  pub others : OthersGoOn k.pass k.front before
-  pub front : j.front ≡ before ++ x ∷ []
-  pub fresh : BeginsWith before j.fresh.front
+  pub others : OthersGoOn old.pass old.front before
+  pub front : new.front ≡ before ++ x ∷ []
+  pub fresh : BeginsWith before new.fresh.front
   pub fits : Fits (map_of before) x
   pub was_held : value_at (map_of before) x.key ≡ was
 
--- Pass q lacks a node record beside these of its own: each was found not free, by a failed step since `since`. Its own, each listed once, were
--- found to be so. They were at most two for each node that it had locked, and one. Each locked one was nobody's. Any other was another pass's, or
--- nobody's, and then in the tree or retired.
+-- Pass q lacks a node record beside these of its own: each was found not free, by a failed step since `since`. Its own, each listed once,
+-- were found to be so. They were at most two for each node that it had locked, and one. Each locked one was nobody's. Any other was another
+-- pass's, or nobody's, and then in the tree or retired.
 pub record LacksNodes (layout : Layout) (q : ℕ) (failed : List Failed) (since : ℕ) (own : List Rec) : Type 0 where
   pub locked : List ℕ
   pub few : length own ≤ 2 * length locked + 1
@@ -86,28 +88,28 @@ LacksLeaves layout key q failed since = AllMissedFrom (IsAnothers layout q [] []
 -- No record was free when the pass wanted one. It wanted a node record beside those that it had made, or a leaf record with room for this
 -- key.
 abbrev pub IsFull : Layout → Key → Known → Known → List Rec → Full → Type 0
-IsFull layout key k j made Nodes = LacksNodes layout j.pass j.failed k.steps (nodes_among made)
-IsFull layout key k j made Leaves = LacksLeaves layout key j.pass j.failed k.steps
+IsFull layout key old new made Nodes = LacksNodes layout new.pass new.failed old.steps (nodes_among made)
+IsFull layout key old new made Leaves = LacksLeaves layout key new.pass new.failed old.steps
 
 -- The pass has made no change, for want of a record beside those that it had made. It has no records of its own and no locks.
-pub record HasNoRoom (layout : Layout) (key : Key) (k j : Known) (made : List Rec) (full : Full) : Type 0 where
-  pub rest : IsAtRest j
-  pub later : IsLater k j
-  pub full_of : IsFull layout key k j made full
+pub record HasNoRoom (layout : Layout) (key : Key) (old new : Known) (made : List Rec) (full : Full) : Type 0 where
+  pub rest : IsAtRest new
+  pub later : IsLater old new
+  pub full_of : IsFull layout key old new made full
 
 -- the change that gives the key this value, by what its search found
-abbrev pub IsPutChange : ℕ → Key → ℕ → Found → Change → Option ℕ → Type 0
-IsPutChange q key value (Leaf number held None) x was = (x ≡ record { pass = q; key = key; value = value; kind = Replaced }) × (was ≡ Some held)
-IsPutChange q key value found x was = (x ≡ record { pass = q; key = key; value = value; kind = Added }) × (was ≡ None)
+abbrev pub IsPutChange : (pass : ℕ) → Key → (value : ℕ) → Found → Change → Option ℕ → Type 0
+IsPutChange pass key value (Leaf number held None) x was = (x ≡ record { pass = pass; key = key; value = value; kind = Replaced }) × (was ≡ Some held)
+IsPutChange pass key value found x was = (x ≡ record { pass = pass; key = key; value = value; kind = Added }) × (was ≡ None)
 
 -- the change that removes the key that its search found
 abbrev pub IsTakeChange : ℕ → Key → Found → Change → Option ℕ → Type 0
-IsTakeChange q key (Leaf number held None) x was = (x ≡ record { pass = q; key = key; value = held; kind = Removed }) × (was ≡ Some held)
-IsTakeChange q key found x was = ⊥
+IsTakeChange pass key (Leaf number held None) x was = (x ≡ record { pass = pass; key = key; value = held; kind = Removed }) × (was ≡ Some held)
+IsTakeChange pass key found x was = ⊥
 
 -- the change that a deed makes: the key gets the value, or is removed
-abbrev pub IsDeedChange : ℕ → Deed → Key → ℕ → Found → Change → Option ℕ → Type 0
-IsDeedChange q Take key value found x was = IsTakeChange q key found x was
-IsDeedChange q TakeTop key value found x was = IsTakeChange q key found x was
-IsDeedChange q Empty key value found x was = IsTakeChange q key found x was
-IsDeedChange q deed key value found x was = IsPutChange q key value found x was
+abbrev pub IsDeedChange : (pass : ℕ) → Deed → Key → (value : ℕ) → Found → Change → Option ℕ → Type 0
+IsDeedChange pass Take key value found x was = IsTakeChange pass key found x was
+IsDeedChange pass TakeTop key value found x was = IsTakeChange pass key found x was
+IsDeedChange pass Empty key value found x was = IsTakeChange pass key found x was
+IsDeedChange pass deed key value found x was = IsPutChange pass key value found x was

@@ -30,7 +30,7 @@ leaf_gone (Some number) = a_leaf number ∷ []
 
 -- the records to unlink: the nodes of the span before `low`, and the leaf
 abbrev pub gone_of_span : List PathNode → Span → Raised → List Rec
-gone_of_span way span raised = map (λ (s : PathNode). a_node s.number) (slice_range way span.end raised.low) ++ leaf_gone raised.leaf
+gone_of_span way span raised = map (λ (node : PathNode). a_node node.number) (slice_range way span.end raised.low) ++ leaf_gone raised.leaf
 
 -- the locked nodes that stay: the one above the span, and those of the span from `low` on
 abbrev pub kept_of_span : List PathNode → Span → Raised → List PathNode
@@ -38,27 +38,28 @@ kept_of_span way span raised = slice_range way (span.end - 1) span.end ++ slice_
 
 -- All nodes of the job's span are to be unlinked, or all but the lowest. Once the records that the pass has made are ready, it may make
 -- this change by a store of what is raised above the span.
-pub record MayReplace (table : TableView) (a : SeatView) (made : List Rec) (job : Job) (raised : Raised) (x : Change) (was : Option ℕ) : Type 0 where
+pub record MayReplace (table : TableView) (seat : SeatView) (made : List Rec) (job : Job) (raised : Raised) (change : Change) (was : Option ℕ) : Type 0 where
   pub from : job.span.end ≤ raised.low
   pub upto : raised.low ≤ job.span.len
   pub most : job.span.len ≤ raised.low + 1
   pub leaf : AreInTable table.layout (leaf_gone raised.leaf)
   pub ends : (spot : Spot) → IsSpotAbove job.way.now job.span.end spot →
-      MayPublishOnceReady table a made spot (entry_word raised.entry) x was (gone_of_span job.way.now job.span raised)
+      MayPublishOnceReady table seat made spot (entry_word raised.entry) change was (gone_of_span job.way.now job.span raised)
   pub few : length made + length (leaf_gone raised.leaf) ≤ 2 * locks_of job.span
   -- the leaf that goes is the found one, and the key had its value
   pub takes : (number : ℕ) → raised.leaf ≡ Some number → (value : ℕ) × (job.found ≡ FoundLeaf number value None) × (was ≡ Some value)
 
 -- since it knew k, the pass has made the records that the deed asks for
 abbrev pub HasRaised : TableView → Known → SeatView → List Rec → Job → Deed → Raised → Type 0
-HasRaised table k b made job deed raised =
-    (x : Change) × (was : Option ℕ) × IsDeedChange k.pass deed job.key.now job.value job.found x was × MayReplace table b made job raised x was
+HasRaised table k seat made job deed raised =
+    (change : Change) × (was : Option ℕ) × IsDeedChange k.pass deed job.key.now job.value job.found change was ×
+    MayReplace table seat made job raised change was
 
 -- Since the pass knew k, a record was wanted and none was free. The pass has those that it has made so far.
-pub record HasNoneFree (table : TableView) (k : Known) (b : SeatView) (made : List Rec) (job : Job) (full : Full) : Type 0 where
-  pub not_made : HasNotMade table b made
+pub record HasNoneFree (table : TableView) (k : Known) (seat : SeatView) (made : List Rec) (job : Job) (full : Full) : Type 0 where
+  pub not_made : HasNotMade table seat made
   pub few : length made ≤ 2 * locks_of job.span
-  pub full_of : IsFull table.layout job.key.now k b.known made full
+  pub full_of : IsFull table.layout job.key.now k seat.known made full
 
 -- The pass has carried out the deed, as far as others don't see it, or no record was free. It took so many steps. `a` and `b` are the seat,
 -- the gate and what is built, before and after.

@@ -19,18 +19,18 @@ use Rattle.tries.specs.Content.{item}
 
 -- the number of the entry's record has 32 bits
 abbrev pub HasNumber : Entry → Type 0
-HasNumber (Leaf n) = n < 4294967296
-HasNumber (Node n h) = n < 4294967296
+HasNumber (Leaf number) = number < 4294967296
+HasNumber (Node number height) = number < 4294967296
 
 -- The new leaf's record is made and no other, under the locks of the job's span. The leaf may rise from the lowest node of the span. What
 -- has risen may stand at the spot above the topmost one.
-pub record MayGrow (table : TableView) (a : SeatView) (made : List Rec) (job : Job) (new : NewLeaf) : Type 0 where
+pub record MayGrow (table : TableView) (seat : SeatView) (made : List Rec) (job : Job) (new : NewLeaf) : Type 0 where
   pub within : (job.span.end < job.span.len) × (job.span.len ≤ length job.way.now)
   pub depth : length job.way.now ≤ 9 * MAX_BYTES
   pub nodes : AreNodes table.layout job.way.now
-  pub locked : HasLockedSpan a.known job.way.now job.span
-  pub growing : IsGrowing table a made job.way.now job.span new
+  pub locked : HasLockedSpan seat.known job.way.now job.span
+  pub growing : IsGrowing table seat made job.way.now job.span new
   pub item_is : growing.lowest.item ≡ item new.number new.key.now job.value
-  pub place : (s : PathNode) (words : List ℕ) (e : Entry) (spot : Spot) → slice_get job.way.now job.span.end ≡ Some s →
-      HasLocked a.known s.number words → FitsAbove words e → IsSpotAbove job.way.now job.span.end spot →
-      IsSpotOf a.known a.known.locks new.key.now new.position s.number e spot × HasSpot table.layout spot
+  pub place : (node : PathNode) (words : List ℕ) (entry : Entry) (spot : Spot) → slice_get job.way.now job.span.end ≡ Some node →
+      HasLocked seat.known node.number words → FitsAbove words entry → IsSpotAbove job.way.now job.span.end spot →
+      IsSpotOf seat.known seat.known.locks new.key.now new.position node.number entry spot × HasSpot table.layout spot

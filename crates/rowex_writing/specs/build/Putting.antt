@@ -12,7 +12,7 @@ use Rattle.rowex_core.specs.declared.known.Known.{Known}
 abbrev pub IsSpotAbove : List PathNode → ℕ → Spot → Type 0
 IsSpotAbove way end Root = end ≡ 0
 IsSpotAbove way end (Value l) = ⊥
-IsSpotAbove way end (Slot n i) = (s : PathNode) × (0 < end) × (slice_get way (end - 1) ≡ Some s) × (n ≡ s.number) × (i ≡ s.slot)
+IsSpotAbove way end (Slot n i) = (node : PathNode) × (0 < end) × (slice_get way (end - 1) ≡ Some node) × (n ≡ node.number) × (i ≡ node.slot)
 
 -- the table has these records
 abbrev pub AreInTable : Layout → List Rec → Type 0
@@ -20,5 +20,5 @@ AreInTable layout recs = All (HasRecord layout) recs
 
 -- the pass has locked the anchor exactly if the first argument is true
 abbrev pub IsAnchored : Bool → Known → Type 0
-IsAnchored true k = IsSome k.anchor
-IsAnchored false k = k.anchor ≡ None
+IsAnchored true known = IsSome known.anchor
+IsAnchored false known = known.anchor ≡ None

@@ -17,7 +17,7 @@ use Rattle.tries.specs.Tree.{Subtrie, Tree, subtrie, IsTrie, IsBuilt}
 
 -- some tree that is a bit trie of lawful nodes begins with this subtrie
 abbrev pub IsSubtrieOfTree : Subtrie → Type 0
-IsSubtrieOfTree shown = (t : Tree) × (subtrie t ≡ shown) × IsTrie t × IsBuilt t
+IsSubtrieOfTree shown = (tree : Tree) × (subtrie tree ≡ shown) × IsTrie tree × IsBuilt tree
 
 -- the subtrie with the new leaf in it
 abbrev pub subtrie_with_leaf : NewLeaf → Subtrie → Subtrie

@@ -15,18 +15,18 @@ use Rattle.rowex_writing.specs.declared.plan.job.Raised.{Raised}
 
 -- After a store that links the records `made` and unlinks `gone`, a node record stands in no tree. A node record is free before it, or a
 -- node is unlinked. Or one stands in no tree before, and no node is linked.
-pub data WillSpare (layout : Layout) (s : SeatView) (made gone : List Rec) : Type 0 where
-  by_free : HasFree layout s → WillSpare layout s made gone
-  by_gone : (n : ℕ) → IsOneOf (a_node n) gone → WillSpare layout s made gone
-  by_kept : HasSpare layout s → nodes_among made ≡ [] → WillSpare layout s made gone
+pub data WillSpare (layout : Layout) (seat : SeatView) (made gone : List Rec) : Type 0 where
+  by_free : HasFree layout seat → WillSpare layout seat made gone
+  by_gone : (n : ℕ) → IsOneOf (a_node n) gone → WillSpare layout seat made gone
+  by_kept : HasSpare layout seat → nodes_among made ≡ [] → WillSpare layout seat made gone
 
 -- after the store of a job, a node record stands in no tree
 abbrev pub WillSpareOne : Layout → SeatView → List Rec → Job → Raised → Type 0
-WillSpareOne layout s made job raised = WillSpare layout s made (gone_of_span job.way.now job.span raised)
+WillSpareOne layout seat made job raised = WillSpare layout seat made (gone_of_span job.way.now job.span raised)
 
 -- A claim finds a node record, if it may try each. It asks that the table has one pass, which has no record, and that one is free.
 abbrev pub FindsOne : {X : Type 0} → Layout → (left : ℕ) → SeatView → Option X → Type 0
-FindsOne layout left s result = left ≡ layout.nodes → s.known.own ≡ [] → HasRoom layout s → result ≢ None
+FindsOne layout left seat result = left ≡ layout.nodes → seat.known.own ≡ [] → HasRoom layout seat → result ≢ None
 
 -- the call removes a key
 abbrev pub IsRemoval : Call → Type 0

@@ -25,20 +25,20 @@ use Rattle.compound_node.specs.declared.entries.Entry.{Entry}
 
 -- since a version to which its pin goes back, the pass has read that the leaf has this key and value
 abbrev pub HasReadLeaf : Known → (number : ℕ) (key : Key) (value : ℕ) → Type 0
-HasReadLeaf k number key value = (m : ℕ) × IsPinnedSince k m × Sure k (λ past. IsRead past m number key value)
+HasReadLeaf known number key value = (since : ℕ) × IsPinnedSince known since × Sure known (λ past. IsRead past since number key value)
 
 -- The leaf is all of the tree. The pass has locked the anchor, and has nothing else.
-pub record HasOnlyLeaf (table : TableView) (a : SeatView) (number : ℕ) (key : Key) (value : ℕ) : Type 0 where
-  pub seat : IsSeatOf table a
-  pub possible : IsPossible table.layout a.known
-  pub own : a.known.own ≡ []
-  pub locks : a.known.locks ≡ []
-  pub anchor : a.known.anchor ≡ Some (Some (LeafEntry number))
-  pub read : HasReadLeaf a.known number key value
+pub record HasOnlyLeaf (table : TableView) (view : SeatView) (number : ℕ) (key : Key) (value : ℕ) : Type 0 where
+  pub seat : IsSeatOf table view
+  pub possible : IsPossible table.layout view.known
+  pub own : view.known.own ≡ []
+  pub locks : view.known.locks ≡ []
+  pub anchor : view.known.anchor ≡ Some (Some (LeafEntry number))
+  pub read : HasReadLeaf view.known number key value
 
 -- The pass has locked the last node of the job's path, which names the leaf, and what names that node.
-pub record HasLeafBelow (table : TableView) (a : SeatView) (m : ℕ) (job : Job) (number value : ℕ) : Type 0 where
-  pub taken : HasTakenSpan table a m job.key.now job.way.now (Leaf number value None) job.span
+pub record HasLeafBelow (table : TableView) (seat : SeatView) (m : ℕ) (job : Job) (number value : ℕ) : Type 0 where
+  pub taken : HasTakenSpan table seat m job.key.now job.way.now (Leaf number value None) job.span
   pub is_found : job.found ≡ Leaf number value None
   pub len : job.span.len ≡ length job.way.now
   pub last : job.span.end + 1 ≡ job.span.len
@@ -67,27 +67,27 @@ pub record IsTaking (table : TableView) (job : Job) : Type 0 where
 
 -- The pass has gone on since it locked the last two nodes of the path. It has these locks, and the values that it had loaded.
 abbrev pub TakesOn : TableView → SeatView → Job → Type 0
-TakesOn table a job = (t : IsTaking table job) × IsSeatOf table a × IsPossible table.layout a.known × StaysLocked t.before.known a.known
+TakesOn table seat job = (t : IsTaking table job) × IsSeatOf table seat × IsPossible table.layout seat.known × StaysLocked t.before.known seat.known
 
 -- The pass has gone on since it locked the last two nodes of the path, with these locks. It may have lost values that it had loaded.
 abbrev pub TakesStill : TableView → SeatView → Job → Type 0
-TakesStill table a job = (t : IsTaking table job) × IsSeatOf table a × IsPossible table.layout a.known ×
-    IsLater t.before.known a.known × (a.known.locks ≡ t.before.known.locks) × (a.known.anchor ≡ t.before.known.anchor)
+TakesStill table seat job = (t : IsTaking table job) × IsSeatOf table seat × IsPossible table.layout seat.known ×
+    IsLater t.before.known seat.known × (seat.known.locks ≡ t.before.known.locks) × (seat.known.anchor ≡ t.before.known.anchor)
 
 -- The pass has claimed this node record, whatever its words, and has no other.
-pub record HasClaimed (table : TableView) (k : Known) (n : ℕ) : Type 0 where
+pub record HasClaimed (table : TableView) (known : Known) (n : ℕ) : Type 0 where
   pub low : n < table.layout.nodes
   pub words : List ℕ
   pub sized : length words ≡ word_count_of (a_node n)
-  pub own : k.own ≡ record { rec = a_node n; holding = Held; words = words } ∷ []
+  pub own : known.own ≡ record { rec = a_node n; holding = Held; words = words } ∷ []
 
 -- Of the lower node, by the words under its lock, a node is left without the leaf. These words spell it.
-pub record IsLeftOfNode (k : Known) (job : Job) (left : List ℕ) : Type 0 where
+pub record IsLeftOfNode (known : Known) (job : Job) (left : List ℕ) : Type 0 where
   pub words : List ℕ
-  pub has : HasLocked k (lower job).number words
+  pub has : HasLocked known (lower job).number words
   pub built : SpellBuilt left (subtrie_without job.key.now (node_words_of words).subtrie)
 
 -- the height of the entry's node has a word
 abbrev pub HasHeight : Entry → Type 0
 HasHeight (LeafEntry n) = Unit {0}
-HasHeight (Node n h) = (1 ≤ h) × (h < 65536)
+HasHeight (Node number height) = (1 ≤ height) × (height < 65536)

@@ -13,23 +13,24 @@ use Rattle.rowex_writing.specs.declared.build.kept.Build.{Build}
 
 -- the pass has no other records than these
 abbrev pub HasNoOther : Known → List Rec → Type 0
-HasNoOther k made = (r : Rec) → Contains (records_had k) r → Contains made r
+HasNoOther known made = (rec : Rec) → Contains (records_had known) rec → Contains made rec
 
 -- Since step `since` the pass has tried some node records, each once, from `begin` on. It may try `left` more, from `next` on. Each that it
 -- has tried was found not free and not its own, or is one that it has made.
-pub record IsClaimWalk (layout : Layout) (since : ℕ) (k : Known) (made : List Rec) (next left : ℕ) : Type 0 where
-  pub early : since ≤ k.steps
+pub record IsClaimWalk (layout : Layout) (since : ℕ) (known : Known) (made : List Rec) (next left : ℕ) : Type 0 where
+  pub early : since ≤ known.steps
   pub begin : ℕ
   pub low : begin < layout.nodes
   pub tried : ℕ
   pub count : tried + left ≡ layout.nodes
   pub next_is : 0 < left → begin_of layout.nodes next ≡ wrapped layout.nodes begin tried
   pub each : (i : ℕ) → i < tried →
-      HasMissedSince (IsAnothersBut layout k made) k.failed (a_node (wrapped layout.nodes begin i)) since ⊎ Contains made (a_node (wrapped layout.nodes begin i))
+      HasMissedSince (IsAnothersBut layout known made) known.failed (a_node (wrapped layout.nodes begin i)) since ⊎
+      Contains made (a_node (wrapped layout.nodes begin i))
 
 -- the pass has tried node records, as a build's walk of claims tells
 abbrev pub HasWalked : Layout → ℕ → Known → Build → Type 0
-HasWalked layout since k build = IsClaimWalk layout since k build.made.items build.nodes.next build.left_nodes
+HasWalked layout since known build = IsClaimWalk layout since known build.made.items build.nodes.next build.left_nodes
 
 -- how many steps a walk without a result adds: one for each record made, which it looks at
 abbrev pub looks_for : {X : Type 0} → Build → Option X → ℕ
@@ -49,13 +50,13 @@ nodes_among (a_leaf n ∷ made) = nodes_among made
 
 -- A record is this pass's own.
 abbrev pub IsOwnOf : ℕ → Rec → Option ℕ → Type 0
-IsOwnOf q r by = by ≡ Some q
+IsOwnOf pass rec by = by ≡ Some pass
 
--- Each node record was found not free, by a failed step since `since`. None was the pass's own but these, which it has made. Each of these is
--- listed once, and was found to be its own.
-pub record HasMissedEach (layout : Layout) (since : ℕ) (k : Known) (made : List Rec) : Type 0 where
-  pub missed : AllMissed (IsAnothersBut layout k made) a_node layout.nodes k.failed since
-  pub own : All (λ r. HasMissedSince (IsOwnOf k.pass) k.failed r since) made
+-- Each node record was found not free, by a failed step since `since`. None was the pass's own but these, which it has made. Each of these
+-- is listed once, and was found to be its own.
+pub record HasMissedEach (layout : Layout) (since : ℕ) (known : Known) (made : List Rec) : Type 0 where
+  pub missed : AllMissed (IsAnothersBut layout known made) a_node layout.nodes known.failed since
+  pub own : All (λ r. HasMissedSince (IsOwnOf known.pass) known.failed r since) made
   pub apart : AreApart made
 
 -- 1 if there is no result, since a record is lacking then, and else 0

@@ -22,28 +22,28 @@ TriesNoLock (GiveBack r epoch found) = ⊥
 TriesNoLock act = KeepsRecall act
 
 -- The pass makes steps that try no lock, and the gate is told each. It recalls all that it did, and has the same locks.
-pub record WorksOn {G : Type 0} (table : TableView) (becomes : G → Event → G → Type 0) (a b : SeatView × G) : Type 0 where
+pub record WorksOn {G : Type 0} (table : TableView) (becomes : G → Event → G → Type 0) (old new : SeatView × G) : Type 0 where
   pub acts : List Act
   pub plain : All TriesNoLock acts
-  pub steps : Runs table becomes acts a b
-  pub stays : StaysLocked a.0.known b.0.known
+  pub steps : Runs table becomes acts old new
+  pub stays : StaysLocked old.0.known new.0.known
 
 -- The pass makes steps that try no lock, and the gate is told each. It has the same locks, and the same records.
-pub record ReadsOn {G : Type 0} (table : TableView) (becomes : G → Event → G → Type 0) (a b : SeatView × G) : Type 0 where
-  pub goes : WorksOn table becomes a b
-  pub own : b.0.known.own ≡ a.0.known.own
+pub record ReadsOn {G : Type 0} (table : TableView) (becomes : G → Event → G → Type 0) (old new : SeatView × G) : Type 0 where
+  pub goes : WorksOn table becomes old new
+  pub own : new.0.known.own ≡ old.0.known.own
 
 -- the pass has locked the node, which has these words
 abbrev pub HasLocked : Known → ℕ → List ℕ → Type 0
-HasLocked k n words = IsOneOf (record { node = n; words = words }) k.locks
+HasLocked known n words = IsOneOf (record { node = n; words = words }) known.locks
 
 -- in the locked node of this number, the key's search takes the entry in slot `at`
 abbrev pub LeadsLocked : Known → ℕ → Key → ℕ → Type 0
-LeadsLocked k n key at = (words : List ℕ) → HasLocked k n words → spot key (node_words_of words).subtrie ≡ at
+LeadsLocked known n key at = (words : List ℕ) → HasLocked known n words → spot key (node_words_of words).subtrie ≡ at
 
 -- the pass has locked node n
 abbrev pub IsLockedBy : Known → ℕ → Type 0
-IsLockedBy k n = (words : List ℕ) × HasLocked k n words
+IsLockedBy known n = (words : List ℕ) × HasLocked known n words
 
 -- the words are those of this node
 pub record IsNodeOf (words : List ℕ) (view : NodeView) : Type 0 where
@@ -53,4 +53,4 @@ pub record IsNodeOf (words : List ℕ) (view : NodeView) : Type 0 where
 
 -- the pass has locked node n, whose words spell this node
 abbrev pub HasLockedNode : Known → ℕ → NodeView → Type 0
-HasLockedNode k n view = (words : List ℕ) × HasLocked k n words × IsNodeOf words view
+HasLockedNode known n view = (words : List ℕ) × HasLocked known n words × IsNodeOf words view

@@ -14,12 +14,12 @@ IsWithinWay job = (job.span.end ≤ job.span.len) × (job.span.len ≤ length jo
 
 -- the job's path and its end are those of a search for its key, which loaded the root at version m
 abbrev pub IsJobFrom : Layout → Known → ℕ → Job → Type 0
-IsJobFrom layout k m job = IsWayOf layout k m job.key.now job.way.now job.found
+IsJobFrom layout known m job = IsWayOf layout known m job.key.now job.way.now job.found
 
 -- The pass has locked the span of the job, on whose path it has searched.
-pub record HoldsSpan (table : TableView) (a : SeatView) (job : Job) : Type 0 where
-  pub seat : IsSeatOf table a
-  pub possible : IsPossible table.layout a.known
+pub record HoldsSpan (table : TableView) (view : SeatView) (job : Job) : Type 0 where
+  pub seat : IsSeatOf table view
+  pub possible : IsPossible table.layout view.known
   pub within : IsWithinWay job
-  pub from : (m : ℕ) × IsJobFrom table.layout a.known m job
-  pub locked : HasLockedSpan a.known job.way.now job.span
+  pub from : (m : ℕ) × IsJobFrom table.layout view.known m job
+  pub locked : HasLockedSpan view.known job.way.now job.span

@@ -15,13 +15,13 @@ pub record AreThose (loaded words : List ℕ) (n : ℕ) : Type 0 where
   pub spelled : 0 < n → (view : NodeView) × IsNodeOf words view
 
 -- The first n words of a locked node are read, each by at most one load, and none behind them.
-pub record AreRead {G : Type 0} (table : TableView) (becomes : G → Event → G → Type 0) (a b : SeatView × G) (number : ℕ) (loaded : List ℕ) (n : ℕ) : Type 0 where
-  pub own : IsSeatOf table b.0
-  pub reads : ReadsOn table becomes a b
+pub record AreRead {G : Type 0} (table : TableView) (becomes : G → Event → G → Type 0) (old new : SeatView × G) (number : ℕ) (loaded : List ℕ) (n : ℕ) : Type 0 where
+  pub own : IsSeatOf table new.0
+  pub reads : ReadsOn table becomes old new
   pub long : length loaded ≡ 57
   pub rest : (o : ℕ) → n ≤ o → get_or loaded o 0 ≡ 0
-  pub those : (words : List ℕ) → HasLocked a.0.known number words → AreThose loaded words n
-  pub few : b.0.known.steps ≤ a.0.known.steps + n
+  pub those : (words : List ℕ) → HasLocked old.0.known number words → AreThose loaded words n
+  pub few : new.0.known.steps ≤ old.0.known.steps + n
 
 -- If the first word of a head is read, and its kind has so many words, the pass reads the others of the head.
 abbrev pub ReadsRest : {G : Type 0} → TableView → (G → Event → G → Type 0) → (number size : ℕ) → (SeatView × G) × List ℕ → (SeatView × G) × List ℕ → Type 0
@@ -33,8 +33,10 @@ abbrev pub ReachesTo : NodeLoads → (n upto : ℕ) → Type 0
 ReachesTo loads n upto = (n ≤ upto) × ((n ≡ upto) ⊎ (HEAD_WORDS + loads.numbers.count ≤ n))
 
 -- the words up to index `upto` are read, or up to the node's end
-abbrev pub IsReadTo : {G : Type 0} → TableView → (G → Event → G → Type 0) → (a b : SeatView × G) → NodeLoads → (loaded : List ℕ) → (upto : ℕ) → Type 0
-IsReadTo table becomes a b loads loaded upto = (n : ℕ) × AreRead table becomes a b (record_number loads.node.rec) loaded n × ReachesTo loads n upto
+abbrev pub IsReadTo : {G : Type 0} → TableView → (G → Event → G → Type 0) → (old new : SeatView × G) → NodeLoads → (loaded : List ℕ) → (upto : ℕ) →
+    Type 0
+IsReadTo table becomes old new loads loaded upto =
+    (n : ℕ) × AreRead table becomes old new (record_number loads.node.rec) loaded n × ReachesTo loads n upto
 
 -- if the words up to index `first` are read, the pass reads those of one more group of slots
 abbrev pub ReadsGroup : {G : Type 0} → TableView → (G → Event → G → Type 0) → NodeLoads → (first : ℕ) → (SeatView × G) × List ℕ → (SeatView × G) × List ℕ → Type 0

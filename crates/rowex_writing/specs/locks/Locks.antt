@@ -54,63 +54,66 @@ abbrev pub TriesLocksOnce : List Act → Type 0
 TriesLocksOnce acts = AreApart (targets_of acts)
 
 -- The pass makes steps of this kind, and the gate is told each. They try these locks.
-pub record TriesBy {G : Type 0} (Is : Act → Type 0) (table : TableView) (becomes : G → Event → G → Type 0) (tried : List Target) (a b : SeatView × G) : Type 0 where
+pub record TriesBy {G : Type 0} (Is : Act → Type 0) (table : TableView) (becomes : G → Event → G → Type 0) (tried : List Target) (old new : SeatView × G) : Type 0 where
   pub acts : List Act
   pub each : All Is acts
   pub tried_are : targets_of acts ≡ tried
-  pub steps : Runs table becomes acts a b
+  pub steps : Runs table becomes acts old new
 
 -- the pass makes steps of this kind, and tries so many locks, each once
 abbrev pub TriesOnceBy : {G : Type 0} → (Act → Type 0) → TableView → (G → Event → G → Type 0) → ℕ → SeatView × G → SeatView × G → Type 0
-TriesOnceBy Is table becomes locks a b = (tried : List Target) × (run : TriesBy Is table becomes tried a b) × TriesLocksOnce run.acts × (length tried ≡ locks)
+TriesOnceBy Is table becomes locks old new =
+    (tried : List Target) × (run : TriesBy Is table becomes tried old new) × TriesLocksOnce run.acts × (length tried ≡ locks)
 
 -- The pass makes steps that load no root, and recalls all that it did. They try these locks.
 abbrev pub Tries : {G : Type 0} → TableView → (G → Event → G → Type 0) → List Target → SeatView × G → SeatView × G → Type 0
-Tries table becomes tried a b = TriesBy LoadsNoRoot table becomes tried a b
+Tries table becomes tried old new = TriesBy LoadsNoRoot table becomes tried old new
 
 -- The pass makes steps that load no root and try no lock, and recalls all that it did.
 abbrev pub Works : {G : Type 0} → TableView → (G → Event → G → Type 0) → SeatView × G → SeatView × G → Type 0
-Works table becomes a b = Tries table becomes [] a b
+Works table becomes old new = Tries table becomes [] old new
 
 -- The pass makes steps that load no root, and recalls all that it did. They try so many locks, each once.
 abbrev pub TriesOnce : {G : Type 0} → TableView → (G → Event → G → Type 0) → ℕ → SeatView × G → SeatView × G → Type 0
-TriesOnce table becomes locks a b = TriesOnceBy LoadsNoRoot table becomes locks a b
+TriesOnce table becomes locks old new = TriesOnceBy LoadsNoRoot table becomes locks old new
 
 -- The pass makes steps of this kind. They try the locks of just these nodes, each once.
-pub record TriesNodesBy {G : Type 0} (Is : Act → Type 0) (table : TableView) (becomes : G → Event → G → Type 0) (nodes : List ℕ) (a b : SeatView × G) : Type 0 where
+pub record TriesNodesBy {G : Type 0} (Is : Act → Type 0) (table : TableView) (becomes : G → Event → G → Type 0) (nodes : List ℕ) (old new : SeatView × G) : Type 0 where
   pub tried : List Target
-  pub run : TriesBy Is table becomes tried a b
+  pub run : TriesBy Is table becomes tried old new
   pub once : TriesLocksOnce run.acts
   pub count : length tried ≡ length nodes
-  pub among : (t : Target) → IsOneOf t tried → IsOneOf t (map NodeTarget nodes)
+  pub among : (target : Target) → IsOneOf target tried → IsOneOf target (map NodeTarget nodes)
 
 -- The pass makes steps that load no root. They try the locks of just these nodes, each once.
 abbrev pub TriesNodes : {G : Type 0} → TableView → (G → Event → G → Type 0) → List ℕ → SeatView × G → SeatView × G → Type 0
-TriesNodes table becomes nodes a b = TriesNodesBy LoadsNoRoot table becomes nodes a b
+TriesNodes table becomes nodes old new = TriesNodesBy LoadsNoRoot table becomes nodes old new
 
 -- the pass has locked no node, and not the anchor
 abbrev pub HasNoLock : Known → Type 0
-HasNoLock k = (k.locks ≡ []) × (k.anchor ≡ None)
+HasNoLock known = (known.locks ≡ []) × (known.anchor ≡ None)
 
 -- the pass has locked just these nodes, each listed once
 abbrev pub HasJustLocked : Known → List ℕ → Type 0
-HasJustLocked k nodes = LocksJust k.locks nodes × AreApart nodes
+HasJustLocked known nodes = LocksJust known.locks nodes × AreApart nodes
 
 -- the numbers of the nodes of a path
 abbrev pub numbers_of : List PathNode → List ℕ
-numbers_of steps = map (λ (s : PathNode). s.number) steps
+numbers_of steps = map (λ (node : PathNode). node.number) steps
 
 -- the table has the nodes of these steps
 abbrev pub AreNodes : Layout → List PathNode → Type 0
-AreNodes layout steps = All (λ (s : PathNode). s.number < layout.nodes) steps
+AreNodes layout steps = All (λ (node : PathNode). node.number < layout.nodes) steps
 
 -- the pass was led to the node of this step, which the table has
 abbrev pub IsLedStep : Layout → Known → PathNode → Type 0
-IsLedStep layout k s = (s.number < layout.nodes) × ((m : ℕ) × (h : ℕ) × IsPinnedSince k m × IsSure k (λ past. EntryStoodSince past m (Node s.number h)))
+IsLedStep layout known node =
+    (node.number < layout.nodes) ×
+    ((since : ℕ) × (height : ℕ) × IsPinnedSince known since × IsSure known (λ past. EntryStoodSince past since (Node node.number height)))
 
 -- the pass was led to each node of the path
 abbrev pub AreLed : Layout → Known → List PathNode → Type 0
-AreLed layout k steps = All (IsLedStep layout k) steps
+AreLed layout known steps = All (IsLedStep layout known) steps
 
 -- the nodes to lock for a span of the path: those to remake, and the one above them
 abbrev pub span_numbers : List PathNode → Span → List ℕ
@@ -121,14 +124,14 @@ abbrev pub locks_of : Span → ℕ
 locks_of span = span.len - span.end + 1
 
 -- The pass has locked just the nodes of a span and the one above, or the anchor if the span goes up to the root.
-pub record HasLockedSpan (k : Known) (way : List PathNode) (span : Span) : Type 0 where
-  pub nodes : HasJustLocked k (span_numbers way span)
-  pub top : span.end ≡ 0 → IsSome k.anchor
-  pub below : 0 < span.end → k.anchor ≡ None
+pub record HasLockedSpan (known : Known) (way : List PathNode) (span : Span) : Type 0 where
+  pub nodes : HasJustLocked known (span_numbers way span)
+  pub top : span.end ≡ 0 → IsSome known.anchor
+  pub below : 0 < span.end → known.anchor ≡ None
 
 -- the state word is that of a node or an anchor that is locked, or of a retired node
 abbrev pub IsTakenWord : ℕ → Type 0
-IsTakenWord w = (w ≡ state_word LockedTag) ⊎ ((epoch : ℕ) × (w ≡ state_word (Obsolete epoch)))
+IsTakenWord word = (word ≡ state_word LockedTag) ⊎ ((epoch : ℕ) × (word ≡ state_word (Obsolete epoch)))
 
 -- One of these failed steps of pass q, since step `since`, was a lock that found its target taken. Another pass of the index had locked it,
 -- or had unlinked the node, if it was retired.
@@ -150,62 +153,64 @@ HasMetLock layout k j = HasMetTaken layout k.pass k.steps j.failed
 
 -- no change of the list, from number m on, is by pass q
 abbrev pub NoChangeFrom : ℕ → ℕ → List Change → Type 0
-NoChangeFrom q m changes = (i : ℕ) (d : Change) → m ≤ i → i < length changes → (get_or changes i d).pass ≢ q
+NoChangeFrom q m changes = (i : ℕ) (change : Change) → m ≤ i → i < length changes → (get_or changes i change).pass ≢ q
 
 -- the pass has made no change since its pin
 abbrev pub HasMadeNoChange : Known → Type 0
-HasMadeNoChange k = (p : Pin) → k.pin ≡ Some p → NoChangeFrom k.pass p.version k.front
+HasMadeNoChange known = (pin : Pin) → known.pin ≡ Some pin → NoChangeFrom known.pass pin.version known.front
 
 -- The parts
 
 -- the pass has locked one node more, listed in front of the others
 abbrev pub LocksOne : ℕ → Known → Known → Type 0
-LocksOne n k j =
-    ((words : List ℕ) × (j.locks ≡ record { node = n; words = words } ∷ k.locks)) × ¬ (IsOneOf n (nodes_of k.locks)) × (j.own ≡ k.own) × (j.anchor ≡ k.anchor)
+LocksOne n old new =
+    ((words : List ℕ) × (new.locks ≡ record { node = n; words = words } ∷ old.locks)) × ¬ (IsOneOf n (nodes_of old.locks)) × (new.own ≡ old.own) ×
+    (new.anchor ≡ old.anchor)
 
 -- the pass has locked the node, listed in front of these
 abbrev pub LocksLast : ℕ → List Locked → Known → Type 0
-LocksLast n held j = ((words : List ℕ) × (j.locks ≡ record { node = n; words = words } ∷ held)) × ¬ (IsOneOf n (nodes_of held))
+LocksLast n held known = ((words : List ℕ) × (known.locks ≡ record { node = n; words = words } ∷ held)) × ¬ (IsOneOf n (nodes_of held))
 
 -- the pass has locked the anchor, and has the same other locks and records
 abbrev pub LocksAnchor : Known → Known → Type 0
-LocksAnchor k j = IsSome j.anchor × (j.locks ≡ k.locks) × (j.own ≡ k.own)
+LocksAnchor old new = IsSome new.anchor × (new.locks ≡ old.locks) × (new.own ≡ old.own)
 
 -- the pass has the same locks and records
 abbrev pub KeepsLocksAndRecords : Known → Known → Type 0
-KeepsLocksAndRecords k j = (j.locks ≡ k.locks) × (j.anchor ≡ k.anchor) × (j.own ≡ k.own)
+KeepsLocksAndRecords old new = (new.locks ≡ old.locks) × (new.anchor ≡ old.anchor) × (new.own ≡ old.own)
 
 -- Since the pass knew k, it has the same records. Its seat is one of the table's, and what it knows is possible.
 abbrev pub KeepsRecords : TableView → Known → SeatView → Type 0
-KeepsRecords table k b = IsLater k b.known × IsSeatOf table b × IsPossible table.layout b.known × (b.known.own ≡ k.own)
+KeepsRecords table k seat = IsLater k seat.known × IsSeatOf table seat × IsPossible table.layout seat.known × (seat.known.own ≡ k.own)
 
 -- The pass was led to the node since its pin, and has made no change since. It has no record, and has not locked the node. So only another
 -- pass may be in the way of the lock.
-pub record HasNotLocked (k : Known) (n : ℕ) : Type 0 where
+pub record HasNotLocked (known : Known) (n : ℕ) : Type 0 where
   pub since : ℕ
   pub height : ℕ
-  pub pinned : IsPinnedSince k since
-  pub led : IsSure k (λ past. EntryStoodSince past since (Node n height))
-  pub own : k.own ≡ []
-  pub free : ¬ (IsOneOf n (nodes_of k.locks))
-  pub quiet : HasMadeNoChange k
+  pub pinned : IsPinnedSince known since
+  pub led : IsSure known (λ past. EntryStoodSince past since (Node n height))
+  pub own : known.own ≡ []
+  pub free : ¬ (IsOneOf n (nodes_of known.locks))
+  pub quiet : HasMadeNoChange known
 
 -- a lock of the pass was refused, and it has the same locks and records
 abbrev pub IsRefusedLock : Layout → Known → Known → Type 0
-IsRefusedLock layout k j = HasMetLock layout k j × (j.locks ≡ k.locks) × (j.anchor ≡ k.anchor) × (j.own ≡ k.own)
+IsRefusedLock layout old new = HasMetLock layout old new × (new.locks ≡ old.locks) × (new.anchor ≡ old.anchor) × (new.own ≡ old.own)
 
 -- the pass knows the same of its records, the anchor, the changes, its round and its failed steps
 abbrev pub KnowsSameButLocks : Known → Known → Type 0
-KnowsSameButLocks k j = (j.own ≡ k.own) × (j.anchor ≡ k.anchor) × (j.front ≡ k.front) × (j.round ≡ k.round) × (j.failed ≡ k.failed)
+KnowsSameButLocks old new =
+    (new.own ≡ old.own) × (new.anchor ≡ old.anchor) × (new.front ≡ old.front) × (new.round ≡ old.round) × (new.failed ≡ old.failed)
 
 -- The pass makes steps that neither set nor clear its pin and give no record back. They try these locks.
 abbrev pub HasTried : {G : Type 0} → TableView → (G → Event → G → Type 0) → List Target → SeatView × G → SeatView × G → Type 0
-HasTried table becomes tried a b = TriesBy IsOfAttempt table becomes tried a b
+HasTried table becomes tried old new = TriesBy IsOfAttempt table becomes tried old new
 
 -- The pass makes steps that neither set nor clear its pin and give no record back. They try no lock.
 abbrev pub HasRun : {G : Type 0} → TableView → (G → Event → G → Type 0) → SeatView × G → SeatView × G → Type 0
-HasRun table becomes a b = HasTried table becomes [] a b
+HasRun table becomes old new = HasTried table becomes [] old new
 
 -- The pass makes steps that neither set nor clear its pin and give no record back. They try so many locks, each once.
 abbrev pub HasTriedOnce : {G : Type 0} → TableView → (G → Event → G → Type 0) → ℕ → SeatView × G → SeatView × G → Type 0
-HasTriedOnce table becomes locks a b = TriesOnceBy IsOfAttempt table becomes locks a b
+HasTriedOnce table becomes locks old new = TriesOnceBy IsOfAttempt table becomes locks old new

@@ -13,29 +13,29 @@ use Rattle.rowex_writing.specs.locks.Locks.{HasMetLock}
 
 -- in this core the pass holds the anchor's lock, or that of a node
 abbrev pub HoldsLock : Core → ℕ → Type 0
-HoldsLock c p = (c.anchor ≡ Some p) ⊎ ((n : ℕ) × (c.lock n ≡ Some p))
+HoldsLock core p = (core.anchor ≡ Some p) ⊎ ((n : ℕ) × (core.lock n ≡ Some p))
 
 -- the pass has made one of the changes from number m on
 abbrev pub HasMadeSince : Core → ℕ → ℕ → Type 0
-HasMadeSince c m p = (place : ℕ) × (x : Change) × (m ≤ place) × (slice_get c.changes place ≡ Some x) × (x.pass ≡ p)
+HasMadeSince core m p = (place : ℕ) × (change : Change) × (m ≤ place) × (slice_get core.changes place ≡ Some change) × (change.pass ≡ p)
 
 -- At a moment between these views of a seat, another pass of the table held a lock. Or it had made a change from number m on. The steps
 -- `run` lead to that moment.
-pub record HasMetOther (layout : Layout) (m : ℕ) (s t : SeatView) : Type 0 where
+pub record HasMetOther (layout : Layout) (m : ℕ) (old new : SeatView) : Type 0 where
   pub run : List Event
   pub core : Core
   pub led : EventsLead (opening layout) run core
-  pub since : RunBeginsWith run s.trace
-  pub until : RunBeginsWith t.trace run
+  pub since : RunBeginsWith run old.trace
+  pub until : RunBeginsWith new.trace run
   pub by : ℕ
-  pub another : by ≢ s.known.pass
+  pub another : by ≢ old.known.pass
   pub below : by < layout.passes
   pub is : HoldsLock core by ⊎ HasMadeSince core m by
 
 -- A lock of the pass was refused. At a moment another pass held a lock, or had made a change since the pin.
 abbrev pub IsBlocked : Layout → SeatView → SeatView → Type 0
-IsBlocked layout s t = HasMetLock layout s.known t.known × HasMetOther layout (version_of s.known.pin) s t
+IsBlocked layout old new = HasMetLock layout old.known new.known × HasMetOther layout (version_of old.known.pin) old new
 
 -- At a moment another pass held a lock, or had made a change since the pin. Or the pass has seen such a change.
 abbrev pub IsHindered : Layout → SeatView → SeatView → Type 0
-IsHindered layout s t = HasMetOther layout (version_of s.known.pin) s t ⊎ (version_of s.known.pin < length t.known.front)
+IsHindered layout old new = HasMetOther layout (version_of old.known.pin) old new ⊎ (version_of old.known.pin < length new.known.front)

@@ -41,74 +41,76 @@ use Rattle.rowex_writing.specs.declared.plan.Span.{Span}
 
 -- ---- before the change
 -- In the upper node, by the words under its lock, this one slot is beside that of the lower node. It names the node to merge with.
-pub record IsNeighbour (k : Known) (job : Job) (b : Merge) : Type 0 where
+pub record IsNeighbour (known : Known) (job : Job) (merge : Merge) : Type 0 where
   pub words : List ℕ
-  pub has : HasLocked k (upper job).number words
-  pub forks : beside (spot job.key.now (node_words_of words).subtrie) (node_words_of words).subtrie ≡ Some (b.slot, b.position)
+  pub has : HasLocked known (upper job).number words
+  pub forks : beside (spot job.key.now (node_words_of words).subtrie) (node_words_of words).subtrie ≡ Some (merge.slot, merge.position)
   pub height : ℕ
-  pub sibling : subtrie_sibling job.key.now (node_words_of words).subtrie ≡ Some (b.position, Place (Node b.number height))
+  pub sibling : subtrie_sibling job.key.now (node_words_of words).subtrie ≡ Some (merge.position, Place (Node merge.number height))
 
 -- In the locked node of the fork, by its words, this one slot is beside the one that the key's search takes. The entry can stand in it.
 abbrev pub ClosesFork : Known → Key → ClosedFork → Type 0
-ClosesFork k key fork = (words : List ℕ) → HasLocked k fork.step.number words → (spot key (node_words_of words).subtrie ≡ fork.step.slot) ×
+ClosesFork known key fork = (words : List ℕ) → HasLocked known fork.step.number words → (spot key (node_words_of words).subtrie ≡ fork.step.slot) ×
     ((position : ℕ) × (beside fork.step.slot (node_words_of words).subtrie ≡ Some (fork.slot, position))) × StandsBelow (node_words_of words).fixed.height fork.entry
 
 -- What is left of a node and its sibling can't be one node. An entry alone is left, or they have more than 32 entries together.
 abbrev pub AreNoNode : Subtrie → Subtrie → Type 0
-AreNoNode left other = ((e : Entry) × (left ≡ Place e)) ⊎ (32 < size left + size other)
+AreNoNode left other = ((entry : Entry) × (left ≡ Place entry)) ⊎ (32 < size left + size other)
 
 -- ---- wider locks
 -- the number is that of no node of the span, nor of the two above it
-abbrev pub IsFar : List PathNode → Span → ℕ → Type 0
-IsFar way span n = (s : PathNode) (i : ℕ) → slice_get way i ≡ Some s → span.end ≤ i + 2 → i < span.len → n ≢ s.number
+abbrev pub IsFarFromSpan : List PathNode → Span → ℕ → Type 0
+IsFarFromSpan way span n = (node : PathNode) (i : ℕ) → slice_get way i ≡ Some node → span.end ≤ i + 2 → i < span.len → n ≢ node.number
 
 -- the target is what names node `end` of the path: the anchor, or the node before
 abbrev pub IsTargetAbove : List PathNode → ℕ → Target → Type 0
 IsTargetAbove way end Anchor = end ≡ 0
-IsTargetAbove way end (NodeTarget n) = (s : PathNode) × (0 < end) × (slice_get way (end - 1) ≡ Some s) × (n ≡ s.number)
+IsTargetAbove way end (NodeTarget n) = (node : PathNode) × (0 < end) × (slice_get way (end - 1) ≡ Some node) × (n ≡ node.number)
 
 -- Beside these locks the pass has just the one above node `end` of the path. What that target names is what the search found there.
-pub data LocksAbove (held : List Locked) (key : Key) (way : List PathNode) (found : Found) (end : ℕ) (j : Known) : Type 0 where
-  by_anchor : end ≡ 0 → j.locks ≡ held → j.anchor ≡ Some (named way found 0) → LocksAbove held key way found end j
-  by_node : (s : PathNode) → 0 < end → slice_get way (end - 1) ≡ Some s → LocksLast s.number held j → j.anchor ≡ None →
-      ((words : List ℕ) → HasLocked j s.number words → named way found end ≡ Some (seek key (node_words_of words).subtrie)) → LocksAbove held key way found end j
+pub data LocksAbove (held : List Locked) (key : Key) (way : List PathNode) (found : Found) (end : ℕ) (known : Known) : Type 0 where
+  by_anchor : end ≡ 0 → known.locks ≡ held → known.anchor ≡ Some (named way found 0) → LocksAbove held key way found end known
+  by_node : (node : PathNode) → 0 < end → slice_get way (end - 1) ≡ Some node → LocksLast node.number held known → known.anchor ≡ None →
+      ((words : List ℕ) → HasLocked known node.number words → named way found end ≡ Some (seek key (node_words_of words).subtrie)) →
+      LocksAbove held key way found end known
 
 -- Beside the locks of its span the pass has locked the node beside the lower one, and what names the upper one.
-pub record IsWide (table : TableView) (b : SeatView) (job : Job) (number : ℕ) : Type 0 where
+pub record HasWiderLocks (table : TableView) (view : SeatView) (job : Job) (number : ℕ) : Type 0 where
   pub taking : IsTaking table job
-  pub seat : IsSeatOf table b
-  pub possible : IsPossible table.layout b.known
-  pub later : IsLater taking.before.known b.known
+  pub seat : IsSeatOf table view
+  pub possible : IsPossible table.layout view.known
+  pub later : IsLater taking.before.known view.known
   pub words : List ℕ
   pub new : ¬ (IsOneOf number (nodes_of taking.before.known.locks))
   pub low : number < table.layout.nodes
-  pub above : LocksAbove (record { node = number; words = words } ∷ taking.before.known.locks) job.key.now job.way.now job.found (job.span.end - 1) b.known
+  pub above : LocksAbove (record { node = number; words = words } ∷ taking.before.known.locks) job.key.now job.way.now job.found (job.span.end - 1) view.known
 
 -- If the pass had tried just the locks of these nodes, each once, it has tried at most two more, each once. It has tried two if `both` is
 -- true.
-abbrev pub TriesMore : {G : Type 0} → TableView → (G → Event → G → Type 0) → List ℕ → Bool → SeatView × G → SeatView × G → Type 0
-TriesMore {G} table becomes nodes both b c = (a : SeatView × G) → TriesNodesBy IsOfAttempt table becomes nodes a b →
-    (locks : ℕ) × HasTriedOnce table becomes locks a c × (length nodes ≤ locks) × (locks ≤ length nodes + 2) × (both ≡ true → locks ≡ length nodes + 2)
+abbrev pub HasTriedUpToTwoMore : {G : Type 0} → TableView → (G → Event → G → Type 0) → List ℕ → Bool → SeatView × G → SeatView × G → Type 0
+HasTriedUpToTwoMore {G} table becomes nodes both old new = (first : SeatView × G) → TriesNodesBy IsOfAttempt table becomes nodes first old →
+    (locks : ℕ) × HasTriedOnce table becomes locks first new × (length nodes ≤ locks) × (locks ≤ length nodes + 2) ×
+    (both ≡ true → locks ≡ length nodes + 2)
 
 -- If the pass had tried just the locks of these nodes, it has tried at most two more. Its steps since are bounded by the records that it
 -- may still try, by these locks, and by `more`.
-abbrev pub TriesFew : {G : Type 0} → TableView → (G → Event → G → Type 0) → List ℕ → (left more : ℕ) → SeatView × G → SeatView × G → Type 0
-TriesFew {G} table becomes nodes left more b c = (a : SeatView × G) → TriesNodesBy IsOfAttempt table becomes nodes a b →
-    (locks : ℕ) × HasTriedOnce table becomes locks a c × (length nodes ≤ locks) × (locks ≤ length nodes + 2) ×
-    (c.0.known.steps ≤ b.0.known.steps + 2 * left + (locks - length nodes) * level_steps + more)
+abbrev pub HasFewStepsAfterTries : {G : Type 0} → TableView → (G → Event → G → Type 0) → List ℕ → (left more : ℕ) → SeatView × G → SeatView × G → Type 0
+HasFewStepsAfterTries {G} table becomes nodes left more old new = (first : SeatView × G) → TriesNodesBy IsOfAttempt table becomes nodes first old →
+    (locks : ℕ) × HasTriedOnce table becomes locks first new × (length nodes ≤ locks) × (locks ≤ length nodes + 2) ×
+    (new.0.known.steps ≤ old.0.known.steps + 2 * left + (locks - length nodes) * level_steps + more)
 
 -- If the pass had tried just the locks of these nodes, it has tried at most two more. Its steps since are those of a change under all these
 -- locks, with room for so many more.
-abbrev pub ChangesOn : {G : Type 0} → TableView → (G → Event → G → Type 0) → List ℕ → ℕ → SeatView × G → SeatView × G → Type 0
-ChangesOn {G} table becomes nodes room b c = (a : SeatView × G) → TriesNodesBy IsOfAttempt table becomes nodes a b →
-    (locks : ℕ) × HasTriedOnce table becomes locks a c × (length nodes ≤ locks) × (locks ≤ length nodes + 2) ×
-    (c.0.known.steps + room ≤ b.0.known.steps + change_steps table.layout locks)
+abbrev pub HasChangeStepsAfterTries : {G : Type 0} → TableView → (G → Event → G → Type 0) → List ℕ → ℕ → SeatView × G → SeatView × G → Type 0
+HasChangeStepsAfterTries {G} table becomes nodes room old new = (first : SeatView × G) → TriesNodesBy IsOfAttempt table becomes nodes first old →
+    (locks : ℕ) × HasTriedOnce table becomes locks first new × (length nodes ≤ locks) × (locks ≤ length nodes + 2) ×
+    (new.0.known.steps + room ≤ old.0.known.steps + change_steps table.layout locks)
 
 -- a change that tries no more locks, or one that tries more beside those of its span
 abbrev pub EndsChange : {G : Type 0} → TableView → (G → Event → G → Type 0) → Job → ℕ → SeatView × G → SeatView × G → Type 0
-EndsChange {G} table becomes job room b c =
-    (HasRun table becomes b c × (c.0.known.steps + room ≤ b.0.known.steps + change_steps table.layout (locks_of job.span))) ⊎
-    ((0 < job.span.end) × (job.span.end + 1 ≡ job.span.len) × ChangesOn table becomes (span_numbers job.way.now job.span) room b c)
+EndsChange {G} table becomes job room old new =
+    (HasRun table becomes old new × (new.0.known.steps + room ≤ old.0.known.steps + change_steps table.layout (locks_of job.span))) ⊎
+    ((0 < job.span.end) × (job.span.end + 1 ≡ job.span.len) × HasChangeStepsAfterTries table becomes (span_numbers job.way.now job.span) room old new)
 
 -- ---- the store
 -- the records that a merge unlinks: both nodes of the span, the one beside, and the leaf
@@ -120,10 +122,10 @@ abbrev pub HasListed : List Rec → Job → ℕ → Type 0
 HasListed gone job number = (leaf value : ℕ) → job.found ≡ Leaf leaf value None → gone ≡ merged_gone job number leaf
 
 -- Once the records that it has made are ready, the pass may make the removal by a store of the entry above the upper node.
-pub record MayMergeInto (table : TableView) (b : SeatView) (made : List Rec) (job : Job) (number : ℕ) (e : Entry) : Type 0 where
+pub record MayMergeInto (table : TableView) (seat : SeatView) (made : List Rec) (job : Job) (number : ℕ) (entry : Entry) : Type 0 where
   pub change : Change
   pub was : Option ℕ
-  pub takes : IsTakeChange b.known.pass job.key.now job.found change was
+  pub takes : IsTakeChange seat.known.pass job.key.now job.found change was
   pub ends : (leaf : ℕ) (value : ℕ) (spot : Spot) → job.found ≡ Leaf leaf value None → IsSpotAbove job.way.now (job.span.end - 1) spot →
-      MayPublishOnceReady table b made spot (entry_word (Some e)) change was (merged_gone job number leaf)
+      MayPublishOnceReady table seat made spot (entry_word (Some entry)) change was (merged_gone job number leaf)
   pub few : length made ≤ 2

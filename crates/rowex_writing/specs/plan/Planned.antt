@@ -7,7 +7,7 @@ use Rattle.tries.specs.Tree.{Subtrie}
 use Rattle.insert_cases.specs.declared.choice.PathNode.{PathNode}
 use Rattle.insert_cases.specs.Levels.{IsLevel}
 use Rattle.rowex_core.specs.declared.known.Known.{Known}
-use Rattle.version_laws.specs.Scan.{IsShaped}
+use Rattle.version_laws.specs.Scan.{HadShapeSince}
 use Rattle.rowex_reading.specs.Seen.{Sure}
 use Rattle.rowex_reading.specs.declared.descent.Found.{Found}
 use Rattle.rowex_reading.specs.declared.descent.Found.TheVariants.{Leaf}
@@ -23,13 +23,15 @@ pub record AffectsJust (key : Key) (position first last : ℕ) (shown : Subtrie)
 
 -- Of the node that gets a new leaf, the entries in slots `first` to `last` are affected, by the forks that were read.
 abbrev pub AreAffected : Known → ℕ → Key → List PathNode → Found → (first last : ℕ) → Type 0
-AreAffected k m key way (Leaf number value (Some p)) first last = (level : ℕ) (s : PathNode) → IsLevel way p level → slice_get way level ≡ Some s →
-    (forks : Subtrie) × Sure k (λ past. IsShaped past m s.number forks) × AffectsJust key p first last forks
-AreAffected k m key way found first last = Unit {0}
+AreAffected known m key way (Leaf number value (Some p)) first last =
+    (level : ℕ) (node : PathNode) → IsLevel way p level → slice_get way level ≡ Some node →
+    (forks : Subtrie) × Sure known (λ past. HadShapeSince past m node.number forks) × AffectsJust key p first last forks
+AreAffected known m key way found first last = Unit {0}
 
 -- the plan of a call, by what its search has found and read
 abbrev pub IsPlanned : Known → ℕ → Key → List PathNode → Aim → Found → Plan → Type 0
-IsPlanned k m key way aim found plan = (first : ℕ) × (last : ℕ) × IsPlan way first last aim found plan × AreAffected k m key way found first last
+IsPlanned known m key way aim found plan =
+    (first : ℕ) × (last : ℕ) × IsPlan way first last aim found plan × AreAffected known m key way found first last
 
 -- the pass has loaded the root since k, and that load's front begins with that of k
 pub record HasLoadedRoot (k j : Known) : Type 0 where

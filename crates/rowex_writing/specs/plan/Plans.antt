@@ -18,7 +18,7 @@ use Rattle.rowex_writing.specs.declared.plan.Plan.{Plan}
 use Rattle.rowex_writing.specs.declared.plan.Plan.TheVariants.{Answer, Change}
 
 -- a plan that remakes the nodes of the path from `end` to before `len`
-abbrev pub change : ℕ → ℕ → Deed → Plan
+abbrev pub change : (len end : ℕ) → Deed → Plan
 change len end deed = Change (record { len = len; end = end }) deed
 
 -- ---- a removal

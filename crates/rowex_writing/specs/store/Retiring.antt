@@ -23,18 +23,18 @@ use Rattle.rowex_writing.specs.build.Putting.{AreInTable, IsAnchored}
 -- The pass has published a change, and made no step since. It has unlinked just the records `gone`, and has locked just the nodes `kept`,
 -- each listed once.
 abbrev pub HasJustPublished : Known → List Rec → List ℕ → Type 0
-HasJustPublished j gone kept = (k : Known) × (x : Change) × (was : Option ℕ) × HasPublished k j x was gone kept × AreApart kept
+HasJustPublished j gone kept = (k : Known) × (change : Change) × (was : Option ℕ) × HasPublished k j change was gone kept × AreApart kept
 
 -- Just these records are the pass's own, each listed once. Each was unlinked before the pass last loaded the epoch, and that load found
 -- this one.
-pub record HasToMark (k : Known) (epoch : ℕ) (recs : List Rec) : Type 0 where
-  pub own : OwnsJust k.own (IsUnlinkedBefore k.round.version) recs
+pub record HasToMark (known : Known) (epoch : ℕ) (recs : List Rec) : Type 0 where
+  pub own : OwnsJust known.own (IsUnlinkedBefore known.round.version) recs
   pub apart : AreApart recs
-  pub epoch_is : epoch ≡ k.round.epoch
+  pub epoch_is : epoch ≡ known.round.epoch
 
 -- the pass has the same locks, and has seen the same changes
 abbrev pub KeepsLocks : Known → Known → Type 0
-KeepsLocks k j = (j.locks ≡ k.locks) × (j.anchor ≡ k.anchor) × (j.front ≡ k.front)
+KeepsLocks old new = (new.locks ≡ old.locks) × (new.anchor ≡ old.anchor) × (new.front ≡ old.front)
 
 -- whether the spot is the root
 abbrev pub is_root : Spot → Bool
@@ -44,14 +44,14 @@ is_root (Value l) = false
 
 -- Once its records are ready, the pass may publish the change x by this store, which unlinks the records listed for it. Of the nodes that
 -- the pass has locked just these are kept, each listed once. The anchor is locked exactly if the root is stored.
-pub record MayStore (table : TableView) (a : SeatView) (build : Build) (kept : List PathNode) (spot : Spot) (entry : Option Entry)
+pub record MayStore (table : TableView) (seat : SeatView) (build : Build) (kept : List PathNode) (spot : Spot) (entry : Option Entry)
     (x : Change) (was : Option ℕ) : Type 0 where
-  pub ready : MayPublishOnceReady table a build.made.items spot (entry_word entry) x was build.gone.items
+  pub ready : MayPublishOnceReady table seat build.made.items spot (entry_word entry) x was build.gone.items
   pub of_entry : IsOfEntry spot
-  pub told : KnowsWas a.known build.gone.items was
+  pub told : KnowsWas seat.known build.gone.items was
   pub there : HasSpot table.layout spot
   pub records : AreInTable table.layout build.gone.items
   pub nodes : AreNodes table.layout kept
-  pub keeps : AreKept (nodes_of a.known.locks) build.gone.items (numbers_of kept)
+  pub keeps : AreKept (nodes_of seat.known.locks) build.gone.items (numbers_of kept)
   pub apart : AreApart (numbers_of kept)
-  pub anchored : IsAnchored (is_root spot) a.known
+  pub anchored : IsAnchored (is_root spot) seat.known

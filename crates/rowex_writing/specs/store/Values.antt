@@ -33,25 +33,26 @@ pub record IsFoundAgain (call : Call) (found now : Found) : Type 0 where
 
 -- if the search found the key, it has this value after the changes that the pass has seen
 abbrev pub HoldsFound : Known → Key → Found → Type 0
-HoldsFound k key found = (number value : ℕ) → found ≡ Leaf number value None → value_at (map_of k.front) key ≡ Some value
+HoldsFound known key found = (number value : ℕ) → found ≡ Leaf number value None → value_at (map_of known.front) key ≡ Some value
 
 -- Under its locks the pass has found the key with another value, at which the call has nothing to change. The key had it in a version
 -- since the pass's last load of the root.
-pub record HasFoundOther (k j : Known) (call : Call) (key : Key) (now : Found) : Type 0 where
-  pub later : IsLater k j
+pub record HasFoundOther (old new : Known) (call : Call) (key : Key) (now : Found) : Type 0 where
+  pub later : IsLater old new
   pub value : ℕ
   pub is : value_of now ≡ Some value
-  pub held : HasFound j key (Some value)
+  pub held : HasFound new key (Some value)
   pub aimless : aim_of call (Some value) ≡ None
 
 -- the pass has loaded the value of the leaf that its search found for the key, if any, since its last lock
 abbrev pub HasLoadedFound : Known → Found → Type 0
-HasLoadedFound k found = (number value : ℕ) → found ≡ Leaf number value None → HasLoaded k number value
+HasLoadedFound known found = (number value : ℕ) → found ≡ Leaf number value None → HasLoaded known number value
 
 -- another pass has made a change since the search of the job
 abbrev pub HasMoved : Layout → Job → Known → Known → Type 0
-HasMoved layout job k j = (m : ℕ) → IsJobFrom layout k m job → m < length j.front
+HasMoved layout job old new = (m : ℕ) → IsJobFrom layout old m job → m < length new.front
 
 -- the pass has done the deed at the lower end of a span: the key has the value, or is absent
 abbrev pub HasDoneDeed : Known → Known → Deed → Key → ℕ → Found → Type 0
-HasDoneDeed k j deed key value found = (x : Change) × (was : Option ℕ) × IsDeedChange k.pass deed key value found x was × HasChanged k j x was
+HasDoneDeed old new deed key value found =
+    (change : Change) × (was : Option ℕ) × IsDeedChange old.pass deed key value found change was × HasChanged old new change was

@@ -15,7 +15,7 @@ ghost use Rattle.rowex_writing.specs.locks.Jobs.{IsJobFrom};
 ghost use Rattle.rowex_writing.specs.locks.Locks.{AreNodes, KeepsLocksAndRecords, KeepsRecords, LocksLast, Works, span_numbers, HasRun, HasTried};
 ghost use Rattle.rowex_reading.specs.declared.descent.Found.{Found as FoundView};
 ghost use Rattle.tries.specs.Keys.{Key as KeyView};
-ghost use Rattle.rowex_writing.specs.merging.Merging.{IsFar, IsNeighbour, IsTargetAbove, IsWide, LocksAbove, TriesMore};
+ghost use Rattle.rowex_writing.specs.merging.Merging.{IsFarFromSpan, IsNeighbour, IsTargetAbove, HasWiderLocks, LocksAbove, HasTriedUpToTwoMore};
 ghost use Rattle.rowex_writing.specs.build.Taking.{TakesOn};
 ghost use Rattle.rowex_writing.specs.declared.plan.job.Merge.{Merge as MergeView};
 
@@ -39,9 +39,9 @@ pub(crate) fn lock_for_merge<G: Gate>(
 ) -> bool
     requires takes { TakesOn table.now seat.old job.now }
     requires beside { (m : MergeView) × IsNeighbour seat.old.known job.now m × (m.number ≡ number) }
-    ensures tries { TriesMore table.now G.becomes (span_numbers job.now.way.now job.now.span) result (seat.old, gate.old) (seat.new, gate.new) }
+    ensures tries { HasTriedUpToTwoMore table.now G.becomes (span_numbers job.now.way.now job.now.span) result (seat.old, gate.old) (seat.new, gate.new) }
     ensures later { KeepsRecords table.now seat.old.known seat.new }
-    ensures wide { result ≡ true → (w : IsWide table.now seat.new job.now number) ×
+    ensures wide { result ≡ true → (w : HasWiderLocks table.now seat.new job.now number) ×
         (w.taking.before.known.locks ≡ seat.old.known.locks) × (w.taking.before.known.anchor ≡ seat.old.known.anchor) }
     ensures same { result ≡ false → KeepsLocksAndRecords seat.old.known seat.new.known }
     ensures few { seat.new.known.steps ≤ seat.old.known.steps + 5 }
@@ -63,8 +63,8 @@ pub(crate) fn lock_for_merge<G: Gate>(
 /// Whether `number` is that of a node of `job`'s span, or of one of the two above it on the path.
 fn is_near_span(job: &Job<'_>, number: u32) -> bool
     requires within { (job.now.span.end ≤ job.now.span.len) × (job.now.span.len ≤ length job.now.way.now) }
-    ensures near { result ≡ true → ¬ IsFar job.now.way.now job.now.span number }
-    ensures none { result ≡ false → IsFar job.now.way.now job.now.span number }
+    ensures near { result ≡ true → ¬ IsFarFromSpan job.now.way.now job.now.span number }
+    ensures none { result ≡ false → IsFarFromSpan job.now.way.now job.now.span number }
 {
     for index in job.span.end.saturating_sub(2)..job.span.len {
         if job.way[index].number == number {
@@ -208,10 +208,10 @@ pub(crate) fn release_merge_locks<G: Gate>(
     job: &Job<'_>,
     number: u32,
 )
-    requires wide { IsWide table.now seat.old job.now number }
+    requires wide { HasWiderLocks table.now seat.old job.now number }
     ensures run { HasRun table.now G.becomes (seat.old, gate.old) (seat.new, gate.new) }
     ensures later { IsLater seat.old.known seat.new.known }
-    ensures same { (w : IsWide table.now seat.old job.now number) →
+    ensures same { (w : HasWiderLocks table.now seat.old job.now number) →
         (seat.new.known.locks ≡ w.taking.before.known.locks) × (seat.new.known.anchor ≡ w.taking.before.known.anchor) × (seat.new.known.own ≡ seat.old.known.own) }
     ensures few { seat.new.known.steps ≤ seat.old.known.steps + 2 }
     ensures spares { KeepsSpare table.now.layout seat.old seat.new }

@@ -8,7 +8,7 @@ use Rattle.atomic_table.proofs.Lists.{at_set}
 use Rattle.sections.specs.declared.events.SectionEvent.{SectionEvent}
 use Rattle.sections.specs.declared.events.Seated.{Seated}
 use Rattle.sections.specs.declared.events.Seated.TheVariants.{Dealer, Owner}
-use Rattle.sections.specs.declared.table.TheConstants.{MOMENTS, REACH}
+use Rattle.sections.specs.declared.table.TheConstants.{MOMENTS, EXTENT}
 use Rattle.sections.specs.Rule.{HasSection, IsTrueOfRun, SectionsRuled, ShowsRun, section_dealt, next_section, new_section, section_place, sections_words}
 use Rattle.sections.specs.Runs.{RunGoesOn, OthersRunOn}
 use Rattle.sections.specs.Statements.{RunsAreOne}
@@ -22,17 +22,17 @@ opens {S = S} count words is = record {
   run = [];
   lawful = tt;
   shows = subst (ShowsRun count []) (sym is) zeros;
-  knows = λ i v e. only (λ v. IsTrueOfRun count (get_or words REACH 0) [] v) (refl, λ q low. tt) i v e;
+  knows = λ i v e. only (λ v. IsTrueOfRun count (get_or words EXTENT 0) [] v) (refl, λ q low. tt) i v e;
   apart = λ i j q v w a b ov ow. first i v a ∙ sym (first j w b);
 }
   where
     zeros : ShowsRun count [] (replicate (sections_words count) 0)
     zeros =
-        let reach : get_or (replicate (sections_words count) 0) REACH 0 ≡ 0 = get_or-replicate (sections_words count) REACH 0 0 (omega arith) in
+        let extent : get_or (replicate (sections_words count) 0) EXTENT 0 ≡ 0 = get_or-replicate (sections_words count) EXTENT 0 0 (omega arith) in
         record {
           size = length-replicate (sections_words count) 0;
           moments = get_or-replicate (sections_words count) MOMENTS 0 0 (omega arith);
-          reach = subst (λ z. z ≤ count) (sym reach) (omega arith);
+          extent = subst (λ z. z ≤ count) (sym extent) (omega arith);
           each = λ q low. get_or-replicate (sections_words count) (section_place q) 0 0 (omega arith);
           beyond = λ q high. tt;
         }
@@ -55,10 +55,10 @@ at_end (x ∷ xs) a b (suc j) e = ⊎_elim inl (λ t. inr (ap suc t.0, t.1)) (at
 
 deals_from : {S : Type 0} (count id next n : ℕ) → Splits {S = S} {V = Seated} (SectionsRuled count) id (Dealer next n) (Dealer (next + 1) n) (Owner (new_section next n))
 deals_from {S = S} count id next n s r here =
-    let reach : ℕ = get_or s.words REACH 0 in
+    let extent : ℕ = get_or s.words EXTENT 0 in
     let left : Seated = Dealer (next + 1) n in
     let right : Seated = Owner (new_section next n) in
-    let was : IsTrueOfRun count reach r.run (Dealer next n) = r.knows id (Dealer next n) here in
+    let was : IsTrueOfRun count extent r.run (Dealer next n) = r.knows id (Dealer next n) here in
     let views : List Seated = set s.views id left in
     let old : Apart views = apart_set s.views id (Dealer next n) left here (λ q o. omega arith) r.apart in
     let alone : (i q : ℕ) (w : Seated) → get_elem? views i ≡ some w → HasSection w q → next ≡ q → ⊥ = λ i q w e ow is. ⊎_elim
@@ -70,8 +70,8 @@ deals_from {S = S} count id next n s r here =
       lawful = r.lawful;
       shows = r.shows;
       knows = λ i w e. ⊎_elim
-          (λ before. ⊎_elim (λ (t : (i ≡ id) × (left ≡ w)). subst (IsTrueOfRun count reach r.run) t.1 (was.0, λ q high. was.1 q (omega arith))) (λ (t : (i ≢ id) × (get_elem? s.views i ≡ some w)). r.knows i w t.1) (at_set s.views id i left w before))
-          (λ (t : (i ≡ length views) × (right ≡ w)). subst (IsTrueOfRun count reach r.run) t.1 (was.0, (r.run, sym (Rattle.std.proofs.Common.append-nil r.run), was.1 next (omega arith)), λ c. absurd (cc)))
+          (λ before. ⊎_elim (λ (t : (i ≡ id) × (left ≡ w)). subst (IsTrueOfRun count extent r.run) t.1 (was.0, λ q high. was.1 q (omega arith))) (λ (t : (i ≢ id) × (get_elem? s.views i ≡ some w)). r.knows i w t.1) (at_set s.views id i left w before))
+          (λ (t : (i ≡ length views) × (right ≡ w)). subst (IsTrueOfRun count extent r.run) t.1 (was.0, (r.run, sym (Rattle.std.proofs.Common.append-nil r.run), was.1 next (omega arith)), λ c. absurd (cc)))
           (at_end views right w i e);
       apart = λ i j q x y a b ox oy. ⊎_elim
           (λ (olda : get_elem? views i ≡ some x). ⊎_elim (λ (oldb : get_elem? views j ≡ some y). old i j q x y olda oldb ox oy) (λ (t : (j ≡ length views) × (right ≡ y)). absurd (alone i q x olda ox (subst (λ z. HasSection z q) (sym t.1) oy))) (at_end views right y j b))

@@ -68,15 +68,15 @@ looks_on s t u g h = record {
 }
 
 -- How far the words have been looked at: each section below `n`, and each that was never entered, has been left since the moment.
-pub record HasLooked (moment n reach : ℕ) (s t : SectionView) : Type 0 where
+pub record HasLooked (moment n extent : ℕ) (s t : SectionView) : Type 0 where
   pub looks : SeesOthers s t
   pub come : moment ≤ moments_in t.known.run
   pub below : (q : ℕ) → q < n → IsPastOf q moment t.known.run
-  pub beyond : (q : ℕ) → reach ≤ q → IsPastOf q moment t.known.run
+  pub beyond : (q : ℕ) → extent ≤ q → IsPastOf q moment t.known.run
 
 -- at first, behind the two loads of the head
-pub looked_none : (moment reach : ℕ) (s t u : SectionView) → SeesOthers s t → moment ≤ moments_in t.known.run → SeesOthers t u → ((q : ℕ) → reach ≤ q → HasNoneOf q u.known.run) → HasLooked moment 0 reach s u
-looked_none moment reach s t u first come second none =
+pub looked_none : (moment extent : ℕ) (s t u : SectionView) → SeesOthers s t → moment ≤ moments_in t.known.run → SeesOthers t u → ((q : ℕ) → extent ≤ q → HasNoneOf q u.known.run) → HasLooked moment 0 extent s u
+looked_none moment extent s t u first come second none =
     let grown : moments_in t.known.run ≤ moments_in u.known.run = moments_grow t.known.number t.known.run u.known.run second.others in
     record {
       looks = looks_on s t u first second;
@@ -86,8 +86,8 @@ looked_none moment reach s t u first come second none =
     }
 
 -- and behind the load of one word more
-pub looked_more : (moment n reach w : ℕ) (s t u : SectionView) → HasLooked moment n reach s t → SeesOthers t u → w ≡ word_in n u.known.run → IsNewer moment w → HasLooked moment (n + 1) reach s u
-looked_more moment n reach w s t u looked look is newer =
+pub looked_more : (moment n extent w : ℕ) (s t u : SectionView) → HasLooked moment n extent s t → SeesOthers t u → w ≡ word_in n u.known.run → IsNewer moment w → HasLooked moment (n + 1) extent s u
+looked_more moment n extent w s t u looked look is newer =
     let on = look.others in
     let grown : moments_in t.known.run ≤ moments_in u.known.run = moments_grow t.known.number t.known.run u.known.run look.others in
     let later : (q : ℕ) → IsPastOf q moment t.known.run → IsPastOf q moment u.known.run = λ q past. past_later q t.known.number moment t.known.run u.known.run look.others looked.come past in

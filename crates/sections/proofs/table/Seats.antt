@@ -8,8 +8,8 @@ use Rattle.sections.specs.declared.events.SectionEvent.TheVariants.{Entered, Lef
 use Rattle.sections.specs.declared.events.SectionKnowledge.{SectionKnowledge}
 use Rattle.sections.specs.declared.events.Seated.{Seated}
 use Rattle.sections.specs.declared.events.Seated.TheVariants.{Owner}
-use Rattle.sections.specs.declared.table.TheConstants.{MOMENTS, MOST_MOMENTS, REACH}
-use Rattle.sections.specs.Rule.{Counted, Finds, EventHappens, IsOwners, SectionsRuled, Takes, found_moments, found_reach, found_word, owner_of}
+use Rattle.sections.specs.declared.table.TheConstants.{MOMENTS, MOST_MOMENTS, EXTENT}
+use Rattle.sections.specs.Rule.{Counted, Finds, EventHappens, IsOwners, SectionsRuled, Takes, found_moments, found_extent, found_word, owner_of}
 use Rattle.sections.specs.Sections.{SectionView, TakesNext}
 use Rattle.sections.specs.Runs.{HasNoneOf, IsLawfulRun, OthersRunOn, moments_in, word_in}
 use Rattle.sections.proofs.Runs.{moments_bounded, moments_grow, others_more, word_kept, word_own}
@@ -97,16 +97,16 @@ tells_moments_from n run k is law = (is, subst (λ z. z ≤ MOST_MOMENTS) (sym i
 pub tells_moments : {S : Type 0} (count : ℕ) (k : SectionKnowledge) (s : State S Seated) (r : SectionsRuled count s) → found_moments 0 (get_or s.words MOMENTS 0) k r.run
 tells_moments count k s r = tells_moments_from (get_or s.words MOMENTS 0) r.run k r.shows.moments r.lawful
 
-pub tells_reach : {S : Type 0} (count : ℕ) (k : SectionKnowledge) (s : State S Seated) (r : SectionsRuled count s) → k.count ≡ count → found_reach 8 (get_or s.words REACH 0) k r.run
-tells_reach count k s r same = (subst (λ z. get_or s.words REACH 0 ≤ z) (sym same) r.shows.reach, r.shows.beyond)
+pub tells_extent : {S : Type 0} (count : ℕ) (k : SectionKnowledge) (s : State S Seated) (r : SectionsRuled count s) → k.count ≡ count → found_extent 8 (get_or s.words EXTENT 0) k r.run
+tells_extent count k s r same = (subst (λ z. get_or s.words EXTENT 0 ≤ z) (sym same) r.shows.extent, r.shows.beyond)
 
 pub tells_word : {S : Type 0} (count word : ℕ) (k : SectionKnowledge) (s : State S Seated) (r : SectionsRuled count s) → k.count ≡ count → found_word word (get_or s.words word 0) k r.run
 tells_word count word k s r same q is low = ap (λ z. get_or s.words z 0) is ∙ r.shows.each q (subst (λ z. q < z) same low)
 
-pub found_beyond : {S : Type 0} (me m' : Me S Seated) (word told count : ℕ) → me ≡ (Owner (owner_of me.0), []) → (m'.1 ≡ me.1) × Finds (found_reach word told) me.0 m'.0 → (owner_of me.0).count ≡ count
+pub found_beyond : {S : Type 0} (me m' : Me S Seated) (word told count : ℕ) → me ≡ (Owner (owner_of me.0), []) → (m'.1 ≡ me.1) × Finds (found_extent word told) me.0 m'.0 → (owner_of me.0).count ≡ count
     → (q : ℕ) → min told count ≤ q → HasNoneOf q (owner_of m'.0).run
 found_beyond {S = S} me m' word told count is h same q high =
-    let f = found_me me m' (found_reach word told) is h in
+    let f = found_me me m' (found_extent word told) is h in
     let within : told ≤ (owner_of me.0).count = f.4.0 in
     subst (λ (m : Me S Seated). HasNoneOf q (owner_of m.0).run) (sym f.1) (f.4.1 q (omega arith))
 

@@ -12,9 +12,9 @@ use Rattle.tries.specs.Tree.{Subtrie, Tree, leaf, node, fork, subtrie, IsTrie, I
 use Rattle.tries.proofs.Place.{spot_below, spot_shape, shape_tips}
 use Rattle.tries.proofs.Tree.{has_under, under_below, kin_tips}
 use Rattle.versions.specs.Frames.{IsGrown}
-use Rattle.versions.specs.State.{Past, IsKeptSince, IsSteady}
+use Rattle.versions.specs.State.{Past, IsKeptSince, KeepsFixedWordsSince}
 use Rattle.record_words.specs.declared.records.Rec.TheVariants.{Node as a_node}
-use Rattle.version_laws.specs.Scan.{AgreeUpToPlace, IsPlaced, IsShaped, MayStandAt, HadKeyBelow, Frame, IsStack, Range, IsInRange}
+use Rattle.version_laws.specs.Scan.{AgreeUpToPlace, IsPlaced, HadShapeSince, MayStandAt, HadKeyBelow, Frame, IsStack, Range, IsInRange}
 use Rattle.version_laws.specs.Directions.{gap_before, gap_behind, first_gap, first_key, IsEarlier, IsNoLater, IsToCome, WasPassed, ComesOnWay, IsScanBy, IsPastKey}
 use Rattle.packed_pairs.specs.declared.direction.Direction.{Direction}
 use Rattle.packed_pairs.specs.declared.direction.Direction.TheVariants.{Upwards, Downwards}
@@ -205,7 +205,7 @@ sole_alike d (Fork q a b) v k y agree one f = go (sole_alike d a v k y agree) (s
     go zero one false lt o n h = absurd (let l = size_pos a in let r = size_pos b in omega (arith, n, l, r))
 
 -- ---- of a record
-module _ (s : Past) (m : ℕ) (law : IsSteady s m) (r : ℕ) (p : Subtrie) (sh : IsShaped s m r p) (v y : Key) (d : ℕ) (agree : AgreeBelow d v y) (fit : MayStandAt s m r (spot v p) y) where
+module _ (s : Past) (m : ℕ) (law : KeepsFixedWordsSince s m) (r : ℕ) (p : Subtrie) (sh : HadShapeSince s m r p) (v y : Key) (d : ℕ) (agree : AgreeBelow d v y) (fit : MayStandAt s m r (spot v p) y) where
   -- The key v may stand where one place alone is affected.
   pub fit_sole : size (subtrie_affected d v p) ≡ 1 → MayStandAt s m r (spot v p) v
   fit_sole one = go fit
@@ -283,7 +283,7 @@ module _ (s : Past) (m : ℕ) (law : IsSteady s m) (r : ℕ) (p : Subtrie) (sh :
         go false e (inr (inr (le, lt, f))) = (λ h. absurd (omega (arith, h, le)), λ h. among_above z e (several f))
 
 -- So it is, and stays: all that is to come at the start place is later than v.
-pub sides_beyond : (way : Direction) (s : Past) (m r : ℕ) (p : Subtrie) → IsShaped s m r p → (v y : Key) (d : ℕ) → AgreeBelow d v y → MayStandAt s m r (spot v p) y →
+pub sides_beyond : (way : Direction) (s : Past) (m r : ℕ) (p : Subtrie) → HadShapeSince s m r p → (v y : Key) (d : ℕ) → AgreeBelow d v y → MayStandAt s m r (spot v p) y →
     (bit v d ≡ bit y d → ⊥) → 2 ≤ size (subtrie_affected d v p) → IsPastKey way s m v r (start_place d v p)
 sides_beyond way s m r p sh v y d agree fit ne two t g law j z come at =
     go way come (sides t m law r p (shaped_grown s t g m r p sh) v y d agree (may_stand_grown s t g m r (spot v p) y fit) ne two j z at)
@@ -317,7 +317,7 @@ beyond_in_child d s m r place c h count key placed over t g law j z come at =
     over t g law place z (come_before d place) (may_stand_at_child_place t m law r place c h j z (placed_grown s t g m r place (Node c h) placed) at)
 
 -- and at its own place
-pub beyond_at_place : (d : Direction) (s : Past) (m r place : ℕ) (key z : Key) → IsPastKey d s m key r (gap_before d place) → (t : Past) → IsGrown s t → IsSteady t m →
+pub beyond_at_place : (d : Direction) (s : Past) (m r place : ℕ) (key z : Key) → IsPastKey d s m key r (gap_before d place) → (t : Past) → IsGrown s t → KeepsFixedWordsSince t m →
     MayStandAt t m r place z → IsEarlier d key z
 beyond_at_place d s m r place key z over t g law at = over t g law place z (come_before d place) at
 
@@ -326,7 +326,7 @@ same_past s = record { longer = le_refl s.now; kept = λ n lo. refl }
 
 -- ---- the way
 -- If the key may stand at the place of the lowest frame, it may so at each.
-pub stack_at : (s : Past) (m : ℕ) → IsSteady s m → (f : Frame) (fs : List Frame) → IsStack s m (f ∷ fs) → (v : Key) → MayStandAt s m f.number f.place v → AreAt s m v (f ∷ fs)
+pub stack_at : (s : Past) (m : ℕ) → KeepsFixedWordsSince s m → (f : Frame) (fs : List Frame) → IsStack s m (f ∷ fs) → (v : Key) → MayStandAt s m f.number f.place v → AreAt s m v (f ∷ fs)
 stack_at s m law f [] h v at = (at, tt)
 stack_at s m law f (g ∷ gs) h v at = (at, stack_at s m law g gs h.2 v (may_stand_at_child_place s m law g.number g.place f.number f.height f.place v h.0 at))
 
@@ -337,18 +337,18 @@ IsWayEarlier d s m v (f ∷ fs) =
     ((j : ℕ) (z : Key) → WasPassed d (gap_before d f.place) j → MayStandAt s m f.number j z → IsEarlier d z v) × IsWayEarlier d s m v fs
 
 -- as where the key itself may stand at each of these places
-pub at_on_way : (d : Direction) (s : Past) (m : ℕ) → IsSteady s m → (v : Key) (fs : List Frame) → AreAt s m v fs → IsWayEarlier d s m v fs
+pub at_on_way : (d : Direction) (s : Past) (m : ℕ) → KeepsFixedWordsSince s m → (v : Key) (fs : List Frame) → AreAt s m v fs → IsWayEarlier d s m v fs
 at_on_way d s m law v [] at = tt
 at_on_way d s m law v (f ∷ fs) at =
     ((λ j z passed fit. may_stand_earlier d s m law f.number (gap_before d f.place) j f.place z v passed (come_before d f.place) fit at.0), at_on_way d s m law v fs at.1)
 
 -- A key that was there all the time, not earlier than v, is in the lowest node, or comes on the way.
-way_reaches : (d : Direction) (s : Past) (m : ℕ) → IsSteady s m → (f : Frame) (fs : List Frame) → IsStack s m (f ∷ fs) → (v k : Key) → IsWayEarlier d s m v fs → IsKeptSince s m k →
+way_reaches : (d : Direction) (s : Past) (m : ℕ) → KeepsFixedWordsSince s m → (f : Frame) (fs : List Frame) → IsStack s m (f ∷ fs) → (v k : Key) → IsWayEarlier d s m v fs → IsKeptSince s m k →
     IsNoLater d v k → HadKeyBelow s m k (a_node f.number) ⊎ ComesOnWay d s m k fs
 way_reaches d s m law f [] h v k at kept le = inl (root_had_key s m k kept (Node f.number f.height) h.0)
 way_reaches d s m law f (g ∷ gs) h v k (at, rest) kept le = ⊎_elim here (λ x. inr (inr x)) (way_reaches d s m law g gs h.2 v k rest kept le)
   where
-    sh : IsShaped s m g.number g.shape
+    sh : HadShapeSince s m g.number g.shape
     sh = stack_shape s m g gs h.2
 
     here : HadKeyBelow s m k (a_node g.number) → HadKeyBelow s m k (a_node f.number) ⊎ ComesOnWay d s m k (g ∷ gs)
@@ -359,7 +359,7 @@ way_reaches d s m law f (g ∷ gs) h v k (at, rest) kept le = ⊎_elim here (λ 
         (passed_or_comes d (gap_before d g.place) (spot k g.shape))
 
 -- A scan may start where all keys before its gap are earlier than its first.
-pub scan_started : (d : Direction) (s : Past) (m : ℕ) → IsSteady s m → (g : Range) (f : Frame) (fs : List Frame) → IsStack s m (f ∷ fs) → IsWayEarlier d s m (first_key d g) fs →
+pub scan_started : (d : Direction) (s : Past) (m : ℕ) → KeepsFixedWordsSince s m → (g : Range) (f : Frame) (fs : List Frame) → IsStack s m (f ∷ fs) → IsWayEarlier d s m (first_key d g) fs →
     ((j : ℕ) (z : Key) → WasPassed d f.place j → MayStandAt s m f.number j z → IsEarlier d z (first_key d g)) → IsScanBy d s m g (f ∷ fs) []
 scan_started d s m law g f fs stack at before = record {
   stack = stack;

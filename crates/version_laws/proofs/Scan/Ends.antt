@@ -6,7 +6,7 @@ use Rattle.tries.specs.Tree.{node, subtrie, IsBuilt}
 use Rattle.compound_node.specs.declared.entries.Entry.{Entry}
 use Rattle.compound_node.specs.declared.entries.Entry.TheVariants.{Leaf, Node}
 use Rattle.node_tries.specs.Piece.{Place}
-use Rattle.versions.specs.State.{Past, IsKeptSince, IsSameRecord, IsSteady}
+use Rattle.versions.specs.State.{Past, IsKeptSince, IsSameRecord, KeepsFixedWordsSince}
 use Rattle.record_words.specs.declared.records.Rec.TheVariants.{Node as a_node}
 use Rattle.compound_node.specs.Nodes.{height_of}
 use Rattle.tries.specs.Place.{entry_at}
@@ -48,7 +48,7 @@ module _ (s : Past) (m : ℕ) (g : Range) where
     covered = λ k kept q u. absurd u;
   }
 
-  module _ (law : IsSteady s m) where
+  module _ (law : KeepsFixedWordsSince s m) where
     -- The root is a leaf in the range.
     pub answer_one : (d : Direction) (n : ℕ) (l : Key) (v : ℕ) → IsRooted s m (Leaf n) → IsRead s m n l v → IsInRange g l → 0 < g.limit →
         IsComplete d s m g (record { key = l; value = v } ∷ [])
@@ -69,7 +69,7 @@ module _ (s : Past) (m : ℕ) (g : Range) where
         go k q e (inr y) = never_before g.upto l y (subst (λ z. IsAtMost z g.upto) e q.1)
 
 -- The heights fall along the way.
-pub placed_falls : (s : Past) (m : ℕ) → IsSteady s m → (r h j : ℕ) (e : Entry) → EntryStoodSince s m (Node r h) → IsPlaced s m r j e → height_of e < h
+pub placed_falls : (s : Past) (m : ℕ) → KeepsFixedWordsSince s m → (r h j : ℕ) (e : Entry) → EntryStoodSince s m (Node r h) → IsPlaced s m r j e → height_of e < h
 placed_falls s m law r h j e (n, u, lo, hi, sn, pg) (b, st, lt, pe) =
     let o = node_of r h u pg in
     let same : IsSameRecord (node r st.fixed b) u = law.same (a_node r) st.at n (node r st.fixed b) u st.since st.until lo hi st.stands sn in
@@ -83,7 +83,7 @@ stack_seen s m f [] h = rooted_seen s m (Node f.number f.height) h.0
 stack_seen s m f (g ∷ gs) h = placed_seen s m g.number g.place (Node f.number f.height) h.0
 
 -- So the way is no longer than the root's node is high.
-pub stack_depth : (s : Past) (m : ℕ) → IsSteady s m → (f : Frame) (fs : List Frame) → IsStack s m (f ∷ fs) → length fs + f.height ≤ top_height f.height fs
+pub stack_depth : (s : Past) (m : ℕ) → KeepsFixedWordsSince s m → (f : Frame) (fs : List Frame) → IsStack s m (f ∷ fs) → length fs + f.height ≤ top_height f.height fs
 stack_depth s m law f [] h = omega arith
 stack_depth s m law f (g ∷ gs) h =
     let a = stack_depth s m law g gs h.2 in
@@ -91,7 +91,7 @@ stack_depth s m law f (g ∷ gs) h =
     omega arith
 
 -- Each node on it is higher than nothing.
-pub stack_high : (s : Past) (m : ℕ) → IsSteady s m → (f : Frame) (fs : List Frame) → IsStack s m (f ∷ fs) → 0 < f.height
+pub stack_high : (s : Past) (m : ℕ) → KeepsFixedWordsSince s m → (f : Frame) (fs : List Frame) → IsStack s m (f ∷ fs) → 0 < f.height
 stack_high s m law f fs h = go (stack_seen s m f fs h)
   where
     go : EntryStoodSince s m (Node f.number f.height) → 0 < f.height
@@ -101,7 +101,7 @@ stack_high s m law f fs h = go (stack_seen s m f fs h)
         subst (λ z. 0 < z) o.3 (some_height o.0.height o.1 built.1)
 
 -- And that is as high as a tree can be.
-pub stack_low : (s : Past) (m : ℕ) → IsSteady s m → (f : Frame) (fs : List Frame) → IsStack s m (f ∷ fs) → top_height f.height fs ≤ 9 * MAX_BYTES
+pub stack_low : (s : Past) (m : ℕ) → KeepsFixedWordsSince s m → (f : Frame) (fs : List Frame) → IsStack s m (f ∷ fs) → top_height f.height fs ≤ 9 * MAX_BYTES
 stack_low s m law f [] ((n, t, lo, hi, is, pg), shape) =
     let o = node_of f.number f.height t pg in
     let built : IsBuilt (node f.number o.0 o.1) = subst IsBuilt o.2 (law.trees n t hi is).1 in

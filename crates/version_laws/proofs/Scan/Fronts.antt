@@ -26,7 +26,7 @@ use Rattle.tries.proofs.Content.{holds_has}
 use Rattle.tries.proofs.Content.Maps.{before_less, holds_value, value_holds}
 use Rattle.tries.proofs.Keys.{has_key, at_most_le, at_most_not_lt, le_at_most, not_lt_at_most, HoldsKey, held_inserted, held_removed}
 use Rattle.version_laws.proofs.Scan.{before_trans}
-use Rattle.versions.specs.State.{Past, IsHeldSince, IsKeptSince, IsSteady}
+use Rattle.versions.specs.State.{Past, IsHeldSince, IsKeptSince, KeepsFixedWordsSince}
 use Rattle.versions.specs.Told.{content, TellChanges}
 use Rattle.version_laws.specs.Scan.{Pair, Every, IsKeyListed, Range, IsInRange, in_order_taken}
 use Rattle.version_laws.specs.Directions.{IsAnswer, IsEarlier, IsNoLater, IsLawfulBy, AreOrdered, IsComplete, IsReachedBy, IsCut}
@@ -76,7 +76,7 @@ drop_front [] ys = refl
 drop_front (x ∷ xs) ys = drop_front xs ys
 
 -- What versions say of a key, and what the fronts say.
-module _ (s : Past) (before rest : List Change) (m : ℕ) (steady : IsSteady s m) (told : TellChanges s (before ++ rest)) where
+module _ (s : Past) (before rest : List Change) (m : ℕ) (steady : KeepsFixedWordsSince s m) (told : TellChanges s (before ++ rest)) where
   held_key : (o : ℕ) (k : Key) (v : ℕ) → IsHeldSince s o k v → IsKey k
   held_key o k v (n, t, lo, hi, e, h) = has_key t (steady.trees n t hi e).0 k (holds_has t k v h)
 
@@ -217,7 +217,7 @@ lawful_by : (d : Direction) (before after : List Change) (from upto : Key) (limi
 lawful_by Upwards before after from upto limit scan w = w
 lawful_by Downwards before after from upto limit scan w = w
 
-module _ (s : Past) (before rest : List Change) (m : ℕ) (steady : IsSteady s m) (told : TellChanges s (before ++ rest)) (g : Range) (kf : IsKey g.from) (ku : IsKey g.upto)
+module _ (s : Past) (before rest : List Change) (m : ℕ) (steady : KeepsFixedWordsSince s m) (told : TellChanges s (before ++ rest)) (g : Range) (kf : IsKey g.from) (ku : IsKey g.upto)
     (xs : List Pair) (scan : Scan) (items : scan.pairs.items ≡ in_order_taken xs) where
   are_keys : Every (λ x. IsHeldSince s (length before) x.key x.value) xs → Every (λ x. IsKey x.key) xs
   are_keys h = every_map (λ x. IsHeldSince s (length before) x.key x.value) (λ x. IsKey x.key) xs

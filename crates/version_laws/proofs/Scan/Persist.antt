@@ -8,7 +8,7 @@ use Rattle.versions.specs.State.{Past, IsHeldSince, IsKeptSince}
 use Rattle.record_words.specs.declared.records.Rec.{Rec}
 use Rattle.record_words.specs.declared.records.Rec.TheVariants.{Node as a_node, Leaf as a_leaf}
 use Rattle.versions.specs.Frames.{IsGrown}
-use Rattle.version_laws.specs.Scan.{Stood, IsRooted, IsPlaced, IsShaped, IsRead, MayStandAt, HadKeyBelow, Frame, IsStack, Pair, Range}
+use Rattle.version_laws.specs.Scan.{Stood, IsRooted, IsPlaced, HadShapeSince, IsRead, MayStandAt, HadKeyBelow, Frame, IsStack, Pair, Range}
 use Rattle.version_laws.specs.Directions.{MayStandBeforeFrames, HasPassed, ComesOnWay, Comes, IsScanBy}
 use Rattle.packed_pairs.specs.declared.direction.Direction.{Direction}
 use Rattle.version_laws.proofs.Directions.{every_map}
@@ -29,7 +29,7 @@ rooted_grown a b g m e (n, t, lo, hi, q, p) = (n, t, lo, le_trans hi g.longer, g
 pub placed_grown : (a b : Past) → IsGrown a b → (m r j : ℕ) (e : Entry) → IsPlaced a m r j e → IsPlaced b m r j e
 placed_grown a b g m r j e (t, st, lt, p) = (t, stood_on a b g m r t st, lt, p)
 
-pub shaped_grown : (a b : Past) → IsGrown a b → (m r : ℕ) (p : Subtrie) → IsShaped a m r p → IsShaped b m r p
+pub shaped_grown : (a b : Past) → IsGrown a b → (m r : ℕ) (p : Subtrie) → HadShapeSince a m r p → HadShapeSince b m r p
 shaped_grown a b g m r p (t, st, e) = (t, stood_on a b g m r t st, e)
 
 pub read_grown : (a b : Past) → IsGrown a b → (m r : ℕ) (k : Key) (v : ℕ) → IsRead a m r k v → IsRead b m r k v

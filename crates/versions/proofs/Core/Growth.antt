@@ -8,7 +8,7 @@ use Rattle.versions.specs.State.{rec_of, Spans, last_of, IsLived, Past, Stands, 
 use Rattle.record_words.specs.declared.records.Rec.{Rec}
 use Rattle.record_words.specs.declared.records.Rec.TheVariants.{Node as a_node, Leaf as a_leaf}
 use Rattle.versions.specs.Frames.{IsGrown}
-use Rattle.versions.specs.Core.{has_seen, InTree, Marked, life_of, BareCore, pin_version, view, IsPaced}
+use Rattle.versions.specs.Core.{has_seen, InTree, Marked, life_of, BareCore, pin_version, view, HasLawfulEpochs}
 use Rattle.versions.specs.declared.Pin.{Pin}
 use Rattle.versions.proofs.Heap.{node_number}
 
@@ -24,7 +24,7 @@ pub marked_grown : (a b : Past) → IsGrown a b → (m : ℕ) (P : Key → Type 
 marked_grown a b g m P e (n, u, lo, hi, st, pg, f) = (n, u, lo, le_trans hi g.longer, stands_grown a b g n (rec_of e) u hi st, pg, f)
 
 -- A record that may be given back was linked in no version since a pass's pin.
-pub give_back : (c : BareCore) → IsLawfulState (view c) → IsPaced c.shared → (o : ℕ) (r : Rec) (f l s : ℕ) → c.fate r ≡ Marked f l s →
+pub give_back : (c : BareCore) → IsLawfulState (view c) → HasLawfulEpochs c.shared → (o : ℕ) (r : Rec) (f l s : ℕ) → c.fate r ≡ Marked f l s →
     s < (c.rounds o).bound → (q : ℕ) (p : Pin) → c.pins q ≡ Some p → has_seen (c.rounds o).seen q ≡ true → IsUnlinkedSince c.past p.version r
 give_back c law pace o r f l s e h q p eq seen n lo hi u st =
     let spans : Spans c.past.now (life_of (Marked f l s)) n =

@@ -6,7 +6,7 @@ use Rattle.tries.specs.Tree.{Tree}
 use Rattle.versions.specs.State.{Spans, IsLived, IsLawfulState, Stands}
 use Rattle.record_words.specs.declared.records.Rec.{Rec}
 use Rattle.finite_map.specs.declared.Change.{Change}
-use Rattle.versions.specs.Core.{has_seen, pin_version, Fate, Free, Held, Ready, InTree, Unlinked, Marked, life_of, BareCore, view, IsPaced}
+use Rattle.versions.specs.Core.{has_seen, pin_version, Fate, Free, Held, Ready, InTree, Unlinked, Marked, life_of, BareCore, view, HasLawfulEpochs}
 use Rattle.versions.specs.declared.Pin.{Pin}
 use Rattle.versions.specs.declared.Round.{Round}
 use Rattle.versions.specs.Steps.{with_fate, with_lock, with_anchor, with_epoch, with_pin, same_rec, next_fate, is_linked, published_by, after_set_pin, after_load_epoch, lowered, after_load_pin, after_mark}
@@ -26,7 +26,7 @@ marked_old : (c : BareCore) → IsLawfulState (view c) → (r : Rec) (f l s : �
 marked_old c law r f l s e =
     let x : (f ≤ l) × (l < c.past.now) = subst (λ z. IsLived c.past.now (life_of z)) e (law.lived r) in x.1
 
-pub set_pin_paced : (c : BareCore) (q : ℕ) → IsLawfulState (view c) → IsPaced c.shared → IsPaced (after_set_pin c.shared q (c.rounds q).epoch)
+pub set_pin_paced : (c : BareCore) (q : ℕ) → IsLawfulState (view c) → HasLawfulEpochs c.shared → HasLawfulEpochs (after_set_pin c.shared q (c.rounds q).epoch)
 set_pin_paced c q law p = record {
   floors = λ i x e. either (λ z. z ≡ Some x → (x.word ≤ x.floor) × (x.floor ≤ c.epoch) × (x.version ≤ c.past.now)) (nat_eq i q) (Some new) (c.pins i)
       (λ b h. subst (λ z. (z.word ≤ z.floor) × (z.floor ≤ c.epoch) × (z.version ≤ c.past.now)) (same_pin h) ((p.loads q).0, le_refl c.epoch, le_refl c.past.now))
@@ -46,7 +46,7 @@ set_pin_paced c q law p = record {
     new : Pin
     new = record { word = (c.rounds q).epoch; version = c.past.now; floor = c.epoch }
 
-pub load_epoch_paced : (c : BareCore) (q : ℕ) → IsPaced c.shared → IsPaced (after_load_epoch c.shared q)
+pub load_epoch_paced : (c : BareCore) (q : ℕ) → HasLawfulEpochs c.shared → HasLawfulEpochs (after_load_epoch c.shared q)
 load_epoch_paced c q p = record {
   floors = p.floors;
   loads = λ i. either (λ (z : Round). (z.epoch ≤ c.epoch) × (z.version ≤ c.past.now) × (z.bound ≤ z.epoch)) (nat_eq i q) _ (c.rounds i)
@@ -65,7 +65,7 @@ lowered_less b (Some p) = omega arith
 lowered_pin : (b : ℕ) (o : Option Pin) (x : Pin) → o ≡ Some x → x.word ≤ x.floor → lowered b o ≤ x.floor
 lowered_pin b o x e h = rw e (omega arith)
 
-pub load_pin_paced : (c : BareCore) (q o : ℕ) → IsPaced c.shared → IsPaced (after_load_pin c.shared q o)
+pub load_pin_paced : (c : BareCore) (q o : ℕ) → HasLawfulEpochs c.shared → HasLawfulEpochs (after_load_pin c.shared q o)
 load_pin_paced c q o p = record {
   floors = p.floors;
   loads = λ i. either (λ (z : Round). (z.epoch ≤ c.epoch) × (z.version ≤ c.past.now) × (z.bound ≤ z.epoch)) (nat_eq i q) _ (c.rounds i)
@@ -85,7 +85,7 @@ load_pin_paced c q o p = record {
         go (inr b) = le_trans (lowered_less (c.rounds q).bound (c.pins o)) (p.bounds i q x e (rw b at h))
 
 -- Mark: the pass loaded the epoch after it had unlinked the record.
-pub mark_paced : (c : BareCore) (q : ℕ) (r : Rec) (f l : ℕ) → l < (c.rounds q).version → IsPaced c.shared → IsPaced (after_mark c.shared r f l (c.rounds q).epoch)
+pub mark_paced : (c : BareCore) (q : ℕ) (r : Rec) (f l : ℕ) → l < (c.rounds q).version → HasLawfulEpochs c.shared → HasLawfulEpochs (after_mark c.shared r f l (c.rounds q).epoch)
 mark_paced c q r f l late p = record {
   floors = p.floors;
   loads = p.loads;
@@ -110,7 +110,7 @@ next_marked now q linked (Marked a b p) f l s e = e
 next_marked now q false (Ready p) f l s e = absurd cc
 next_marked now q false (InTree p) f l s e = absurd cc
 
-pub publish_paced : (c : BareCore) (q : ℕ) (root : Option Entry) (t : Option Tree) (x : Change) → IsPaced c.shared → IsPaced (published_by c.shared q root t x)
+pub publish_paced : (c : BareCore) (q : ℕ) (root : Option Entry) (t : Option Tree) (x : Change) → HasLawfulEpochs c.shared → HasLawfulEpochs (published_by c.shared q root t x)
 publish_paced c q root t x p = record {
   floors = λ i y e. let z = p.floors i y e in (z.0, z.1, omega arith);
   loads = λ i. let z = p.loads i in (z.0, omega arith, z.2);
@@ -120,7 +120,7 @@ publish_paced c q root t x p = record {
 }
 
 -- A record that gets a fate other than a mark.
-pub fate_paced : (c : BareCore) (r : Rec) (f : Fate) → ((a b s : ℕ) → f ≡ Marked a b s → ⊥) → IsPaced c.shared → IsPaced (with_fate c.shared r f)
+pub fate_paced : (c : BareCore) (r : Rec) (f : Fate) → ((a b s : ℕ) → f ≡ Marked a b s → ⊥) → HasLawfulEpochs c.shared → HasLawfulEpochs (with_fate c.shared r f)
 fate_paced c r f n p = record {
   floors = p.floors;
   loads = p.loads;
@@ -131,13 +131,13 @@ fate_paced c r f n p = record {
 }
 
 -- The epochs don't turn on locks.
-pub lock_paced : (c : BareCore) (n : ℕ) (o : Option ℕ) → IsPaced c.shared → IsPaced (with_lock c.shared n o)
+pub lock_paced : (c : BareCore) (n : ℕ) (o : Option ℕ) → HasLawfulEpochs c.shared → HasLawfulEpochs (with_lock c.shared n o)
 lock_paced c n o p = record { floors = p.floors; loads = p.loads; after = p.after; marks = p.marks; bounds = p.bounds }
 
-pub anchor_paced : (c : BareCore) (o : Option ℕ) → IsPaced c.shared → IsPaced (with_anchor c.shared o)
+pub anchor_paced : (c : BareCore) (o : Option ℕ) → HasLawfulEpochs c.shared → HasLawfulEpochs (with_anchor c.shared o)
 anchor_paced c o p = record { floors = p.floors; loads = p.loads; after = p.after; marks = p.marks; bounds = p.bounds }
 
-pub advance_paced : (c : BareCore) → IsPaced c.shared → IsPaced (with_epoch c.shared (suc c.epoch))
+pub advance_paced : (c : BareCore) → HasLawfulEpochs c.shared → HasLawfulEpochs (with_epoch c.shared (suc c.epoch))
 advance_paced c p = record {
   floors = λ i x e. let z = p.floors i x e in (z.0, omega arith, z.2);
   loads = λ i. let z = p.loads i in (omega arith, z.1, z.2);
@@ -146,7 +146,7 @@ advance_paced c p = record {
   bounds = p.bounds;
 }
 
-pub clear_pin_paced : (c : BareCore) (q : ℕ) → IsPaced c.shared → IsPaced (with_pin c.shared q None)
+pub clear_pin_paced : (c : BareCore) (q : ℕ) → HasLawfulEpochs c.shared → HasLawfulEpochs (with_pin c.shared q None)
 clear_pin_paced c q p = record {
   floors = λ i x e. p.floors i x (old i x e);
   loads = p.loads;

@@ -3,7 +3,7 @@ use Rattle.std.proofs.Common.{◌≡◌, ◌⊎◌, inl, inr, ℕ, suc, ◌<◌,
 use Rattle.std.proofs.lemmas.Bool.{cond-true, cond-false, eq-eqb, ne_eqb, cases_lt}
 use Rattle.compound_node.specs.declared.entries.Entry.{Entry}
 use Rattle.tries.specs.Tree.{Tree, leaf, node, fork, IsTrie, IsBuilt, Within, here, inside, zero_side, one_side}
-use Rattle.versions.specs.Heap.{NodeWords, LeafWords, Heap, IsCopied, IsShown, IsNear}
+use Rattle.versions.specs.Heap.{NodeWords, LeafWords, Heap, IsCopied, IsShown, KeepsAllButOneEntry}
 use Rattle.versions.specs.State.{IsRecord, Links, Life, Out, Linked, Retired, Spans, last_of, State, Stands, IsSameRecord, IsTop, IsReach, IsLawfulState, IsLived, with_version, IsLinked}
 use Rattle.record_words.specs.declared.records.Rec.{Rec}
 use Rattle.record_words.specs.declared.records.Rec.TheVariants.{Node as a_node, Leaf as a_leaf}
@@ -34,7 +34,7 @@ published s heap root life t = record {
 pub record IsPublish (s : State) (heap : Heap) (root : Option Entry) (life : Rec → Life) (t : Option Tree) : Type 0 where
   pub top : IsTop heap root t
   pub tree : (u : Tree) → t ≡ Some u → IsTrie u × IsBuilt u
-  pub near : IsNear s.heap heap
+  pub near : KeepsAllButOneEntry s.heap heap
   pub kept : (n : ℕ) → IsLinked t (a_node n) ⊎ (s.heap.nodes n ≡ heap.nodes n)
   pub kept_leaves : (n : ℕ) → IsLinked t (a_leaf n) ⊎ (s.heap.leaves n ≡ heap.leaves n)
   pub lives : (r : Rec) → IsNext s.now (IsLinked t r) (s.life r) (life r)
@@ -102,7 +102,7 @@ next_last now L l m (goes x) h = inr (x, refl)
 next_last now L l m (gone x) h = inr (x, refl)
 
 -- One record in two heaps, the second of which differs by one entry a subtrie, and by values of leaves.
-pub same_step : (m o : Heap) → IsNear m o → (r : Rec) (u v : Tree) → IsRecord r u → IsRecord r v → IsBuilt u → IsTrie u → IsTrie v →
+pub same_step : (m o : Heap) → KeepsAllButOneEntry m o → (r : Rec) (u v : Tree) → IsRecord r u → IsRecord r v → IsBuilt u → IsTrie u → IsTrie v →
     IsShown m u → IsShown o v → IsSameRecord u v
 same_step m o near r (fork p a b) v x y c l k i j = elim x [ ]
 same_step m o near r (leaf n a b) (fork q e f) x y c l k i j = elim y [ ]

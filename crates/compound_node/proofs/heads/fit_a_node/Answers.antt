@@ -7,7 +7,7 @@ use Rattle.compound_node.proofs.heads.fit_a_node.Goals as goal
 use Rattle.compound_node.proofs.heads.fit_a_node.Goals.{Then-is_padded, then-are_columns, else-are_columns, then-used-ge2, else-used-ge2, then-used-le-MAX_ENTRIES, else-used-le-MAX_ENTRIES}
 
 -- what the tests say that came before
-passed : (c : Then-is_padded) → (2 ≤ c.args.count × c.args.count ≤ 32) × (IsColumns c.args.columns.now × c.args.sparse.now ≡ with_unused (take c.args.count c.args.sparse.now))
+passed : (c : Then-is_padded) → (2 ≤ c.args.count × c.args.count ≤ 32) × (IsColumns c.args.columns.now × c.args.padded_rows.now ≡ with_unused (take c.args.count c.args.padded_rows.now))
 passed c = elim c.if-are_columns.branch [
   | else-are_columns w ↦ absurd (false≢true (sym w.if-are_columns.false ∙ sym w.value-is ∙ c.if-is_padded.true))
   | then-are_columns w ↦ elim c.if-used-le-MAX_ENTRIES.branch [

@@ -1,4 +1,4 @@
-use Rattle.linearizability.proofs.Moments.{runs_are_events}
+use Rattle.linearizability.proofs.Configurations.{runs_are_events}
 use Rattle.linearizability.proofs.laws.runs_are_events.Goals as goal
 
 pub returns : goal.returns

@@ -1,4 +1,4 @@
-use Rattle.linearizability.proofs.Moments.Completing.{linearizable}
+use Rattle.linearizability.proofs.Configurations.Completing.{linearizable}
 use Rattle.linearizability.proofs.laws.runs_are_linearizable.Goals as goal
 
 pub returns : goal.returns

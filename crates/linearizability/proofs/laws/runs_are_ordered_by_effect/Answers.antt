@@ -1,4 +1,4 @@
-use Rattle.linearizability.proofs.Moments.Completing.{ordered_by_effect}
+use Rattle.linearizability.proofs.Configurations.Completing.{ordered_by_effect}
 use Rattle.linearizability.proofs.laws.runs_are_ordered_by_effect.Goals as goal
 
 pub returns : goal.returns

@@ -1,4 +1,4 @@
-use Rattle.linearizability.proofs.Moments.{runs_stay_sound}
+use Rattle.linearizability.proofs.Configurations.{runs_stay_sound}
 use Rattle.linearizability.proofs.laws.runs_stay_sound.Goals as goal
 
 pub returns : goal.returns

@@ -1,7 +1,7 @@
 -- The entries so far lead to leaves, whose records begin at the first starts. The slots go on behind them.
 use Rattle.std.proofs.Common.{◌≡◌, ℕ, ◌≤◌, length}
 use Rattle.rowex_reading.specs.Reads.{IsReader, Reads}
-use Rattle.rowex_scanning.specs.Ahead.{AreAhead, AreSlots, AreStartsOf, HasPlaces}
+use Rattle.rowex_scanning.specs.Ahead.{AreAhead, AreSlots, FirstLeavesBeginAt, HasPlaces}
 use Rattle.rowex_scanning.specs.declared.ahead.TheConstants.{MOST_AHEAD}
 use Rattle.rowex_scanning.proofs.ahead.load_entries_ahead.Given as goal
 
@@ -12,6 +12,6 @@ invariant-loop-index g l = record {
   long : length l.leaves ≡ MOST_AHEAD;
   wide : length l.starts ≡ MOST_AHEAD;
   slots : AreSlots l.scan.range.now.direction l.top.count l.top.slot l.index l.slots;
-  starts : AreStartsOf l.scan.table.now.layout l.index l.leaves l.starts;
+  starts : FirstLeavesBeginAt l.scan.table.now.layout l.index l.leaves l.starts;
   ahead : (m : ℕ) → HasPlaces l.scan.range.now.direction l.fn.seat.known m l.top → AreAhead l.scan.range.now.direction l.seat.known m l.top l.index l.leaves;
 }

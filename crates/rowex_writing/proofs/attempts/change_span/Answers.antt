@@ -5,7 +5,7 @@ use Rattle.rowex_writing.specs.store.Values.{HasDoneDeed}
 use Rattle.rowex_writing.specs.locks.Checks.{HasTakenPlan}
 use Rattle.rowex_writing.specs.plan.Counts.{held_loads}
 use Rattle.rowex_writing.specs.locks.Locks.{span_numbers}
-use Rattle.rowex_writing.specs.merging.Merging.{ChangesOn}
+use Rattle.rowex_writing.specs.merging.Merging.{HasChangeStepsAfterTries}
 use Rattle.rowex_writing.specs.plan.Plans.{TakesLeaf}
 use Rattle.rowex_writing.proofs.attempts.Attempts.{loads_spared, leaves_refused, nodes_refused}
 use Rattle.rowex_writing.proofs.build.Growths.{no_room}
@@ -45,7 +45,7 @@ returns-in-Take-clause-run g c =
     inr (
       some,
       t.below.last,
-      subst (λ room. ChangesOn c.args.table.now g.G.Gate.becomes (span_numbers c.args.job.now.way.now c.args.job.now.span) room (c.args.seat.now, c.args.gate.now) (c.make_removal.new.seat, c.make_removal.new.gate)) (sym (ap held_loads t.found))
+      subst (λ room. HasChangeStepsAfterTries c.args.table.now g.G.Gate.becomes (span_numbers c.args.job.now.way.now c.args.job.now.span) room (c.args.seat.now, c.args.gate.now) (c.make_removal.new.seat, c.make_removal.new.gate)) (sym (ap held_loads t.found))
           c.make_removal.ensures.run,
     )
 

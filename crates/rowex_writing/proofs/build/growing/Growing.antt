@@ -22,7 +22,7 @@ use Rattle.node_tries.proofs.Piece.{size_pos}
 use Rattle.node_tries.specs.Piece.{Place, Fork, size}
 use Rattle.record_words.specs.Leaf.{HasLeafWords}
 use Rattle.record_words.specs.declared.layout.Layout.{Layout}
-use Rattle.rowex_core.specs.Cores.{IsWhole}
+use Rattle.rowex_core.specs.Cores.{MustSpellValue}
 use Rattle.rowex_core.specs.Knowing.{IsPinnedSince}
 use Rattle.rowex_core.specs.Reading.{IsPacked, node_words_of}
 use Rattle.rowex_core.specs.Sharing.{IsLocked}
@@ -37,7 +37,7 @@ use Rattle.publish_laws.specs.Rises.{HasFoundBelow}
 use Rattle.publish_laws.specs.Stages.{IsLockedAbove, IsSure}
 use Rattle.publish_laws.proofs.Rises.{above_goes_on}
 use Rattle.publish_laws.proofs.Sure.{descent_begins, descent_ends, descent_finds, descent_goes_on, seen_is_sure}
-use Rattle.version_laws.specs.Scan.{EntryStoodSince, IsPlaced, IsShaped, IsRead}
+use Rattle.version_laws.specs.Scan.{EntryStoodSince, IsPlaced, HadShapeSince, IsRead}
 use Rattle.version_laws.specs.Ways.{IsOnWay, IsWayFrom}
 use Rattle.version_laws.proofs.Scan.Persist.{placed_grown, shaped_grown, read_grown}
 use Rattle.version_laws.proofs.Ways.{way_of_leaf}
@@ -279,7 +279,7 @@ module _ (layout : Layout) (k : Known) (m : ℕ) (key : Key) (number value p : �
   way_from (s ∷ way) nodes zero e is =
       let (next, named_is, node) = nodes 0 s refl in
       let led : IsSure k (λ z. EntryStoodSince z m (Node s.number s.height)) = seen_is_sure k (λ z. EntryStoodSince z m (Node s.number s.height)) (seen_on m (Node s.number s.height)) node.seen in
-      let shaped : IsSure k (λ z. IsShaped z m s.number node.forks) = seen_is_sure k (λ z. IsShaped z m s.number node.forks) (λ x y g. shaped_grown x y g m s.number node.forks) node.shaped in
+      let shaped : IsSure k (λ z. HadShapeSince z m s.number node.forks) = seen_is_sure k (λ z. HadShapeSince z m s.number node.forks) (λ x y g. shaped_grown x y g m s.number node.forks) node.shaped in
       let r : ℕ = first_position node.forks in
       let begun = descent_begins k m s.number s.height r node.forks since led shaped refl in
       let down = goes_down r s.number (s ∷ way) nodes (Node s.number s.height) refl begun in
@@ -301,7 +301,7 @@ module _ (layout : Layout) (k : Known) (m : ℕ) (key : Key) (way : List PathNod
   unfolding IsPacked
   forked n words h =
       let (lock, tree, same) = all_of (IsLocked k.pass possible.core) (record { node = n; words = words }) k.locks (knows_all possible.core k possible.knows).locks h in
-      let (view, has, spells) = possible.lawful.records.packed (a_node n) (subst IsWhole (sym tree.1) tt) in
+      let (view, has, spells) = possible.lawful.records.packed (a_node n) (subst MustSpellValue (sym tree.1) tt) in
       let shows = node_is view (possible.core.words (a_node n)) (possible.lawful.records.sized (a_node n)).1 has spells in
       let subtrie_is : (node_words_of words).subtrie ≡ piece view = ap (λ (z : NodeWords). z.subtrie) (ap node_words_of (sym same) ∙ shows) in
       forked_big (node_words_of words).subtrie (let e = ap size subtrie_is ∙ size-piece view has.lawful in let l = has.lawful.several in omega (arith, e))

@@ -4,7 +4,7 @@ use Rattle.std.proofs.Common.{sym, ◌∙◌, subst, arith}
 use Rattle.rowex_reading.proofs.Seen.{later_trans}
 use Rattle.rowex_writing.specs.build.Changes.{IsDeedChange}
 use Rattle.rowex_writing.specs.locks.Locks.{span_numbers}
-use Rattle.rowex_writing.specs.merging.Merging.{TriesMore}
+use Rattle.rowex_writing.specs.merging.Merging.{HasTriedUpToTwoMore}
 use Rattle.rowex_writing.specs.declared.plan.Deed.TheVariants.{Take}
 use Rattle.rowex_writing.proofs.build.Changes.{changed_since}
 use Rattle.rowex_writing.proofs.merging.Leaving.{claimed_same, left_on, left_wider}
@@ -53,7 +53,7 @@ returns-then-not-is_unchanged-clause-tries g c =
     let table = c.args.table.now in
     few_both table g.G.Gate.becomes (span_numbers c.args.job.now.way.now c.args.job.now.span) c.args.build.now.left_nodes (c.args.seat.now, c.args.gate.now) (c.args.seat.now, c.args.gate.now) (c.lock_for_merge.new.seat, c.lock_for_merge.new.gate) (c.release_merge_locks.new.seat, c.release_merge_locks.new.gate)
     (run_none table g.G.Gate.becomes (c.args.seat.now, c.args.gate.now))
-    (subst (λ both. TriesMore table g.G.Gate.becomes (span_numbers c.args.job.now.way.now c.args.job.now.span) both (c.args.seat.now, c.args.gate.now) (c.lock_for_merge.new.seat, c.lock_for_merge.new.gate)) c.if-not-lock_for_merge.false c.lock_for_merge.ensures.tries)
+    (subst (λ both. HasTriedUpToTwoMore table g.G.Gate.becomes (span_numbers c.args.job.now.way.now c.args.job.now.span) both (c.args.seat.now, c.args.gate.now) (c.lock_for_merge.new.seat, c.lock_for_merge.new.gate)) c.if-not-lock_for_merge.false c.lock_for_merge.ensures.tries)
     (runs_trans table g.G.Gate.becomes (c.lock_for_merge.new.seat, c.lock_for_merge.new.gate) (c.is_unchanged.new.seat, c.is_unchanged.new.gate) (c.release_merge_locks.new.seat, c.release_merge_locks.new.gate)
     (goes_run table g.G.Gate.becomes (c.lock_for_merge.new.seat, c.lock_for_merge.new.gate) (c.is_unchanged.new.seat, c.is_unchanged.new.gate) c.is_unchanged.ensures.reads.goes) c.release_merge_locks.ensures.run)
     (omega (arith, c.lock_for_merge.ensures.few, c.is_unchanged.ensures.few, held_few c.args.job.now.found, c.release_merge_locks.ensures.few))
@@ -106,7 +106,7 @@ returns-clause-tries g c =
     let table = c.args.table.now in
     few_both table g.G.Gate.becomes (span_numbers c.args.job.now.way.now c.args.job.now.span) c.args.build.now.left_nodes (c.args.seat.now, c.args.gate.now) (c.args.seat.now, c.args.gate.now) (c.lock_for_merge.new.seat, c.lock_for_merge.new.gate) (c.merge_under_locks.new.seat, c.merge_under_locks.new.gate)
     (run_none table g.G.Gate.becomes (c.args.seat.now, c.args.gate.now))
-    (subst (λ both. TriesMore table g.G.Gate.becomes (span_numbers c.args.job.now.way.now c.args.job.now.span) both (c.args.seat.now, c.args.gate.now) (c.lock_for_merge.new.seat, c.lock_for_merge.new.gate)) c.if-not-lock_for_merge.false c.lock_for_merge.ensures.tries)
+    (subst (λ both. HasTriedUpToTwoMore table g.G.Gate.becomes (span_numbers c.args.job.now.way.now c.args.job.now.span) both (c.args.seat.now, c.args.gate.now) (c.lock_for_merge.new.seat, c.lock_for_merge.new.gate)) c.if-not-lock_for_merge.false c.lock_for_merge.ensures.tries)
     (runs_trans table g.G.Gate.becomes (c.lock_for_merge.new.seat, c.lock_for_merge.new.gate) (c.is_unchanged.new.seat, c.is_unchanged.new.gate) (c.merge_under_locks.new.seat, c.merge_under_locks.new.gate)
     (goes_run table g.G.Gate.becomes (c.lock_for_merge.new.seat, c.lock_for_merge.new.gate) (c.is_unchanged.new.seat, c.is_unchanged.new.gate) c.is_unchanged.ensures.reads.goes) c.merge_under_locks.ensures.run)
     (omega (arith, c.lock_for_merge.ensures.few, c.is_unchanged.ensures.few, held_few c.args.job.now.found, c.merge_under_locks.ensures.few))

@@ -37,7 +37,7 @@ use Rattle.compound_node.specs.declared.entries.Entry.{Entry}
 use Rattle.rowex_reading.specs.Possible.{IsPossible}
 use Rattle.rowex_reading.specs.Ways.{IsWayOf, named}
 use Rattle.rowex_reading.specs.declared.descent.Found.{Found}
-use Rattle.rowex_writing.specs.merging.Merging.{ChangesOn, IsFar, IsTargetAbove, LocksAbove, TriesFew, TriesMore, by_anchor, by_node}
+use Rattle.rowex_writing.specs.merging.Merging.{HasChangeStepsAfterTries, IsFarFromSpan, IsTargetAbove, LocksAbove, HasFewStepsAfterTries, HasTriedUpToTwoMore, by_anchor, by_node}
 use Rattle.rowex_writing.specs.build.Taking.{IsTaking}
 use Rattle.rowex_writing.proofs.locks.Spans.{numbers_few}
 use Rattle.rowex_writing.proofs.locks.Shapes.{way_node_locked}
@@ -85,10 +85,10 @@ pub of_range : (way : List PathNode) (from upto n : ℕ) → IsOneOf n (numbers_
 of_range way from upto n there =
     let (i, s, at, low, is) = of_taken (drop from way) (upto - from) n there in (from + i, s, of_dropped way from i s at, omega arith, omega (arith, low), is)
 
-pub far_none : (way : List PathNode) (span : Span) (n : ℕ) → IsFar way span n → ¬ (IsOneOf n (span_numbers way span))
+pub far_none : (way : List PathNode) (span : Span) (n : ℕ) → IsFarFromSpan way span n → ¬ (IsOneOf n (span_numbers way span))
 far_none way span n far there = let (i, s, at, from, upto, is) = of_range way (span.end - 1) span.len n there in far s i at (omega (arith, from)) upto is
 
-pub above_none : (way : List PathNode) (span : Span) (n : ℕ) → AreApart (numbers_of way) → span.end ≤ span.len → span.len ≤ length way → IsFar way span n → (s : PathNode) → 0 < span.end - 1 → slice_get way (span.end - 1 - 1) ≡ Some s →
+pub above_none : (way : List PathNode) (span : Span) (n : ℕ) → AreApart (numbers_of way) → span.end ≤ span.len → span.len ≤ length way → IsFarFromSpan way span n → (s : PathNode) → 0 < span.end - 1 → slice_get way (span.end - 1 - 1) ≡ Some s →
     ¬ (IsOneOf s.number (n ∷ span_numbers way span))
 above_none way span n apart within upto far s low at (inl e) = far s (span.end - 1 - 1) at (omega (arith, low)) (omega (arith, low, within)) (sym e)
 above_none way span n apart within upto far s low at (inr there) =
@@ -101,11 +101,11 @@ above_none way span n apart within upto far s low at (inr there) =
 -- ---- locks that are tried
 module _ {G : Type 0} (table : TableView) (becomes : G → Event → G → Type 0) where
   -- none more
-  pub more_none : (nodes : List ℕ) (b c : SeatView × G) → HasTried table becomes [] b c → TriesMore table becomes nodes false b c
+  pub more_none : (nodes : List ℕ) (b c : SeatView × G) → HasTried table becomes [] b c → HasTriedUpToTwoMore table becomes nodes false b c
   more_none nodes b c run a h = (length nodes, nodes_once table becomes nodes a c (nodes_then table becomes nodes a b c h run), omega arith, omega arith, λ e. absurd (let z : false ≡ true = e in cc))
 
   -- that of a node
-  pub more_one : (nodes : List ℕ) (n : ℕ) (b m c : SeatView × G) → ¬ (IsOneOf n nodes) → HasTried table becomes (NodeTarget n ∷ []) b m → HasTried table becomes [] m c → TriesMore table becomes nodes false b c
+  pub more_one : (nodes : List ℕ) (n : ℕ) (b m c : SeatView × G) → ¬ (IsOneOf n nodes) → HasTried table becomes (NodeTarget n ∷ []) b m → HasTried table becomes [] m c → HasTriedUpToTwoMore table becomes nodes false b c
   more_one nodes n b m c new lock run a h =
       let one = nodes_more table becomes n nodes a b m new h lock in
       (length (n ∷ nodes), nodes_once table becomes (n ∷ nodes) a c (nodes_then table becomes (n ∷ nodes) a m c one run), omega arith, omega arith, λ e. absurd (let z : false ≡ true = e in cc))
@@ -113,7 +113,7 @@ module _ {G : Type 0} (table : TableView) (becomes : G → Event → G → Type 
   -- and that of what names it
   pub more_two : (nodes : List ℕ) (n : ℕ) (way : List PathNode) (end : ℕ) (both : Bool) (b m c d : SeatView × G) → ¬ (IsOneOf n nodes) → HasTried table becomes (NodeTarget n ∷ []) b m →
       (target : Target) → HasTried table becomes (target ∷ []) m c → IsTargetAbove way end target → ((s : PathNode) → 0 < end → slice_get way (end - 1) ≡ Some s → ¬ (IsOneOf s.number (n ∷ nodes))) →
-      HasTried table becomes [] c d → TriesMore table becomes nodes both b d
+      HasTried table becomes [] c d → HasTriedUpToTwoMore table becomes nodes both b d
   more_two nodes n way end both b m c d new lock Anchor above top others run a h =
       let one = nodes_more table becomes n nodes a b m new h lock in
       (suc (length (n ∷ nodes)), once_then table becomes a c d (anchor_more table becomes (n ∷ nodes) a m c one above) run, omega arith, omega arith, λ e. omega arith)
@@ -124,42 +124,42 @@ module _ {G : Type 0} (table : TableView) (becomes : G → Event → G → Type 
       (length (g ∷ n ∷ nodes), nodes_once table becomes (g ∷ n ∷ nodes) a d (nodes_then table becomes (g ∷ n ∷ nodes) a c d two run), omega arith, omega arith, λ e. omega arith)
 
   -- so for the sibling and what names the upper node
-  pub two_tried : (job : Job) (number : ℕ) (t : IsTaking table job) (both : Bool) (a m b c : SeatView × G) → IsFar job.way.now job.span number → HasTried table becomes (NodeTarget number ∷ []) a m →
-      (target : Target) × HasTried table becomes (target ∷ []) m b × IsTargetAbove job.way.now (job.span.end - 1) target → HasTried table becomes [] b c → TriesMore table becomes (span_numbers job.way.now job.span) both a c
+  pub two_tried : (job : Job) (number : ℕ) (t : IsTaking table job) (both : Bool) (a m b c : SeatView × G) → IsFarFromSpan job.way.now job.span number → HasTried table becomes (NodeTarget number ∷ []) a m →
+      (target : Target) × HasTried table becomes (target ∷ []) m b × IsTargetAbove job.way.now (job.span.end - 1) target → HasTried table becomes [] b c → HasTriedUpToTwoMore table becomes (span_numbers job.way.now job.span) both a c
   two_tried job number t both a m b c far lock (target, above, top) rest =
       let apart = way_apart table.layout t.before.known t.since job.key.now _ job.way.now t.below.taken.possible t.below.taken.way_of in
       more_two (span_numbers job.way.now job.span) number job.way.now (job.span.end - 1) both a m b c (far_none job.way.now job.span number far) lock target above top
       (above_none job.way.now job.span number apart t.below.taken.within.0 t.below.taken.within.1 far) rest
 
   -- few steps
-  pub few_none : (nodes : List ℕ) (left more : ℕ) (b c : SeatView × G) → HasTried table becomes [] b c → c.0.known.steps ≤ b.0.known.steps + more → TriesFew table becomes nodes left more b c
+  pub few_none : (nodes : List ℕ) (left more : ℕ) (b c : SeatView × G) → HasTried table becomes [] b c → c.0.known.steps ≤ b.0.known.steps + more → HasFewStepsAfterTries table becomes nodes left more b c
   few_none nodes left more b c run few a h = (length nodes, nodes_once table becomes nodes a c (nodes_then table becomes nodes a b c h run), omega arith, omega arith, omega (arith, few))
 
-  pub few_more : (nodes : List ℕ) (left more : ℕ) (both : Bool) (b m c : SeatView × G) → HasTried table becomes [] b m → TriesMore table becomes nodes both m c → c.0.known.steps ≤ b.0.known.steps + more → TriesFew table becomes nodes left more b c
+  pub few_more : (nodes : List ℕ) (left more : ℕ) (both : Bool) (b m c : SeatView × G) → HasTried table becomes [] b m → HasTriedUpToTwoMore table becomes nodes both m c → c.0.known.steps ≤ b.0.known.steps + more → HasFewStepsAfterTries table becomes nodes left more b c
   few_more nodes left more both b m c run tries few a h =
       let (locks, tried, least, most, all) = tries a (nodes_then table becomes nodes a b m h run) in (locks, tried, least, most, omega (arith, few))
 
-  pub few_both : (nodes : List ℕ) (left : ℕ) (b m c d : SeatView × G) → HasTried table becomes [] b m → TriesMore table becomes nodes true m c → HasTried table becomes [] c d → d.0.known.steps ≤ b.0.known.steps + 2 * left + 600 →
-      TriesFew table becomes nodes left 53 b d
+  pub few_both : (nodes : List ℕ) (left : ℕ) (b m c d : SeatView × G) → HasTried table becomes [] b m → HasTriedUpToTwoMore table becomes nodes true m c → HasTried table becomes [] c d → d.0.known.steps ≤ b.0.known.steps + 2 * left + 600 →
+      HasFewStepsAfterTries table becomes nodes left 53 b d
   few_both nodes left b m c d run tries rest few a h =
       let (locks, tried, least, most, all) = tries a (nodes_then table becomes nodes a b m h run) in
       let two = all refl in
       (locks, once_then table becomes a c d tried rest, least, most, omega (arith, few, two))
 
   -- and some before
-  pub few_before : (nodes : List ℕ) (left less more : ℕ) (b m c : SeatView × G) → HasTried table becomes [] b m → TriesFew table becomes nodes left less m c → m.0.known.steps + less ≤ b.0.known.steps + more →
-      TriesFew table becomes nodes left more b c
+  pub few_before : (nodes : List ℕ) (left less more : ℕ) (b m c : SeatView × G) → HasTried table becomes [] b m → HasFewStepsAfterTries table becomes nodes left less m c → m.0.known.steps + less ≤ b.0.known.steps + more →
+      HasFewStepsAfterTries table becomes nodes left more b c
   few_before nodes left less more b m c run tries before a h =
       let (locks, tried, least, most, few) = tries a (nodes_then table becomes nodes a b m h run) in (locks, tried, least, most, omega (arith, few, before))
 
   -- and then some more
-  pub few_then : (nodes : List ℕ) (left more : ℕ) (b c d : SeatView × G) → TriesFew table becomes nodes left 63 b c → HasTried table becomes [] c d → d.0.known.steps + 63 ≤ c.0.known.steps + more → TriesFew table becomes nodes left more b d
+  pub few_then : (nodes : List ℕ) (left more : ℕ) (b c d : SeatView × G) → HasFewStepsAfterTries table becomes nodes left 63 b c → HasTried table becomes [] c d → d.0.known.steps + 63 ≤ c.0.known.steps + more → HasFewStepsAfterTries table becomes nodes left more b d
   few_then nodes left more b c d tries rest few a h =
       let (locks, tried, least, most, spent) = tries a h in (locks, once_then table becomes a c d tried rest, least, most, omega (arith, few, spent))
 
   -- so for a removal, once what is left of the lower node is made
   pub removal_changes : (job : Job) (t : IsTaking table job) (left spent more : ℕ) (b m c : SeatView × G) → spent + more ≤ level_steps + 85 → HasTried table becomes [] b m → m.0.known.steps + 2 * left ≤ b.0.known.steps + 2 * table.layout.nodes + spent →
-      TriesFew table becomes (span_numbers job.way.now job.span) left more m c → ChangesOn table becomes (span_numbers job.way.now job.span) 1 b c
+      HasFewStepsAfterTries table becomes (span_numbers job.way.now job.span) left more m c → HasChangeStepsAfterTries table becomes (span_numbers job.way.now job.span) 1 b c
   removal_changes job t left spent more b m c upto run walk tries a h =
       let (locks, tried, least, most, few) = tries a (nodes_then table becomes (span_numbers job.way.now job.span) a b m h run) in
       let low = t.below.taken.within.0 in

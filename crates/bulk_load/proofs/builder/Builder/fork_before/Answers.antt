@@ -13,7 +13,7 @@ not_above k l same less = absurd (let e : Equal â‰¡ Less = sym (same_order l) âˆ
 
 pub returns-in_default-clause-fault : goal.returns-in_default-clause-fault
 returns-in_default-clause-fault c =
-    let some : 0 < vec_len c.args.self.now.parts = search rules in
+    let some : 0 < vec_len c.args.self.now.pieces = search rules in
     (refl, some, not_above c.args.self.now.last c.args.key.now (c.in_default.ensures.none.0 (search rules)))
 
 pub returns-then-bit-clause-parted : goal.returns-then-bit-clause-parted

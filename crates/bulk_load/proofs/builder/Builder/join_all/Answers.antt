@@ -16,4 +16,4 @@ joins-preserved c = record {
 }
 
 pub returns-clause-alone : goal.returns-clause-alone
-returns-clause-alone c = λ xs s. alone c.joins.self xs (c.joins.invariant.stack xs s) (omega (arith, c.joins.self.parts.ok.0, c.len.ensures, c.joins-test.false))
+returns-clause-alone c = λ xs s. alone c.joins.self xs (c.joins.invariant.stack xs s) (omega (arith, c.joins.self.pieces.ok.0, c.len.ensures, c.joins-test.false))

@@ -9,4 +9,4 @@ abbrev pub invariant-joins : goal.invariant-joins
 invariant-joins l = record { stack : (xs : List Item) → IsStackOf l.initial.self xs → IsStackOf l.self xs; layout : l.self.layout ≡ l.initial.self.layout }
 
 abbrev pub decreases-joins : goal.decreases-joins
-decreases-joins l = vec_len l.self.parts
+decreases-joins l = vec_len l.self.pieces

@@ -12,4 +12,4 @@ invariant-joins l = record {
 }
 
 abbrev pub decreases-joins : goal.decreases-joins
-decreases-joins l = vec_len l.self.parts
+decreases-joins l = vec_len l.self.pieces

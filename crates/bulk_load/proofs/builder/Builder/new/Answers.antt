@@ -10,6 +10,6 @@ returns c = (
   refl,
   (
     (refl, first_cursors c.args.layout _ (λ n low. first_free c.args.layout _ (search rules) (a_leaf n) low)),
-    inl (record { none = refl; table = holds_none c.args.layout _ (search rules); no_parts = c.new-2.ensures.items; no_slots = c.new.ensures.items; no_nodes = refl }),
+    inl (record { none = refl; table = holds_none c.args.layout _ (search rules); no_pieces = c.new-2.ensures.items; no_tips = c.new.ensures.items; no_nodes = refl }),
   ),
 )

@@ -1,4 +1,4 @@
--- The reach takes the section in.
+-- The extent takes the section in.
 use Rattle.std.proofs.Common.{rules}
 use Rattle.sections.proofs.Rule.Stepping.{counts}
 use Rattle.sections.proofs.table.Seats.{owns_counted}

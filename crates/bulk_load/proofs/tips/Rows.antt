@@ -19,33 +19,33 @@ use Rattle.partial_keys.specs.Columns.{IsColumns}
 use Rattle.partial_keys.specs.Rows.{rows_of}
 use Rattle.partial_keys.specs.Shows.{ShowsPiece}
 use Rattle.partial_keys.proofs.Rows.Joining.{all_of}
-use Rattle.bulk_load.specs.Slots.{AreSlotsOf, entries_in_slots, forks_between, next_row, rows_behind, slot, slots_of}
-use Rattle.bulk_load.specs.declared.slots.Slot.{Slot}
+use Rattle.bulk_load.specs.Tips.{AreTipsOf, entries_in_tips, forks_between, next_row, rows_behind, tip, tips_of}
+use Rattle.bulk_load.specs.declared.tips.Tip.{Tip}
 
 -- ---- the forks and the entries of a piece
 abbrev pub head_entry : Piece Entry → Entry
 head_entry (Place e) = e
 head_entry (Fork p a b) = head_entry a
 
-abbrev pub tail_slots : Piece Entry → List Slot
-tail_slots (Place e) = []
-tail_slots (Fork p a b) = tail_slots a ++ (slot p (head_entry b) ∷ tail_slots b)
+abbrev pub tail_tips : Piece Entry → List Tip
+tail_tips (Place e) = []
+tail_tips (Fork p a b) = tail_tips a ++ (tip p (head_entry b) ∷ tail_tips b)
 
-pub slots_split : (p : ℕ) (x : Piece Entry) → slots_of p x ≡ slot p (head_entry x) ∷ tail_slots x
-slots_split p (Place e) = refl
-slots_split p (Fork q a b) = rw (slots_split p a, slots_split q b) refl
+pub tips_split : (p : ℕ) (x : Piece Entry) → tips_of p x ≡ tip p (head_entry x) ∷ tail_tips x
+tips_split p (Place e) = refl
+tips_split p (Fork q a b) = rw (tips_split p a, tips_split q b) refl
 
 abbrev pub forks : Piece Entry → List ℕ
 forks (Place e) = []
 forks (Fork p a b) = forks a ++ p ∷ forks b
 
-pub all_forks : (p : ℕ) (x : Piece Entry) → map (λ (s : Slot). s.fork) (slots_of p x) ≡ p ∷ forks x
+pub all_forks : (p : ℕ) (x : Piece Entry) → map (λ (s : Tip). s.fork) (tips_of p x) ≡ p ∷ forks x
 all_forks p (Place e) = refl
-all_forks p (Fork q a b) = map-append (λ (s : Slot). s.fork) (slots_of p a) (slots_of q b) ∙ ap₂ (λ xs ys. xs ++ ys) (all_forks p a) (all_forks q b)
+all_forks p (Fork q a b) = map-append (λ (s : Tip). s.fork) (tips_of p a) (tips_of q b) ∙ ap₂ (λ xs ys. xs ++ ys) (all_forks p a) (all_forks q b)
 
-pub all_entries : (p : ℕ) (x : Piece Entry) → entries_in_slots (slots_of p x) ≡ places x
+pub all_entries : (p : ℕ) (x : Piece Entry) → entries_in_tips (tips_of p x) ≡ places x
 all_entries p (Place e) = refl
-all_entries p (Fork q a b) = map-append (λ (s : Slot). s.entry) (slots_of p a) (slots_of q b) ∙ ap₂ (λ xs ys. xs ++ ys) (all_entries p a) (all_entries q b)
+all_entries p (Fork q a b) = map-append (λ (s : Tip). s.entry) (tips_of p a) (tips_of q b) ∙ ap₂ (λ xs ys. xs ++ ys) (all_entries p a) (all_entries q b)
 
 pub has-append : (xs ys : List ℕ) (q : ℕ) → has (xs ++ ys) q ≡ (has xs q || has ys q)
 has-append [] ys q = refl
@@ -88,8 +88,8 @@ keeps row j k l m =
     let b : ℕ = 2 ^ (31 - k) in
     let up : 32 - k ≡ suc (31 - k) = omega arith in
     let double : 2 ^ (32 - k) ≡ b * 2 = ap (λ n. 2 ^ n) up ∙ pow-suc 2 (31 - k) in
-    let parts : 32 - j ≡ (32 - k) + (k - j) = omega arith in
-    let whole : 2 ^ (32 - j) ≡ 2 ^ (32 - k) * 2 ^ (k - j) = ap (λ n. 2 ^ n) parts ∙ pow-add 2 (32 - k) (k - j) in
+    let pieces : 32 - j ≡ (32 - k) + (k - j) = omega arith in
+    let whole : 2 ^ (32 - j) ≡ 2 ^ (32 - k) * 2 ^ (k - j) = ap (λ n. 2 ^ n) pieces ∙ pow-add 2 (32 - k) (k - j) in
     let split : (a * 2 + 1) * b ≡ a * 2 ^ (32 - k) + b = twice a b ∙ ap (λ n. a * n + b) (sym double) in
     let small : b < 2 ^ (32 - k) = omega (arith, double, pow_pos (31 - k)) in
     ap₂ (λ n d. n / d) split whole
@@ -238,16 +238,16 @@ module _ (cs : List ℕ) (few : length cs ≤ 31) (rise : Ascends 0 cs) where
   pub rows_are : (x : Piece Entry) → RisesFrom 0 x → UsesOnly cs x → rows_of cs x ≡ 0 ∷ rows_behind cs 0 (forks x)
   rows_are x r u = rows_in x (λ c. false) 0 (λ c l. refl) r u ∙ ap (λ n. n ∷ rows_behind cs n (forks x)) (code-falses 32 cs)
 
--- THE PARTS OF THE NODE show the piece of the slots
-module _ (cs : List ℕ) (slots : List Slot) (p : ℕ) (x : Piece Entry) (are : AreSlotsOf slots p x) (columns : IsColumns cs) (positions : (q : ℕ) → has cs q ≡ has (forks_between slots) q) where
-  forks_are : forks_between slots ≡ forks x
+-- THE PARTS OF THE NODE show the piece of the tips
+module _ (cs : List ℕ) (tips : List Tip) (p : ℕ) (x : Piece Entry) (are : AreTipsOf tips p x) (columns : IsColumns cs) (positions : (q : ℕ) → has cs q ≡ has (forks_between tips) q) where
+  forks_are : forks_between tips ≡ forks x
   forks_are = ap forks_between are.are ∙ ap (drop 1) (all_forks p x)
 
   used : (q : ℕ) → has cs q ≡ uses x q
   used q = positions q ∙ ap (λ ps. has ps q) forks_are ∙ has_forks x q
 
-  pub parts_show : ShowsPiece cs (0 ∷ rows_behind cs 0 (forks_between slots)) (entries_in_slots slots) x
-  parts_show =
+  pub pieces_show : ShowsPiece cs (0 ∷ rows_behind cs 0 (forks_between tips)) (entries_in_tips tips) x
+  pieces_show =
       let only : UsesOnly cs x = uses_only cs x (λ q u. used q ∙ u) in
       record {
         few = columns.few;
@@ -256,5 +256,5 @@ module _ (cs : List ℕ) (slots : List Slot) (p : ℕ) (x : Piece Entry) (are : 
         columns_used = all_of (uses x) cs (λ q h. sym (used q) ∙ h);
         paths_rise = are.rises;
         rows_are = ap (λ ps. 0 ∷ rows_behind cs 0 ps) forks_are ∙ sym (rows_are cs columns.few columns.rise x are.rises only);
-        entries_are = ap entries_in_slots are.are ∙ all_entries p x;
+        entries_are = ap entries_in_tips are.are ∙ all_entries p x;
       }

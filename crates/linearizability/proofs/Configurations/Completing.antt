@@ -20,27 +20,27 @@ use Rattle.finite_map.proofs.Calls.{legal_change, legal_longer}
 use Rattle.record_words.specs.declared.layout.Layout.{Layout}
 use Rattle.linearizability.specs.Effects.{completion_of, completions}
 use Rattle.linearizability.specs.Histories.{ChangesAsAsked, HasChangedOnce, IsAppended, AsksOneOrLooksUp, EndsWithin, PendingEndOrChangeAsAsked, replied}
-use Rattle.linearizability.specs.Moments.{Happening, IsSoundMoment, IsWholeRun, Moment, Pending}
+use Rattle.linearizability.specs.Configurations.{Happening, IsSoundConfiguration, IsWholeRun, Configuration, Pending}
 use Rattle.linearizability.specs.Statements.{IsLinearizable, Linearizable, OrderedByEffect}
 use Rattle.linearizability.proofs.laws.Asking.{refused_change_nothing, answered_calls_change_as_asked}
 use Rattle.linearizability.proofs.Histories.Calling.{LegalUpTo, calls_legal}
-use Rattle.linearizability.proofs.Moments.{grown, longer, runs_stay_sound}
+use Rattle.linearizability.proofs.Configurations.{grown, longer, runs_stay_sound}
 use Rattle.linearizability.proofs.Effects.{legal_on, makers_behind, makers_legal}
 use Rattle.linearizability.proofs.Histories.{AllComplete, Completes, in_one_order}
 
--- each call that is pending at the last moment has changed nothing, or the map as it asks
-abbrev ChangeAsAsked : Layout → ℕ → (ℕ → Moment) → Type 0
+-- each call that is pending at the last time has changed nothing, or the map as it asks
+abbrev ChangeAsAsked : Layout → ℕ → (ℕ → Configuration) → Type 0
 ChangeAsAsked layout last at =
     (q : ℕ) → q < layout.passes → (call : Pending) → (at last).pending q ≡ Some call → ChangesAsAsked q call.calls (at call.since).core.changes (at last).core.changes
 
 pub none_some : (call : Pending) (P : Type 0) → None ≡ Some call → P
 none_some call P e = cc
 
-module _ (layout : Layout) (last : ℕ) (at : ℕ → Moment) (happens : ℕ → Happening) (run : IsWholeRun layout last at happens) where
+module _ (layout : Layout) (last : ℕ) (at : ℕ → Configuration) (happens : ℕ → Happening) (run : IsWholeRun layout last at happens) where
   abbrev changes : List Change
   changes = (at last).core.changes
 
-  sound_at : (t : ℕ) → t ≤ last → IsSoundMoment layout (at t)
+  sound_at : (t : ℕ) → t ≤ last → IsSoundConfiguration layout (at t)
   sound_at = runs_stay_sound layout last at happens run
 
   change_legal : LegalFrom [] changes
@@ -149,7 +149,7 @@ module _ (layout : Layout) (last : ℕ) (at : ℕ → Moment) (happens : ℕ →
   effect q below None h = rests q below h
   effect q below (Some call) h = by_effect q below call h
 
-as_asked : (layout : Layout) (last : ℕ) (at : ℕ → Moment) (happens : ℕ → Happening) → IsWholeRun layout last at happens → ChangeAsAsked layout last at → IsLinearizable layout last at happens
+as_asked : (layout : Layout) (last : ℕ) (at : ℕ → Configuration) (happens : ℕ → Happening) → IsWholeRun layout last at happens → ChangeAsAsked layout last at → IsLinearizable layout last at happens
 as_asked layout last at happens run asked =
     let added : ℕ → List Note = λ q. (completion_of_each layout last at happens run asked q).0 in
     let all : AllComplete layout last at added = λ q low. (completion_of_each layout last at happens run asked q).1 low in
@@ -179,7 +179,7 @@ look_ups q (n ∷ notes) all =
     let (key, is) = All-head LooksUp n.call (map (λ n. n.call) notes) all in
     ap (λ o. cons_option o (changes_of q notes)) (no_change q n key is) ∙ look_ups q notes (All-tail LooksUp n.call (map (λ n. n.call) notes) all)
 
-module _ (layout : Layout) (last later : ℕ) (at : ℕ → Moment) (happens : ℕ → Happening) (low : last ≤ later) (run : IsWholeRun layout later at happens) where
+module _ (layout : Layout) (last later : ℕ) (at : ℕ → Configuration) (happens : ℕ → Happening) (low : last ≤ later) (run : IsWholeRun layout later at happens) where
   until : IsWholeRun layout last at happens
   until = record { new = run.new; next = λ t lower. run.next t (omega (arith, low, lower)) }
 

@@ -1,13 +1,13 @@
 -- The columns are the positions of the forks so far.
 use Rattle.std.proofs.Common.{ℕ, ◌≡◌, ◌<◌, length, take}
-use Rattle.bulk_load.specs.Slots.{forks_between}
+use Rattle.bulk_load.specs.Tips.{forks_between}
 use Rattle.node_tries.specs.Positions.{has}
 use Rattle.partial_keys.specs.Columns.{IsColumns}
-use Rattle.bulk_load.proofs.slots.collect_columns.Given as goal
+use Rattle.bulk_load.proofs.tips.collect_columns.Given as goal
 
 abbrev pub invariant-loop-i : goal.invariant-loop-i
 invariant-loop-i l = record {
   columns : IsColumns l.columns;
   few : length l.columns < l.i;
-  positions : (q : ℕ) → has l.columns q ≡ has (forks_between (take l.i l.slots)) q;
+  positions : (q : ℕ) → has l.columns q ≡ has (forks_between (take l.i l.tips)) q;
 }

@@ -1,4 +1,4 @@
--- From moment to moment all stays sound, changes only grow, and each load of the root shows all of them.
+-- From time to time all stays sound, changes only grow, and each load of the root shows all of them.
 pub mod Completing
 pub mod Taught
 use Rattle.std.proofs.Common.{◌≡◌, ◌≢◌, ◌⊎◌, inl, inr, ℕ, Option, Some, None, zero, suc, ◌<◌, ◌≤◌, List, [], ◌∷◌, ◌++◌, refl, sym, ap, subst, ◌∙◌, arith, ⊎_elim, append_assoc, length, length-append}
@@ -19,11 +19,11 @@ use Rattle.rowex_core.specs.Knowing.{Knows, learned}
 use Rattle.rowex_core.proofs.Knowing.Keeping.{keeps}
 use Rattle.rowex_core.proofs.Knowing.{learns}
 use Rattle.rowex_core.proofs.Cores.{stays_lawful}
-use Rattle.linearizability.specs.Moments.{Continues, Happening, IsCallTurn, IsMomentStep, IsShowing, IsSoundMoment, IsWholeRun, Moment, Pending, invokes, refuses, responds, shows, steps}
+use Rattle.linearizability.specs.Configurations.{Continues, Happening, IsCallTurn, IsConfigurationStep, IsShowing, IsSoundConfiguration, IsWholeRun, Configuration, Pending, invokes, refuses, responds, shows, steps}
 use Rattle.linearizability.specs.Statements.{RunsAreEvents, RunsStaySound}
 use Rattle.rowex_core.specs.declared.event.Event.{Event}
 use Rattle.rowex_core.specs.Runs.{EventsLead}
-use Rattle.linearizability.proofs.Moments.Taught.{teaches}
+use Rattle.linearizability.proofs.Configurations.Taught.{teaches}
 
 -- Fronts
 
@@ -60,8 +60,8 @@ knows_shown c k front h g m = record {
 
 -- A step
 
-module _ (layout : Layout) (a b : Moment) (s : IsSoundMoment layout a) where
-  module _ (q : ℕ) (act : Act) (notes : List Note) (x : IsMomentStep a b q act notes) where
+module _ (layout : Layout) (a b : Configuration) (s : IsSoundConfiguration layout a) where
+  module _ (q : ℕ) (act : Act) (notes : List Note) (x : IsConfigurationStep a b q act notes) where
     below : q < layout.passes
     below = subst (λ (z : Layout). q < z.passes) s.layout_is x.legal.0
 
@@ -84,7 +84,7 @@ module _ (layout : Layout) (a b : Moment) (s : IsSoundMoment layout a) where
     other_known o low ne = subst (λ z. Knows b.core z) (sym (x.others o ne)) (subst (λ z. Knows z (a.known o)) (sym x.core)
         (keeps a.core q act (Pass (a.known o)) s.lawful x.legal (λ e. ne (sym (s.named o low) ∙ e)) (s.knows o low)))
 
-    pub step_sound : IsSoundMoment layout b
+    pub step_sound : IsSoundConfiguration layout b
     step_sound = record {
       layout_is = ap (λ (z : Core). z.layout) x.core ∙ s.layout_is;
       lawful = subst IsLawful (sym x.core) (stays_lawful a.core q act s.lawful x.legal);
@@ -101,7 +101,7 @@ module _ (layout : Layout) (a b : Moment) (s : IsSoundMoment layout a) where
     shown_known low = subst (λ z. Knows b.core z) (sym x.own)
         (subst (λ z. Knows z (record (a.known q) { front = front })) (sym x.core) (knows_shown a.core (a.known q) front (s.knows q low) x.more x.made))
 
-    pub shown_sound : IsSoundMoment layout b
+    pub shown_sound : IsSoundConfiguration layout b
     shown_sound = record {
       layout_is = ap (λ (z : Core). z.layout) x.core ∙ s.layout_is;
       lawful = subst IsLawful (sym x.core) s.lawful;
@@ -112,7 +112,7 @@ module _ (layout : Layout) (a b : Moment) (s : IsSoundMoment layout a) where
     }
 
   module _ (q : ℕ) (call : Option Pending) (x : IsCallTurn layout a b q call) where
-    pub turn_sound : IsSoundMoment layout b
+    pub turn_sound : IsSoundConfiguration layout b
     turn_sound = record {
       layout_is = ap (λ (z : Core). z.layout) x.core ∙ s.layout_is;
       lawful = subst IsLawful (sym x.core) s.lawful;
@@ -123,8 +123,8 @@ module _ (layout : Layout) (a b : Moment) (s : IsSoundMoment layout a) where
     pub turn_grows : BeginsWith b.core.changes a.core.changes
     turn_grows = subst (λ (z : Core). BeginsWith z.changes a.core.changes) (sym x.core) (begins_itself a.core.changes)
 
-module _ (layout : Layout) (at : ℕ → Moment) (t : ℕ) (s : IsSoundMoment layout (at t)) where
-  pub next_sound : (h : Happening) → Continues layout at t h → IsSoundMoment layout (at (suc t))
+module _ (layout : Layout) (at : ℕ → Configuration) (t : ℕ) (s : IsSoundConfiguration layout (at t)) where
+  pub next_sound : (h : Happening) → Continues layout at t h → IsSoundConfiguration layout (at (suc t))
   next_sound (steps q act notes) x = step_sound layout (at t) (at (suc t)) s q act notes x
   next_sound (shows q front) x = shown_sound layout (at t) (at (suc t)) s q front x
   next_sound (invokes q calls) x = turn_sound layout (at t) (at (suc t)) s q (Some (record { since = t; calls = calls })) x.1
@@ -138,8 +138,8 @@ module _ (layout : Layout) (at : ℕ → Moment) (t : ℕ) (s : IsSoundMoment la
   next_grows (responds q notes) x = turn_grows layout (at t) (at (suc t)) s q None x.2
   next_grows (refuses q) x = turn_grows layout (at t) (at (suc t)) s q None x.2
 
--- what a moment teaches a pass of the root: nothing, or all changes
-pub next_teaches : (layout : Layout) (at : ℕ → Moment) (t : ℕ) (h : Happening) → Continues layout at t h → (o : ℕ) →
+-- what a time teaches a pass of the root: nothing, or all changes
+pub next_teaches : (layout : Layout) (at : ℕ → Configuration) (t : ℕ) (h : Happening) → Continues layout at t h → (o : ℕ) →
     (((at (suc t)).known o).fresh ≡ ((at t).known o).fresh) ⊎ (((at (suc t)).known o).fresh.front ≡ (at t).core.changes)
 next_teaches layout at t (steps q act notes) x o = ⊎_elim
     (λ e. subst (λ z. (((at (suc t)).known z).fresh ≡ ((at t).known z).fresh) ⊎ (((at (suc t)).known z).fresh.front ≡ (at t).core.changes)) (sym e)
@@ -158,12 +158,12 @@ pub runs_stay_sound : RunsStaySound
 runs_stay_sound layout last at happens run zero low = run.new.sound
 runs_stay_sound layout last at happens run (suc t) low = next_sound layout at t (runs_stay_sound layout last at happens run t (omega arith)) (happens t) (run.next t (omega arith))
 
--- what holds at a moment, and is kept, holds at each later one
+-- what holds at a time, and is kept, holds at each later one
 from_moment : (last : ℕ) (P : ℕ → Type 0) (s : ℕ) → P s → ((t : ℕ) → s ≤ t → t < last → P t → P (suc t)) → (t : ℕ) → s ≤ t → t ≤ last → P t
 from_moment last P s h next zero low high = subst P (let e : s ≡ zero = omega arith in e) h
 from_moment last P s h next (suc t) low high = ⊎_elim (λ e. subst P e h) (λ ne. next t (omega arith) (omega arith) (from_moment last P s h next t (omega arith) (omega arith))) (cases_eq s (suc t))
 
-module _ (layout : Layout) (last : ℕ) (at : ℕ → Moment) (happens : ℕ → Happening) (run : IsWholeRun layout last at happens) (s : ℕ) where
+module _ (layout : Layout) (last : ℕ) (at : ℕ → Configuration) (happens : ℕ → Happening) (run : IsWholeRun layout last at happens) (s : ℕ) where
   -- changes stay made
   pub grown : (t : ℕ) → s ≤ t → t ≤ last → BeginsWith (at t).core.changes (at s).core.changes
   grown = from_moment last (λ t. BeginsWith (at t).core.changes (at s).core.changes) s (begins_itself (at s).core.changes)
@@ -192,7 +192,7 @@ one_more : (c : Core) (xs : List Event) (d : Core) (q : ℕ) (act : Act) (e : Co
 one_more c [] d q act e h l is = (subst (λ z. Legal z q act) h l, is ∙ ap (λ z. after z q act) h)
 one_more c (x ∷ xs) d q act e h l is = (h.0, one_more (after c x.pass x.act) xs d q act e h.1 l is)
 
-events_next : (layout : Layout) (c : Core) (at : ℕ → Moment) (t : ℕ) (h : Happening) → Continues layout at t h → (events : List Event) × EventsLead c events (at t).core →
+events_next : (layout : Layout) (c : Core) (at : ℕ → Configuration) (t : ℕ) (h : Happening) → Continues layout at t h → (events : List Event) × EventsLead c events (at t).core →
     (events : List Event) × EventsLead c events (at (suc t)).core
 events_next layout c at t (steps q act notes) x (events, h) = (events ++ record { pass = q; act = act } ∷ [], one_more c events (at t).core q act (at (suc t)).core h x.legal x.core)
 events_next layout c at t (shows q front) x (events, h) = (events, subst (EventsLead c events) (sym x.core) h)

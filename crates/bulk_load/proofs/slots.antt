@@ -1,3 +1,0 @@
--- Lemmas about `src/slots.rt`.
-pub mod Slots
-pub mod Rows

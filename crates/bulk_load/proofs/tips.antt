@@ -1,0 +1,3 @@
+-- Lemmas about `src/tips.rt`.
+pub mod Tips
+pub mod Rows

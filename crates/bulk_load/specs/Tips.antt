@@ -1,0 +1,43 @@
+-- Entries with the forks between them.
+use Rattle.std.specs.Prelude.{ℕ, ◌≡◌, ◌<◌, ◌+◌, ◌-◌, ◌*◌, ◌/◌, ◌^◌, List, [], ◌∷◌, ◌++◌, drop, map}
+use Rattle.compound_node.specs.Nodes.{IsEntry}
+use Rattle.compound_node.specs.declared.entries.Entry.{Entry}
+use Rattle.node_tries.specs.Piece.{Piece, Place, Fork, RisesFrom}
+use Rattle.node_tries.specs.Positions.{front_below}
+use Rattle.bulk_load.specs.declared.tips.Tip.{Tip}
+
+-- a tip of this fork and this entry
+abbrev pub tip : ℕ → Entry → Tip
+tip p entry = record { fork = p; entry = entry }
+
+-- The entries of a piece as tips, each with the position of the fork before it. The first has the position of the fork before the piece.
+abbrev pub tips_of : ℕ → Piece Entry → List Tip
+tips_of p (Place entry) = tip p entry ∷ []
+tips_of p (Fork position left right) = tips_of p left ++ tips_of position right
+
+-- an entry that a node may have, behind a fork at a position
+abbrev pub MayBeTip : Tip → Type 0
+MayBeTip s = IsEntry s.entry × (s.fork < 65535)
+
+-- the tips are those of this piece, whose positions rise along each path
+pub record AreTipsOf (tips : List Tip) (p : ℕ) (piece : Piece Entry) : Type 0 where
+  pub are : tips ≡ tips_of p piece
+  pub rises : RisesFrom 0 piece
+
+-- the entries of tips, in order
+abbrev pub entries_in_tips : List Tip → List Entry
+entries_in_tips tips = map (λ s. s.entry) tips
+
+-- the positions of the forks between the tips
+abbrev pub forks_between : List Tip → List ℕ
+forks_between tips = drop 1 (map (λ s. s.fork) tips)
+
+-- The row of the entry behind a fork, from the row of the entry before. It has the same bits in the columns before the fork's, a 1 in the
+-- fork's, and 0 behind.
+abbrev pub next_row : List ℕ → ℕ → ℕ → ℕ
+next_row columns row p = let j = front_below p columns in (row / 2 ^ (32 - j) * 2 + 1) * 2 ^ (31 - j)
+
+-- the rows of the entries behind the forks, one after another
+abbrev pub rows_behind : List ℕ → ℕ → List ℕ → List ℕ
+rows_behind columns row [] = []
+rows_behind columns row (p ∷ ps) = next_row columns row p ∷ rows_behind columns (next_row columns row p) ps
