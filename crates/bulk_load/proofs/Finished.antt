@@ -1,50 +1,15 @@
 -- The words of a finished load show its tree from the root.
-use Rattle.std.proofs.Common.{◌≡◌, ◌⊎◌, inl, inr, ℕ, zero, suc, ◌+◌, ◌*◌, ◌^◌, ◌<◌, ◌≤◌, Bool, nat_lt, if◌then◌else◌, List, [], Option, Some, None, get_or, length, refl, ap, sym, subst, ◌∙◌, arith}
-use Rattle.std.specs.Prelude.{All}
-use Rattle.std.proofs.Math.ListN.{set}
-use Rattle.std.proofs.lemmas.Bool.{cases_lt, le-ltb, lt-ltb}
-use Rattle.std.proofs.lemmas.List.{get_or-set_same, get_or-set_other, length-set}
-use Rattle.std.proofs.lemmas.Option.{none-some}
-use Rattle.std.proofs.lemmas.List.Elements.{All-from_get_or}
-use Rattle.tries.proofs.Content.{trie_if_local}
-use Rattle.tries.proofs.Read.{some_injective}
+use Rattle.bulk_load.proofs.Common.{◌≡◌, ◌⊎◌, inl, inr, ℕ, zero, suc, ◌+◌, ◌*◌, ◌^◌, ◌<◌, ◌≤◌, Bool, nat_lt, if◌then◌else◌, List, [], Option, Some, None, get_or, length, refl, ap, sym, subst, ◌∙◌, arith, All, set, cases_lt, le-ltb, lt-ltb, get_or-set_same, get_or-set_other, length-set, none-some, All-from_get_or, trie_if_local, some_injective, Entry, Leaf, Node, MAX_BYTES, Place, size, size_pos, EPOCH_WORD, ROOT_WORD, ANCHOR_WORD, FIRST_PIN, LINE_WORDS, Layout, Epoch, Root, Anchor, PinOf, NodeWord, LeafWord, HasEntryWord, entry_word, node_start, leaf_start, leaf_size, address, IsInTable, state_word, size_fits, Item, items, IsLocal, Tree, leaf, node, fork, subtrie, IsTrie, IsBuilt, lower_positive, Rec, a_node, a_leaf, Heap, IsShown, IsLinked, IsTop, items_of, linked_cases, Core, heap_of, fields_in, HasRecord, FitsIn, IsLoad, after, loaded_root, loaded_tree, tree_of, opening, IsPacked, node_words_of, leaf_of, word_at, tag_of, entry_of_word}
 use Rattle.bulk_load.specs.declared.builder.Builder.{Builder}
 use Rattle.bulk_load.specs.declared.tips.Tip.{Tip}
 use Rattle.bulk_load.specs.Loading.{IsOnePiece, IsPiece, IsTreeOf, StandsFor}
 use Rattle.bulk_load.specs.Stacks.{LeftPiece, whole_of, with_right}
 use Rattle.bulk_load.proofs.Stacks.{length_tips}
 use Rattle.bulk_load.specs.Tips.{tip, tips_of}
-use Rattle.compound_node.specs.declared.entries.Entry.{Entry}
-use Rattle.compound_node.specs.declared.entries.Entry.TheVariants.{Leaf, Node}
-use Rattle.key_bits.specs.declared.TheConstants.{MAX_BYTES}
-use Rattle.node_tries.specs.Piece.{Place, size}
-use Rattle.node_tries.proofs.Piece.{size_pos}
-use Rattle.record_words.specs.declared.TheConstants.{EPOCH_WORD, ROOT_WORD, ANCHOR_WORD, FIRST_PIN, LINE_WORDS}
-use Rattle.record_words.specs.declared.layout.Layout.{Layout}
 use Rattle.record_words.specs.declared.layout.Location.{Location}
-use Rattle.record_words.specs.declared.layout.Location.TheVariants.{Epoch, Root, Anchor, Pin as PinOf, NodeWord, LeafWord}
-use Rattle.record_words.specs.Entry.{HasEntryWord, entry_word}
-use Rattle.record_words.specs.Layout.{node_start, leaf_start, leaf_size, address, IsInTable}
-use Rattle.record_words.specs.State.{state_word}
-use Rattle.record_words.proofs.Locations.{size_fits}
-use Rattle.tries.specs.Content.{Item, items, IsLocal}
-use Rattle.tries.specs.Tree.{Tree, leaf, node, fork, subtrie, IsTrie, IsBuilt}
-use Rattle.tries.proofs.Tree.Fitting.{lower_positive}
-use Rattle.record_words.specs.declared.records.Rec.{Rec}
-use Rattle.record_words.specs.declared.records.Rec.TheVariants.{Node as a_node, Leaf as a_leaf}
 use Rattle.versions.specs.Core.{Free, InTree}
-use Rattle.versions.specs.Heap.{Heap, IsShown}
-use Rattle.versions.specs.State.{IsLinked, IsTop}
 use Rattle.versions.specs.Steps.{is_linked}
-use Rattle.versions.specs.Told.{items_of}
-use Rattle.versions.proofs.Core.{linked_cases}
-use Rattle.rowex_core.specs.Cores.{Core, heap_of, fields_in, HasRecord, FitsIn}
-use Rattle.rowex_core.specs.Events.{IsLoad, after, loaded_root, loaded_tree, tree_of}
-use Rattle.rowex_core.specs.Opening.{opening}
 use Rattle.record_words.specs.Decoding.{entry_of}
-use Rattle.rowex_core.specs.Reading.{IsPacked, node_words_of, leaf_of}
-use Rattle.rowex_core.specs.Words.{word_at, tag_of}
-use Rattle.rowex_core.proofs.Reading.{entry_of_word}
 use Rattle.rowex_core.proofs.Cores.Valuing.{tree_read}
 use Rattle.bulk_load.specs.Finished.{IsFinished}
 use Rattle.bulk_load.specs.Tables.{HoldsTree, state_in}

@@ -1,4 +1,5 @@
 -- Lemmas of the crate.
+mod Common
 mod Stacks
 mod Views
 mod Tables

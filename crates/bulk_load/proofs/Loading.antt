@@ -1,21 +1,12 @@
 -- The next leaf: that it may be taken, and what stays.
-use Rattle.std.proofs.Common.{◌≡◌, ◌≢◌, inl, inr, ℕ, ◌<◌, List, get_or, length, refl, ap, ap₂, sym, subst, ◌∙◌, arith}
-use Rattle.std.specs.Vec.{vec_len}
-use Rattle.record_words.specs.declared.layout.Layout.{Layout}
-use Rattle.tries.specs.Content.{Item}
-use Rattle.tries.specs.Keys.{Key, IsParted}
-use Rattle.tries.specs.Tree.{Tree}
-use Rattle.record_words.specs.declared.records.Rec.TheVariants.{Leaf as a_leaf}
+use Rattle.bulk_load.proofs.Common.{◌≡◌, ◌≢◌, inl, inr, ℕ, ◌<◌, List, get_or, length, refl, ap, ap₂, sym, subst, ◌∙◌, arith, vec_len, Layout, Item, Key, IsParted, Tree, a_leaf, Less, key_order, some_items}
 use Rattle.bulk_load.specs.declared.builder.Builder.{Builder}
 use Rattle.bulk_load.specs.Loading.{CanJoin, CanPart, EndsInLeaf, HasCursors, HasSameFields, HasTakenNone, IsLoading, IsNextLeaf, IsStackOf, IsTreeOf, KeepsLeaves, KeepsNodes, MayTakeNext, items_in}
 use Rattle.bulk_load.specs.Stacks.{whole_of}
 use Rattle.bulk_load.specs.Tables.{AreCursors, IsCursorOf, IsRootless, leaf_class, state_in}
 use Rattle.bulk_load.proofs.Stacks.Joining.{pieces_long}
 use Rattle.bulk_load.proofs.Views.{above_last, items_are}
-use Rattle.std.specs.declared.cmp.Ordering.TheVariants.{Less}
-use Rattle.finite_map.specs.Maps.{key_order}
 use Rattle.bulk_load.specs.Views.{IsAboveLast, LoadView}
-use Rattle.versions.proofs.Loads.{some_items}
 
 -- ---- what stays while pieces are joined
 pub leaves_stay : (l : Builder) → KeepsLeaves l l

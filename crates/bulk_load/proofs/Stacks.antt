@@ -1,16 +1,7 @@
 -- The whole tree of a stack: what stays where its last piece becomes another tree.
 pub mod Closing
 pub mod Joining
-use Rattle.std.proofs.Common.{◌≡◌, ◌⊎◌, inl, inr, ℕ, List, [], ◌∷◌, ◌++◌, length, refl, sym, subst, ◌∙◌}
-use Rattle.std.proofs.lemmas.List.{append_assoc, length-append}
-use Rattle.node_tries.specs.Piece.{Piece, Place, Fork, size}
-use Rattle.compound_node.specs.declared.entries.Entry.{Entry}
-use Rattle.tries.specs.Keys.{IsParted}
-use Rattle.tries.specs.Content.{Item, items, first, IsAbove, IsLocal}
-use Rattle.tries.specs.Tree.{Tree, fork, subtrie, IsBuilt}
-use Rattle.versions.specs.Heap.{Heap, IsShown}
-use Rattle.versions.specs.State.{Links}
-use Rattle.record_words.specs.declared.records.Rec.{Rec}
+use Rattle.bulk_load.proofs.Common.{◌≡◌, ◌⊎◌, inl, inr, ℕ, List, [], ◌∷◌, ◌++◌, length, refl, sym, subst, ◌∙◌, append_assoc, length-append, Piece, Place, Fork, size, Entry, IsParted, Item, items, first, IsAbove, IsLocal, Tree, fork, subtrie, IsBuilt, Heap, IsShown, Links, Rec}
 use Rattle.bulk_load.specs.Tips.{tips_of}
 use Rattle.bulk_load.specs.Stacks.{LeftPiece, whole_of, position_of, front_tips}
 use Rattle.bulk_load.specs.Loading.{greatest_key}

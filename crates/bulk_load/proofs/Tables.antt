@@ -1,16 +1,6 @@
 -- The cursors of the classes of leaf records.
 pub mod Putting
-use Rattle.std.proofs.Common.{◌≡◌, ◌≢◌, inl, inr, ℕ, zero, suc, ◌+◌, ◌<◌, ◌≤◌, Bool, true, false, nat_lt, List, [], ◌∷◌, get_or, if◌then◌else◌, length, refl, ap, sym, subst, ◌∙◌, arith}
-use Rattle.std.proofs.Math.ListN.{set}
-use Rattle.std.proofs.lemmas.Bool.{cases_order, ltb-true, ltb-false, lt-ltb, le-ltb}
-use Rattle.std.proofs.lemmas.List.{get_or-set_same, get_or-set_other}
-use Rattle.record_words.specs.declared.layout.Layout.{Layout}
-use Rattle.record_words.specs.declared.state.Tag.TheVariants.{Free}
-use Rattle.record_words.specs.declared.TheConstants.{SHORT_WORDS, MEDIUM_WORDS, LARGE_WORDS, WIDE_WORDS, LEAF_WORDS}
-use Rattle.record_words.specs.Layout.{leaf_size}
-use Rattle.record_words.specs.State.{state_word}
-use Rattle.record_words.specs.declared.records.Rec.TheVariants.{Leaf as a_leaf}
-use Rattle.versions.proofs.Heap.{leaf_number}
+use Rattle.bulk_load.proofs.Common.{◌≡◌, ◌≢◌, inl, inr, ℕ, zero, suc, ◌+◌, ◌<◌, ◌≤◌, Bool, true, false, nat_lt, List, [], ◌∷◌, get_or, if◌then◌else◌, length, refl, ap, sym, subst, ◌∙◌, arith, set, cases_order, ltb-true, ltb-false, lt-ltb, le-ltb, get_or-set_same, get_or-set_other, Layout, Free, SHORT_WORDS, MEDIUM_WORDS, LARGE_WORDS, WIDE_WORDS, LEAF_WORDS, leaf_size, state_word, a_leaf, leaf_number}
 use Rattle.bulk_load.specs.Tables.{AreCursors, IsCursorOf, IsPut, leaf_class, state_in}
 use Rattle.bulk_load.proofs.Tables.Putting.{state_stays}
 

@@ -1,26 +1,6 @@
 -- The leaves that the tips show are those of the tree.
-use Rattle.std.proofs.Common.{◌≡◌, ◌≢◌, ◌⊎◌, inl, inr, ℕ, ◌<◌, List, [], ◌∷◌, ◌++◌, Some, length, refl, ap, sym, subst, ◌∙◌, arith}
-use Rattle.std.proofs.lemmas.List.{append-nil, append_assoc}
-use Rattle.std.specs.declared.cmp.Ordering.TheVariants.{Less}
-use Rattle.compound_node.specs.declared.entries.Entry.{Entry}
-use Rattle.compound_node.specs.declared.entries.Entry.TheVariants.{Leaf, Node}
-use Rattle.finite_map.specs.Maps.{key_order}
-use Rattle.node_tries.specs.Piece.{Place}
-use Rattle.record_words.specs.declared.state.Tag.TheVariants.{Free}
-use Rattle.record_words.specs.State.{state_word}
-use Rattle.tries.specs.Content.{Item, items}
-use Rattle.tries.specs.Keys.{Key}
-use Rattle.tries.specs.Tree.{Tree, leaf, node, fork, subtrie, IsBuilt}
-use Rattle.record_words.specs.declared.records.Rec.TheVariants.{Leaf as a_leaf}
-use Rattle.versions.specs.Heap.{Heap, IsShown}
-use Rattle.versions.specs.State.{Links}
-use Rattle.versions.specs.Told.{items_of}
-use Rattle.versions.proofs.Heap.{leaf_number, leaf_node}
-use Rattle.versions.proofs.Core.{linked_cases}
+use Rattle.bulk_load.proofs.Common.{◌≡◌, ◌≢◌, ◌⊎◌, inl, inr, ℕ, ◌<◌, List, [], ◌∷◌, ◌++◌, Some, length, refl, ap, sym, subst, ◌∙◌, arith, append-nil, append_assoc, Less, Entry, Leaf, Node, key_order, Place, Free, state_word, Item, items, Key, Tree, leaf, node, fork, subtrie, IsBuilt, a_leaf, Heap, IsShown, Links, items_of, leaf_number, leaf_node, linked_cases, some_items, heap_of, fields_in, tree_of}
 use Rattle.versions.proofs.Read.{read_exact}
-use Rattle.versions.proofs.Loads.{some_items}
-use Rattle.rowex_core.specs.Cores.{heap_of, fields_in}
-use Rattle.rowex_core.specs.Events.{tree_of}
 use Rattle.bulk_load.specs.declared.builder.Builder.{Builder}
 use Rattle.bulk_load.specs.declared.tips.Tip.{Tip}
 use Rattle.bulk_load.specs.Loading.{EndsInLeaf, HasTakenNone, IsLoading, greatest_key, items_in, items_under}

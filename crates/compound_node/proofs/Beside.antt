@@ -1,26 +1,15 @@
 -- The fork between two neighbouring rows, read from the lowest 1 of the second one.
-use Rattle.std.proofs.Common.{List, [], ap, arith, cond, eqb, false, get_or, length, map, refl, subst, suc, sym, true, zero, ℕ, ⊎_elim, None, ◌++◌, ◌+◌, ◌-◌, ◌/◌, ◌%◌, ◌<◌, ◌^◌, ◌⊎◌, inl, inr, ◌∙◌, ◌∷◌, ◌≡◌, ◌≤◌, ◌||◌}
-use Rattle.std.specs.Prelude.{IfSome, nat_eq, nat_lt, slice_index_or}
-use Rattle.std.proofs.Math.Nat.{mod-eq_of_lt, pow-suc}
+use Rattle.compound_node.proofs.Common.{List, [], ap, arith, cond, eqb, false, get_or, length, map, refl, subst, suc, sym, true, zero, ℕ, ⊎_elim, None, ◌++◌, ◌+◌, ◌-◌, ◌/◌, ◌%◌, ◌<◌, ◌^◌, ◌⊎◌, inl, inr, ◌∙◌, ◌∷◌, ◌≡◌, ◌≤◌, ◌||◌, IfSome, nat_eq, slice_index_or, mod-eq_of_lt, pow-suc, get_or_past, cases_Bool, cases_eq, cases_lt, eqb-true, false≢true, le-ltb, lt-ltb, ltb-true, or_cases, found, row, length-places, size_pos, has_after, has-at, beside_by, beside_seams, seam, seam_above, seam_between, seam_first, seam_left, seam_past, seam_right, later_columns, Fork, Piece, Place, paths, RisesFrom, size, UsesOnly, Ascends, front_below, has}
+use Rattle.std.specs.Prelude.{nat_lt}
 use Rattle.std.proofs.lemmas.Grind.{get_or_default_zero}
-use Rattle.std.proofs.lemmas.List.{get_or_past}
 use Rattle.compound_node.proofs.Lawful.{same_count}
-use Rattle.std.proofs.lemmas.Bool.{cases_Bool, cases_eq, cases_lt, eqb-true, false≢true, le-ltb, lt-ltb, ltb-true, or_cases}
 use lib.Count.{count_trailing_zeros, trailing_of_zero}
 use Rattle.compound_node.proofs.Ladders.{front_at, ladder-rows, length-rows, raised, rest_at, rows-fork, rows-later, rows_fit}
 use Rattle.compound_node.proofs.Removal.{later_positive, several_forked}
 use Rattle.compound_node.specs.Beside.{AreRound, IsBesideIn, at_columns, column_before}
 use Rattle.compound_node.specs.Nodes.{IsLawfulNode, NodeView, piece}
 use Rattle.compound_node.specs.declared.entries.Entry.{Entry}
-use Rattle.node_tries.proofs.Changes.Beside.{found}
 use Rattle.compound_node.specs.Ladders.{IsLadder}
-use Rattle.partial_keys.proofs.Shown.{row}
-use Rattle.node_tries.proofs.Piece.{length-places, size_pos}
-use Rattle.node_tries.proofs.Positions.{has_after, has-at}
-use Rattle.node_tries.proofs.Changes.Seams.{beside_by, beside_seams, seam, seam_above, seam_between, seam_first, seam_left, seam_past, seam_right}
-use Rattle.node_tries.proofs.Piece.Using.{later_columns}
-use Rattle.node_tries.specs.Piece.{Fork, Piece, Place, paths, RisesFrom, size, UsesOnly}
-use Rattle.node_tries.specs.Positions.{Ascends, front_below, has}
 
 -- ---- the place of the lowest 1
 module _ (w r : ℕ) where

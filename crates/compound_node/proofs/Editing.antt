@@ -1,8 +1,5 @@
 -- Parts of lists that are edited in place.
-use Rattle.std.proofs.Common.{List, [], ap, arith, drop, get_or, length, sym, take, ℕ, ◌++◌, ◌+◌, ◌<◌, ◌∙◌, ◌∷◌, ◌≡◌}
-use Rattle.std.proofs.lemmas.List.{append-nil, append_assoc, drop-drop, drop-take, drop_all, get_or-drop, get_or-take, take-append-drop, take-take, take_all}
-use Rattle.std.specs.List.{insert, refill}
-use Rattle.node_tries.specs.Growth.{edited}
+use Rattle.compound_node.proofs.Common.{List, [], ap, arith, drop, get_or, length, sym, take, ℕ, ◌++◌, ◌+◌, ◌<◌, ◌∙◌, ◌∷◌, ◌≡◌, append-nil, append_assoc, drop-drop, drop-take, drop_all, get_or-drop, get_or-take, take-append-drop, take-take, take_all, insert, refill, edited}
 
 module _ {X : Type 0} where
   -- what fills a whole list anew

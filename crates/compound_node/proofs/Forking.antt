@@ -1,11 +1,6 @@
 -- The parts of a node with a new fork fit together.
 pub mod Forked
-use Rattle.std.proofs.Common.{Bool, List, [], ap, arith, cond, drop, false, length, length-append, map, refl, subst, sym, take, true, ℕ, ⊎_elim, ◌++◌, ◌+◌, ◌-◌, ◌<◌, ◌^◌, ◌∙◌, ◌∷◌, ◌≡◌, ◌≤◌}
-use Rattle.std.proofs.lemmas.Bool.{cases_Bool}
-use Rattle.std.proofs.lemmas.List.Elements.{All-append, All-drop, All-push, All-take}
-use Rattle.std.proofs.lemmas.List.{length-drop, length-take-le}
-use Rattle.std.proofs.lemmas.Nat.{one_shl}
-use Rattle.std.specs.List.{All, insert}
+use Rattle.compound_node.proofs.Common.{Bool, List, [], ap, arith, cond, drop, false, length, length-append, map, refl, subst, sym, take, true, ℕ, ⊎_elim, ◌++◌, ◌+◌, ◌-◌, ◌<◌, ◌^◌, ◌∙◌, ◌∷◌, ◌≡◌, ◌≤◌, cases_Bool, All-append, All-drop, All-push, All-take, length-drop, length-take-le, one_shl, All, insert, shows-at_column, shows-at_new, weight, IsColumns-with_position, piece_of_shown, shown_self, affected_range, same_length, shown_columns, IsColumns, piece_of, ShowsPiece, forked_rows, spread_row, IsPlaceOf, front_below-place, IsAffected, affected_count, edited, forked_places, grown, Piece, front_below, has, with_position}
 use Rattle.compound_node.proofs.Editing.{put-before, put-behind}
 use Rattle.compound_node.proofs.Heights.{greatest_height-insert}
 use Rattle.compound_node.proofs.Lawful.{built_lawful, parts_fit, same_count, with_leaves}
@@ -13,18 +8,6 @@ use Rattle.compound_node.specs.Forking.{forked_head}
 use Rattle.compound_node.specs.Nodes.{FitTogether, HeadView, IsBuiltFrom, IsEntry, IsLawfulNode, NodeView, greatest_height, head_of, height_of, leaves, node_of, piece}
 use Rattle.compound_node.specs.declared.entries.Entry.TheVariants.{Leaf}
 use Rattle.compound_node.specs.declared.entries.Entry.{Entry}
-use Rattle.partial_keys.proofs.Rows.Growing.{shows-at_column, shows-at_new, weight}
-use Rattle.partial_keys.proofs.Keeping.{IsColumns-with_position}
-use Rattle.partial_keys.proofs.Shown.{piece_of_shown, shown_self}
-use Rattle.partial_keys.proofs.Shows.{affected_range, same_length, shown_columns}
-use Rattle.partial_keys.specs.Columns.{IsColumns}
-use Rattle.partial_keys.specs.Shown.{piece_of}
-use Rattle.partial_keys.specs.Shows.{ShowsPiece}
-use Rattle.partial_keys.specs.Spread.{forked_rows, spread_row}
-use Rattle.node_tries.proofs.Positions.{IsPlaceOf, front_below-place}
-use Rattle.node_tries.specs.Growth.{IsAffected, affected_count, edited, forked_places, grown}
-use Rattle.node_tries.specs.Piece.{Piece}
-use Rattle.node_tries.specs.Positions.{front_below, has, with_position}
 
 -- parts that show some piece fit
 pub fit_from_shown : (columns rows : List ℕ) (entries : List Entry) (P : Piece Entry) → ShowsPiece columns rows entries P → 2 ≤ length entries → length entries ≤ 32 → IsColumns columns → All IsEntry entries →

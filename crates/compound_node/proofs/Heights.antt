@@ -1,6 +1,5 @@
 -- The greatest height among entries.
-use Rattle.std.proofs.Common.{List, [], arith, get_or, length, refl, suc, zero, ℕ, ◌<◌, ◌∷◌, ◌≡◌, ◌≤◌}
-use Rattle.std.specs.List.{All, insert}
+use Rattle.compound_node.proofs.Common.{List, [], arith, get_or, length, refl, suc, zero, ℕ, ◌<◌, ◌∷◌, ◌≡◌, ◌≤◌, All, insert}
 use Rattle.compound_node.specs.Nodes.{IsEntry, greatest_height, height_of}
 use Rattle.compound_node.specs.declared.entries.Entry.TheVariants.{Leaf, Node}
 use Rattle.compound_node.specs.declared.entries.Entry.{Entry}

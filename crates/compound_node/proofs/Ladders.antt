@@ -1,34 +1,7 @@
 -- Rows of which each comes next are the rows of a piece, and the other way round.
-use Rattle.std.proofs.Common.{◌≡◌, ℕ, zero, suc, ◌+◌, ◌-◌, ◌*◌, ◌%◌, ◌^◌, ◌<◌, ◌≤◌, Bool, true, false, cond, eqb, ◌||◌, List, [], ◌∷◌, ◌++◌, map, length, take, drop, get_or, refl, sym, ap, subst, ◌∙◌, arith, ⊎_elim, length-append}
-use Rattle.std.specs.Prelude.{bit_and, nat_eq}
-use Rattle.std.proofs.Math.Nat.{add-mul-mod_self_right, mod-eq_of_lt, mod_self, pow-suc}
-use Rattle.std.proofs.lemmas.Bool.{cases_Bool, cases_eq, cases_lt, eq-eqb, eqb-true, false≢true, or_right, or_left}
-use Rattle.std.proofs.lemmas.List.{get_or_append_left, get_or-append_right, get_or-drop, get_or-map, get_or-take, length-drop, length-map, length-take-le, map-append, take-append-drop}
-use Rattle.std.proofs.lemmas.Nat.{and_block, and_mask, pow_pos, pow-add}
-use Rattle.std.proofs.lemmas.Simd.{map-map}
-use Rattle.partial_keys.proofs.Rows.{code-falses}
-use Rattle.key_bits.proofs.Gather.{code-lt}
-use Rattle.partial_keys.proofs.Shown.{row, row-set, row-skip}
-use Rattle.partial_keys.specs.Shown.{shown}
-use Rattle.node_tries.proofs.Piece.{length-paths, none_before, RisesFrom-weaker, size_pos}
-use Rattle.node_tries.proofs.Positions.{has_after, IsPlaceOf}
-use Rattle.node_tries.proofs.Positions.Tests.{map_same}
-use Rattle.node_tries.proofs.Piece.Using.{later_columns, UsesOnly-more}
-use Rattle.node_tries.specs.Piece.{Piece, Place, Fork, paths, places, RisesFrom, size, UsesOnly}
-use Rattle.node_tries.specs.Positions.{Ascends, front_below, has}
-use Rattle.node_tries.proofs.Positions.{front_below-place}
+use Rattle.compound_node.proofs.Common.{◌≡◌, ℕ, zero, suc, ◌+◌, ◌-◌, ◌*◌, ◌%◌, ◌^◌, ◌<◌, ◌≤◌, Bool, true, false, cond, eqb, ◌||◌, List, [], ◌∷◌, ◌++◌, map, length, take, drop, get_or, refl, sym, ap, subst, ◌∙◌, arith, ⊎_elim, length-append, bit_and, nat_eq, add-mul-mod_self_right, mod-eq_of_lt, mod_self, pow-suc, cases_Bool, cases_eq, cases_lt, eq-eqb, eqb-true, false≢true, or_right, or_left, get_or_append_left, get_or-append_right, get_or-drop, get_or-map, get_or-take, length-drop, length-map, length-take-le, map-append, take-append-drop, and_block, and_mask, pow_pos, pow-add, map-map, code-falses, code-lt, row, row-set, row-skip, shown, length-paths, none_before, RisesFrom-weaker, size_pos, has_after, IsPlaceOf, map_same, later_columns, UsesOnly-more, Piece, Place, Fork, paths, places, RisesFrom, size, UsesOnly, Ascends, front_below, has, front_below-place, code, or_all-piece, piece_of, ShowsPiece, or_all, uses, all, mul-mod_left, le_or_l, le_or_r, or_mod, pow_below, and_from, and_parts}
 use Rattle.compound_node.specs.Ladders.{AreSparseKeys, IsLadder, IsNextRow}
-use Rattle.key_bits.specs.Gather.{code}
-use Rattle.partial_keys.proofs.Shown.Cutting.{or_all-piece}
-use Rattle.partial_keys.specs.Shown.{piece_of}
-use Rattle.partial_keys.specs.Shows.{ShowsPiece}
-use Rattle.partial_keys.specs.Squeezed.{or_all}
-use Rattle.node_tries.specs.Piece.{uses}
-use Rattle.node_tries.specs.Positions.{all}
 use Rattle.std.specs.Prelude.{bit_or}
-use Rattle.std.proofs.Math.Nat.{mul-mod_left}
-use Rattle.std.proofs.lemmas.Nat.{le_or_l, le_or_r, or_mod, pow_below}
-use Rattle.std.proofs.lemmas.Bool.{and_from, and_parts}
 
 -- the numbers one bit wider, that bit being 1
 abbrev pub raised : ℕ → List ℕ → List ℕ

@@ -1,29 +1,11 @@
 -- What holds of each node, and of the fields that make one.
-use Rattle.std.proofs.Common.{Bool, List, [], ap, arith, cond, false, get_or, length, map, refl, set, subst, sym, take, true, ℕ, ◌+◌, ◌<◌, ◌^◌, ◌∙◌, ◌≡◌, ◌≤◌}
-use Rattle.std.proofs.lemmas.List.{get_or-replicate, get_or-take, length-map, length-replicate, length-set, length-take-le}
-use Rattle.std.proofs.lemmas.List.Elements.{All-set}
-use Rattle.std.specs.List.{All}
+use Rattle.compound_node.proofs.Common.{Bool, List, [], ap, arith, cond, false, get_or, length, map, refl, set, subst, sym, take, true, ℕ, ◌+◌, ◌<◌, ◌^◌, ◌∙◌, ◌≡◌, ◌≤◌, get_or-replicate, get_or-take, length-map, length-replicate, length-set, length-take-le, All-set, All, code-lt, highest_leads, piece_of_shown, same_length, shows-replaced, replaced, IsColumns, IsHighest, dense_of, row_of, with_unused, piece_of, ShowsPiece, length-paths, length-places, size_pos, Fork, Piece, Place, leads_to, paths, size, IsRunEnd, IsRunStart, front_below-place, IsPlaceOf, affected_count, affected_first, front_below, has}
 use Rattle.compound_node.proofs.Heights.{below_greatest, greatest_height-fits}
 use Rattle.compound_node.proofs.Ladders.{row_at, shown-sparse_keys, sparse_keys-shown}
 use Rattle.compound_node.specs.Nodes.{FitTogether, FitsHead, FitsWords, HeadView, IsEntry, IsHead, IsLawfulNode, IsNode, NodeView, StandsBelow, greatest_height, head_of, height_of, leaves, node_from, node_of, piece}
 use Rattle.compound_node.specs.declared.entries.Entry.TheVariants.{Leaf}
 use Rattle.compound_node.specs.declared.entries.Entry.{Entry}
-use Rattle.key_bits.proofs.Gather.{code-lt}
-use Rattle.partial_keys.proofs.Leads.{highest_leads}
-use Rattle.partial_keys.proofs.Shown.{piece_of_shown}
-use Rattle.partial_keys.proofs.Shows.{same_length, shows-replaced}
-use Rattle.node_tries.specs.Changes.{replaced}
-use Rattle.partial_keys.specs.Columns.{IsColumns}
-use Rattle.partial_keys.specs.Rows.{IsHighest, dense_of, row_of, with_unused}
-use Rattle.partial_keys.specs.Shown.{piece_of}
-use Rattle.partial_keys.specs.Shows.{ShowsPiece}
-use Rattle.node_tries.proofs.Piece.{length-paths, length-places, size_pos}
-use Rattle.node_tries.specs.Piece.{Fork, Piece, Place, leads_to, paths, size}
 use Rattle.partial_keys.proofs.Affected.{affected_is}
-use Rattle.partial_keys.specs.Runs.{IsRunEnd, IsRunStart}
-use Rattle.node_tries.proofs.Positions.{front_below-place, IsPlaceOf}
-use Rattle.node_tries.specs.Growth.{affected_count, affected_first}
-use Rattle.node_tries.specs.Positions.{front_below, has}
 
 pub length-leaves : (n : ℕ) → length (leaves n) ≡ n
 length-leaves n = length-replicate n (Leaf 0)

@@ -1,4 +1,5 @@
 -- The lemmas, lowest first.
+mod Common
 pub mod Editing
 pub mod Ladders
 pub mod Heights

@@ -1,19 +1,10 @@
 -- A row that is taken out of lanes: those behind it move down by one, and the front of them loses a bit.
-use Rattle.std.proofs.Common.{Bool, Fits, List, [], ap, ap₂, arith, bit_and, bit_or, cond, drop, eqb, false, get_or, length, length-append, map, min, nat_lt, not, refl, replicate, subst, suc, sym, take, true, w32, zero, ℕ, ⊎_elim, ◌++◌, ◌+◌, ◌-◌, ◌%◌, ◌^◌, ◌<◌, ◌∙◌, ◌∷◌, ◌≡◌, ◌≢◌, ◌≤◌}
-use Rattle.std.proofs.lemmas.Bool.{cases_lt, eq-eqb, eqb-true, le-ltb, lt-ltb, ne_eqb, not-false, not-true}
-use Rattle.std.proofs.lemmas.List.{ext_get_or, get_or-append_right, get_or-drop, get_or-map, get_or-replicate, get_or-take, get_or_append_left, length-drop, length-map, length-replicate, length-take-le}
-use Rattle.std.proofs.lemmas.List.FromFn.{get_or-range_with_len, length-map-range_with_len, length-range_with_len}
+use Rattle.compound_node.proofs.Common.{Bool, Fits, List, [], ap, ap₂, arith, bit_or, cond, drop, eqb, false, get_or, length, length-append, map, min, nat_lt, not, refl, replicate, subst, suc, sym, take, true, w32, zero, ℕ, ⊎_elim, ◌++◌, ◌+◌, ◌-◌, ◌%◌, ◌^◌, ◌<◌, ◌∙◌, ◌∷◌, ◌≡◌, ◌≢◌, ◌≤◌, cases_lt, eq-eqb, eqb-true, le-ltb, lt-ltb, ne_eqb, not-false, not-true, ext_get_or, get_or-append_right, get_or-drop, get_or-map, get_or-replicate, get_or-take, get_or_append_left, length-drop, length-map, length-replicate, length-take-le, get_or-range_with_len, length-map-range_with_len, length-range_with_len, and-not, and_comm, Each1-get_or, bitmask_splat, get_or-sel_l, get_or-zip2, leading_from_mask_l, length-sel_l, length-zip2, mask_l-lt, trailing_mask_l, bit_at_or, same_from_bits, or_zero_l, or_zero_r, prefix_len, range_with_len, with_unused, or_all}
+use Rattle.std.proofs.Common.{bit_and}
 use Rattle.std.proofs.lemmas.List.Sums.{prefix_len_passes, prefix_len_stops}
-use Rattle.std.proofs.lemmas.Nat.{and-not, and_comm}
-use Rattle.std.proofs.lemmas.Simd.{Each1-get_or, bitmask_splat, get_or-sel_l, get_or-zip2, leading_from_mask_l, length-sel_l, length-zip2, mask_l-lt, trailing_mask_l}
-use Rattle.std.proofs.lemmas.Nat.Bits.{bit_at_or, same_from_bits}
-use Rattle.std.specs.Int.Bits.{or_zero_l, or_zero_r}
 use Rattle.std.specs.Int.Count.{trailing_of_zero}
-use Rattle.std.specs.List.{prefix_len, range_with_len}
 use Rattle.compound_node.proofs.rows.Clearing.{length-cleared_front}
 use Rattle.compound_node.proofs.rows.Shifting.{picked, picked_at}
-use Rattle.partial_keys.specs.Rows.{with_unused}
-use Rattle.partial_keys.specs.Squeezed.{or_all}
 use Rattle.compound_node.specs.Lowering.{lowered_row}
 use Rattle.compound_node.specs.Removal.{bit_after, cleared_front, removed_row}
 use lib.Count.{count_trailing_zeros}

@@ -1,25 +1,13 @@
 -- The rows of a piece from which a place was taken out.
 pub mod Full
 pub mod Taken
-use Rattle.std.proofs.Common.{List, [], ap, append_assoc, arith, cond, drop, eqb, false, get_or, length, length-append, map, refl, subst, suc, sym, take, true, zero, ℕ, ⊎_elim, ◌++◌, ◌+◌, ◌-◌, ◌*◌, ◌<◌, ◌^◌, ◌||◌, ◌∙◌, ◌∷◌, ◌≡◌, ◌≤◌}
-use Rattle.std.proofs.Math.Seq.{drop-append-add, take-append-add}
-use Rattle.std.proofs.lemmas.Bool.{cases_Bool, cases_eq, cases_lt, eq-eqb, eqb-true, false≢true, le-ltb, lt-ltb, ltb-false, ltb-true, ne_eqb}
-use Rattle.std.proofs.lemmas.List.{append-nil, drop-append-le, drop-map, drop_all, get_or-drop, length-drop, length-map, map-append, take-append-le, take-map, take_at}
-use Rattle.std.proofs.lemmas.Nat.{and_block, and_le_l, and_le_r, pow_pos}
-use Rattle.std.specs.Prelude.{bit_and, nat_eq, nat_lt}
+use Rattle.compound_node.proofs.Common.{List, [], ap, arith, cond, drop, eqb, false, get_or, length, length-append, map, refl, subst, suc, sym, take, true, zero, ℕ, ⊎_elim, ◌++◌, ◌+◌, ◌-◌, ◌*◌, ◌<◌, ◌^◌, ◌||◌, ◌∙◌, ◌∷◌, ◌≡◌, ◌≤◌, drop-append-add, take-append-add, cases_Bool, cases_eq, cases_lt, eq-eqb, eqb-true, false≢true, le-ltb, lt-ltb, ltb-false, ltb-true, ne_eqb, append-nil, drop-append-le, drop-map, drop_all, get_or-drop, length-drop, length-map, map-append, take-append-le, take-map, take_at, and_block, and_le_l, and_le_r, pow_pos, bit_and, nat_eq, row, length-places, size_pos, has_after, Covers, ShowsPiece, remove, later_columns, is_place, without, Fork, Piece, Place, paths, places, RisesFrom, size, UsesOnly, Ascends, has}
+use Rattle.std.proofs.Common.{append_assoc}
+use Rattle.std.specs.Prelude.{nat_lt}
 use Rattle.compound_node.proofs.Ladders.{front_at, ladder-rows, length-rows, raised, rest_at, rows-fork, rows-later, rows_fit, single_row, without_lowest-power, without_lowest-raised}
 use Rattle.compound_node.specs.Ladders.{IsLadder, IsNextRow}
 use Rattle.compound_node.specs.Removal.{bit_after, cleared_front, lowest, removed_row}
-use Rattle.partial_keys.proofs.Shown.{row}
-use Rattle.node_tries.proofs.Piece.{length-places, size_pos}
-use Rattle.node_tries.proofs.Positions.{has_after}
-use Rattle.partial_keys.specs.Shows.{Covers, ShowsPiece}
 use Rattle.node_tries.proofs.Changes.{RisesFrom-without, UsesOnly-without, places-without, size_alone, size_forked}
-use Rattle.std.specs.Prelude.{remove}
-use Rattle.node_tries.proofs.Piece.Using.{later_columns}
-use Rattle.node_tries.specs.Changes.{is_place, without}
-use Rattle.node_tries.specs.Piece.{Fork, Piece, Place, paths, places, RisesFrom, size, UsesOnly}
-use Rattle.node_tries.specs.Positions.{Ascends, has}
 
 -- ---- the lowest 1 of rows
 lowest-raised : (w r : ℕ) → 0 < r → r < 2 ^ w → lowest (2 ^ w + r) ≡ lowest r

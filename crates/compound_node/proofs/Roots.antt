@@ -1,13 +1,7 @@
 -- The first column of a node.
-use Rattle.std.proofs.Common.{◌∙◌, List, ℕ, [], ◌∷◌, ◌<◌, ◌≤◌, ◌≡◌, ap, arith, get_or, length, sym, true}
+use Rattle.compound_node.proofs.Common.{◌∙◌, List, ℕ, [], ◌∷◌, ◌<◌, ◌≤◌, ◌≡◌, ap, arith, get_or, length, sym, true, root_first, ShowsPiece, length-places, AtRootFork, Piece, Place, Fork, size, has, AllBelow}
 use Rattle.compound_node.specs.Nodes.{HeadView, IsLawfulNode, NodeView, head_of, piece}
 use Rattle.compound_node.specs.declared.entries.Entry.{Entry}
-use Rattle.partial_keys.proofs.Shown.Cutting.{root_first}
-use Rattle.partial_keys.specs.Shows.{ShowsPiece}
-use Rattle.node_tries.proofs.Piece.{length-places}
-use Rattle.node_tries.specs.Changes.{AtRootFork}
-use Rattle.node_tries.specs.Piece.{Piece, Place, Fork, size}
-use Rattle.node_tries.specs.Positions.{has, AllBelow}
 
 -- the first column is the position of the root fork
 root_column : (columns rows : List ℕ) (entries : List Entry) (P : Piece Entry) → 2 ≤ size P → ShowsPiece columns rows entries P →

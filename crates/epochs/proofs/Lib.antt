@@ -1,4 +1,5 @@
 -- The lemmas of the crate.
+mod Common
 pub mod Runs
 pub mod Reach
 pub mod Rounds

@@ -1,20 +1,9 @@
 -- What pinned passes can reach is neither free nor held.
-use Rattle.std.proofs.Common.{◌≡◌, ℕ, [], ◌∷◌, ◌<◌, ◌≤◌, true, nat_eq, if◌then◌else◌, Option, Some, None, refl, sym, ap, subst, ◌∙◌, arith, eq-eqb}
-use Rattle.record_words.specs.declared.state.Tag.TheVariants.{Obsolete}
-use Rattle.record_words.specs.State.{state_word}
-use Rattle.record_words.specs.declared.records.Rec.{Rec}
-use Rattle.versions.specs.declared.Pin.{Pin}
+use Rattle.epochs.proofs.Common.{◌≡◌, ℕ, [], ◌∷◌, ◌<◌, ◌≤◌, true, nat_eq, if◌then◌else◌, Option, Some, None, refl, sym, ap, subst, ◌∙◌, arith, eq-eqb, Obsolete, state_word, Rec, Pin, Fate, Free, Held, ReadyBy, InTree, Unlinked, Marked, GiveBack, Core, IsLawful, tag_of, lock_tag, lock_of, after, given_back, Event, silent}
 use Rattle.versions.specs.State.{Past, Stands}
-use Rattle.versions.specs.Core.{Fate, Free, Held, Ready as ReadyBy, InTree, Unlinked, Marked}
 use Rattle.versions.proofs.Core.{same_rec_refl}
-use Rattle.rowex_core.specs.declared.event.Act.TheVariants.{GiveBack}
-use Rattle.rowex_core.specs.Cores.{Core, IsLawful}
-use Rattle.rowex_core.specs.Words.{tag_of, lock_tag, lock_of}
-use Rattle.rowex_core.specs.Events.{after, given_back}
 use Rattle.rowex_core.proofs.Statements.Promises.{in_reach}
 use Rattle.rowex_core.proofs.Cores.{stays_lawful}
-use Rattle.rowex_core.specs.declared.event.Event.{Event}
-use Rattle.rowex_table.specs.Runs.{silent}
 use Rattle.epochs.specs.Reach.{IsReachKept}
 use Rattle.epochs.specs.Statements.{ReachIsKept, RunsKeepReach, GivenIsOutOfReach}
 

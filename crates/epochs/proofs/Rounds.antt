@@ -1,12 +1,6 @@
 -- A round of its parts.
 pub mod Bounding
-use Rattle.std.proofs.Common.{◌≡◌, ℕ, ◌∷◌, ◌++◌, refl, sym, ap, subst, ◌∙◌}
-use Rattle.record_words.specs.declared.records.Rec.TheVariants.{Node as a_node, Leaf as a_leaf}
-use Rattle.versions.specs.declared.Round.{Round}
-use Rattle.rowex_core.specs.declared.event.Act.TheVariants.{LoadEpoch}
-use Rattle.rowex_core.specs.declared.event.Event.{Event}
-use Rattle.rowex_table.specs.Runs.{Does, InTurn}
-use Rattle.rowex_table.specs.Seats.{TableView, SeatView}
+use Rattle.epochs.proofs.Common.{◌≡◌, ℕ, ◌∷◌, ◌++◌, refl, sym, ap, subst, ◌∙◌, a_node, a_leaf, Round, LoadEpoch, Event, Does, InTurn, TableView, SeatView}
 use Rattle.epochs.specs.Rounds.{Visits, VisitEach, advance_steps, BeginsRound, HasBound, VisitsSome, VisitsTable, IsRound, IsSmallRound, IsSparedRound}
 use Rattle.epochs.specs.Runs.{collecting}
 use Rattle.epochs.proofs.Runs.{does_append, collects, collects_append}

@@ -1,19 +1,8 @@
 -- Steps on epochs, pins and states: what they leave of what their pass knows, and how they follow one another.
-use Rattle.std.proofs.Common.{◌≡◌, ◌+◌, ℕ, List, [], ◌∷◌, ◌++◌, length, Bool, true, false, nat_eq, Option, refl, sym, ap, ◌∙◌}
+use Rattle.epochs.proofs.Common.{◌≡◌, ◌+◌, ℕ, List, [], ◌∷◌, ◌++◌, length, Bool, true, false, nat_eq, Option, refl, sym, ap, ◌∙◌, Layout, Rec, Act, LoadEpoch, Advance, SetPin, ClearPin, LoadPin, LoadState, GiveBack, Event, Known, holder_of, word_of, IsEvent, failed_with, learned_by, silent, Steps, Does, TableView, SeatView}
 use Rattle.std.specs.Prelude.{if◌then◌else◌}
-use Rattle.record_words.specs.declared.layout.Layout.{Layout}
-use Rattle.record_words.specs.declared.records.Rec.{Rec}
-use Rattle.rowex_core.specs.declared.event.Act.{Act}
-use Rattle.rowex_core.specs.declared.event.Act.TheVariants.{LoadEpoch, Advance, SetPin, ClearPin, LoadPin, LoadState, GiveBack}
-use Rattle.rowex_core.specs.declared.event.Event.{Event}
 use Rattle.rowex_core.specs.declared.known.Failed.{Failed}
 use Rattle.rowex_core.specs.declared.known.FailedAct.TheVariants.{LoadState as a_load}
-use Rattle.rowex_core.specs.declared.known.Known.{Known}
-use Rattle.rowex_core.specs.Cores.{holder_of}
-use Rattle.rowex_core.specs.Events.{word_of}
-use Rattle.rowex_core.specs.Knowing.{IsEvent, failed_with, learned_by}
-use Rattle.rowex_table.specs.Runs.{silent, Steps, Does}
-use Rattle.rowex_table.specs.Seats.{TableView, SeatView}
 use Rattle.rowex_table.proofs.Runs as running
 use Rattle.epochs.specs.Runs.{collecting, paced}
 

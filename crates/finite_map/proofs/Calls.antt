@@ -1,14 +1,9 @@
 -- The calls of a pass stay legal as its front grows.
 pub mod Alone
 pub mod Steps
-use Rattle.std.proofs.Common.{◌≡◌, ◌≢◌, ℕ, Bool, zero, suc, ◌+◌, ◌≤◌, List, [], ◌∷◌, ◌++◌, length, take, true, false, cond, Option, Some, None, refl, sym, ap, subst, ◌∙◌, arith, le_trans, append-nil, length-append, zero-le, eqb}
-use Rattle.std.specs.List.{All, slice_get, cons_option}
+use Rattle.finite_map.proofs.Common.{◌≡◌, ◌≢◌, ℕ, Bool, zero, suc, ◌+◌, ◌≤◌, List, [], ◌∷◌, ◌++◌, length, take, true, false, cond, Option, Some, None, refl, sym, ap, subst, ◌∙◌, arith, le_trans, append-nil, length-append, zero-le, eqb, All, slice_get, cons_option, ne_eqb, eq-eqb, cond_both, take-append-le, All-nil, All-head, All-tail, All-push, All-weaker, filter-append, filter_map-append, take-append_seam}
 use Rattle.std.specs.Option.{is_some, option_map, option_to_list}
-use Rattle.std.proofs.lemmas.Bool.{ne_eqb, eq-eqb, cond_both}
-use Rattle.std.proofs.lemmas.List.{take-append-le}
-use Rattle.std.proofs.lemmas.List.Elements.{All-nil, All-head, All-tail, All-push, All-weaker, filter-append, filter_map-append}
 use Rattle.std.proofs.lemmas.Option.{slice_get_within}
-use Rattle.std.proofs.Math.Seq.{take-append_seam}
 use Rattle.finite_map.specs.declared.Call.{Call}
 use Rattle.finite_map.specs.declared.Call.TheVariants.{Insert, Upsert, Exchange, Add, Get, Remove, RemoveIf}
 use Rattle.finite_map.specs.declared.Kind.{Kind}

@@ -1,5 +1,5 @@
 -- Worked examples of the definitions, which compute.
-use Rattle.std.proofs.Common.{◌≡◌, ℕ, List, [], ◌∷◌, ◌++◌, true, refl, sym, subst, arith}
+use Rattle.finite_map.proofs.Common.{◌≡◌, ℕ, List, [], ◌∷◌, ◌++◌, true, refl, sym, subst, arith, IsTrue, IsStrictlySortedBy}
 use Rattle.finite_map.specs.declared.Call.{Call}
 use Rattle.finite_map.specs.declared.Call.TheVariants.{Insert, Upsert, Exchange, Add, Get, Remove, RemoveIf}
 use Rattle.finite_map.specs.declared.Reply.{Reply}
@@ -8,8 +8,6 @@ use Rattle.finite_map.specs.declared.Kind.TheVariants.{Added, Replaced, Removed 
 use Rattle.finite_map.specs.declared.Change.{Change}
 use Rattle.finite_map.specs.declared.Note.{Note}
 use Rattle.finite_map.specs.declared.Scan.{Scan}
-use Rattle.std.specs.Prelude.{IsTrue}
-use Rattle.std.specs.List.Sorted.{IsStrictlySortedBy}
 use Rattle.finite_map.specs.Maps.{Map, replies_of, map_after_all}
 use Rattle.finite_map.specs.Fronts.{map_of}
 use Rattle.finite_map.specs.Calls.{changes_of, own_changes}

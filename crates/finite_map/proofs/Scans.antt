@@ -1,22 +1,6 @@
 -- A scan that is lawful while nothing changes gives the first pairs of the map's range.
 pub mod Ranges
-use Rattle.std.proofs.Common.{◌≡◌, ◌≢◌, ℕ, suc, ◌<◌, List, [], ◌∷◌, ◌++◌, length, take, drop, Bool, true, false, cond, Some, None, refl, sym, ap, ap₂, subst, ◌∙◌, arith, append-nil, length-append, get_or, inl, inr, ⊎_elim, ◌⊎◌}
-use Rattle.std.specs.Prelude.{IsTrue, IsSome}
-use Rattle.std.specs.declared.cmp.Ordering.{Ordering}
-use Rattle.std.specs.declared.cmp.Ordering.TheVariants.{Less, Equal, Greater}
-use Rattle.std.specs.Ordering.{is_eq, ordering_reverse}
-use Rattle.std.specs.Cmp.Lexicographic.{nat_list_cmp_total}
-use Rattle.std.specs.List.{All, filter}
-use Rattle.std.specs.List.Sorted.{IsStrictlySortedBy}
-use Rattle.std.specs.Map.{keys_of}
-use Rattle.std.specs.BTreeMap.{is_at}
-use Rattle.std.proofs.lemmas.Bool.{cases_Bool}
-use Rattle.std.proofs.lemmas.Cmp.{eq_by_cmp_equiv}
-use Rattle.std.proofs.lemmas.List.{take_all}
-use Rattle.std.proofs.lemmas.List.Elements.{All-nil, All-head, All-tail, All-from_recursion}
-use Rattle.std.proofs.lemmas.Map.Lookups.{exact_bytes}
-use Rattle.std.proofs.lemmas.Map.Views.{IsSome-lookup_from_Contains}
-use Rattle.std.proofs.Math.Seq.{take-append_seam, take-length, drop-length}
+use Rattle.finite_map.proofs.Common.{◌≡◌, ◌≢◌, ℕ, suc, ◌<◌, List, [], ◌∷◌, ◌++◌, length, take, drop, Bool, true, false, cond, Some, None, refl, sym, ap, ap₂, subst, ◌∙◌, arith, append-nil, length-append, get_or, inl, inr, ⊎_elim, ◌⊎◌, IsTrue, IsSome, Ordering, Less, Equal, Greater, is_eq, ordering_reverse, nat_list_cmp_total, All, filter, IsStrictlySortedBy, keys_of, is_at, cases_Bool, eq_by_cmp_equiv, take_all, All-nil, All-head, All-tail, All-from_recursion, exact_bytes, IsSome-lookup_from_Contains, take-append_seam, take-length, drop-length}
 use Rattle.finite_map.specs.declared.Change.{Change}
 use Rattle.finite_map.specs.declared.Kind.TheVariants.{Removed}
 use Rattle.finite_map.specs.declared.Scan.{Scan}

@@ -1,12 +1,6 @@
 -- The weave of legal calls into their front is a legal history.
-use Rattle.std.proofs.Common.{◌≡◌, ◌≢◌, ℕ, zero, suc, ◌+◌, ◌<◌, ◌≤◌, List, [], ◌∷◌, ◌++◌, length, take, Bool, true, false, cond, not, ◌&&◌, eqb, Some, refl, sym, ap, subst, ◌∙◌, arith, append_assoc, append-nil, length-append}
-use Rattle.std.specs.List.{All, filter, slice_get}
-use Rattle.std.proofs.lemmas.Bool.{eqb-true, ne_eqb, and_parts, not-true, cond_both, cond-true}
-use Rattle.std.proofs.lemmas.List.Elements.{All-nil, All-cons, All-head, All-tail, All-append, All-weaker, filter-append}
+use Rattle.finite_map.proofs.Common.{◌≡◌, ◌≢◌, ℕ, zero, suc, ◌+◌, ◌<◌, ◌≤◌, List, [], ◌∷◌, ◌++◌, length, take, Bool, true, false, cond, not, ◌&&◌, eqb, Some, refl, sym, ap, subst, ◌∙◌, arith, append_assoc, append-nil, length-append, All, filter, slice_get, eqb-true, ne_eqb, and_parts, not-true, cond_both, cond-true, All-nil, All-cons, All-head, All-tail, All-append, All-weaker, filter-append, length-filter, IsPermutation, take-append_seam}
 use Rattle.std.proofs.lemmas.List.Sorted.{All-permutation, sum_by-IsPermutation}
-use Rattle.std.proofs.lemmas.List.Sums.{length-filter}
-use Rattle.std.specs.Prelude.{IsPermutation}
-use Rattle.std.proofs.Math.Seq.{take-append_seam}
 use Rattle.finite_map.specs.declared.Change.{Change}
 use Rattle.finite_map.specs.declared.Note.{Note}
 use Rattle.finite_map.specs.Maps.{Map, reply_of}

@@ -1,42 +1,15 @@
 -- What calls have told is what their passes have done.
 pub mod Asked
 pub mod Quiet
-use Rattle.std.proofs.Common.{◌≡◌, ⊎_elim, ℕ, suc, ◌<◌, ◌≤◌, List, [], ◌∷◌, ◌++◌, map, Option, None, Some, refl, sym, ap, subst, ◌∙◌, arith, append_assoc, append-nil, length, Result}
-use Rattle.std.specs.Prelude.{All, IsPermutation, ◌≢◌}
-use Rattle.std.proofs.lemmas.Bool.{cases_lt}
-use Rattle.std.proofs.lemmas.List.Sorted.{IsPermutation-refl}
-use Rattle.key_bits.specs.declared.TheConstants.{MAX_BYTES}
-use Rattle.finite_map.specs.declared.Call.{Call}
-use Rattle.finite_map.specs.declared.Call.TheVariants.{Get, Insert}
-use Rattle.finite_map.specs.declared.Change.{Change}
-use Rattle.finite_map.specs.declared.Note.{Note}
-use Rattle.finite_map.specs.declared.Reply.{Reply}
-use Rattle.finite_map.specs.declared.Reply.TheVariants.{Absent, Inserted, Value}
-use Rattle.finite_map.specs.Calls.{LegalCalls}
-use Rattle.record_words.specs.declared.layout.Layout.{Layout}
-use Rattle.rowex_core.specs.declared.event.Act.{Act}
-use Rattle.rowex_core.specs.declared.known.Known.{Known}
+use Rattle.hot_c.proofs.Common.{◌≡◌, ⊎_elim, ℕ, suc, ◌<◌, ◌≤◌, List, [], ◌∷◌, ◌++◌, map, Option, None, Some, refl, sym, ap, subst, ◌∙◌, arith, append_assoc, append-nil, length, Result, IsPermutation, cases_lt, IsPermutation-refl, MAX_BYTES, Call, Get, Insert, Change, Note, Reply, Absent, Inserted, Value, LegalCalls, Layout, Act, Known, Does, Ends, Runs, silent, SeatView, TableView, GetsOr, loads_in, AreNoted, HasMadeGetManySteps, gets, IsNewPass, PassView, pass_of, untold, Refusal, HandleView, Stays, IsLoaderPass, pairs_noted, answers, Happening, responds, shows, steps, HandleHasDone, HasEndedAs, HasGoneThrough, HasSeenLeader, call_of, called, load_call, loader, many_ended, new, notes_of_end, quiet, shown, stamped, steps_of, handles_are_linearizable, seeing_is_done, silent_steps_end}
+use Rattle.std.specs.Prelude.{All, ◌≢◌}
 use Rattle.rowex_core.specs.Events.{after}
 use Rattle.rowex_core.specs.Opening.{opening}
 use Rattle.rowex_table.specs.Rule.{load_of}
-use Rattle.rowex_table.specs.Runs.{Does, Ends, Runs, silent}
-use Rattle.rowex_table.specs.Seats.{SeatView, TableView}
 use Rattle.rowex_table.specs.Traces.{IsTableRun}
 use Rattle.rowex_table.proofs.Onward.{led_more}
 use Rattle.tries.specs.Keys.{Key}
-use Rattle.hot_index_calls.specs.Calls.{GetsOr}
-use Rattle.hot_index_calls.specs.Census.{loads_in}
-use Rattle.hot_index_calls.specs.Many.{AreNoted, HasMadeGetManySteps, gets}
-use Rattle.hot_index_calls.specs.Passes.{IsNewPass, PassView, pass_of}
-use Rattle.hot_index_calls.specs.Traces.{untold}
-use Rattle.hot_index_calls.specs.declared.refusals.Refusal.{Refusal}
-use Rattle.hot_index.specs.Handles.{HandleView, Stays}
-use Rattle.hot_index.specs.Loads.{IsLoaderPass, pairs_noted}
-use Rattle.linearizability.specs.Histories.{answers}
-use Rattle.linearizability.specs.Configurations.{Happening, responds, shows, steps}
 use Rattle.index_laws.specs.Executions.{insertion_notes}
-use Rattle.index_laws.specs.Joined.{HandleHasDone, HasEndedAs, HasGoneThrough, HasSeenLeader, call_of, called, load_call, loader, looked_up as many_ended, new, notes_of_end, quiet, shown, stamped, steps_of}
-use Rattle.index_laws.proofs.Joined.{handles_are_linearizable, seeing_is_done, silent_steps_end}
 use Rattle.hot_c.specs.Calls.{Answers, FitsInKey, StaysOpen, TellsOutcome}
 use Rattle.hot_c.specs.Histories.{AreNotesOf, AsksNothing, CallsAreLinearizable, HasSeenAnother, HaveTold, IsAt, asked, loaded, loaded_each, looked_up, more, none, answered_notes, opened, saw, steps_known, told_of, told_of_each, was_seen, went_on}
 use Rattle.hot_c.specs.Lookups.{LooksUpAll, are_answered, key_in}

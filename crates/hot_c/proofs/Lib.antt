@@ -1,4 +1,5 @@
 -- The lemmas of the crate.
+mod Common
 pub mod Orders
 pub mod Statuses
 pub mod Loads

@@ -1,6 +1,5 @@
 -- A load that was given a pair, and one that was ended.
-use Rattle.std.proofs.Common.{◌≡◌, ℕ, List, Option, Some, None, sym, ◌∙◌, subst}
-use Rattle.hot_handles.specs.declared.load.open_load.OpenLoad.{OpenLoad}
+use Rattle.hot_c.proofs.Common.{◌≡◌, ℕ, List, Option, Some, None, sym, ◌∙◌, subst, OpenLoad}
 use Rattle.hot_c.specs.Calls.{FitsInKey}
 use Rattle.hot_c.specs.Loads.{HasOpenedLoaded, KeepsLoadedPasses, LoadsPair, TellsPush}
 use Rattle.hot_c.specs.declared.opened.Opened.{Opened}

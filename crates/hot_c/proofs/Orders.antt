@@ -1,21 +1,8 @@
 -- What a scan for C says, by what it left in the handle's list.
 pub mod Parted
 use denote.RawPtr.{null_ptr}
-use Rattle.std.proofs.Common.{◌≡◌, ℕ, ◌<◌, ◌≤◌, ◌^◌, List, length, Bool, Option, None, Some, Result, inl, refl, sym, ap, ◌∙◌, subst, le_refl}
-use Rattle.std.proofs.lemmas.List.{length-reverse, reverse-reverse}
-use Rattle.std.specs.declared.alloc.AllocError.{AllocError}
-use Rattle.finite_map.specs.declared.Scan.{Scan}
-use Rattle.finite_map.specs.Reverse.{IsLawfulReverseScan}
-use Rattle.finite_map.specs.Scans.{IsLawfulScan}
-use Rattle.record_words.specs.declared.layout.Layout.{Layout}
-use Rattle.version_laws.specs.Scan.{Range}
-use Rattle.version_laws.specs.Directions.{IsLawfulBy, ScanLaw}
-use Rattle.hot_index_calls.specs.Answers.{HasFoundPair, IsListed, IsListedBy, IsUnnoted, range_from}
-use Rattle.hot_index_calls.specs.Calls.{IsListReadBy, IsRangeRead}
-use Rattle.hot_index.specs.Handles.{HandleView, Stays}
-use Rattle.hot_index_calls.specs.Passes.{PassView}
+use Rattle.hot_c.proofs.Common.{◌≡◌, ℕ, ◌<◌, ◌≤◌, ◌^◌, List, length, Bool, Option, None, Some, Result, inl, refl, sym, ap, ◌∙◌, subst, le_refl, length-reverse, reverse-reverse, AllocError, Scan, IsLawfulReverseScan, IsLawfulScan, Layout, Range, IsLawfulBy, ScanLaw, HasFoundPair, IsListed, IsListedBy, IsUnnoted, range_from, IsListReadBy, IsRangeRead, HandleView, Stays, PassView, HasMadeScanSteps, untold}
 use Rattle.hot_index_calls.specs.Reverse.{IsReverseListed}
-use Rattle.hot_index_calls.specs.Traces.{HasMadeScanSteps, untold}
 use Rattle.hot_index.proofs.Reading.{range_whole}
 use Rattle.hot_c.specs.Calls.{FitsInKey, KeepsAll, StaysOpen}
 use Rattle.hot_c.specs.Orders.{Answer, IsFilledIn, IsListedIn, direction_of, in_order}

@@ -1,23 +1,7 @@
 -- What a call for a key says, where it was made.
 use Rattle.std.specs.Prelude.{MatchResult}
-use Rattle.std.proofs.Common.{◌≡◌, ◌≢◌, ◌↔◌, ℕ, List, length, ◌≤◌, Option, None, Some, Result, Ok, Err, IsOk, IfErr, refl, sym, ◌∙◌, subst, arith}
-use Rattle.key_bits.specs.Key.{IsKey}
+use Rattle.hot_c.proofs.Common.{◌≡◌, ◌≢◌, ◌↔◌, ℕ, List, length, ◌≤◌, Option, None, Some, Result, Ok, Err, IsOk, IfErr, refl, sym, ◌∙◌, subst, arith, IsKey, MAX_BYTES, Call, Get, Reply, Inserted, Exists, New, Was, Exchanged, Differs, Value, Absent, Removed, TableView, Nodes, Leaves, as_tried, Refusal, IsBusy, HeldBack, IsFull, IsNoted, MayRefuse, GetsOrCounts, HasCause, IsOutcome, PassView, HasMadeGetSteps, untold, HandleView, Stays}
 use Rattle.key_bits.specs.declared.KeyFault.{KeyFault}
-use Rattle.key_bits.specs.declared.TheConstants.{MAX_BYTES}
-use Rattle.finite_map.specs.declared.Call.{Call}
-use Rattle.finite_map.specs.declared.Call.TheVariants.{Get}
-use Rattle.finite_map.specs.declared.Reply.{Reply}
-use Rattle.finite_map.specs.declared.Reply.TheVariants.{Inserted, Exists, New, Was, Exchanged, Differs, Value, Absent, Removed}
-use Rattle.rowex_table.specs.Seats.{TableView}
-use Rattle.rowex_writing.specs.declared.plan.Full.TheVariants.{Nodes, Leaves}
-use Rattle.hot_index_calls.specs.Refusals.{as_tried}
-use Rattle.hot_index_calls.specs.declared.refusals.Refusal.{Refusal}
-use Rattle.hot_index_calls.specs.declared.refusals.Refusal.TheVariants.{Busy as IsBusy, HeldBack, Full as IsFull}
-use Rattle.hot_index_calls.specs.Answers.{IsNoted, MayRefuse}
-use Rattle.hot_index_calls.specs.Calls.{GetsOrCounts, HasCause, IsOutcome}
-use Rattle.hot_index_calls.specs.Passes.{PassView}
-use Rattle.hot_index_calls.specs.Traces.{HasMadeGetSteps, untold}
-use Rattle.hot_index.specs.Handles.{HandleView, Stays}
 use Rattle.hot_c.specs.Calls.{Answers, FitsInKey, TellsOutcome}
 use Rattle.hot_c.specs.Refusals.{TellsOfNoLack, TellsRefusal, TellsWhatMay}
 use Rattle.hot_c.specs.Statuses.{reply_status, value_after}

@@ -1,4 +1,5 @@
 -- The lemmas of the crate.
+mod Common
 pub mod KeyCounts
 pub mod Reading
 pub mod Passes

@@ -1,35 +1,15 @@
 -- Pass 0 of an index that was made of pairs.
-use Rattle.std.proofs.Common.{◌≡◌, ◌⊎◌, inl, inr, true, false, ℕ, zero, suc, ◌<◌, ◌≤◌, List, [], ◌∷◌, ◌++◌, length, map, take, Option, refl, sym, ap, ◌∙◌, subst, arith, le_refl}
-use Rattle.std.proofs.lemmas.List.{take_all, length-map}
+use Rattle.hot_index.proofs.Common.{◌≡◌, ◌⊎◌, inl, inr, true, false, ℕ, zero, suc, ◌<◌, ◌≤◌, List, [], ◌∷◌, ◌++◌, length, map, take, Option, refl, sym, ap, ◌∙◌, subst, arith, le_refl, take_all, length-map, Insert, Change, Note, Inserted, map_of, Layout, Item, pairs, IsLinked, a_node, is_linked, Core, fields_in, heap_of, IsLoad, after, loaded_root, loaded_tree, opening, EventsLead, Known, load_of, load_trace, loader_of, IsLoaderSeat, IsNewSeatOf, SeatView, TableView, HasSpare, IsOut, IsSettled, Owns, pass_of}
 use mathlib.Core.Option.{some}
 use lib.ListN.{get_elem?}
-use Rattle.finite_map.specs.declared.Call.TheVariants.{Insert}
-use Rattle.finite_map.specs.declared.Change.{Change}
-use Rattle.finite_map.specs.declared.Note.{Note}
-use Rattle.finite_map.specs.declared.Reply.TheVariants.{Inserted}
-use Rattle.finite_map.specs.Fronts.{map_of}
 use Rattle.hot_index.specs.KeyCounts.{CountsReply, IsCountOf}
 use Rattle.hot_index.specs.declared.key_counts.KeyCount.{KeyCount}
-use Rattle.record_words.specs.declared.layout.Layout.{Layout}
-use Rattle.tries.specs.Content.{Item, pairs}
 use Rattle.tries.specs.Tree.{Tree}
-use Rattle.versions.specs.State.{IsLinked}
-use Rattle.record_words.specs.declared.records.Rec.TheVariants.{Node as a_node}
 use Rattle.versions.specs.Loads.{first_leaves_of, loaded_past}
-use Rattle.versions.specs.Steps.{is_linked}
 use Rattle.versions.specs.Told.{TellChanges, added_change, added_notes, content, items_of}
 use Rattle.versions.proofs.Core.{linked_cases}
 use Rattle.versions.proofs.Loads.{load_is_lawful, load_is_legal}
 use Rattle.versions.proofs.State.Publish.{version_new}
-use Rattle.rowex_core.specs.Cores.{Core, fields_in, heap_of}
-use Rattle.rowex_core.specs.Events.{IsLoad, after, loaded_root, loaded_tree}
-use Rattle.rowex_core.specs.Opening.{opening}
-use Rattle.rowex_core.specs.Runs.{EventsLead}
-use Rattle.rowex_core.specs.declared.known.Known.{Known}
-use Rattle.rowex_table.specs.Rule.{load_of, load_trace, loader_of}
-use Rattle.rowex_table.specs.Seats.{IsLoaderSeat, IsNewSeatOf, SeatView, TableView}
-use Rattle.publish_laws.specs.Lone.{HasSpare, IsOut}
-use Rattle.hot_index_calls.specs.Passes.{IsSettled, Owns, pass_of}
 use Rattle.hot_index.specs.Loads.{CountsItems, IsLoaderPass, IsPassOfLoad, inserted_pair, pairs_noted}
 use Rattle.hot_index.specs.Passes.{AreSettled}
 use Rattle.hot_index.proofs.Passes.{new_pass, no_calls_from}

@@ -1,21 +1,13 @@
 -- The passes of a new index, one after the other.
-use Rattle.std.proofs.Common.{rules, ◌≡◌, ◌↔◌, ◌∙◌, ℕ, zero, suc, ◌+◌, List, [], ◌∷◌, All, map, Some, Result, Ok, Err, refl, sym, ap, subst, arith}
-use Rattle.std.proofs.lemmas.List.Elements.{All-nil, All-cons, All-head, All-tail}
-use Rattle.std.specs.Prelude.{IfOk}
-use Rattle.record_words.specs.Layout.{HasStock}
-use Rattle.record_words.specs.declared.layout.Layout.{Layout}
+use Rattle.hot_index.proofs.Common.{rules, ◌≡◌, ◌↔◌, ◌∙◌, ℕ, zero, suc, ◌+◌, List, [], ◌∷◌, map, Some, Result, Ok, Err, refl, sym, ap, subst, arith, All-nil, All-cons, All-head, All-tail, IfOk, HasStock, Layout, slice_get, Known, opening_of, TableView, SeatView, IsNewSeatOf, Owns, IsNewPass, IsSettled, PassView, pass_of}
+use Rattle.std.proofs.Common.{All}
 use Rattle.record_words.specs.declared.layout.Stock.{Stock}
 use Rattle.hot_index.specs.Kept.{HasOneKept, kept_stock, with_one_kept}
-use Rattle.std.specs.List.{slice_get}
 use mathlib.Core.Option.{some}
 use lib.ListN.{get_elem?}
 use Rattle.hot_index.specs.KeyCounts.{IsCountOf}
 use Rattle.hot_index.specs.declared.key_counts.KeyCount.{KeyCount}
-use Rattle.rowex_core.specs.declared.known.Known.{Known}
 use Rattle.insert_cases.proofs.Ways.{some_injective}
-use Rattle.rowex_table.specs.Rule.{opening_of}
-use Rattle.rowex_table.specs.Seats.{TableView, SeatView, IsNewSeatOf}
-use Rattle.hot_index_calls.specs.Passes.{Owns, IsNewPass, IsSettled, PassView, pass_of}
 use Rattle.hot_index.specs.Passes.{AreSettled, HasNoCall}
 
 -- what holds of each pass, by its number, where the passes are those of seats

@@ -1,38 +1,13 @@
 -- What a call that reads a range ensures, by what the list of its pairs became.
-use Rattle.std.proofs.Common.{◌≡◌, ◌≢◌, ℕ, ◌+◌, ◌<◌, ◌≤◌, ◌^◌, ◌∙◌, List, [], length, Bool, true, Option, sym, subst}
-use Rattle.std.specs.Prelude.{IfOk, IsSome, OnErr, Result, Ok, Err}
-use Rattle.std.specs.Option.{option_to_list}
+use Rattle.hot_index.proofs.Common.{◌≡◌, ◌≢◌, ℕ, ◌+◌, ◌<◌, ◌≤◌, ◌^◌, ◌∙◌, List, [], length, Bool, true, Option, sym, subst, IfOk, IsSome, OnErr, option_to_list, on_err_weaker, Scan, IsKey, Layout, ClearPin, Event, Looks, looked_at, looks_same, IsLawfulBy, HasScanned, HasScannedPart, HasTaken, HasTakenPart, limited, tally_of_number, tally_of_values, Upwards, Direction, StepsWith, silent, IsPassOf, IsSeatOf, SeatView, TableView, Range, Pins, Key, ScanLaw, AreValuesListed, IsFoundBy, IsListedBy, IsUnnoted, range_from, IsCountReadWith, IsListReadBy, IsRangeReadWith, IsScanReadBy, IsValuesReadWith, no_part, PassView, IsSettled, pass_of, fits_then, looked, has_walked}
+use Rattle.std.specs.Prelude.{Result, Ok, Err}
 use Rattle.std.specs.declared.alloc.AllocError.{AllocError}
-use Rattle.std.proofs.lemmas.Result.{on_err_weaker}
-use Rattle.finite_map.specs.declared.Scan.{Scan}
-use Rattle.key_bits.specs.Key.{IsKey}
-use Rattle.record_words.specs.declared.layout.Layout.{Layout}
-use Rattle.rowex_core.specs.declared.event.Act.TheVariants.{ClearPin}
-use Rattle.rowex_core.specs.declared.event.Event.{Event}
-use Rattle.rowex_reading.specs.Reads.{Looks}
-use Rattle.rowex_reading.proofs.Seen.Led.{looked_at, looks_same}
 use Rattle.rowex_scanning.specs.Counts.{Scans, limit_by, scan_loads}
-use Rattle.version_laws.specs.Directions.{IsLawfulBy}
-use Rattle.rowex_scanning.specs.Scanning.{HasScanned, HasScannedPart, HasTaken, HasTakenPart, limited}
-use Rattle.rowex_scanning.specs.Tallies.{tally_of_number, tally_of_values}
-use Rattle.packed_pairs.specs.declared.direction.Direction.TheVariants.{Upwards}
-use Rattle.packed_pairs.specs.declared.direction.Direction.{Direction}
-use Rattle.rowex_table.specs.Runs.{StepsWith, silent}
-use Rattle.rowex_table.specs.Seats.{IsPassOf, IsSeatOf, SeatView, TableView}
-use Rattle.version_laws.specs.Scan.{Range}
-use Rattle.epochs.specs.Runs.{Pins}
-use Rattle.tries.specs.Keys.{Key}
-use Rattle.version_laws.specs.Directions.{ScanLaw}
-use Rattle.hot_index_calls.specs.Answers.{AreValuesListed, IsFoundBy, IsListedBy, IsUnnoted, range_from}
-use Rattle.hot_index_calls.specs.Calls.{IsCountReadWith, IsListReadBy, IsRangeReadWith, IsScanReadBy, IsValuesReadWith, no_part}
-use Rattle.hot_index_calls.specs.Passes.{PassView, IsSettled, pass_of}
 use Rattle.hot_index.proofs.index.Found.{listed_found, part_found, taken_found}
 use Rattle.hot_index.specs.Passes.{IsSettledWith}
 use Rattle.hot_index.specs.declared.key_counts.KeyCount.{KeyCount}
 use Rattle.hot_index.proofs.KeyCounts.Counted.{settled_on}
-use Rattle.hot_index_calls.proofs.Noting.{fits_then, looked}
 use Rattle.hot_index_calls.proofs.Noting.Scanned.{if_answered, if_refused, listed_scanned, listed_unnoted, scan_answered, scan_counted, scan_numbered, scan_refused, scan_settled, scan_valued}
-use Rattle.hot_index_calls.proofs.Traces.{has_walked}
 
 module _ {G : Type 0} {range : Range} {index : TableView} {becomes : G → Event → G → Type 0} {a b : PassView × G} where
   -- whatever part is left

@@ -1,21 +1,9 @@
 -- Passes that follow stamps, and how their calls stand.
-use Rattle.std.proofs.Common.{◌≡◌, List, sym, ap, subst, ◌∙◌, arith}
-use Rattle.std.specs.Prelude.{All}
-use Rattle.finite_map.specs.declared.Change.{Change}
-use Rattle.finite_map.specs.declared.Note.{Note}
-use Rattle.finite_map.specs.Calls.{StandsIn}
-use Rattle.finite_map.specs.Fronts.{BeginsWith}
-use Rattle.finite_map.proofs.Calls.{place_after-within}
-use Rattle.record_words.specs.declared.layout.Layout.{Layout}
-use Rattle.rowex_core.specs.declared.known.Known.{Known}
-use Rattle.rowex_table.specs.Rule.{HasFollowed, with_front}
-use Rattle.rowex_table.specs.Seats.{IsOneSeat, IsShownAll, SeatView}
-use Rattle.hot_index_calls.specs.Passes.{IsSettled, pass_of}
+use Rattle.hot_index.proofs.Common.{◌≡◌, List, sym, ap, subst, ◌∙◌, arith, All, Change, Note, StandsIn, BeginsWith, place_after-within, Layout, Known, HasFollowed, with_front, IsOneSeat, IsShownAll, SeatView, IsSettled, pass_of, longer}
 use Rattle.hot_index.specs.Stamps.{HasCaughtUp}
 use Rattle.hot_index.specs.Statements.{ReturnedBeforeBegun}
 use Rattle.hot_index.proofs.KeyCounts.Counted.{last_of}
 use Rattle.hot_index.proofs.index.Meets.{goes_on, unnoted}
-use Rattle.hot_index_calls.proofs.Noting.{longer}
 
 -- the pass is settled as before
 pub followed_settled : (layout : Layout) (stamp : List Change) (k j : Known) → HasFollowed layout stamp k j → IsSettled k → IsSettled j

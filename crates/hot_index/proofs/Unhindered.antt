@@ -1,59 +1,19 @@
 -- A call that is alone is not hindered: what no other pass had when it began, none has while it runs.
-use Rattle.std.proofs.Common.{◌≡◌, ◌≢◌, ◌⊎◌, inl, inr, ⊎_elim, ℕ, ◌+◌, ◌<◌, ◌≤◌, List, [], ◌∷◌, ◌++◌, length, get_or, Bool, true, false, ◌&&◌, nat_eq, if◌then◌else◌, Option, Some, None, Result, Ok, Err, IsOk, refl, sym, ap, subst, ◌∙◌, arith, append-nil, append_assoc, length-append}
-use Rattle.std.specs.Prelude.{All, Contains}
-use Rattle.std.proofs.lemmas.Bool.{ne_eqb}
-use Rattle.std.proofs.lemmas.List.{append_cancel_left}
-use Rattle.std.proofs.lemmas.List.Elements.{All-head, All-nil, All-tail}
-use Rattle.std.proofs.lemmas.Option.{get_or_from_slice_get, slice_get_within}
-use Rattle.finite_map.specs.declared.Call.{Call}
-use Rattle.finite_map.specs.declared.Change.{Change}
-use Rattle.finite_map.specs.declared.Kind.TheVariants.{Added}
-use Rattle.finite_map.specs.declared.Reply.{Reply}
-use Rattle.finite_map.specs.Fronts.{BeginsWith}
-use Rattle.finite_map.specs.Maps.{key_of}
-use Rattle.tries.specs.Keys.{Key}
-use Rattle.record_words.specs.declared.layout.Layout.{Layout}
-use Rattle.record_words.specs.declared.records.Rec.{Rec}
-use Rattle.record_words.specs.declared.records.Rec.TheVariants.{Node as a_node}
+use Rattle.hot_index.proofs.Common.{◌≡◌, ◌≢◌, ◌⊎◌, inl, inr, ⊎_elim, ℕ, ◌+◌, ◌<◌, ◌≤◌, List, [], ◌∷◌, ◌++◌, length, get_or, Bool, true, false, ◌&&◌, nat_eq, if◌then◌else◌, Option, Some, None, Result, Ok, Err, IsOk, refl, sym, ap, subst, ◌∙◌, arith, append-nil, append_assoc, length-append, All, ne_eqb, append_cancel_left, All-head, All-nil, All-tail, get_or_from_slice_get, slice_get_within, Call, Change, Added, Reply, BeginsWith, key_of, Key, Layout, Rec, a_node, IsLockable, ClearPin, Event, Known, Core, IsLawful, holder_of, IsFact, IsStillLoaded, Knows, opening, AreOthers, EventsLead, knows_all, SeatView, TableView, lead_layout, front_on, Full, TryFault, Busy, FullLeaves, FullNodes, NoChangeFrom, no_change_from_later, runs_begin, IsCause, MayTake, fault_of, AreTriesRefused, HasCause, IsOfLast, IsOutcome, IsTried, IsTriedAndCounted, MakesTries, loads_in, change_notes, IsCountTold, IsCountedAfter, as_tried, Refusal, IsNewPass, PassView, All-part, full_fault}
+use Rattle.std.specs.Prelude.{Contains}
 use Rattle.versions.specs.Core.{Fate, Free, Held, Ready, InTree, Unlinked, Marked}
-use Rattle.versions.specs.Steps.{IsLockable}
-use Rattle.rowex_core.specs.declared.event.Act.TheVariants.{ClearPin}
-use Rattle.rowex_core.specs.declared.event.Event.{Event}
 use Rattle.rowex_core.specs.declared.known.Holding.TheVariants.{Held as HeldRecord, Ready as ReadyRecord, Unlinked as UnlinkedRecord}
-use Rattle.rowex_core.specs.declared.known.Known.{Known}
 use Rattle.rowex_core.specs.declared.known.View.TheVariants.{Pass as a_pass}
-use Rattle.rowex_core.specs.Cores.{Core, IsLawful, holder_of}
-use Rattle.rowex_core.specs.Knowing.{IsFact, IsStillLoaded, Knows}
-use Rattle.rowex_core.specs.Opening.{opening}
-use Rattle.rowex_core.specs.Runs.{AreOthers, EventsLead}
 use Rattle.rowex_core.specs.Sharing.{anchored_at, holding_of, is_by, is_in_tree, locked, owned}
-use Rattle.rowex_core.proofs.Sharing.Owning.{knows_all}
 use Rattle.rowex_core.proofs.Runs.{runs_keep, runs_stay_lawful}
-use Rattle.rowex_table.specs.Seats.{SeatView, TableView}
 use Rattle.rowex_table.specs.Traces.{OthersStepOn, RunBeginsWith}
 use Rattle.rowex_table.proofs.Runs.Linking.{lead_rest}
 use Rattle.rowex_table.proofs.Onward.{begins_itself, begins_on, of_one_run, others_begin}
 use Rattle.rowex_table.proofs.Runs.{runs_same}
-use Rattle.publish_laws.proofs.Lone.{lead_layout}
-use Rattle.finite_map.proofs.Fronts.{begins_on as front_on}
-use Rattle.rowex_writing.specs.declared.plan.Full.{Full}
-use Rattle.rowex_writing.specs.declared.attempts.TryFault.{TryFault}
-use Rattle.rowex_writing.specs.declared.attempts.TryFault.TheVariants.{Busy, FullLeaves, FullNodes}
-use Rattle.rowex_writing.specs.locks.Locks.{NoChangeFrom}
 use Rattle.rowex_writing.specs.locks.Others.{HoldsLock, HasMadeSince}
-use Rattle.rowex_writing.proofs.Cited.{no_change_from_later, runs_begin}
 use Rattle.hot_index_calls.specs.Alone.{HasBeenHindered, HoldsNone, RunsAlone}
-use Rattle.hot_index_calls.specs.Answers.{IsCause, MayTake, fault_of}
-use Rattle.hot_index_calls.specs.Calls.{AreTriesRefused, HasCause, IsOfLast, IsOutcome, IsTried, IsTriedAndCounted, MakesTries}
-use Rattle.hot_index_calls.specs.Census.{loads_in}
-use Rattle.hot_index_calls.specs.Noting.{change_notes}
-use Rattle.hot_index_calls.specs.Refusals.{IsCountTold, IsCountedAfter, as_tried}
-use Rattle.hot_index_calls.specs.declared.refusals.Refusal.{Refusal}
 use Rattle.hot_index_calls.specs.declared.refusals.Refusal.TheVariants.{Busy as IsBusy, HeldBack, Full as IsFull}
-use Rattle.hot_index_calls.specs.Passes.{IsNewPass, PassView}
 use Rattle.hot_index_calls.proofs.Hindered.{ends_begin}
-use Rattle.hot_index_calls.proofs.Noting.{All-part}
-use Rattle.hot_index_calls.proofs.Counts.{full_fault}
 use Rattle.hot_index.specs.Alone.{AloneCallsEnd, TakesNone}
 
 -- ---- a pass that has nothing

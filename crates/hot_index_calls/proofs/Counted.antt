@@ -1,25 +1,8 @@
 -- What a count of records comes to.
-use Rattle.std.proofs.Common.{◌≡◌, ℕ, suc, ◌+◌, ◌*◌, ◌≤◌, List, [], ◌∷◌, ◌++◌, Bool, true, false, if◌then◌else◌, None, refl, sym, ap, subst, ◌∙◌, arith, length, length-append}
-use Rattle.std.specs.Prelude.{count_by}
-use Rattle.std.proofs.lemmas.List.Sums.{sum_by-append}
-use Rattle.record_words.specs.declared.TheConstants.{WORD_BYTES}
-use Rattle.record_words.specs.declared.state.Tag.{Tag}
-use Rattle.record_words.specs.declared.state.Tag.TheVariants.{Free, Held, Live, Locked, Obsolete}
-use Rattle.record_words.specs.Layout.{word_count}
+use Rattle.hot_index_calls.proofs.Common.{◌≡◌, ℕ, suc, ◌+◌, ◌*◌, ◌≤◌, List, [], ◌∷◌, ◌++◌, Bool, true, false, if◌then◌else◌, None, refl, sym, ap, subst, ◌∙◌, arith, length, length-append, count_by, sum_by-append, WORD_BYTES, Tag, Live, Locked, Obsolete, word_count, HasStateWord, state_word, Rec, a_node, a_leaf, Act, LoadState, Event, Known, lock_of, tag_of, Does, Steps, SeatView, TableView, does_none, runs_told, collecting}
+use Rattle.record_words.specs.declared.state.Tag.TheVariants.{Free, Held}
 use Rattle.record_words.specs.Reading.{IsSpelling}
-use Rattle.record_words.specs.State.{HasStateWord, state_word}
-use Rattle.record_words.specs.declared.records.Rec.{Rec}
-use Rattle.record_words.specs.declared.records.Rec.TheVariants.{Node as a_node, Leaf as a_leaf}
 use Rattle.rowex_core.proofs.Words.{has_state_word}
-use Rattle.rowex_core.specs.declared.event.Act.{Act}
-use Rattle.rowex_core.specs.declared.event.Act.TheVariants.{LoadState}
-use Rattle.rowex_core.specs.declared.event.Event.{Event}
-use Rattle.rowex_core.specs.declared.known.Known.{Known}
-use Rattle.rowex_core.specs.Words.{lock_of, tag_of}
-use Rattle.rowex_table.specs.Runs.{Does, Steps}
-use Rattle.rowex_table.specs.Seats.{SeatView, TableView}
-use Rattle.rowex_table.proofs.Runs.{does_none, runs_told}
-use Rattle.epochs.specs.Runs.{collecting}
 use Rattle.epochs.proofs.Runs.{collects_append, collects_look}
 use Rattle.hot_index_calls.specs.Census.{CountsAll, CountsFrom, FoundTags, HasCounted, counts_of, is_free, is_held, is_live, is_obsolete, loads_in, loads_of, with_tag}
 use Rattle.hot_index_calls.specs.Answers.{IsUnnoted}

@@ -1,57 +1,11 @@
 -- What an attempt to change the map leaves: it is noted where it was answered, and has changed nothing where it was refused.
-use Rattle.std.proofs.Common.{◌≡◌, ◌≢◌, ◌⊎◌, inl, inr, ⊎_elim, ℕ, ◌+◌, ◌*◌, ◌-◌, ◌<◌, ◌≤◌, List, [], ◌∷◌, ◌++◌, length, take, Bool, true, false, Option, Some, None, IsSome, Result, Ok, Err, refl, sym, ap, subst, ◌∙◌, arith, le_trans, length-append}
-use Rattle.std.specs.Prelude.{All, IfOk, IfErr, MatchResult, is_some, nat_eq}
+use Rattle.hot_index_calls.proofs.Common.{◌≡◌, ◌≢◌, ◌⊎◌, inl, inr, ⊎_elim, ℕ, ◌+◌, ◌*◌, ◌-◌, ◌<◌, ◌≤◌, List, [], ◌∷◌, ◌++◌, length, take, Bool, true, false, Option, Some, None, IsSome, Result, Ok, Err, refl, sym, ap, subst, ◌∙◌, arith, le_trans, length-append, All, IfOk, IfErr, MatchResult, is_some, MAX_BYTES, All-head, All-tail, Call, Insert, Upsert, Exchange, Add, Get, Remove, RemoveIf, Change, Note, Reply, Exchanged, Removed, LegalCalls, change_of, effect_of, BeginsWith, LegalFront, OthersGoOn, map_of, Map, key_of, reply_of, step_if, step_where, value_at, begins_on, legal_front_part, legal_change, legal_longer, Layout, Key, Rec, a_node, a_leaf, Act, ClearPin, Event, Target, Failed, Known, Core, IsLawful, IsEvent, IsPinnedSince, Recalls, Runs, StepsWith, MakesNoAside, SeatView, TableView, event_recalls, act_leaves, runs_same, HasMissed, IsAnothers, Pins, KeepsSpare, HasAnswered, HasRefused, IsChangeOf, LacksNoLeaf, HasLoadedRoot, HasChanged, LacksLeaves, LacksNodes, HasMetLock, HasMetTaken, HasTried, IsOfAttempt, nodes_among, Full, OfNodes, OfLeaves, TryFault, Busy, FullNodes, FullLeaves, lacks_so, of_attempt_pin, runs_begin, IsHindered, RunBeginsWith, run_begins_on}
+use Rattle.std.specs.Prelude.{nat_eq}
 use Rattle.std.specs.Option.{option_map}
-use Rattle.key_bits.specs.declared.TheConstants.{MAX_BYTES}
-use Rattle.std.proofs.lemmas.List.Elements.{All-head, All-tail}
-use Rattle.finite_map.specs.declared.Call.{Call}
-use Rattle.finite_map.specs.declared.Call.TheVariants.{Insert, Upsert, Exchange, Add, Get, Remove, RemoveIf}
-use Rattle.finite_map.specs.declared.Change.{Change}
 use Rattle.finite_map.specs.declared.Kind.{Kind}
-use Rattle.finite_map.specs.declared.Note.{Note}
-use Rattle.finite_map.specs.declared.Reply.{Reply}
-use Rattle.finite_map.specs.declared.Reply.TheVariants.{Exchanged, Removed}
-use Rattle.finite_map.specs.Calls.{LegalCalls, change_of, effect_of}
-use Rattle.finite_map.specs.Fronts.{BeginsWith, LegalFront, OthersGoOn, map_of}
-use Rattle.finite_map.specs.Maps.{Map, key_of, reply_of, step_if, step_where, value_at}
-use Rattle.finite_map.proofs.Fronts.{begins_on, legal_front_part}
-use Rattle.finite_map.proofs.Calls.{legal_change, legal_longer}
-use Rattle.record_words.specs.declared.layout.Layout.{Layout}
-use Rattle.tries.specs.Keys.{Key}
-use Rattle.record_words.specs.declared.records.Rec.{Rec}
-use Rattle.record_words.specs.declared.records.Rec.TheVariants.{Node as a_node, Leaf as a_leaf}
-use Rattle.rowex_core.specs.declared.event.Act.{Act}
-use Rattle.rowex_core.specs.declared.event.Act.TheVariants.{ClearPin}
-use Rattle.rowex_core.specs.declared.event.Event.{Event}
-use Rattle.rowex_core.specs.declared.event.Target.{Target}
-use Rattle.rowex_core.specs.declared.known.Failed.{Failed}
-use Rattle.rowex_core.specs.declared.known.Known.{Known}
-use Rattle.rowex_core.specs.Cores.{Core, IsLawful}
-use Rattle.rowex_core.specs.Knowing.{IsEvent, IsPinnedSince, Recalls}
-use Rattle.rowex_table.specs.Runs.{Runs, StepsWith}
-use Rattle.rowex_table.specs.Seats.{MakesNoAside, SeatView, TableView}
-use Rattle.rowex_reading.proofs.Seen.Later.{event_recalls}
-use Rattle.rowex_table.proofs.Made.ActsLeave.{act_leaves}
-use Rattle.rowex_table.proofs.Runs.{runs_same}
-use Rattle.rowex_records.specs.Claims.{HasMissed, IsAnothers}
 use Rattle.publish_laws.specs.Ending.{IsAtRest}
-use Rattle.epochs.specs.Runs.{Pins}
-use Rattle.publish_laws.specs.Lone.{KeepsSpare}
 use Rattle.rowex_writing.specs.plan.Asking.{reply_to}
 use Rattle.rowex_writing.specs.attempts.Attempts as tries
-use Rattle.rowex_writing.specs.attempts.Attempts.{HasAnswered, HasRefused, IsChangeOf, LacksNoLeaf}
-use Rattle.rowex_writing.specs.plan.Planned.{HasLoadedRoot}
-use Rattle.rowex_writing.specs.build.Changes.{HasChanged, LacksLeaves, LacksNodes}
-use Rattle.rowex_writing.specs.locks.Locks.{HasMetLock, HasMetTaken, HasTried, IsOfAttempt}
-use Rattle.rowex_writing.specs.build.Walks.{nodes_among}
-use Rattle.rowex_writing.specs.declared.plan.Full.{Full}
-use Rattle.rowex_writing.specs.declared.plan.Full.TheVariants.{Nodes as OfNodes, Leaves as OfLeaves}
-use Rattle.rowex_writing.specs.declared.attempts.TryFault.{TryFault}
-use Rattle.rowex_writing.specs.declared.attempts.TryFault.TheVariants.{Busy, FullNodes, FullLeaves}
-use Rattle.rowex_writing.proofs.Cited.{lacks_so, of_attempt_pin, runs_begin}
-use Rattle.rowex_writing.specs.locks.Others.{IsHindered}
-use Rattle.rowex_table.specs.Traces.{RunBeginsWith}
-use Rattle.rowex_table.proofs.Onward.{begins_on as run_begins_on}
 use Rattle.hot_index_calls.specs.Alone.{HasBeenHindered}
 use Rattle.hot_index_calls.specs.Answers.{IsCause, IsNoted, IsRefused, IsRefusedFor, IsUnnoted, MayLack, MayRefuse, MayTake, WasFound, fault_of}
 use Rattle.hot_index_calls.specs.Asked.{HasAsked, HasLacked, HasReplied, last_try}

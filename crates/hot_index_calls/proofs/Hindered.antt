@@ -1,29 +1,8 @@
 -- What hindered an attempt, by the run of the table.
-use Rattle.std.proofs.Common.{◌≡◌, ◌≢◌, ◌⊎◌, inl, inr, ℕ, ◌<◌, ◌≤◌, List, [], ◌∷◌, length, get_or, Some, refl, sym, ap, subst, ◌∙◌, arith, append-nil, length-append}
-use Rattle.std.proofs.lemmas.Option.{slice_get-get_or}
-use Rattle.finite_map.specs.declared.Change.{Change}
-use Rattle.finite_map.specs.declared.Kind.TheVariants.{Added}
-use Rattle.finite_map.specs.declared.Note.{Note}
-use Rattle.finite_map.specs.Fronts.{OthersGoOn}
-use Rattle.record_words.specs.declared.layout.Layout.{Layout}
-use Rattle.versions.specs.declared.Pin.{Pin}
-use Rattle.rowex_core.specs.declared.event.Act.{Act}
-use Rattle.rowex_core.specs.declared.event.Act.TheVariants.{ClearPin, LoadEpoch, SetPin}
-use Rattle.rowex_core.specs.declared.event.Event.{Event}
-use Rattle.rowex_core.specs.declared.known.Known.{Known}
-use Rattle.rowex_core.specs.Cores.{Core}
-use Rattle.rowex_core.specs.Events.{after}
-use Rattle.rowex_core.specs.Knowing.{version_of}
-use Rattle.rowex_core.specs.Opening.{opening}
+use Rattle.hot_index_calls.proofs.Common.{◌≡◌, ◌≢◌, ◌⊎◌, inl, inr, ℕ, ◌<◌, ◌≤◌, List, [], ◌∷◌, length, get_or, Some, refl, sym, ap, subst, ◌∙◌, arith, length-append, slice_get-get_or, Change, Added, Note, OthersGoOn, Layout, Pin, Act, ClearPin, LoadEpoch, SetPin, Event, Known, Core, after, version_of, opening, Does, Ends, Steps, StepsWith, SeatView, TableView, RunBeginsWith, led_more, next_begins, Pins, NoChangeFrom, HasMetOther, IsHindered, met_between, no_change_from_later, runs_begin}
+use Rattle.std.proofs.Common.{append-nil}
 use Rattle.rowex_core.specs.Runs.{EventsLead}
-use Rattle.rowex_table.specs.Runs.{Does, Ends, Steps, StepsWith}
-use Rattle.rowex_table.specs.Seats.{SeatView, TableView}
-use Rattle.rowex_table.specs.Traces.{RunBeginsWith}
-use Rattle.rowex_table.proofs.Onward.{begins_on, led_more, next_begins, others_begin}
-use Rattle.epochs.specs.Runs.{Pins}
-use Rattle.rowex_writing.specs.locks.Locks.{NoChangeFrom}
-use Rattle.rowex_writing.specs.locks.Others.{HasMetOther, IsHindered}
-use Rattle.rowex_writing.proofs.Cited.{met_between, no_change_from_later, runs_begin}
+use Rattle.rowex_table.proofs.Onward.{begins_on, others_begin}
 use Rattle.hot_index_calls.specs.Alone.{HasBeenHindered}
 use Rattle.hot_index_calls.specs.Traces.{HasEnded, HasStepped}
 use Rattle.hot_index_calls.proofs.changing.Conflicts.{no_change_since_pins}

@@ -1,40 +1,8 @@
--- In a table with one pass a call that was refused as full leaves used what it lacked. So a count after it finds fewer free than the call needs.
-use Rattle.std.proofs.Common.{◌≡◌, ◌≢◌, ◌⊎◌, inl, inr, ℕ, zero, suc, ◌+◌, ◌<◌, ◌≤◌, List, [], ◌∷◌, ◌++◌, Bool, true, false, if◌then◌else◌, Option, Some, None, Result, Err, length, refl, sym, ap, subst, ◌∙◌, arith}
-use Rattle.std.specs.Prelude.{All, Contains, IfErr, count_by}
-use Rattle.std.proofs.lemmas.Bool.{cases_Bool, false≢true}
-use Rattle.std.proofs.lemmas.List.Elements.{All-cons, All-nil}
-use Rattle.finite_map.specs.declared.Call.{Call}
-use Rattle.finite_map.specs.declared.Note.{Note}
-use Rattle.finite_map.specs.declared.Reply.{Reply}
-use Rattle.finite_map.specs.Maps.{key_of}
+-- In a table with one pass a call that was refused as full leaves used what it lacked. So a count after it finds fewer free than the call
+-- needs.
+use Rattle.hot_index_calls.proofs.Common.{◌≡◌, ◌≢◌, ◌⊎◌, inl, inr, ℕ, zero, suc, ◌+◌, ◌<◌, ◌≤◌, List, [], ◌∷◌, ◌++◌, Bool, true, false, if◌then◌else◌, Option, Some, None, Result, Err, length, refl, sym, ap, subst, ◌∙◌, arith, All, Contains, IfErr, count_by, cases_Bool, false≢true, All-cons, All-nil, Call, Note, Reply, key_of, leaf_size, state_word, LARGE_WORDS, LEAF_WORDS, MEDIUM_WORDS, SHORT_WORDS, WIDE_WORDS, MAX_BYTES, Layout, Rec, a_node, a_leaf, Tag, FreeTag, HeldTag, Live, Locked, Obsolete, Key, Fate, Free, Held, Ready, InTree, Unlinked, Marked, same_rec, same_rec_refl, same_rec_true, lock_of, tag_of, LoadState, Event, Known, Runs, SeatView, TableView, IsAnothers, nodes_among, TryFault, FullNodes, FullLeaves, Full, Nodes, Leaves, runs_split}
 use Rattle.record_words.proofs.Runs.{IsClass, large_class, long_class, medium_class, short_class, wide_class}
 use Rattle.record_words.specs.Leaf.{words_for}
-use Rattle.record_words.specs.Layout.{leaf_size}
-use Rattle.record_words.specs.State.{state_word}
-use Rattle.record_words.specs.declared.TheConstants.{LARGE_WORDS, LEAF_WORDS, MEDIUM_WORDS, SHORT_WORDS, WIDE_WORDS}
-use Rattle.key_bits.specs.declared.TheConstants.{MAX_BYTES}
-use Rattle.record_words.specs.declared.layout.Layout.{Layout}
-use Rattle.record_words.specs.declared.records.Rec.{Rec}
-use Rattle.record_words.specs.declared.records.Rec.TheVariants.{Node as a_node, Leaf as a_leaf}
-use Rattle.record_words.specs.declared.state.Tag.{Tag}
-use Rattle.record_words.specs.declared.state.Tag.TheVariants.{Free as FreeTag, Held as HeldTag, Live, Locked, Obsolete}
-use Rattle.tries.specs.Keys.{Key}
-use Rattle.versions.specs.Core.{Fate, Free, Held, Ready, InTree, Unlinked, Marked}
-use Rattle.versions.specs.Steps.{same_rec}
-use Rattle.versions.proofs.Core.{same_rec_refl, same_rec_true}
-use Rattle.rowex_core.specs.Words.{lock_of, tag_of}
-use Rattle.rowex_core.specs.declared.event.Act.TheVariants.{LoadState}
-use Rattle.rowex_core.specs.declared.event.Event.{Event}
-use Rattle.rowex_core.specs.declared.known.Known.{Known}
-use Rattle.rowex_table.specs.Runs.{Runs}
-use Rattle.rowex_table.specs.Seats.{SeatView, TableView}
-use Rattle.rowex_records.specs.Claims.{IsAnothers}
-use Rattle.rowex_writing.specs.build.Walks.{nodes_among}
-use Rattle.rowex_writing.specs.declared.attempts.TryFault.{TryFault}
-use Rattle.rowex_writing.specs.declared.attempts.TryFault.TheVariants.{FullNodes, FullLeaves}
-use Rattle.rowex_writing.specs.declared.plan.Full.{Full}
-use Rattle.rowex_writing.specs.declared.plan.Full.TheVariants.{Nodes, Leaves}
-use Rattle.rowex_writing.proofs.Cited.{runs_split}
 use Rattle.hot_index_calls.specs.Answers.{IsRefusedFor, fault_of}
 use Rattle.hot_index_calls.specs.Asked.{HasLacked}
 use Rattle.hot_index_calls.specs.Census.{FoundTags, OneForEach, counts_in, is_free, loads_in, loads_of}

@@ -1,4 +1,5 @@
 -- The lemmas of the crate.
+mod Common
 pub mod Traces
 pub mod Noting
 pub mod Passes

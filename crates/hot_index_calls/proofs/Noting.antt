@@ -1,41 +1,13 @@
 -- How an answered call gets its note: one that changed nothing, and what is the same of each.
 pub mod Scanned
-use Rattle.std.proofs.Common.{◌≡◌, ◌≢◌, ℕ, zero, suc, ◌+◌, ◌-◌, ◌<◌, ◌≤◌, List, [], ◌∷◌, ◌++◌, length, take, Bool, true, false, if◌then◌else◌, Option, Some, None, refl, sym, ap, subst, ◌∙◌, arith, le_refl, le_trans, length-append, nat_eq, eq-eqb}
-use Rattle.std.proofs.lemmas.Bool.{false≢true}
-use Rattle.std.specs.Prelude.{All}
-use Rattle.std.proofs.lemmas.List.Elements.{All-cons, All-head, All-nil, All-tail}
+use Rattle.hot_index_calls.proofs.Common.{◌≡◌, ◌≢◌, ℕ, zero, suc, ◌+◌, ◌-◌, ◌<◌, ◌≤◌, List, [], ◌∷◌, ◌++◌, length, take, Bool, true, false, if◌then◌else◌, Option, Some, None, refl, sym, ap, subst, ◌∙◌, arith, le_refl, le_trans, length-append, nat_eq, false≢true, All, All-cons, All-head, All-nil, All-tail, Call, Get, Change, Note, Reply, Inserted, Exists, New, Was, Exchanged, Differs, Value, Absent, Removed, Map, value_at, step_where, reply_of, map_of, BeginsWith, LegalFront, OthersGoOn, is_change, LegalCalls, others_begin, legal_quiet, Layout, Key, Act, ClearPin, Event, Known, Core, IsLawful, Recalls, IsEvent, StepsWith, TableView, SeatView, IsPassOf, MakesNoAside, Pins, HasFound, HasSearched, Looks, Sure, since, event_recalls}
+use Rattle.std.proofs.Common.{eq-eqb}
 use Rattle.std.proofs.lemmas.Bool.Decides.{nat_tests}
-use Rattle.finite_map.specs.declared.Call.{Call}
-use Rattle.finite_map.specs.declared.Call.TheVariants.{Get}
-use Rattle.finite_map.specs.declared.Change.{Change}
-use Rattle.finite_map.specs.declared.Note.{Note}
-use Rattle.finite_map.specs.declared.Reply.{Reply}
-use Rattle.finite_map.specs.declared.Reply.TheVariants.{Inserted, Exists, New, Was, Exchanged, Differs, Value, Absent, Removed}
-use Rattle.finite_map.specs.Maps.{Map, value_at, step_where, reply_of}
-use Rattle.finite_map.specs.Fronts.{map_of, BeginsWith, LegalFront, OthersGoOn}
-use Rattle.finite_map.specs.Calls.{is_change, LegalCalls}
-use Rattle.finite_map.proofs.Fronts.{others_begin}
-use Rattle.finite_map.proofs.Calls.{legal_quiet}
-use Rattle.record_words.specs.declared.layout.Layout.{Layout}
-use Rattle.tries.specs.Keys.{Key}
 use Rattle.tries.specs.Tree.{Tree, Has, IsTrie}
 use Rattle.tries.proofs.Content.{holds_has}
 use Rattle.tries.proofs.Content.Maps.{holds_value, value_holds}
 use Rattle.versions.specs.State.{IsHeldSince, WasAbsentSince}
 use Rattle.versions.specs.Told.{content}
-use Rattle.rowex_core.specs.declared.event.Act.{Act}
-use Rattle.rowex_core.specs.declared.event.Act.TheVariants.{ClearPin}
-use Rattle.rowex_core.specs.declared.event.Event.{Event}
-use Rattle.rowex_core.specs.declared.known.Known.{Known}
-use Rattle.rowex_core.specs.Cores.{Core, IsLawful}
-use Rattle.rowex_core.specs.Knowing.{Recalls, IsEvent}
-use Rattle.rowex_table.specs.Runs.{StepsWith}
-use Rattle.rowex_table.specs.Seats.{TableView, SeatView, IsPassOf, MakesNoAside}
-use Rattle.epochs.specs.Runs.{Pins}
-use Rattle.rowex_reading.specs.Lookups.{HasFound, HasSearched}
-use Rattle.rowex_reading.specs.Reads.{Looks}
-use Rattle.rowex_reading.specs.Seen.{Sure, since}
-use Rattle.rowex_reading.proofs.Seen.Later.{event_recalls}
 use Rattle.rowex_reading.proofs.Seen.Led.{HasLookedAt, looked_at}
 use Rattle.rowex_reading.proofs.Seen.{seen_told, seen_within}
 use Rattle.hot_index_calls.specs.Passes.{AreByPasses, IsSettled, pass_of}

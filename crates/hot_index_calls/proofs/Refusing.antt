@@ -1,28 +1,5 @@
 -- A count of all records, after a try that found none free.
-use Rattle.std.proofs.Common.{◌≡◌, ℕ, zero, suc, take, get_or, ◌+◌, ◌<◌, ◌≤◌, List, [], ◌∷◌, ◌++◌, length, Err, inl, inr, ⊎_elim, refl, sym, ap, subst, ◌∙◌, arith}
-use Rattle.finite_map.specs.declared.Call.{Call}
-use Rattle.finite_map.specs.Maps.{key_of}
-use Rattle.record_words.specs.declared.layout.Layout.{Layout}
-use Rattle.tries.specs.Keys.{Key}
-use Rattle.record_words.specs.declared.records.Rec.{Rec}
-use Rattle.record_words.specs.declared.records.Rec.TheVariants.{Node as a_node, Leaf as a_leaf}
-use Rattle.rowex_core.specs.declared.event.Act.{Act}
-use Rattle.rowex_core.specs.declared.event.Event.{Event}
-use Rattle.rowex_core.specs.declared.known.Failed.{Failed}
-use Rattle.rowex_core.specs.declared.known.Fresh.{Fresh}
-use Rattle.rowex_core.specs.declared.known.Known.{Known}
-use Rattle.rowex_core.specs.Events.{word_of}
-use Rattle.rowex_table.specs.Runs.{Does, Ends, Runs, silent}
-use Rattle.rowex_table.specs.Seats.{SeatView, TableView}
-use Rattle.rowex_table.proofs.Runs.{runs_append, runs_one}
-use Rattle.epochs.specs.Runs.{collecting}
-use Rattle.rowex_records.specs.Claims.{HasMissedSince, IsAnothers}
-use Rattle.rowex_writing.specs.build.Changes.{LacksLeaves, LacksNodes}
-use Rattle.rowex_writing.specs.declared.plan.Full.{Full}
-use Rattle.rowex_writing.specs.declared.plan.Full.TheVariants.{Nodes, Leaves}
-use Rattle.rowex_writing.specs.build.Walks.{nodes_among}
-use Rattle.rowex_writing.proofs.Cited.{lacks_so, run_failed}
-use Rattle.rowex_writing.specs.locks.Locks.{HasMetTaken}
+use Rattle.hot_index_calls.proofs.Common.{◌≡◌, ℕ, zero, suc, take, get_or, ◌+◌, ◌<◌, ◌≤◌, List, [], ◌∷◌, ◌++◌, length, Err, inl, inr, ⊎_elim, refl, sym, ap, subst, ◌∙◌, arith, Call, key_of, Layout, Key, Rec, a_node, a_leaf, Act, Event, Failed, Fresh, Known, word_of, Does, Ends, Runs, silent, SeatView, TableView, runs_append, runs_one, collecting, HasMissedSince, IsAnothers, LacksLeaves, LacksNodes, Full, Nodes, Leaves, nodes_among, lacks_so, run_failed, HasMetTaken}
 use Rattle.hot_index_calls.specs.Answers.{HasConflict, IsCause, IsOvertaken, fault_of}
 use Rattle.hot_index_calls.specs.Asked.{HasLacked, HasReplied}
 use Rattle.hot_index_calls.specs.Calls.{IsTriedAndCounted}

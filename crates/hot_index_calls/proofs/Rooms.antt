@@ -1,48 +1,11 @@
 -- In a table with one pass a round of collection leaves a node record free, if one stood in no tree.
-use Rattle.std.proofs.Common.{◌≡◌, ◌≢◌, ◌⊎◌, inl, inr, ⊎_elim, ℕ, zero, suc, ◌+◌, ◌*◌, ◌<◌, ◌≤◌, List, [], ◌∷◌, ◌++◌, Bool, true, false, nat_eq, nat_lt, if◌then◌else◌, Option, Some, None, length, refl, sym, ap, subst, ◌∙◌, arith, ap₂, length-append}
-use Rattle.std.proofs.lemmas.Bool.{cases_lt, eq-eqb, lt-ltb}
-use Rattle.std.proofs.lemmas.List.Elements.{All-append, All-cons, All-head, All-nil, All-tail}
-use Rattle.std.specs.Prelude.{All}
-use Rattle.epochs.specs.Rounds.{IsRound, IsSmallRound, LoadsPin, VisitEach, Visits, advance_steps}
-use Rattle.epochs.specs.Runs.{Pins}
-use Rattle.finite_map.specs.declared.Note.{Note}
+use Rattle.hot_index_calls.proofs.Common.{◌≡◌, ◌≢◌, ◌⊎◌, inl, inr, ⊎_elim, ℕ, zero, suc, ◌+◌, ◌*◌, ◌<◌, ◌≤◌, List, [], ◌∷◌, ◌++◌, Bool, true, false, nat_eq, nat_lt, if◌then◌else◌, Option, Some, None, length, refl, sym, ap, subst, ◌∙◌, arith, ap₂, length-append, cases_lt, eq-eqb, lt-ltb, All-append, All-cons, All-head, All-nil, All-tail, All, IsRound, IsSmallRound, LoadsPin, VisitEach, Visits, advance_steps, Pins, Note, IsBack, lead_layout, lead_same, one_of, runs_back, runs_free, runs_spare, step_back, step_knows, step_lawful, unused_free, HasRoom, HasSpare, KeepsSpare, IsLone, IsOut, LeavesTree, IsUnused, state_word, EPOCHS, Layout, Tag, Obsolete, knows_all, Core, HasRecord, IsLawful, holder_of, after, given_back, Knows, opening, Share, lock_of, tag_of, Advance, ClearPin, GiveBack, LoadEpoch, LoadPin, LoadState, Mark, SetPin, Act, Event, UnlinkedBy, Known, act_leaves, InTurn, Runs, Steps, StepsWith, silent, SeatView, TableView, LeavesRound, runs_split, step_lone, same_rec_refl, Fate, Free, Held, Ready, InTree, Unlinked, Marked, lowered, with_epoch, IsOneOf, a_node, a_leaf, Rec}
 use Rattle.hot_index_calls.specs.Census.{FoundTags, loads_in, loads_of}
 use Rattle.hot_index_calls.specs.Rooms.{HasNoneRetired, IsUnretired, IsUnretiredAt}
 use Rattle.hot_index_calls.specs.Traces.{Collects, HasEnded}
 use Rattle.publish_laws.proofs.Lone.Fates.{IsClosed, MarksWell, fate_kept, out_closed, out_marks}
-use Rattle.publish_laws.proofs.Lone.{IsBack, lead_layout, lead_same, one_of, runs_back, runs_free, runs_spare, step_back, step_knows, step_lawful, unused_free}
 use Rattle.publish_laws.proofs.Lone.Timely.{IsMarkedBy, run_timely}
-use Rattle.publish_laws.specs.Lone.{HasRoom, HasSpare, KeepsSpare, IsLone, IsOut, LeavesTree, IsUnused}
-use Rattle.record_words.specs.State.{state_word}
-use Rattle.record_words.specs.declared.TheConstants.{EPOCHS}
-use Rattle.record_words.specs.declared.layout.Layout.{Layout}
-use Rattle.record_words.specs.declared.state.Tag.{Tag}
-use Rattle.record_words.specs.declared.state.Tag.TheVariants.{Obsolete}
-use Rattle.rowex_core.proofs.Sharing.Owning.{knows_all}
 use Rattle.rowex_core.proofs.Statements.Promises.{opening_is_lawful}
-use Rattle.rowex_core.specs.Cores.{Core, HasRecord, IsLawful, holder_of}
-use Rattle.rowex_core.specs.Events.{after, given_back}
-use Rattle.rowex_core.specs.Knowing.{Knows}
-use Rattle.rowex_core.specs.Opening.{opening}
-use Rattle.rowex_core.specs.Sharing.{Share}
-use Rattle.rowex_core.specs.Words.{lock_of, tag_of}
-use Rattle.rowex_core.specs.declared.event.Act.TheVariants.{Advance, ClearPin, GiveBack, LoadEpoch, LoadPin, LoadState, Mark, SetPin}
-use Rattle.rowex_core.specs.declared.event.Act.{Act}
-use Rattle.rowex_core.specs.declared.event.Event.{Event}
-use Rattle.rowex_core.specs.declared.known.Holding.TheVariants.{Unlinked as UnlinkedBy}
-use Rattle.rowex_core.specs.declared.known.Known.{Known}
-use Rattle.rowex_table.proofs.Made.ActsLeave.{act_leaves}
-use Rattle.rowex_table.specs.Runs.{InTurn, Runs, Steps, StepsWith, silent}
-use Rattle.rowex_table.specs.Seats.{SeatView, TableView}
-use Rattle.rowex_table.specs.Stays.{LeavesRound}
-use Rattle.rowex_writing.proofs.Cited.{runs_split, step_lone}
-use Rattle.versions.proofs.Core.{same_rec_refl}
-use Rattle.versions.specs.Core.{Fate, Free, Held, Ready, InTree, Unlinked, Marked}
-use Rattle.versions.specs.Steps.{lowered}
-use Rattle.versions.specs.Steps.{with_epoch}
-use Rattle.versions.specs.Trades.{IsOneOf}
-use Rattle.record_words.specs.declared.records.Rec.TheVariants.{Node as a_node, Leaf as a_leaf}
-use Rattle.record_words.specs.declared.records.Rec.{Rec}
 use Rattle.versions.specs.declared.Round.{Round}
 
 -- ---- what a visit frees

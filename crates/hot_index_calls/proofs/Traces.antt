@@ -1,29 +1,9 @@
 -- The steps of a call, and what its gate was told.
-use Rattle.std.proofs.Common.{◌≡◌, ◌⊎◌, ℕ, ◌+◌, ◌*◌, ◌≤◌, List, [], ◌∷◌, ◌++◌, false, Result, inl, inr, refl, sym, ap, subst, arith}
-use Rattle.key_bits.specs.declared.TheConstants.{MAX_BYTES}
-use Rattle.finite_map.specs.declared.Call.{Call}
-use Rattle.finite_map.specs.declared.Note.{Note}
-use Rattle.finite_map.specs.declared.Reply.{Reply}
-use Rattle.rowex_core.specs.declared.event.Act.{Act}
-use Rattle.rowex_core.specs.declared.event.Act.TheVariants.{ClearPin, LoadEpoch, LoadRef, SetPin}
-use Rattle.rowex_core.specs.declared.event.Event.{Event}
-use Rattle.rowex_core.specs.declared.event.Spot.TheVariants.{Root}
-use Rattle.rowex_core.specs.declared.known.Known.{Known}
-use Rattle.rowex_table.specs.Runs.{Ends, IsTold, Runs, SeesAllOfRun, StepsWith, entry_touches, events_of, silent}
-use Rattle.rowex_table.specs.Seats.{TableView, SeatView}
-use Rattle.rowex_table.proofs.Runs.{ends_told, runs_append}
+use Rattle.hot_index_calls.proofs.Common.{◌≡◌, ◌⊎◌, ℕ, ◌+◌, ◌*◌, ◌≤◌, List, [], ◌∷◌, ◌++◌, false, Result, inl, inr, refl, sym, ap, subst, arith, MAX_BYTES, Call, Note, Reply, Act, ClearPin, LoadEpoch, LoadRef, SetPin, Event, Root, Known, Ends, IsTold, Runs, SeesAllOfRun, StepsWith, entry_touches, events_of, silent, TableView, SeatView, ends_told, runs_append, advance_steps, Pins, HasSearched, HaveSearched, search_touches, Looks, entries_in, HasAttempted, targets_of, HasTried, TryFault, Full}
 use Rattle.rowex_table.proofs.Seats.Seeing.{ends_see, runs_after, runs_see, sees_then, step_after, step_shows}
-use Rattle.epochs.specs.Rounds.{advance_steps}
-use Rattle.epochs.specs.Runs.{Pins}
-use Rattle.rowex_reading.specs.Lookups.{HasSearched, HaveSearched, search_touches}
-use Rattle.rowex_reading.specs.Reads.{Looks, entries_in}
 use Rattle.rowex_reading.proofs.Counting.{looks_count}
 use Rattle.rowex_reading.proofs.Touching.{ends_touch, root_still, runs_touch}
 use Rattle.rowex_scanning.specs.Counts.{Scans, scan_entries}
-use Rattle.rowex_writing.specs.attempts.Attempts.{HasAttempted}
-use Rattle.rowex_writing.specs.locks.Locks.{targets_of, HasTried}
-use Rattle.rowex_writing.specs.declared.attempts.TryFault.{TryFault}
-use Rattle.rowex_writing.specs.declared.plan.Full.{Full}
 use Rattle.hot_index_calls.specs.Answers.{IsRefusedFor, fault_of}
 use Rattle.hot_index_calls.specs.Counts.{try_steps}
 use Rattle.hot_index_calls.specs.Many.{HasMadeGetManySteps}

@@ -1,43 +1,12 @@
--- In a table with one pass a record that was found not free, and is not its pass's, is in the tree or retired. It stays so after steps that don't give
--- it back.
-use Rattle.std.proofs.Common.{◌≡◌, ◌⊎◌, inl, inr, ⊎_elim, ℕ, zero, suc, ◌+◌, ◌<◌, ◌≤◌, List, [], ◌∷◌, ◌++◌, Bool, true, false, nat_eq, nat_lt, if◌then◌else◌, Option, Some, None, refl, sym, ap, subst, ◌∙◌, arith}
-use Rattle.std.specs.Prelude.{All, Contains, count_by}
-use Rattle.std.proofs.lemmas.Bool.{cases_lt, eq-eqb, eqb-true, false≢true}
-use Rattle.std.proofs.lemmas.List.Elements.{All-append, All-cons, All-contains, All-head, All-nil, All-tail, All-weaker}
-use Rattle.std.proofs.lemmas.List.Sums.{sum_by-append}
-use Rattle.finite_map.specs.declared.Note.{Note}
-use Rattle.record_words.specs.State.{state_word}
-use Rattle.record_words.specs.declared.TheConstants.{EPOCHS}
-use Rattle.record_words.specs.declared.layout.Layout.{Layout}
-use Rattle.record_words.specs.declared.records.Rec.{Rec}
-use Rattle.record_words.specs.declared.records.Rec.TheVariants.{Node as a_node, Leaf as a_leaf}
-use Rattle.record_words.specs.declared.state.Tag.TheVariants.{Free as FreeTag, Live, Obsolete}
-use Rattle.versions.specs.Core.{Fate, Shared, Free, Held, Ready, InTree, Unlinked, Marked}
-use Rattle.versions.specs.Steps.{is_linked, next_fate, same_rec, unlocked, with_epoch, with_fate, with_lock}
+-- In a table with one pass a record that was found not free, and is not its pass's, is in the tree or retired. It stays so after steps that
+-- don't give it back.
+use Rattle.hot_index_calls.proofs.Common.{◌≡◌, ◌⊎◌, inl, inr, ⊎_elim, ℕ, zero, suc, ◌+◌, ◌<◌, ◌≤◌, List, [], ◌∷◌, ◌++◌, Bool, true, false, nat_eq, nat_lt, if◌then◌else◌, Option, Some, None, refl, sym, ap, subst, ◌∙◌, arith, All, Contains, count_by, cases_lt, eq-eqb, eqb-true, false≢true, All-append, All-cons, All-contains, All-head, All-nil, All-tail, All-weaker, sum_by-append, Note, state_word, EPOCHS, Layout, Rec, a_node, a_leaf, FreeTag, Live, Obsolete, Fate, Shared, Free, Held, Ready, InTree, Unlinked, Marked, is_linked, next_fate, same_rec, unlocked, with_epoch, with_fate, with_lock, Core, IsLawful, holder_of, IsAtomic, Legal, after, anchored, claimed, given_back, marked, next_tree, state_of, target_word, word_of, IsEvent, anchor_learned, blocking_pass_of, claim_learned, failed_with, lock_of, state_at, tag_of, Act, Claim, Fill, MakeReady, Release, LoadRef, LoadFixed, Lock, Unlock, Publish, Mark, LoadEpoch, Advance, SetPin, ClearPin, LoadPin, LoadState, GiveBack, Load, Event, Failed, Known, act_leaves, InTurn, Runs, Steps, StepsWith, silent, SeatView, TableView, LeavesFailed, HasMissedSince, TellsState, IsOfAttempt, IsRound, LoadsPin, Visits, advance_steps, has_given, step_back, Nodes, Leaves}
 use Rattle.rowex_core.proofs.Sharing.{at_record}
-use Rattle.rowex_core.specs.Cores.{Core, IsLawful, holder_of}
-use Rattle.rowex_core.specs.Events.{IsAtomic, Legal, after, anchored, claimed, given_back, marked, next_tree, state_of, target_word, word_of}
-use Rattle.rowex_core.specs.Knowing.{IsEvent, anchor_learned, blocking_pass_of, claim_learned, failed_with}
-use Rattle.rowex_core.specs.Words.{lock_of, state_at, tag_of}
-use Rattle.rowex_core.specs.declared.event.Act.{Act}
-use Rattle.rowex_core.specs.declared.event.Act.TheVariants.{Claim, Fill, Ready as MakeReady, Release, LoadRef, LoadFixed, Lock, Unlock, Publish, Mark, LoadEpoch, Advance, SetPin, ClearPin, LoadPin, LoadState, GiveBack, Load}
-use Rattle.rowex_core.specs.declared.event.Event.{Event}
 use Rattle.rowex_core.specs.declared.event.Target.TheVariants.{Anchor, Node as NodeTarget}
-use Rattle.rowex_core.specs.declared.known.Failed.{Failed}
 use Rattle.rowex_core.specs.declared.known.FailedAct.{FailedAct}
 use Rattle.rowex_core.specs.declared.known.FailedAct.TheVariants.{Claim as a_claim, Lock as a_lock, LoadState as a_load}
-use Rattle.rowex_core.specs.declared.known.Known.{Known}
-use Rattle.rowex_table.proofs.Made.ActsLeave.{act_leaves}
-use Rattle.rowex_table.specs.Runs.{InTurn, Runs, Steps, StepsWith, silent}
-use Rattle.rowex_table.specs.Seats.{SeatView, TableView}
-use Rattle.rowex_table.specs.Stays.{LeavesFailed}
-use Rattle.rowex_records.specs.Claims.{HasMissedSince, TellsState}
-use Rattle.rowex_writing.specs.locks.Locks.{IsOfAttempt}
-use Rattle.epochs.specs.Rounds.{IsRound, LoadsPin, Visits, advance_steps, has_given}
-use Rattle.publish_laws.proofs.Lone.{step_back}
 use Rattle.hot_index_calls.specs.Lacking.{IsUsed, IsUsedAt}
 use Rattle.hot_index_calls.specs.Traces.{CollectsNone, HasEnded, IsAttempt}
-use Rattle.rowex_writing.specs.declared.plan.Full.TheVariants.{Nodes, Leaves}
 
 -- ---- one step
 -- the step doesn't give this record back

@@ -1,16 +1,10 @@
 -- Decimal digits and what they stand for.
-use Rattle.std.proofs.Common.{◌≡◌, ℕ, ◌^◌, ◌<◌, ◌&&◌, true, List, [], ◌∷◌, length, nat_lt, Some, Result, Ok, Err, inl, inr, refl, ap, arith, rules}
-use Rattle.std.specs.Prelude.{nat_le}
+use Rattle.hot_scripts.proofs.Common.{◌≡◌, ℕ, ◌^◌, ◌<◌, ◌&&◌, true, List, [], ◌∷◌, length, nat_lt, Some, Result, Ok, Err, inl, inr, refl, ap, arith, rules, nat_le, list_all, IsAscii, IsUtf8, digits_value, ParsesUnsigned, and_parts, ltb-true, lt-ltb, le-ltb, cases_lt, common_steps}
 use Rattle.std.specs.Result.{result_ok}
-use Rattle.std.specs.List.{list_all}
 use Rattle.std.specs.Char.{is_ascii_digit}
-use Rattle.std.specs.Str.{IsAscii, IsUtf8}
-use Rattle.std.specs.Str.Parse.{digits_value, ParsesUnsigned}
 use Rattle.std.proofs.lemmas.Str.{IsUtf8-from_ascii}
 use Rattle.std.proofs.lemmas.Str.Ascii.{IsAscii-nil, IsAscii-cons}
 use Rattle.std.proofs.lemmas.Str.Parse.{IsNumeralModel, numerals_by_value, parse_digits}
-use Rattle.std.proofs.lemmas.Bool.{and_parts, ltb-true, lt-ltb, le-ltb, cases_lt}
-use Rattle.std.proofs.lemmas.Grind.{common_steps}
 use Rattle.hot_scripts.specs.Grammar.{is_number, number_of}
 
 -- digits are ASCII

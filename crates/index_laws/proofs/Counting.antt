@@ -1,19 +1,5 @@
 -- What a count of all records finds in a core in which no pass has a record of its own.
-use Rattle.std.proofs.Common.{◌≡◌, ℕ, zero, suc, ◌+◌, ◌-◌, ◌≤◌, List, [], ◌∷◌, ◌++◌, Bool, true, false, length, Option, Some, None, refl, sym, ap, ap₂, subst, ◌∙◌, arith, add-one, count_by}
-use Rattle.std.specs.List.{range_with_len}
-use Rattle.std.proofs.lemmas.List.Sums.{sum_by-cons}
-use Rattle.record_words.specs.State.{state_word}
-use Rattle.record_words.specs.declared.layout.Layout.{Layout}
-use Rattle.record_words.specs.declared.records.Rec.{Rec}
-use Rattle.record_words.specs.declared.records.Rec.TheVariants.{Node as a_node, Leaf as a_leaf}
-use Rattle.record_words.specs.declared.state.Tag.{Tag}
-use Rattle.record_words.specs.declared.state.Tag.TheVariants.{Free as FreeTag, Held as HeldTag, Live, Locked, Obsolete}
-use Rattle.versions.specs.Core.{Fate, Free, Held, Ready, InTree, Unlinked, Marked}
-use Rattle.rowex_core.specs.Cores.{Core, IsLawful, holder_of}
-use Rattle.rowex_core.specs.Sharing.{is_in_tree}
-use Rattle.rowex_core.specs.Words.{lock_of, state_at, tag_of}
-use Rattle.rowex_core.specs.declared.event.Act.{Act}
-use Rattle.hot_index_calls.specs.Census.{FoundTags, OneForEach, counts_in, is_free, is_held, is_live, is_obsolete, loads_in, loads_of}
+use Rattle.index_laws.proofs.Common.{◌≡◌, ℕ, zero, suc, ◌+◌, ◌-◌, ◌≤◌, List, [], ◌∷◌, ◌++◌, Bool, true, false, length, Option, Some, None, refl, sym, ap, ap₂, subst, ◌∙◌, arith, add-one, count_by, range_with_len, sum_by-cons, state_word, Layout, Rec, a_node, a_leaf, Tag, FreeTag, HeldTag, Live, Locked, Obsolete, Fate, Free, Held, Ready, InTree, Unlinked, Marked, Core, IsLawful, holder_of, is_in_tree, lock_of, state_at, tag_of, Act, FoundTags, OneForEach, counts_in, is_free, is_held, is_live, is_obsolete, loads_in, loads_of}
 use Rattle.index_laws.specs.Rest.{CountsKeys, CountsNoneLost, NoneIsLost, is_free_fate, number_of_keys}
 use Rattle.index_laws.proofs.Rounding.{ActsLead, IsPlaced, acts_split}
 use Rattle.index_laws.proofs.Standing.{leaves_in_tree, nodes_in_tree, one_if}

@@ -1,24 +1,8 @@
 -- The opening of a run, and calls whose contracts say how they ended as calls of a run.
 pub mod Loaded
-use Rattle.std.proofs.Common.{◌≡◌, inl, inr, ℕ, zero, suc, ◌≤◌, List, [], ◌∷◌, ◌++◌, get_or, length, map, refl, sym, ap, subst, ◌∙◌, arith, ⊎_elim, le_refl, append-nil}
-use Rattle.std.proofs.lemmas.Bool.{cases_eq}
+use Rattle.index_laws.proofs.Common.{◌≡◌, inl, inr, ℕ, zero, suc, ◌≤◌, List, [], ◌∷◌, ◌++◌, get_or, length, map, refl, sym, ap, subst, ◌∙◌, arith, ⊎_elim, le_refl, append-nil, cases_eq, All-cons, All-nil, All-weaker, Call, Note, Reply, LegalCalls, Layout, Known, opening, opening_is_lawful, SeatView, new_knows, IsNoted, pass_of, Continues, Happening, IsNotedBetween, IsResponse, IsWholeRun, Configuration, Pending, invokes, refuses, responds, shows, steps, linearizable}
 use Rattle.std.specs.List.Sorted.{IsPermutation}
-use Rattle.std.proofs.lemmas.List.Elements.{All-cons, All-nil, All-weaker}
 use Rattle.std.proofs.lemmas.List.Sorted.{IsPermutation-map, IsPermutation-refl}
-use Rattle.finite_map.specs.declared.Call.{Call}
-use Rattle.finite_map.specs.declared.Note.{Note}
-use Rattle.finite_map.specs.declared.Reply.{Reply}
-use Rattle.finite_map.specs.Calls.{LegalCalls}
-use Rattle.record_words.specs.declared.layout.Layout.{Layout}
-use Rattle.rowex_core.specs.declared.known.Known.{Known}
-use Rattle.rowex_core.specs.Opening.{opening}
-use Rattle.rowex_core.proofs.Statements.Promises.{opening_is_lawful}
-use Rattle.rowex_table.specs.Seats.{SeatView}
-use Rattle.rowex_table.proofs.Seats.{new_knows}
-use Rattle.hot_index_calls.specs.Answers.{IsNoted}
-use Rattle.hot_index_calls.specs.Passes.{pass_of}
-use Rattle.linearizability.specs.Configurations.{Continues, Happening, IsNotedBetween, IsResponse, IsWholeRun, Configuration, Pending, invokes, refuses, responds, shows, steps}
-use Rattle.linearizability.proofs.Configurations.Completing.{linearizable}
 use Rattle.index_laws.specs.Executions.{HasAnsweredMany, HasBulkLoaded, LeadsOn, IsExecution, IsQuiet, IsReturning, insertions}
 use Rattle.index_laws.specs.Statements.{ExecutionsAreLinearizable, ExecutionsAreRuns, LackMayRefuse, OpeningIsNew, RefusedIsRefused, Responses, ReturnedResponds}
 use Rattle.index_laws.proofs.Executions.Loaded.{insertion_calls, loader_legal}

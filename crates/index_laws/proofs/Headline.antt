@@ -1,53 +1,24 @@
 -- The promises of the headline, one by one.
-use Rattle.std.proofs.Common.{◌≡◌, ◌≢◌, inl, inr, ⊎_elim, ℕ, Bool, true, false, cond, length, ◌+◌, ◌*◌, ◌<◌, ◌≤◌, List, [], ◌∷◌, ◌++◌, Option, map, suc, refl, sym, ap, subst, ◌∙◌, arith, append-nil, le_refl, le_trans}
-use Rattle.std.specs.Prelude.{All, Result}
-use Rattle.std.proofs.lemmas.List.Elements.{All-head, All-nil}
-use Rattle.std.proofs.lemmas.List.Sums.{sum_by-cons}
+use Rattle.index_laws.proofs.Common.{◌≡◌, ◌≢◌, inl, inr, ⊎_elim, ℕ, Bool, true, false, cond, length, ◌+◌, ◌*◌, ◌<◌, ◌≤◌, List, [], ◌∷◌, ◌++◌, Option, map, suc, refl, sym, ap, subst, ◌∙◌, arith, append-nil, le_refl, le_trans, All, Result, All-head, All-nil, sum_by-cons, Call, Reply, Add, Exchange, Insert, Remove, RemoveIf, Change, Note, Inserted, LegalCalls, StandsIn, changes_of, own_changes, LegalHistory, answered, calls_of, weave, weave-legal, woven-in_order_two, Act, Known, loaded_tree, entries_in_reach, in_reach, Layout, TableView, Item, Tree, pin_version, IsReach, a_leaf, added_notes, items_of, IsCause, MayRefuse, PassView, HasMadeChangeSteps, untold, counts_add_up, Happening, IsWholeRun, Configuration}
 use Rattle.key_bits.specs.declared.TheConstants.{MAX_BYTES}
-use Rattle.finite_map.specs.declared.Call.{Call}
-use Rattle.finite_map.specs.declared.Reply.{Reply}
-use Rattle.finite_map.specs.declared.Call.TheVariants.{Add, Exchange, Insert, Remove, RemoveIf}
-use Rattle.finite_map.specs.declared.Change.{Change}
-use Rattle.finite_map.specs.declared.Note.{Note}
-use Rattle.finite_map.specs.declared.Reply.TheVariants.{Inserted}
 use Rattle.finite_map.specs.declared.Scan.{Scan}
-use Rattle.finite_map.specs.Calls.{LegalCalls, StandsIn, changes_of, own_changes}
 use Rattle.finite_map.specs.Maps.{Map, key_of}
 use Rattle.finite_map.specs.Reverse.{IsDownToLast, IsLawfulReverseScan}
 use Rattle.finite_map.specs.Scans.{IsLawfulScan, IsUpToLast}
-use Rattle.finite_map.specs.Weaves.{Event, LegalHistory, answered, calls_of, weave}
-use Rattle.finite_map.proofs.Weaves.{weave-legal}
+use Rattle.finite_map.specs.Weaves.{Event}
 use Rattle.plain_index.proofs.Orders.InOrder.{weave-in_order}
-use Rattle.plain_index.proofs.Orders.{woven-in_order_two}
-use Rattle.rowex_core.specs.declared.event.Act.{Act}
-use Rattle.rowex_core.specs.declared.known.Known.{Known}
-use Rattle.rowex_core.specs.Events.{loaded_tree}
 use Rattle.rowex_core.proofs.Cores.Loading.{LastOf, last, value_fact, view}
-use Rattle.rowex_core.proofs.Statements.Promises.{entries_in_reach, in_reach}
-use Rattle.record_words.specs.declared.layout.Layout.{Layout}
 use Rattle.rowex_reading.specs.Reads.{entries_in, loads_entry}
 use Rattle.rowex_reading.proofs.Counting.{runs_count}
-use Rattle.rowex_table.specs.Seats.{TableView}
 use Rattle.rowex_writing.specs.declared.attempts.TryFault.{TryFault}
 use Rattle.rowex_writing.specs.declared.attempts.TryFault.TheVariants.{Busy, FullLeaves, FullNodes}
-use Rattle.tries.specs.Content.{Item}
-use Rattle.tries.specs.Tree.{Tree}
 use Rattle.version_laws.specs.Directions.{ScanLaw}
-use Rattle.versions.specs.Core.{pin_version}
-use Rattle.versions.specs.State.{IsReach}
-use Rattle.record_words.specs.declared.records.Rec.TheVariants.{Leaf as a_leaf}
-use Rattle.versions.specs.Told.{added_notes, items_of}
 use Rattle.versions.proofs.State.{reach_later}
 use Rattle.versions.proofs.Told.{content_in_order}
-use Rattle.hot_index_calls.specs.Answers.{IsCause, MayRefuse}
 use Rattle.hot_index_calls.specs.Counts.{try_steps}
-use Rattle.hot_index_calls.specs.Passes.{PassView}
-use Rattle.hot_index_calls.specs.Traces.{HasMadeChangeSteps, untold}
 use Rattle.hot_index.proofs.Statements.Alone.{one_pass_full_means_taken, one_pass_is_never_busy}
-use Rattle.hot_index.proofs.KeyCounts.Counted.{counts_add_up}
 use Rattle.hot_index.proofs.Statements.Held.{absent_is_never_full, held_is_never_full, one_pass_refuses_only_new_keys}
 use Rattle.hot_index.proofs.Stamps.{returned_before_begun}
-use Rattle.linearizability.specs.Configurations.{Happening, IsWholeRun, Configuration}
 use Rattle.linearizability.specs.Scanning.{IsScanInTime}
 use Rattle.linearizability.proofs.Statements.Replies.{behind, effect, replies_in_time}
 use Rattle.linearizability.proofs.Scanning.{scans_in_time}

@@ -3,29 +3,13 @@ pub mod Coming
 pub mod Interleaving
 pub mod Moving
 pub mod Placing
-use Rattle.std.proofs.Common.{◌≡◌, ◌≢◌, ⊎_elim, ℕ, suc, ◌<◌, List, [], ◌∷◌, if◌then◌else◌, refl, sym, ap, subst, ◌∙◌, arith, le_refl}
-use Rattle.std.proofs.lemmas.Bool.{cases_eq, ne_eqb}
-use Rattle.std.proofs.lemmas.List.Elements.{All-cons, All-nil}
-use Rattle.rowex_core.specs.declared.event.Event.{Event}
-use Rattle.rowex_core.specs.Events.{after}
-use Rattle.rowex_core.specs.Opening.{opening}
-use Rattle.rowex_table.specs.Rule.{load_of, with_front}
-use Rattle.rowex_table.specs.Runs.{StepsWith, silent}
-use Rattle.rowex_table.specs.Seats.{SeatView, TableView}
-use Rattle.rowex_table.specs.Traces.{OthersStepOn}
-use Rattle.finite_map.specs.declared.Change.{Change}
-use Rattle.finite_map.specs.Fronts.{BeginsWith}
+use Rattle.index_laws.proofs.Common.{◌≡◌, ◌≢◌, ⊎_elim, ℕ, suc, ◌<◌, List, [], ◌∷◌, if◌then◌else◌, refl, sym, ap, subst, ◌∙◌, arith, le_refl, cases_eq, ne_eqb, All-cons, All-nil, Event, after, opening, load_of, with_front, StepsWith, silent, SeatView, TableView, OthersStepOn, Change, BeginsWith, PassView, pass_of, untold, Happening, Configuration, none_some, begins_on, others_none}
 use Rattle.hot_index.specs.Handles.{HandleView}
 use Rattle.hot_index.specs.Stamps.{HasCaughtUp, HasStamped}
-use Rattle.hot_index_calls.specs.Passes.{PassView, pass_of}
-use Rattle.hot_index_calls.specs.Traces.{untold}
 use Rattle.linearizability.specs.Histories.{PendingEndOrChangeAsAsked}
-use Rattle.linearizability.specs.Configurations.{Happening, Configuration}
-use Rattle.linearizability.proofs.Configurations.Completing.{none_some}
 use Rattle.hot_index_calls.proofs.Traces.{ends_untold, runs_untold}
 use Rattle.index_laws.specs.Joined.{HandlesAreLinearizable, HasGoneThrough, HasSeenLeader, LoadedHaveEnded, OneRunIsAnExecution, SeeingIsDone, ShownHaveEnded, SilentStepsEnd, StepsNeedNoGate, TwoThatMeetHaveEnded, load_call, loader, new, of_two, shown as is_shown, stamped as has_stamped}
 use Rattle.index_laws.specs.Traced.{configuration_of}
-use Rattle.rowex_table.proofs.Onward.{begins_on, others_none}
 use Rattle.index_laws.proofs.Joined.Interleaving.{named_by, one_execution}
 use Rattle.index_laws.proofs.Joined.Placing.{others_between}
 use Rattle.index_laws.proofs.Executions.{executions_are_linearizable}

@@ -1,4 +1,5 @@
 -- The lemmas of the crate.
+mod Common
 pub mod Executions
 pub mod Steps
 pub mod Traced

@@ -1,24 +1,7 @@
 -- Lives have one history.
-use Rattle.std.proofs.Common.{◌≡◌, ◌≢◌, ℕ, suc, List, [], ◌∷◌, ◌++◌, map, refl, sym, ap, ap₂, subst, ◌∙◌}
-use Rattle.std.proofs.lemmas.List.Elements.{All-map}
-use Rattle.finite_map.specs.declared.Call.{Call}
-use Rattle.finite_map.specs.declared.Call.TheVariants.{Insert}
-use Rattle.finite_map.specs.declared.Change.{Change}
-use Rattle.finite_map.specs.declared.Note.{Note}
-use Rattle.finite_map.specs.declared.Reply.{Reply}
-use Rattle.finite_map.specs.declared.Reply.TheVariants.{Inserted}
-use Rattle.finite_map.specs.Calls.{LegalCalls}
-use Rattle.finite_map.specs.Weaves.{AllLegal, Event, answered, calls_of}
-use Rattle.finite_map.proofs.Calls.{legal_at_first}
-use Rattle.finite_map.proofs.Weaves.{weave-legal}
+use Rattle.index_laws.proofs.Common.{◌≡◌, ◌≢◌, ℕ, suc, List, [], ◌∷◌, ◌++◌, map, refl, sym, ap, ap₂, subst, ◌∙◌, All-map, Call, Insert, Change, Note, Reply, Inserted, LegalCalls, AllLegal, answered, calls_of, legal_at_first, weave-legal, woven-in_order, Layout, Item, added_notes, items_of, Known, loaded_tree, PassView}
+use Rattle.finite_map.specs.Weaves.{Event}
 use Rattle.plain_index.specs.Orders.{AreWoven, CallsAreWoven}
-use Rattle.plain_index.proofs.Orders.{woven-in_order}
-use Rattle.record_words.specs.declared.layout.Layout.{Layout}
-use Rattle.tries.specs.Content.{Item}
-use Rattle.versions.specs.Told.{added_notes, items_of}
-use Rattle.rowex_core.specs.declared.known.Known.{Known}
-use Rattle.rowex_core.specs.Events.{loaded_tree}
-use Rattle.hot_index_calls.specs.Passes.{PassView}
 use Rattle.index_laws.proofs.Executions.Loaded.{loader_legal}
 use Rattle.index_laws.specs.Lives.{AreLives, HasLived, PassLife, LivesAreWoven, OneHistoryOfAll, called, loaded, looked_up, new, scanned, went_on}
 

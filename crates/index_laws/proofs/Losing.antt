@@ -1,16 +1,5 @@
 -- Where each record is free or in the tree, no record is lost.
-use Rattle.std.proofs.Common.{◌≡◌, ◌⊎◌, inl, inr, ℕ, zero, suc, ◌+◌, ◌<◌, refl, sym, ap, ◌∙◌, arith, count_by}
-use Rattle.std.specs.List.{range_with_len}
-use Rattle.std.proofs.lemmas.Bool.{false≢true}
-use Rattle.std.proofs.lemmas.List.Sums.{sum_by-cons}
-use Rattle.record_words.specs.declared.records.Rec.{Rec}
-use Rattle.record_words.specs.declared.records.Rec.TheVariants.{Node as a_node, Leaf as a_leaf}
-use Rattle.versions.specs.Core.{Fate, Free, Held, Ready, InTree, Unlinked, Marked}
-use Rattle.versions.specs.State.{IsLinked}
-use Rattle.versions.proofs.Core.{linked_cases}
-use Rattle.rowex_core.specs.Cores.{Core, HasRecord, IsLawful}
-use Rattle.rowex_core.specs.Sharing.{is_in_tree}
-use Rattle.rowex_core.proofs.Cores.Publishing.{linked_where}
+use Rattle.index_laws.proofs.Common.{◌≡◌, ◌⊎◌, inl, inr, ℕ, zero, suc, ◌+◌, ◌<◌, refl, sym, ap, ◌∙◌, arith, count_by, range_with_len, false≢true, sum_by-cons, Rec, a_node, a_leaf, Fate, Free, Held, Ready, InTree, Unlinked, Marked, IsLinked, linked_cases, Core, HasRecord, IsLawful, is_in_tree, linked_where}
 use Rattle.index_laws.specs.Rest.{NoneIsLost, is_free_fate}
 use Rattle.index_laws.proofs.Rounding.{IsPlaced}
 use Rattle.index_laws.proofs.Standing.{leaves_in_tree, nodes_in_tree, one_if}

@@ -1,52 +1,11 @@
 -- An index whose passes are idle: from the traces of its passes to the core, and the laws of a round and of a count made there.
-use Rattle.std.proofs.Common.{rules, ◌≡◌, ◌≢◌, inl, inr, ⊎_elim, ℕ, ◌+◌, ◌<◌, List, [], ◌∷◌, ◌++◌, if◌then◌else◌, nat_eq, Option, Some, None, length, refl, sym, ap, subst, ◌∙◌, arith, le_refl, append_assoc, append-nil}
-use Rattle.std.specs.Prelude.{All}
-use Rattle.std.proofs.lemmas.Bool.{cases_eq, eq-eqb, ne_eqb}
-use Rattle.std.proofs.lemmas.List.{append_cancel_left}
-use Rattle.std.proofs.lemmas.List.Elements.{All-cons, All-head, All-nil, All-tail, All-weaker}
-use Rattle.finite_map.specs.declared.Change.{Change}
-use Rattle.finite_map.specs.declared.Note.{Note}
-use Rattle.finite_map.specs.Fronts.{map_of}
-use Rattle.record_words.specs.State.{state_word}
-use Rattle.record_words.specs.declared.TheConstants.{EPOCHS}
-use Rattle.record_words.specs.declared.layout.Layout.{Layout}
-use Rattle.record_words.specs.declared.records.Rec.{Rec}
-use Rattle.record_words.specs.declared.records.Rec.TheVariants.{Node as a_node, Leaf as a_leaf}
-use Rattle.record_words.specs.declared.state.Tag.{Tag}
-use Rattle.versions.specs.Core.{Fate, Free, Held, Ready, InTree, Unlinked, Marked}
-use Rattle.versions.specs.Trades.{IsOneOf}
+use Rattle.index_laws.proofs.Common.{rules, ◌≡◌, ◌≢◌, inl, inr, ⊎_elim, ℕ, ◌+◌, ◌<◌, List, [], ◌∷◌, ◌++◌, if◌then◌else◌, nat_eq, Option, Some, None, length, refl, sym, ap, subst, ◌∙◌, arith, le_refl, append_assoc, append-nil, All, cases_eq, eq-eqb, ne_eqb, append_cancel_left, All-cons, All-head, All-nil, All-tail, All-weaker, Change, Note, map_of, state_word, EPOCHS, Layout, Rec, a_node, a_leaf, Tag, Fate, Free, Held, Ready, InTree, Unlinked, Marked, IsOneOf, Round, Act, LoadEpoch, LoadState, Event, Known, Core, HasRecord, IsLawful, holder_of, Legal, after, Knows, opening, EventsLead, opening_is_lawful, runs_stay_lawful, InTurn, Runs, StepsWith, silent, opening_of, IsNewSeatOf, SeatView, TableView, IsTableRun, OthersStepOn, own_acts, lead_rest, own_acts-append, own_acts-others, steps_are_in_one_run, others_none, others_on, runs_same, run_timely, IsRound, Visits, FoundTags, HasCounted, OneForEach, counts_in, loads_in, loads_of, IsSettled, PassView, HasCollected, Happening, Configuration, runs_stay_sound}
 use Rattle.versions.specs.declared.Pin.{Pin}
-use Rattle.versions.specs.declared.Round.{Round}
-use Rattle.rowex_core.specs.declared.event.Act.{Act}
-use Rattle.rowex_core.specs.declared.event.Act.TheVariants.{LoadEpoch, LoadState}
-use Rattle.rowex_core.specs.declared.event.Event.{Event}
 use Rattle.rowex_core.specs.declared.known.Holding.TheVariants.{Held as HeldBy, Ready as ReadyBy, Unlinked as UnlinkedBy}
-use Rattle.rowex_core.specs.declared.known.Known.{Known}
-use Rattle.rowex_core.specs.Cores.{Core, HasRecord, IsLawful, holder_of}
-use Rattle.rowex_core.specs.Events.{Legal, after}
-use Rattle.rowex_core.specs.Knowing.{Knows}
-use Rattle.rowex_core.specs.Opening.{opening}
-use Rattle.rowex_core.specs.Runs.{EventsLead}
 use Rattle.rowex_core.proofs.Sharing.Owning.{knows_all, pin_is, round_is}
-use Rattle.rowex_core.proofs.Statements.Promises.{opening_is_lawful}
-use Rattle.rowex_core.proofs.Runs.{runs_stay_lawful}
-use Rattle.rowex_table.specs.Runs.{InTurn, Runs, StepsWith, silent}
-use Rattle.rowex_table.specs.Rule.{opening_of}
-use Rattle.rowex_table.specs.Seats.{IsNewSeatOf, SeatView, TableView}
-use Rattle.rowex_table.specs.Traces.{IsTableRun, OthersStepOn, own_acts}
-use Rattle.rowex_table.proofs.Runs.Linking.{lead_rest, own_acts-append, own_acts-others, steps_are_in_one_run}
-use Rattle.rowex_table.proofs.Onward.{others_none, others_on}
-use Rattle.rowex_table.proofs.Runs.{runs_same}
 use Rattle.publish_laws.proofs.Lone.{lead_layout, lead_split, one_of, step_knows}
-use Rattle.publish_laws.proofs.Lone.Timely.{run_timely}
-use Rattle.epochs.specs.Rounds.{IsRound, Visits}
-use Rattle.hot_index_calls.specs.Census.{FoundTags, HasCounted, OneForEach, counts_in, loads_in, loads_of}
-use Rattle.hot_index_calls.specs.Passes.{IsSettled, PassView}
-use Rattle.hot_index_calls.specs.Traces.{HasCollected}
 use Rattle.hot_index_calls.specs.declared.census.RecordCounts.{RecordCounts}
 use Rattle.hot_index_calls.proofs.Rooms.{round_acts, step_here}
-use Rattle.linearizability.specs.Configurations.{Happening, Configuration}
-use Rattle.linearizability.proofs.Configurations.{runs_stay_sound}
 use Rattle.index_laws.specs.Joined.{HasGoneThrough, new}
 use Rattle.index_laws.specs.Rest.{AreAllIdle, CountsKeys, CountsNoneLost, GoesOnAlone, HasNoneAtWork, NoRecordIsLost, OnePassLosesNone, StepsAlone, number_of_keys, with_seat}
 use Rattle.index_laws.specs.Traced.{core_led_to, configuration_of}

@@ -1,26 +1,5 @@
 -- A round of collection in a core in which no pass is at work: what its steps leave retired.
-use Rattle.std.proofs.Common.{◌≡◌, ◌≢◌, ⊎_elim, ℕ, zero, suc, ◌+◌, ◌*◌, ◌<◌, ◌≤◌, List, [], ◌∷◌, ◌++◌, Bool, true, false, if◌then◌else◌, nat_eq, None, refl, sym, ap, subst, ◌∙◌, arith}
-use Rattle.std.specs.Prelude.{All}
-use Rattle.std.proofs.lemmas.Bool.{cases_lt, eq-eqb, lt-ltb}
-use Rattle.std.proofs.lemmas.List.Elements.{All-append, All-cons, All-head, All-nil, All-tail}
-use Rattle.record_words.specs.State.{state_word}
-use Rattle.record_words.specs.declared.TheConstants.{EPOCHS}
-use Rattle.record_words.specs.declared.records.Rec.{Rec}
-use Rattle.record_words.specs.declared.records.Rec.TheVariants.{Node as a_node, Leaf as a_leaf}
-use Rattle.record_words.specs.declared.state.Tag.TheVariants.{Obsolete}
-use Rattle.versions.specs.Core.{Fate, Shared, Free, Held, Ready, InTree, Unlinked, Marked}
-use Rattle.versions.specs.Steps.{lowered, same_rec, with_epoch, with_fate}
-use Rattle.versions.specs.declared.Round.{Round}
-use Rattle.versions.proofs.Core.{same_rec_refl}
-use Rattle.rowex_core.specs.Cores.{Core, HasRecord, IsLawful, holder_of}
-use Rattle.rowex_core.specs.Events.{Legal, after, given_back}
-use Rattle.rowex_core.specs.Words.{lock_of, state_at, tag_of}
-use Rattle.rowex_core.specs.declared.event.Act.{Act}
-use Rattle.rowex_core.specs.declared.event.Act.TheVariants.{Advance, GiveBack, LoadEpoch, LoadPin, LoadState}
-use Rattle.rowex_core.proofs.Cores.{stays_lawful}
-use Rattle.rowex_table.specs.Runs.{InTurn}
-use Rattle.epochs.specs.Rounds.{LoadsPin, Visits, advance_steps}
-use Rattle.publish_laws.proofs.Lone.Timely.{IsMarkedBy}
+use Rattle.index_laws.proofs.Common.{◌≡◌, ◌≢◌, ⊎_elim, ℕ, zero, suc, ◌+◌, ◌*◌, ◌<◌, ◌≤◌, List, [], ◌∷◌, ◌++◌, Bool, true, false, if◌then◌else◌, nat_eq, None, refl, sym, ap, subst, ◌∙◌, arith, All, cases_lt, eq-eqb, lt-ltb, All-append, All-cons, All-head, All-nil, All-tail, state_word, EPOCHS, Rec, a_node, a_leaf, Obsolete, Fate, Shared, Free, Held, Ready, InTree, Unlinked, Marked, lowered, same_rec, with_epoch, with_fate, Round, same_rec_refl, Core, HasRecord, IsLawful, holder_of, Legal, after, given_back, lock_of, state_at, tag_of, Act, Advance, GiveBack, LoadEpoch, LoadPin, LoadState, stays_lawful, InTurn, LoadsPin, Visits, advance_steps, IsMarkedBy}
 use Rattle.index_laws.specs.Rest.{HasNoneAtWork}
 
 -- ---- steps of one pass, one after the other

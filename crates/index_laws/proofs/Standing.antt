@@ -1,25 +1,8 @@
 -- How many records of a lawful core stand in the tree: a leaf record for each key, and fewer node records.
-use Rattle.std.proofs.Common.{◌≡◌, ◌≢◌, inl, inr, ⊎_elim, ℕ, zero, suc, ◌+◌, ◌-◌, ◌<◌, ◌≤◌, List, [], ◌∷◌, ◌++◌, Bool, true, false, cond, nat_eq, length, Option, Some, None, refl, sym, ap, ◌∙◌, arith, le_refl, length-append, take_all, sum_by, count_by}
-use Rattle.std.specs.List.{range_with_len}
-use Rattle.std.proofs.lemmas.Bool.{cases_eq, eq-eqb, ne_eqb}
-use Rattle.std.proofs.lemmas.List.Sums.{length-filter, sum_by-append, sum_by-cons}
-use Rattle.finite_map.specs.Fronts.{map_of}
-use Rattle.record_words.specs.declared.records.Rec.{Rec}
-use Rattle.record_words.specs.declared.records.Rec.TheVariants.{Node as a_node, Leaf as a_leaf}
-use Rattle.tries.specs.Content.{Item, items, pairs}
+use Rattle.index_laws.proofs.Common.{◌≡◌, ◌≢◌, inl, inr, ⊎_elim, ℕ, zero, suc, ◌+◌, ◌-◌, ◌<◌, ◌≤◌, List, [], ◌∷◌, ◌++◌, Bool, true, false, cond, nat_eq, length, Option, Some, None, refl, sym, ap, ◌∙◌, arith, le_refl, length-append, take_all, sum_by, count_by, range_with_len, cases_eq, eq-eqb, ne_eqb, length-filter, sum_by-append, sum_by-cons, map_of, Rec, a_node, a_leaf, Item, items, pairs, Tree, leaf, node, fork, Free, InTree, IsLinked, Links, same_rec, content, items_of, IsOneOf, Core, HasRecord, IsLawful, records_in, records_of, is_in_tree, linked_now, listed_once, once}
 use Rattle.tries.specs.Counts.{node_numbers}
-use Rattle.tries.specs.Tree.{Tree, leaf, node, fork}
 use Rattle.tries.proofs.Counts.{nodes_are_fewer}
-use Rattle.versions.specs.Core.{Free, InTree}
-use Rattle.versions.specs.State.{IsLinked, Links}
-use Rattle.versions.specs.Steps.{same_rec}
-use Rattle.versions.specs.Told.{content, items_of}
-use Rattle.versions.specs.Trades.{IsOneOf}
 use Rattle.versions.proofs.Trades.{of_append}
-use Rattle.rowex_core.specs.Cores.{Core, HasRecord, IsLawful}
-use Rattle.rowex_core.specs.Knowing.{records_in, records_of}
-use Rattle.rowex_core.specs.Sharing.{is_in_tree}
-use Rattle.rowex_core.proofs.Cores.Publishing.{linked_now, listed_once, once}
 
 -- ---- numbers, counted by how often each stands in a list
 abbrev pub one_if : Bool → ℕ

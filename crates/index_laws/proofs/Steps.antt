@@ -1,25 +1,11 @@
 -- A step leads from the core that shows the table's state to the one that shows the next.
-use Rattle.std.proofs.Common.{◌≡◌, ◌≢◌, ℕ, List, ◌++◌, set, get_or, refl, sym, ap, subst, ◌∙◌, ⊎_elim}
+use Rattle.index_laws.proofs.Common.{◌≡◌, ◌≢◌, ℕ, List, ◌++◌, set, get_or, refl, sym, ap, subst, ◌∙◌, ⊎_elim, IsInTable, address, Layout, Act, Event, Known, Core, Shows, word_at, Legal, after, location_of, writes, Knows, learned, opening, stays_lawful, IsTrueOf, found_by, apart_set, each_set, found_atomic, found_place, found_writes, learned_pass, still_true, true_after, led_more}
 use mathlib.Core.Option.{some}
 use lib.ListN.{get_elem?}
 use Rattle.atomic_table.proofs.Lists.{at_set}
-use Rattle.record_words.specs.Layout.{IsInTable, address}
-use Rattle.record_words.specs.declared.layout.Layout.{Layout}
-use Rattle.rowex_core.specs.declared.event.Act.{Act}
-use Rattle.rowex_core.specs.declared.event.Event.{Event}
-use Rattle.rowex_core.specs.declared.known.Known.{Known}
-use Rattle.rowex_core.specs.Cores.{Core}
-use Rattle.rowex_core.specs.Words.{Shows, word_at}
-use Rattle.rowex_core.specs.Events.{Legal, after, location_of, writes}
-use Rattle.rowex_core.specs.Knowing.{Knows, learned}
-use Rattle.rowex_core.specs.Opening.{opening}
-use Rattle.rowex_core.proofs.Cores.{stays_lawful}
 use Rattle.rowex_core.proofs.Events.{in_table, writes_one}
 use Rattle.rowex_table.specs.declared.traces.TracedView.{TracedView}
 use Rattle.rowex_table.specs.declared.traces.TracedView.TheVariants.{Pass}
-use Rattle.rowex_table.specs.Rule.{IsTrueOf, found_by}
-use Rattle.rowex_table.proofs.Rule.{apart_set, each_set, found_atomic, found_place, found_writes, learned_pass, still_true, true_after}
-use Rattle.rowex_table.proofs.Onward.{led_more}
 use Rattle.index_laws.proofs.laws.Shown.{is_step, stepped}
 use Rattle.index_laws.specs.Steps.{StepsAreMoments, StepsFollow, known_after, made_at, run_after, view_after}
 

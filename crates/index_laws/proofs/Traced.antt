@@ -1,45 +1,9 @@
 -- Executions by contracts alone, and the order of calls by traces.
 pub mod Loading
 pub mod Reaching
-use Rattle.std.proofs.Common.{◌≡◌, ◌⊎◌, ◌<◌, ◌≤◌, inl, inr, ⊎_elim, ℕ, zero, suc, List, [], ◌∷◌, ◌++◌, Bool, true, false, if◌then◌else◌, nat_eq, Option, None, refl, sym, ap, subst, ◌∙◌, arith, append_assoc}
-use Rattle.std.proofs.lemmas.Bool.{cases_lt, eq-eqb}
-use Rattle.std.proofs.lemmas.List.Elements.{All-head, All-tail}
-use Rattle.std.specs.Prelude.{All}
-use Rattle.finite_map.specs.declared.Change.{Change}
-use Rattle.finite_map.specs.declared.Note.{Note}
-use Rattle.finite_map.specs.Calls.{StandsIn}
-use Rattle.finite_map.specs.Fronts.{BeginsWith}
-use Rattle.finite_map.proofs.Fronts.{begins_itself, others_begin}
-use Rattle.finite_map.proofs.Calls.{place_after-within}
-use Rattle.record_words.specs.declared.layout.Layout.{Layout}
-use Rattle.rowex_core.specs.declared.event.Act.{Act}
-use Rattle.rowex_core.specs.declared.event.Act.TheVariants.{LoadRef}
-use Rattle.rowex_core.specs.declared.event.Event.{Event}
-use Rattle.rowex_core.specs.declared.event.Spot.TheVariants.{Root}
-use Rattle.rowex_core.specs.declared.known.Fresh.{Fresh}
-use Rattle.rowex_core.specs.declared.known.Known.{Known}
-use Rattle.rowex_core.specs.declared.known.View.TheVariants.{Witness}
-use Rattle.rowex_core.specs.Cores.{Core}
-use Rattle.rowex_core.specs.Events.{Legal, after}
-use Rattle.rowex_core.specs.Knowing.{Knows, learned}
-use Rattle.rowex_core.specs.Opening.{opening}
-use Rattle.rowex_core.specs.Runs.{AreOthers, EventsLead}
-use Rattle.rowex_core.proofs.Knowing.{learns}
-use Rattle.rowex_core.proofs.Runs.{runs_keep, runs_stay_lawful}
-use Rattle.rowex_table.specs.Rule.{with_front}
-use Rattle.rowex_table.specs.Runs.{StepsWith, root_load}
-use Rattle.rowex_table.specs.Seats.{SeatView, TableView}
+use Rattle.index_laws.proofs.Common.{◌≡◌, ◌⊎◌, ◌<◌, ◌≤◌, inl, inr, ⊎_elim, ℕ, zero, suc, List, [], ◌∷◌, ◌++◌, Bool, true, false, if◌then◌else◌, nat_eq, Option, None, refl, sym, ap, subst, ◌∙◌, arith, append_assoc, cases_lt, eq-eqb, All-head, All-tail, All, Change, Note, StandsIn, BeginsWith, begins_itself, others_begin, place_after-within, Layout, Act, LoadRef, Event, Root, Fresh, Known, Witness, Core, Legal, after, Knows, learned, opening, AreOthers, EventsLead, learns, runs_keep, runs_stay_lawful, with_front, StepsWith, root_load, SeatView, TableView, RunBeginsWith, own_acts, renoted, lead_rest, run_begins_on, led_more, of_one_run, runs_same, untold, last_of, Happening, IsCallTurn, IsConfigurationStep, IsNewIndex, IsShowing, IsSoundConfiguration, Configuration, Pending, invokes, refuses, responds, shows, steps, runs_stay_sound}
 use Rattle.rowex_table.specs.Stays.{LeavesFresh}
-use Rattle.rowex_table.specs.Traces.{RunBeginsWith, own_acts}
-use Rattle.rowex_table.proofs.Rule.{renoted}
-use Rattle.rowex_table.proofs.Runs.Linking.{lead_rest}
-use Rattle.rowex_table.proofs.Onward.{begins_on as run_begins_on, led_more, of_one_run}
-use Rattle.rowex_table.proofs.Runs.{runs_same}
-use Rattle.hot_index_calls.specs.Traces.{untold}
-use Rattle.hot_index.proofs.KeyCounts.Counted.{last_of}
 use Rattle.hot_index_calls.proofs.Noting.{longer}
-use Rattle.linearizability.specs.Configurations.{Happening, IsCallTurn, IsConfigurationStep, IsNewIndex, IsShowing, IsSoundConfiguration, Configuration, Pending, invokes, refuses, responds, shows, steps}
-use Rattle.linearizability.proofs.Configurations.{runs_stay_sound}
 use Rattle.index_laws.specs.Executions.{IsExecution, LeadsOn}
 use Rattle.index_laws.specs.Traced.{CallsMakeNoAsides, ContractsLeadOn, EndedBeforeLoaded, EndedOrLoadedBefore, EndedOrShownBefore, Instant, IsSeatShowing, IsSeatStep, IsSeatTurn, IsShownItself, IsShownSteps, IsTracedExecution, LoadsRootBehind, LoadsSeeAll, MetAreOfOneRun, TracedAreExecutions, core_led_to, configuration_of}
 use Rattle.index_laws.proofs.Executions.{executions_are_runs, opening_is_new}

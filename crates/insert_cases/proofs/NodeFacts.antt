@@ -1,20 +1,10 @@
 -- Facts of nodes and of the halves of a cut.
-use Rattle.std.proofs.Common.{Bool, [], ◌∷◌, ap, arith, false, nat_lt, refl, sym, true, ℕ, ⊎_elim, ◌++◌, ◌-◌, ◌<◌, ◌∙◌, ◌≡◌, ◌≤◌, max, subst}
-use Rattle.std.proofs.lemmas.Bool.{cond-true, cond-false, cases_Bool, lt-ltb}
+use Rattle.insert_cases.proofs.Common.{Bool, [], ◌∷◌, ap, arith, false, nat_lt, refl, sym, true, ℕ, ⊎_elim, ◌++◌, ◌-◌, ◌<◌, ◌∙◌, ◌≡◌, ◌≤◌, max, subst, cond-true, cond-false, cases_Bool, lt-ltb, NodeView, IsLawfulNode, height_of, greatest_height, Entry, Leaf, greatest-append, replaced, forked, grown, Piece, Place, Fork, places, size, grafted, IsAbovePath, size-replaced}
 use Rattle.compound_node.specs.Halves.{HalfShows, CutShows}
-use Rattle.compound_node.specs.Nodes.{NodeView, IsLawfulNode, height_of, greatest_height}
-use Rattle.compound_node.specs.declared.entries.Entry.{Entry}
-use Rattle.compound_node.specs.declared.entries.Entry.TheVariants.{Leaf}
 use Rattle.compound_node.specs.declared.halves.Cut.{Cut}
 use Rattle.compound_node.specs.declared.halves.Half.{Half}
 use Rattle.compound_node.specs.declared.halves.Half.TheVariants.{One, Many, Same}
-use Rattle.tries.proofs.Tree.Building.{greatest-append}
-use Rattle.node_tries.specs.Changes.{replaced}
-use Rattle.node_tries.specs.Growth.{forked, grown}
-use Rattle.node_tries.specs.Piece.{Piece, Place, Fork, places, size}
-use Rattle.node_tries.specs.Grafts.{grafted, IsAbovePath}
 use Rattle.insert_cases.specs.Grown.{is_same, half_piece}
-use Rattle.node_tries.proofs.Grafts.{size-replaced}
 
 pub height_positive : (n : NodeView) → IsLawfulNode n → 0 < n.height
 height_positive n l = let several = l.several in omega (arith, l.above 0 (Leaf 0) (omega arith))

@@ -1,16 +1,8 @@
 -- Tips of a tree, and a fork of two of them.
-use Rattle.std.proofs.Common.{◌≡◌, ℕ, ◌*◌, ◌<◌, ap, subst, arith}
-use Rattle.std.specs.Prelude.{All}
+use Rattle.insert_cases.proofs.Common.{◌≡◌, ℕ, ◌*◌, ◌<◌, ap, subst, arith, All, Place, Fork, places, IsEntry, height_of, Entry, first, Tree, leaf, node, fork, subtrie, IsTrie, IsBuilt, IsLower, bit_below, has_first}
 use Rattle.key_bits.specs.declared.TheConstants.{MAX_BYTES}
-use Rattle.node_tries.specs.Piece.{Place, Fork, places}
-use Rattle.compound_node.specs.Nodes.{IsEntry, height_of}
-use Rattle.compound_node.specs.declared.entries.Entry.{Entry}
-use Rattle.tries.specs.Content.{first}
-use Rattle.tries.specs.Tree.{Tree, leaf, node, fork, subtrie, IsTrie, IsBuilt, IsLower}
-use Rattle.tries.proofs.Tree.Building.{bit_below}
 use Rattle.tries.proofs.Tree.Fitting.{children_are, all_above}
 use Rattle.tries.proofs.Keys.{has_key}
-use Rattle.tries.proofs.Tree.{has_first}
 
 pub tip_entry : (e : Entry) (t : Tree) → subtrie t ≡ Place e → IsBuilt t → IsEntry e
 tip_entry e t h b = subst (λ x. All IsEntry (places x)) h (children_are t b) 0 e (omega arith)

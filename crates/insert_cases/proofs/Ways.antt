@@ -1,23 +1,10 @@
 -- The chosen node is the affected one.
 pub mod Affecting
-use Rattle.std.proofs.Common.{◌≡◌, ◌≢◌, ◌⊎◌, inl, inr, ℕ, zero, suc, ◌+◌, ◌-◌, ◌<◌, ◌≤◌, List, [], ◌∷◌, length, Bool, true, false, if◌then◌else◌, nat_lt, ltb, refl, ap, sym, ◌∙◌, subst, arith, Some, None, MatchBool}
-use Rattle.std.specs.Prelude.{slice_get}
-use Rattle.std.proofs.lemmas.Option.{slice_get_within}
-use Rattle.std.proofs.lemmas.Bool.{ltb-true, le-ltb, false≢true, cases_lt, cases_order}
+use Rattle.insert_cases.proofs.Common.{◌≡◌, ◌≢◌, ◌⊎◌, inl, inr, ℕ, zero, suc, ◌+◌, ◌-◌, ◌<◌, ◌≤◌, List, [], ◌∷◌, length, Bool, true, false, if◌then◌else◌, nat_lt, ltb, refl, ap, sym, ◌∙◌, subst, arith, Some, None, MatchBool, slice_get, slice_get_within, ltb-true, le-ltb, false≢true, cases_lt, cases_order, size_pos, affected_first, affected_count, IsAffected, IsFresh, size, affected, IsPart, Key, bit, AgreeBelow, spot, Tree, leaf, node, fork, Fixed, subtrie, first_position, Has, IsTrie, IsBuilt, IsTip, IsFork, Within, here, inside, spot_below, first, has_first, within_trans, within_child, trie_within, built_within, follows_if_has, rises, fork_of}
 use Rattle.key_bits.specs.Bits.{IsFirstDifference}
 use Rattle.node_tries.proofs.Affected.{affected_again}
-use Rattle.node_tries.proofs.Piece.{size_pos}
-use Rattle.node_tries.specs.Growth.{affected_first, affected_count, IsAffected, IsFresh}
-use Rattle.node_tries.specs.Piece.{size}
-use Rattle.tries.specs.Affected.{affected, IsPart}
-use Rattle.tries.specs.Keys.{Key, bit, AgreeBelow}
-use Rattle.tries.specs.Place.{spot}
 use Rattle.tries.specs.Search.{child, found}
-use Rattle.tries.specs.Tree.{Tree, leaf, node, fork, Fixed, subtrie, first_position, Has, IsTrie, IsBuilt, IsTip, IsFork, Within, here, inside}
 use Rattle.tries.proofs.Affected.{DifferFirstAt, part_differs_first, part_place, affected_subtrie}
-use Rattle.tries.proofs.Place.{spot_below}
-use Rattle.tries.specs.Content.{first}
-use Rattle.tries.proofs.Tree.{has_first, within_trans, within_child, trie_within, built_within, follows_if_has, rises}
 use Rattle.insert_cases.specs.declared.choice.Case.{Case}
 use Rattle.insert_cases.specs.declared.choice.Choice.{Choice}
 use Rattle.insert_cases.specs.declared.choice.PathNode.{PathNode}
@@ -25,7 +12,6 @@ use Rattle.insert_cases.specs.Levels.{IsLevel, IsChosen}
 use Rattle.insert_cases.specs.Ways.{below, stage, IsStep, IsStepAtTopNode, IsLeaf, IsWay, WayBelow, body, is_leaf, case_of, IsAffectedNode}
 use Rattle.insert_cases.proofs.Ways.Affecting.{FirstForkIsNot, key_part}
 use Rattle.tries.proofs.Content.{found_child}
-use Rattle.tries.proofs.Tree.Building.{fork_of}
 
 pub some_injective : {A : Type 0} {a b : A} → Some a ≡ Some b → a ≡ b
 some_injective e = cc

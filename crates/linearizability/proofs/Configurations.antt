@@ -1,22 +1,8 @@
 -- From time to time all stays sound, changes only grow, and each load of the root shows all of them.
 pub mod Completing
 pub mod Taught
-use Rattle.std.proofs.Common.{◌≡◌, ◌≢◌, ◌⊎◌, inl, inr, ℕ, Option, Some, None, zero, suc, ◌<◌, ◌≤◌, List, [], ◌∷◌, ◌++◌, refl, sym, ap, subst, ◌∙◌, arith, ⊎_elim, append_assoc, length, length-append}
-use Rattle.std.specs.Prelude.{All}
-use Rattle.std.proofs.lemmas.Bool.{cases_eq}
-use Rattle.std.proofs.lemmas.List.Elements.{All-tail}
-use Rattle.finite_map.specs.declared.Change.{Change}
-use Rattle.finite_map.specs.declared.Note.{Note}
-use Rattle.finite_map.specs.Fronts.{BeginsWith, OthersGoOn}
-use Rattle.finite_map.proofs.Fronts.{begins_itself, begins_on}
-use Rattle.record_words.specs.declared.layout.Layout.{Layout}
-use Rattle.rowex_core.specs.declared.event.Act.{Act}
-use Rattle.rowex_core.specs.declared.known.Known.{Known}
+use Rattle.linearizability.proofs.Common.{◌≡◌, ◌≢◌, ◌⊎◌, inl, inr, ℕ, Option, Some, None, zero, suc, ◌<◌, ◌≤◌, List, [], ◌∷◌, ◌++◌, refl, sym, ap, subst, ◌∙◌, arith, ⊎_elim, append_assoc, length, length-append, All, cases_eq, All-tail, Change, Note, BeginsWith, OthersGoOn, begins_itself, begins_on, Layout, Act, Known, Core, IsLawful, Legal, after, Knows, learned, keeps}
 use Rattle.rowex_core.specs.declared.known.View.TheVariants.{Pass, Witness}
-use Rattle.rowex_core.specs.Cores.{Core, IsLawful}
-use Rattle.rowex_core.specs.Events.{Legal, after}
-use Rattle.rowex_core.specs.Knowing.{Knows, learned}
-use Rattle.rowex_core.proofs.Knowing.Keeping.{keeps}
 use Rattle.rowex_core.proofs.Knowing.{learns}
 use Rattle.rowex_core.proofs.Cores.{stays_lawful}
 use Rattle.linearizability.specs.Configurations.{Continues, Happening, IsCallTurn, IsConfigurationStep, IsShowing, IsSoundConfiguration, IsWholeRun, Configuration, Pending, invokes, refuses, responds, shows, steps}

@@ -1,22 +1,7 @@
 -- Pending calls that have changed the map are completed as the map answers them.
-use Rattle.std.proofs.Common.{◌≡◌, ◌≢◌, ℕ, ◌≤◌, List, [], ◌∷◌, ◌++◌, length, true, cond, ◌&&◌, Option, Some, None, refl, sym, ap, subst, ◌∙◌, arith, ⊎_elim, append-nil, append_assoc, length-append}
-use Rattle.std.specs.Prelude.{All, fold, nat_eq, option_map}
+use Rattle.linearizability.proofs.Common.{◌≡◌, ◌≢◌, ℕ, ◌≤◌, List, [], ◌∷◌, ◌++◌, length, true, cond, ◌&&◌, Option, Some, None, refl, sym, ap, subst, ◌∙◌, arith, ⊎_elim, append-nil, append_assoc, length-append, All, option_map, and_parts, cases_eq, cond_both, eq-eqb, eqb-true, ne_eqb, All-cons, All-nil, Call, Upsert, Remove, Change, Kind, Added, Replaced, Removed, Note, LegalCalls, change_of, effect_of, Fits, FitsKind, LegalFrom, changed, map_of, Map, key_of, key_order, reply_of, step_where, value_at, legal_front_push, map_of-push, same_from_at, legal_change, legal_longer, pass-change_of, call_of_kind}
+use Rattle.std.specs.Prelude.{fold, nat_eq}
 use Rattle.std.specs.BTreeMap.{is_at}
-use Rattle.std.proofs.lemmas.Bool.{and_parts, cases_eq, cond_both, eq-eqb, eqb-true, ne_eqb}
-use Rattle.std.proofs.lemmas.List.Elements.{All-cons, All-nil}
-use Rattle.finite_map.specs.declared.Call.{Call}
-use Rattle.finite_map.specs.declared.Call.TheVariants.{Upsert, Remove}
-use Rattle.finite_map.specs.declared.Change.{Change}
-use Rattle.finite_map.specs.declared.Kind.{Kind}
-use Rattle.finite_map.specs.declared.Kind.TheVariants.{Added, Replaced, Removed}
-use Rattle.finite_map.specs.declared.Note.{Note}
-use Rattle.finite_map.specs.Calls.{LegalCalls, change_of, effect_of}
-use Rattle.finite_map.specs.Fronts.{Fits, FitsKind, LegalFrom, changed, map_of}
-use Rattle.finite_map.specs.Maps.{Map, key_of, key_order, reply_of, step_where, value_at}
-use Rattle.finite_map.proofs.Fronts.{legal_front_push, map_of-push}
-use Rattle.finite_map.proofs.Maps.{same_from_at}
-use Rattle.finite_map.proofs.Calls.{legal_change, legal_longer, pass-change_of}
-use Rattle.rowex_core.specs.Statements.{call_of_kind}
 use Rattle.linearizability.specs.Effects.{is_this, maker, makers, same_kind}
 use Rattle.linearizability.specs.Histories.{replied}
 

@@ -1,12 +1,5 @@
 -- Worked examples: which calls a history has, and how a pending call is completed.
-use Rattle.std.proofs.Common.{◌≡◌, ◌≢◌, inl, inr, ℕ, [], ◌∷◌, get_or, Some, None, refl, sym, subst, ◌∙◌}
-use Rattle.std.specs.Prelude.{All}
-use Rattle.std.proofs.lemmas.List.Elements.{All-head, All-nil}
-use Rattle.finite_map.specs.declared.Call.{Call}
-use Rattle.finite_map.specs.declared.Call.TheVariants.{Get, Insert, Upsert}
-use Rattle.finite_map.specs.declared.Change.{Change}
-use Rattle.finite_map.specs.declared.Kind.TheVariants.{Added}
-use Rattle.finite_map.specs.declared.Note.{Note}
+use Rattle.linearizability.proofs.Common.{◌≡◌, ◌≢◌, inl, inr, ℕ, [], ◌∷◌, get_or, Some, None, refl, sym, subst, ◌∙◌, All, All-head, All-nil, Call, Get, Insert, Upsert, Change, Added, Note}
 use Rattle.finite_map.specs.declared.Reply.TheVariants.{Inserted, New, Value}
 use Rattle.linearizability.specs.Effects.{makers}
 use Rattle.linearizability.specs.Histories.{ChangesAsAsked, complete_calls, replied}

@@ -2,21 +2,9 @@
 pub mod Calling
 pub mod Hits
 pub mod Passes
-use Rattle.std.proofs.Common.{◌≡◌, ◌≢◌, ℕ, zero, suc, ◌+◌, ◌-◌, ◌<◌, ◌≤◌, List, [], ◌∷◌, ◌++◌, length, get_or, map, Bool, cond, nat_lt, Option, Some, None, refl, sym, ap, ap₂, subst, ◌∙◌, arith, ⊎_elim, le_refl, append-nil, append_assoc}
-use Rattle.std.specs.Prelude.{All, AllPairs, IsPermutation}
-use Rattle.std.proofs.lemmas.Bool.{cases_lt, leb-true, lt-leb, lt-ltb, le-ltb}
-use Rattle.std.proofs.lemmas.List.Elements.{All-append, All-contains, All-map, All-nil, All-push, All-weaker}
+use Rattle.linearizability.proofs.Common.{◌≡◌, ◌≢◌, ℕ, zero, suc, ◌+◌, ◌-◌, ◌<◌, ◌≤◌, List, [], ◌∷◌, ◌++◌, length, get_or, map, Bool, cond, nat_lt, Option, Some, None, refl, sym, ap, ap₂, subst, ◌∙◌, arith, ⊎_elim, le_refl, append-nil, append_assoc, All, AllPairs, IsPermutation, cases_lt, leb-true, lt-leb, lt-ltb, le-ltb, All-append, All-contains, All-map, All-nil, All-push, All-weaker, IsPermutation-append_left, IsPermutation-sym, IsPermutation-trans, Change, Note, LegalCalls, StandsIn, place_after, LegalHistory, notes_of, place_after-within, FitsPlaces, IsInTime, noted, Layout, seen_by}
 use Rattle.std.proofs.lemmas.List.Quantifiers.{all_pairs_push}
-use Rattle.std.proofs.lemmas.List.Sorted.{IsPermutation-append_left, IsPermutation-sym, IsPermutation-trans}
-use Rattle.finite_map.specs.declared.Change.{Change}
-use Rattle.finite_map.specs.declared.Note.{Note}
-use Rattle.finite_map.specs.Calls.{LegalCalls, StandsIn, place_after}
-use Rattle.finite_map.specs.Weaves.{LegalHistory, notes_of}
-use Rattle.finite_map.proofs.Calls.{place_after-within}
-use Rattle.plain_index.specs.Times.{FitsPlaces, IsInTime, noted}
 use Rattle.plain_index.proofs.Times.{woven-in_time}
-use Rattle.record_words.specs.declared.layout.Layout.{Layout}
-use Rattle.rowex_core.proofs.Knowing.Keeping.{seen_by}
 use Rattle.linearizability.specs.Histories.{answers, complete_calls, completed, had_responded, invoked, responder, since_of, stays}
 use Rattle.linearizability.specs.Configurations.{Continues, Happening, IsNotedBetween, IsResponse, IsSoundConfiguration, IsWholeRun, Configuration, Pending, invokes, refuses, responds, shows, steps}
 use Rattle.linearizability.specs.Statements.{HaveOneOrder}

@@ -1,4 +1,5 @@
 -- The lemmas of the crate.
+mod Common
 mod Examples
 pub mod Configurations
 pub mod Effects

@@ -1,32 +1,12 @@
 -- Scans show the maps of a run.
-use Rattle.std.proofs.Common.{◌≡◌, ◌≢◌, ℕ, zero, suc, ◌+◌, ◌<◌, ◌≤◌, List, [], ◌∷◌, ◌++◌, length, drop, fold, map, take, true, false, Some, None, inl, inr, ◌⊎◌, refl, sym, ap, subst, ◌∙◌, arith, ⊎_elim, le_refl, append-nil, append_assoc, length-append}
-use Rattle.std.specs.Prelude.{All, IsSome}
-use Rattle.std.proofs.Math.Seq.{drop-append_seam, take-append_seam}
-use Rattle.std.proofs.lemmas.Bool.{cases_Bool, cases_eq, cases_lt}
-use Rattle.std.proofs.lemmas.List.{take-append-drop, take-append-le}
-use Rattle.std.proofs.lemmas.List.Elements.{All-cons, All-head, All-nil, All-tail, All-weaker}
+use Rattle.linearizability.proofs.Common.{◌≡◌, ◌≢◌, ℕ, zero, suc, ◌+◌, ◌<◌, ◌≤◌, List, [], ◌∷◌, ◌++◌, length, drop, fold, map, take, true, false, Some, None, inl, inr, ◌⊎◌, refl, sym, ap, subst, ◌∙◌, arith, ⊎_elim, le_refl, append-nil, append_assoc, length-append, All, IsSome, drop-append_seam, take-append_seam, cases_Bool, cases_eq, cases_lt, take-append-drop, take-append-le, All-cons, All-head, All-nil, All-tail, All-weaker, false≢true, Change, Kind, Added, Replaced, Removed, BeginsWith, FitsKind, LegalFrom, LegalFront, changed, changed_by, map_of, IsRising, Map, value_at, without, changed_by-other, map_of-push, map_of-rising, value_at-without_same, Layout, Act, Publish, Load, Core, IsAtomic, Legal, next_core, loaded_tree, Appends, seen_by}
 use Rattle.std.proofs.lemmas.Option.{none-some}
-use Rattle.std.proofs.lemmas.Bool.{false≢true}
-use Rattle.finite_map.specs.declared.Change.{Change}
-use Rattle.finite_map.specs.declared.Kind.{Kind}
-use Rattle.finite_map.specs.declared.Kind.TheVariants.{Added, Replaced, Removed}
 use Rattle.finite_map.specs.declared.Scan.{Scan}
-use Rattle.finite_map.specs.Fronts.{BeginsWith, FitsKind, LegalFrom, LegalFront, changed, changed_by, map_of}
-use Rattle.finite_map.specs.Maps.{IsRising, Map, value_at, without}
 use Rattle.finite_map.specs.Reverse.{falling_scan}
 use Rattle.finite_map.specs.Scans.{IsHeldBetween, IsLawfulScanWith, ScanOrder, rising_scan}
-use Rattle.finite_map.proofs.Fronts.{changed_by-other, map_of-push, map_of-rising}
-use Rattle.finite_map.proofs.Maps.{value_at-without_same}
-use Rattle.record_words.specs.declared.layout.Layout.{Layout}
-use Rattle.rowex_core.specs.declared.event.Act.{Act}
-use Rattle.rowex_core.specs.declared.event.Act.TheVariants.{Publish, Load}
-use Rattle.rowex_core.specs.Cores.{Core}
-use Rattle.rowex_core.specs.Events.{IsAtomic, Legal, after as next_core, loaded_tree}
-use Rattle.rowex_core.specs.Statements.{Appends}
 use Rattle.tries.specs.Content.{Item}
 use Rattle.versions.specs.Told.{added_change, items_of}
 use Rattle.rowex_core.proofs.Events.Appending.{only_publish_appends}
-use Rattle.rowex_core.proofs.Knowing.Keeping.{seen_by}
 use Rattle.linearizability.specs.Configurations.{Continues, Happening, IsWholeRun, Configuration, invokes, refuses, responds, shows, steps}
 use Rattle.linearizability.specs.Scanning.{IsScanInTime, WasHeld, WasThere}
 use Rattle.linearizability.specs.Statements.{ScansInTime}

@@ -1,24 +1,12 @@
 -- The affected entries are those that agree with the found one in the columns below the position.
-use Rattle.std.proofs.Common.{List, [], ap, arith, drop, eqb, false, get_or, length, length-append, map, nat_lt, refl, subst, suc, sym, take, true, zero, ℕ, ⊎_elim, ◌*◌, ◌++◌, ◌+◌, ◌-◌, ◌/◌, ◌<◌, ◌^◌, ◌||◌, ◌∙◌, ◌∷◌, ◌≡◌, ◌≤◌}
-use Rattle.std.proofs.lemmas.Bool.{cases_Bool, cases_lt, cases_order, eq-eqb, eqb-true, false≢true, lt-ltb, ltb-false, ltb-true, ne_eqb}
-use Rattle.std.proofs.lemmas.List.{get_or-map, length-map, length-take-le, map-append, take-append-drop}
-use Rattle.std.proofs.lemmas.Nat.{shr_high}
-use Rattle.key_bits.proofs.Gather.{code-lt}
-use Rattle.key_bits.specs.Gather.{code}
+use Rattle.partial_keys.proofs.Common.{List, [], ap, arith, drop, eqb, false, get_or, length, length-append, map, refl, subst, suc, sym, take, true, zero, ℕ, ⊎_elim, ◌*◌, ◌++◌, ◌+◌, ◌-◌, ◌/◌, ◌<◌, ◌^◌, ◌||◌, ◌∙◌, ◌∷◌, ◌≡◌, ◌≤◌, cases_Bool, cases_lt, cases_order, eq-eqb, eqb-true, false≢true, lt-ltb, ltb-false, ltb-true, ne_eqb, get_or-map, length-map, length-take-le, map-append, take-append-drop, shr_high, code-lt, code, affected_fits, NoneHas, only_path, length-paths, paths-left, paths-right, none_before, has_after, Ascends-front, below_front, ascends_back, IsPlaceOf, same_bools, later_columns, affected_first, affected_count, Piece, Place, Fork, size, paths, RisesFrom, UsesOnly, has, Ascends, AllBelow}
+use Rattle.std.proofs.Common.{nat_lt}
 use Rattle.partial_keys.proofs.Rows.{code-join}
 use Rattle.partial_keys.proofs.Shown.{row, row-set}
 use Rattle.partial_keys.specs.Rows.{row_of}
 use Rattle.partial_keys.specs.Runs.{agree_in, IsRunStart, IsRunEnd}
 use Rattle.partial_keys.specs.Shows.{ShowsPiece}
 use Rattle.node_tries.proofs.Affected.{within, within_past, within_before, within_shift, within_all, within_in, within_true, rises_after, whole_first}
-use Rattle.node_tries.proofs.Growth.{affected_fits}
-use Rattle.node_tries.proofs.Piece.{NoneHas, only_path, length-paths, paths-left, paths-right, none_before}
-use Rattle.node_tries.proofs.Positions.{has_after, Ascends-front, below_front, ascends_back, IsPlaceOf}
-use Rattle.node_tries.proofs.Positions.Tests.{same_bools}
-use Rattle.node_tries.proofs.Piece.Using.{later_columns}
-use Rattle.node_tries.specs.Growth.{affected_first, affected_count}
-use Rattle.node_tries.specs.Piece.{Piece, Place, Fork, size, paths, RisesFrom, UsesOnly}
-use Rattle.node_tries.specs.Positions.{has, Ascends, AllBelow}
 
 eqb_add : (m a b : ℕ) → eqb (m + a) (m + b) ≡ eqb a b
 eqb_add m a b = same_bools _ _ (λ e. eq-eqb a b (let f : m + a ≡ m + b = eqb-true (m + a) (m + b) e in omega arith)) (λ e. eq-eqb (m + a) (m + b) (let f : a ≡ b = eqb-true a b e in omega arith))

@@ -1,13 +1,8 @@
 -- Positions that stay the columns of a node.
-use Rattle.std.proofs.Common.{Bool, List, ap, arith, drop, false, get_or, length, replicate, subst, sym, take, ℕ, ◌++◌, ◌+◌, ◌-◌, ◌<◌, ◌∙◌, ◌≡◌, ◌≤◌}
-use Rattle.std.proofs.lemmas.List.{append_assoc, drop-drop, get_or-drop, length-replicate, replicate-append-replicate, take_all, take_at}
+use Rattle.partial_keys.proofs.Common.{Bool, List, ap, arith, drop, false, get_or, length, replicate, subst, sym, take, ℕ, ◌++◌, ◌+◌, ◌-◌, ◌<◌, ◌∙◌, ◌≡◌, ◌≤◌, append_assoc, drop-drop, get_or-drop, length-replicate, replicate-append-replicate, take_all, take_at, insert, Ascends-kept, AllBelow-kept, length-with_position, AllBelow-with_position, Ascends-with_position, length-kept, with_position-split, kept, front_below, has, with_position}
 use lib.Seq.{paste}
-use Rattle.std.specs.List.{insert}
 use Rattle.partial_keys.proofs.Putting.{drop_pad}
 use Rattle.partial_keys.specs.Columns.{HoldsColumns, IsColumns, with_free}
-use Rattle.node_tries.proofs.Positions.{Ascends-kept, AllBelow-kept, length-with_position, AllBelow-with_position, Ascends-with_position, length-kept, with_position-split}
-use Rattle.node_tries.specs.Kept.{kept}
-use Rattle.node_tries.specs.Positions.{front_below, has, with_position}
 
 pub IsColumns-with_position : (p : ℕ) (cs : List ℕ) → IsColumns cs → length cs < 31 → p < 65535 → has cs p ≡ false → IsColumns (with_position p cs)
 IsColumns-with_position p cs h room below new = record {

@@ -1,24 +1,12 @@
 -- The search of a node: the highest entry that complies is the place to which the forks lead.
-use Rattle.std.proofs.Common.{Bool, List, [], ap, arith, bit_and, eqb, false, get_or, length, map, refl, replicate, subst, suc, sym, take, true, zero, ℕ, ◌%◌, ◌-◌, ◌<◌, ◌^◌, ◌||◌, ◌∙◌, ◌∷◌, ◌≡◌, ◌≤◌}
-use Rattle.std.proofs.Math.Nat.{pow-suc}
-use Rattle.std.proofs.lemmas.Bool.{eq-eqb, ne_eqb}
-use Rattle.std.proofs.lemmas.List.{ext_get_or, get_or-map, get_or-take, get_or_append_left, length-map, length-take-le, take_at}
-use Rattle.std.proofs.lemmas.Nat.{and_mask}
-use Rattle.std.specs.Int.{bit_at}
-use Rattle.key_bits.proofs.Gather.{code-lt}
-use Rattle.key_bits.specs.Gather.{code}
+use Rattle.partial_keys.proofs.Common.{Bool, List, [], ap, arith, bit_and, eqb, false, get_or, length, map, refl, replicate, subst, suc, sym, take, true, zero, ℕ, ◌%◌, ◌-◌, ◌<◌, ◌^◌, ◌||◌, ◌∙◌, ◌∷◌, ◌≡◌, ◌≤◌, pow-suc, eq-eqb, ne_eqb, ext_get_or, get_or-map, get_or-take, get_or_append_left, length-map, length-take-le, take_at, and_mask, bit_at, code-lt, code, size_pos, length-paths, first_path, highest-paths, AllInside, inside, leads_to-agree, front_below-column, Agree, same_from_flags, Piece, paths, leads_to, has, all, any, Ascends}
 use Rattle.partial_keys.proofs.Rows.{complies-row, code-falses, bits_of-code, length-bits_of, get_or-bits_of, complies-front}
 use Rattle.partial_keys.specs.Leads.{IsPlaceForDense, IsPlaceForKey}
 use Rattle.partial_keys.specs.Rows.{dense_of, row_of, rows_of, complies, IsHighest, with_unused, dense_bit}
 use Rattle.partial_keys.specs.Shows.{ShowsPiece}
 use Rattle.partial_keys.specs.Squeezed.{bits_of}
 use Rattle.node_tries.proofs.Highest.{highest-append, highest-map, highest_at, highest_agree}
-use Rattle.node_tries.proofs.Piece.{size_pos, length-paths, first_path, highest-paths, AllInside, inside, leads_to-agree}
-use Rattle.node_tries.proofs.Positions.{front_below-column}
-use Rattle.node_tries.proofs.Positions.Tests.{Agree, same_from_flags}
 use Rattle.node_tries.specs.Highest.{highest}
-use Rattle.node_tries.specs.Piece.{Piece, paths, leads_to}
-use Rattle.node_tries.specs.Positions.{has, all, any, Ascends}
 
 -- the unused places comply with no dense key whose bit 0 is 0
 unused_fail : (d n : ℕ) → d < 2 ^ 32 → d % 2 ≡ 0 → any (complies d) (replicate n 4294967295) ≡ false

@@ -1,4 +1,5 @@
 -- The lemmas of the crate.
+mod Common
 pub mod Putting
 pub mod Taking
 pub mod Rows

@@ -1,8 +1,5 @@
 -- An element put in among the first of a list.
-use Rattle.std.proofs.Common.{List, [], ap, arith, drop, get_or, length, replicate, set, suc, sym, take, ℕ, ◌++◌, ◌+◌, ◌-◌, ◌<◌, ◌∙◌, ◌∷◌, ◌≡◌, ◌≤◌}
-use Rattle.std.proofs.Math.Seq.{drop-append-add}
-use Rattle.std.proofs.lemmas.List.{append_assoc, drop-replicate, drop-take, length-take-le, set_at, take-take, take_all, take_more}
-use Rattle.std.specs.List.{insert}
+use Rattle.partial_keys.proofs.Common.{List, [], ap, arith, drop, get_or, length, replicate, set, suc, sym, take, ℕ, ◌++◌, ◌+◌, ◌-◌, ◌<◌, ◌∙◌, ◌∷◌, ◌≡◌, ◌≤◌, drop-append-add, append_assoc, drop-replicate, drop-take, length-take-le, set_at, take-take, take_all, take_more, insert}
 use lib.Seq.{paste}
 
 -- the elements from a place on, among the first n, move up by one, and another one takes the place

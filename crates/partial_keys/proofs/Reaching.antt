@@ -1,13 +1,9 @@
 -- How many lanes, and how many columns, come before the first that reaches a bound.
-use Rattle.std.proofs.Common.{List, [], ap, arith, cond, leb, length, map, nat_lt, not, refl, replicate, suc, sym, take, w16, zero, ℕ, ⊎_elim, ◌%◌, ◌++◌, ◌+◌, ◌-◌, ◌<◌, ◌^◌, ◌∙◌, ◌∷◌, ◌≡◌, ◌≤◌}
-use Rattle.std.proofs.lemmas.Bool.{cases_lt, le-ltb}
+use Rattle.partial_keys.proofs.Common.{List, [], ap, arith, cond, leb, length, map, not, refl, replicate, suc, sym, take, w16, zero, ℕ, ⊎_elim, ◌%◌, ◌++◌, ◌+◌, ◌-◌, ◌<◌, ◌^◌, ◌∙◌, ◌∷◌, ◌≡◌, ◌≤◌, cases_lt, le-ltb, length-map, leading_from_mask_l, mask_l-lt, mask_l-mod, tops_compared, trailing_mask_l, zip2_splat_left, prefix_len, front_below}
+use Rattle.std.proofs.Common.{nat_lt}
 use Rattle.std.proofs.lemmas.Bool.Decides.{nat_tests}
-use Rattle.std.proofs.lemmas.List.{length-map}
-use Rattle.std.proofs.lemmas.Simd.{leading_from_mask_l, mask_l-lt, mask_l-mod, tops_compared, trailing_mask_l, zip2_splat_left}
 use Rattle.std.specs.Int.Count.{trailing_of_zero}
-use Rattle.std.specs.List.{prefix_len}
 use Rattle.partial_keys.specs.Columns.{AreColumnLanes}
-use Rattle.node_tries.specs.Positions.{front_below}
 use lib.Count.{count_trailing_zeros}
 use lib.Lanes.{mask_l, top, zip2}
 

@@ -2,21 +2,9 @@
 pub mod Growing
 pub mod Joining
 pub mod Lanes
-use Rattle.std.proofs.Common.{Bool, List, [], ap, arith, bit_and, bit_or, cond, div-add-mod', eqb, false, get_or, length, map, not, refl, replicate, suc, sym, take, true, zero, ℕ, ◌%◌, ◌&&◌, ◌*◌, ◌++◌, ◌+◌, ◌-◌, ◌/◌, ◌<◌, ◌^◌, ◌||◌, ◌∙◌, ◌∷◌, ◌≡◌, ◌≤◌}
-use Rattle.std.proofs.Math.Nat.{div-lt_iff_lt-mul, pow-suc}
-use Rattle.std.proofs.lemmas.Bool.{and_from, and_parts, eq-eqb, eqb-true}
-use Rattle.std.proofs.lemmas.Nat.{and_block, and_comm, and_le_l, mod_below, or_block, pow_pos, same_from_place}
-use Rattle.std.proofs.lemmas.Nat.Bits.{bit_at-zero, bit_at_cat_high, bit_at_cat_low}
-use Rattle.std.specs.Int.{bit_at}
-use Rattle.key_bits.proofs.Gather.{code-lt, code-shifted}
-use Rattle.key_bits.specs.Gather.{code}
+use Rattle.partial_keys.proofs.Common.{Bool, List, [], ap, arith, bit_and, bit_or, cond, div-add-mod', eqb, false, get_or, length, map, not, refl, replicate, suc, sym, take, true, zero, ℕ, ◌%◌, ◌&&◌, ◌*◌, ◌++◌, ◌+◌, ◌-◌, ◌/◌, ◌<◌, ◌^◌, ◌||◌, ◌∙◌, ◌∷◌, ◌≡◌, ◌≤◌, div-lt_iff_lt-mul, pow-suc, and_from, and_parts, eq-eqb, eqb-true, and_block, and_comm, and_le_l, mod_below, or_block, pow_pos, same_from_place, bit_at-zero, bit_at_cat_high, bit_at_cat_low, bit_at, code-lt, code-shifted, code, inside, kept-pad, same_bools, all_at, all_from, all_weaker, kept, has, all}
 use Rattle.partial_keys.specs.Rows.{complies}
 use Rattle.partial_keys.specs.Squeezed.{bits_of, squeezed}
-use Rattle.node_tries.proofs.Piece.{inside}
-use Rattle.node_tries.proofs.Positions.{kept-pad}
-use Rattle.node_tries.proofs.Positions.Tests.{same_bools, all_at, all_from, all_weaker}
-use Rattle.node_tries.specs.Kept.{kept}
-use Rattle.node_tries.specs.Positions.{has, all}
 
 -- 1 or 0
 abbrev pub digit : Bool → ℕ

@@ -1,19 +1,8 @@
 -- Reading rows column by column gives back the piece that they were made of.
 pub mod Cutting
-use Rattle.std.proofs.Common.{List, [], ap, arith, eqb, false, length, length-append, map, refl, subst, suc, sym, true, zero, ℕ, ⊎_elim, ◌++◌, ◌+◌, ◌-◌, ◌<◌, ◌^◌, ◌||◌, ◌∙◌, ◌∷◌, ◌≡◌, ◌≤◌}
-use Rattle.std.proofs.lemmas.Bool.{cases_Bool, eq-eqb, eqb-true, false≢true, le-ltb, lt-ltb, ne_eqb}
-use Rattle.std.proofs.lemmas.List.{drop_at, length-map, map-append, take_at}
-use Rattle.std.proofs.lemmas.Simd.{map-map}
-use Rattle.key_bits.proofs.Gather.{code-lt}
-use Rattle.key_bits.specs.Gather.{code}
+use Rattle.partial_keys.proofs.Common.{List, [], ap, arith, eqb, false, length, length-append, map, refl, subst, suc, sym, true, zero, ℕ, ⊎_elim, ◌++◌, ◌+◌, ◌-◌, ◌<◌, ◌^◌, ◌||◌, ◌∙◌, ◌∷◌, ◌≡◌, ◌≤◌, cases_Bool, eq-eqb, eqb-true, false≢true, le-ltb, lt-ltb, ne_eqb, drop_at, length-map, map-append, take_at, map-map, code-lt, code, NoneHas, size_pos, length-places, length-paths, none_before, has-later, has_after, map_same, later_columns, Piece, Place, Fork, places, paths, RisesFrom, UsesOnly, has, Ascends, front_below}
 use Rattle.partial_keys.specs.Shown.{shown, piece_of}
 use Rattle.partial_keys.specs.Shows.{ShowsPiece, Covers}
-use Rattle.node_tries.proofs.Piece.{NoneHas, size_pos, length-places, length-paths, none_before}
-use Rattle.node_tries.proofs.Positions.{has-later, has_after}
-use Rattle.node_tries.proofs.Positions.Tests.{map_same}
-use Rattle.node_tries.proofs.Piece.Using.{later_columns}
-use Rattle.node_tries.specs.Piece.{Piece, Place, Fork, places, paths, RisesFrom, UsesOnly}
-use Rattle.node_tries.specs.Positions.{has, Ascends, front_below}
 
 -- the row of a path over the columns, of w bits
 abbrev pub row : ℕ → List ℕ → List ℕ → ℕ

@@ -1,22 +1,11 @@
 -- What rows show, with a new fork and with a new column.
-use Rattle.std.proofs.Common.{Bool, List, [], ap, arith, eqb, false, length, length-append, map, refl, sym, true, ℕ, ◌++◌, ◌+◌, ◌-◌, ◌<◌, ◌∙◌, ◌∷◌, ◌≡◌, ◌≤◌}
-use Rattle.std.proofs.lemmas.Bool.{eq-eqb, false≢true, or_left, or_right}
-use Rattle.std.proofs.lemmas.List.{length-map}
+use Rattle.partial_keys.proofs.Common.{Bool, List, [], ap, arith, eqb, false, length, length-append, map, refl, sym, true, ℕ, ◌++◌, ◌+◌, ◌-◌, ◌<◌, ◌∙◌, ◌∷◌, ◌≡◌, ◌≤◌, eq-eqb, false≢true, or_left, or_right, length-map, affected_fits, places-grown, UsesOnly-grown, RisesFrom-grown, uses-grown, fresh_from_columns, length-places, length-paths, none_has, has-bigger, has-here, all_weaker, all-put, fewer_columns, UsesOnly-more, replaced, affected_first, affected_count, IsFresh, IsAffected, grown, edited, forked_places, Piece, Place, Fork, size, paths, uses, has, Ascends}
 use Rattle.std.specs.Prelude.{set}
 use Rattle.partial_keys.proofs.Spread.{rows-grown, rows-new_column}
 use Rattle.partial_keys.specs.Rows.{row_of}
 use Rattle.partial_keys.specs.Shows.{ShowsPiece, Covers}
 use Rattle.partial_keys.specs.Spread.{spread_row, forked_rows}
-use Rattle.node_tries.proofs.Growth.{affected_fits, places-grown, UsesOnly-grown, RisesFrom-grown, uses-grown, fresh_from_columns}
-use Rattle.node_tries.proofs.Piece.{length-places, length-paths, none_has}
-use Rattle.node_tries.proofs.Positions.{has-bigger, has-here}
 use Rattle.node_tries.proofs.Changes.Replacing.{paths-replaced, places-replaced, uses-replaced, UsesOnly-replaced, RisesFrom-replaced}
-use Rattle.node_tries.proofs.Positions.Tests.{all_weaker, all-put}
-use Rattle.node_tries.proofs.Piece.Using.{fewer_columns, UsesOnly-more}
-use Rattle.node_tries.specs.Changes.{replaced}
-use Rattle.node_tries.specs.Growth.{affected_first, affected_count, IsFresh, IsAffected, grown, edited, forked_places}
-use Rattle.node_tries.specs.Piece.{Piece, Place, Fork, size, paths, uses}
-use Rattle.node_tries.specs.Positions.{has, Ascends}
 
 module _ {A : Type 0} where
   pub covered_length : (cs rows : List ℕ) (es : List A) (Q : Piece A) → Covers cs rows es Q → length rows ≡ length es

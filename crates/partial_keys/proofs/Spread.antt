@@ -1,22 +1,9 @@
 -- What a new column and a new fork do to rows.
-use Rattle.std.proofs.Common.{Bool, List, [], ap, arith, bit_or, drop, false, length, map, refl, suc, sym, take, true, zero, ℕ, ◌*◌, ◌++◌, ◌+◌, ◌-◌, ◌<◌, ◌^◌, ◌||◌, ◌∙◌, ◌∷◌, ◌≡◌, ◌≤◌}
-use Rattle.std.proofs.lemmas.Bool.{eq-eqb, ne_eqb}
-use Rattle.std.proofs.lemmas.List.{length-drop, length-map, length-take-le, map-append}
-use Rattle.std.proofs.lemmas.Nat.{mod_low, shr_high}
-use Rattle.std.proofs.lemmas.Simd.{map-map}
-use Rattle.key_bits.proofs.Gather.{code-lt, code-shifted}
-use Rattle.key_bits.specs.Gather.{code}
+use Rattle.partial_keys.proofs.Common.{Bool, List, [], ap, arith, bit_or, drop, false, length, map, refl, suc, sym, take, true, zero, ℕ, ◌*◌, ◌++◌, ◌+◌, ◌-◌, ◌<◌, ◌^◌, ◌||◌, ◌∙◌, ◌∷◌, ◌≡◌, ◌≤◌, eq-eqb, ne_eqb, length-drop, length-map, length-take-le, map-append, mod_low, shr_high, map-map, code-lt, code-shifted, code, affected_fits, paths-grown, forked_paths, NoneHas, length-paths, has-here, has-with_position, has_after, map_same, affected_first, affected_count, grown, edited, Piece, size, paths, RisesFrom, has, Ascends, with_position}
 use Rattle.partial_keys.proofs.Rows.{code-join, code-or}
 use Rattle.partial_keys.specs.Rows.{row_of, rows_of}
 use Rattle.partial_keys.specs.Spread.{spread_row, forked_rows}
 use Rattle.node_tries.proofs.Edits.{edited-map}
-use Rattle.node_tries.proofs.Growth.{affected_fits, paths-grown, forked_paths}
-use Rattle.node_tries.proofs.Piece.{NoneHas, length-paths}
-use Rattle.node_tries.proofs.Positions.{has-here, has-with_position, has_after}
-use Rattle.node_tries.proofs.Positions.Tests.{map_same}
-use Rattle.node_tries.specs.Growth.{affected_first, affected_count, grown, edited}
-use Rattle.node_tries.specs.Piece.{Piece, size, paths, RisesFrom}
-use Rattle.node_tries.specs.Positions.{has, Ascends, with_position}
 
 pub spread_code : (xs ys : List Bool) → length xs + length ys ≤ 31 → code 32 (xs ++ false ∷ ys) ≡ spread_row (length xs) (code 32 (xs ++ ys))
 spread_code xs ys l =

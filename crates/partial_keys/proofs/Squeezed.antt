@@ -1,17 +1,9 @@
 -- The steps of the functions that keep some columns and join rows.
 pub mod Closing
-use Rattle.std.proofs.Common.{Bool, List, [], ap, arith, bit_and, bit_or, cond, drop, eqb, false, get_or, length, refl, replicate, sym, take, true, ℕ, ◌++◌, ◌+◌, ◌-◌, ◌/◌, ◌<◌, ◌^◌, ◌∙◌, ◌∷◌, ◌≡◌, ◌≢◌, ◌≤◌}
+use Rattle.partial_keys.proofs.Common.{Bool, List, [], ap, arith, bit_and, bit_or, cond, drop, eqb, false, get_or, length, refl, replicate, sym, take, true, ℕ, ◌++◌, ◌+◌, ◌-◌, ◌/◌, ◌<◌, ◌^◌, ◌∙◌, ◌∷◌, ◌≡◌, ◌≢◌, ◌≤◌, eq-eqb, ne_eqb, append-nil, drop_more, or_comm, bit_at-lt, shr_and_one, bit_at, code, kept_suc, kept_over, kept}
 use Rattle.std.proofs.Math.Numerals.{add-one}
-use Rattle.std.proofs.lemmas.Bool.{eq-eqb, ne_eqb}
-use Rattle.std.proofs.lemmas.List.{append-nil, drop_more}
-use Rattle.std.proofs.lemmas.Nat.{or_comm}
-use Rattle.std.proofs.lemmas.Nat.Bits.{bit_at-lt, shr_and_one}
-use Rattle.std.specs.Int.{bit_at}
-use Rattle.key_bits.specs.Gather.{code}
 use Rattle.partial_keys.proofs.Rows.{bits_of-code, get_or-bits_of}
 use Rattle.partial_keys.specs.Squeezed.{bits_of, used_bits, or_all}
-use Rattle.node_tries.proofs.Positions.{kept_suc, kept_over}
-use Rattle.node_tries.specs.Kept.{kept}
 
 pub is_one : (n v : ℕ) → bit_and (n / 2 ^ v) 1 ≢ 0 → eqb (bit_at n v) 1 ≡ true
 is_one n v h = let e : bit_and (n / 2 ^ v) 1 ≡ bit_at n v = shr_and_one n v in eq-eqb (bit_at n v) 1 (omega (arith, e, h, bit_at-lt n v))

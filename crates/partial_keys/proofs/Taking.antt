@@ -1,8 +1,5 @@
 -- An element taken out of the first of a list.
-use Rattle.std.proofs.Common.{List, [], ap, arith, drop, get_or, length, set, suc, sym, take, ℕ, ◌++◌, ◌+◌, ◌-◌, ◌<◌, ◌∙◌, ◌∷◌, ◌≡◌, ◌≤◌}
-use Rattle.std.proofs.lemmas.List.{append_assoc, drop_more, get_or-append_right, get_or-drop, length-take-le, set_at, take-append-drop, take_at, take_more}
-use Rattle.std.proofs.lemmas.List.Edits.{get_or-remove_above, length-remove, remove-append_left}
-use Rattle.std.specs.Prelude.{remove}
+use Rattle.partial_keys.proofs.Common.{List, [], ap, arith, drop, get_or, length, set, suc, sym, take, ℕ, ◌++◌, ◌+◌, ◌-◌, ◌<◌, ◌∙◌, ◌∷◌, ◌≡◌, ◌≤◌, append_assoc, drop_more, get_or-append_right, get_or-drop, length-take-le, set_at, take-append-drop, take_at, take_more, get_or-remove_above, length-remove, remove-append_left, remove}
 
 module _ {X : Type 0} (xs : List X) (at : ℕ) where
   -- the elements so far, where those before the i-th are what is left

@@ -1,25 +1,8 @@
 -- Bits gathered by vectors, lane by lane.
-use Rattle.std.proofs.Common.{◌≡◌, ℕ, zero, suc, ◌+◌, ◌-◌, ◌*◌, ◌/◌, ◌%◌, ◌^◌, ◌<◌, ◌≤◌, ◌⊎◌, inl, inr, ⊎_elim, Bool, true, false, cond, ◌&&◌, ◌||◌, eqb, ltb, T, List, [], ◌∷◌, ◌++◌, map, length, get_or, take, replicate, bit_and, bit_or, refl, sym, ap, ap₂, ◌∙◌, subst, arith, w8, w16, Fits, eqb→eq, drop, length-append}
-use Rattle.std.proofs.lemmas.Bool.{cases_lt, le-ltb, lt-ltb, ltb-true, ltb-false, ne_eqb}
+use Rattle.partial_keys.proofs.Common.{◌≡◌, ℕ, zero, suc, ◌+◌, ◌-◌, ◌*◌, ◌/◌, ◌%◌, ◌^◌, ◌<◌, ◌≤◌, ◌⊎◌, inl, inr, ⊎_elim, Bool, true, false, cond, ◌&&◌, ◌||◌, eqb, ltb, T, List, [], ◌∷◌, ◌++◌, map, length, get_or, take, replicate, bit_and, bit_or, refl, sym, ap, ap₂, ◌∙◌, subst, arith, w8, w16, Fits, eqb→eq, drop, length-append, cases_lt, le-ltb, lt-ltb, ltb-true, ltb-false, ne_eqb, min, get_or-append, min-eq_left, min-eq_right, zero-div, or_add_and, or_zero_r, bit_at, below_more, bit_of, with_zeros, take-suc, append_assoc, ext_get_or, get_or-append_right, get_or-drop, get_or-map, get_or-replicate, get_or-take, length-drop, length-map, length-replicate, length-take-le, map-append, map-id, map_push, take-append-le, take_all, and_le_l, and_le_r, and_mask, Each1-all, Each1-get_or, Each1-weaker, Each1-zip2, Each2-splat, SwzOk, SwzOk-from_below, bit_mask_l, bitmask_splat, get_or-chunk, get_or-swz_l_below, get_or-zip2, length-chunk, length-swz_l, length-zip2, map-map, pick_l_left, pick_l_whole, swz_l, range_with_len, code, gathered, code-lt, code-shifted, Ascends}
 use Rattle.std.specs.Bool.{beq}
-use Rattle.std.specs.Prelude.{min}
-use Rattle.std.proofs.Math.ListN.{get_or-append}
-use Rattle.std.proofs.Math.Nat.{min-eq_left, min-eq_right, zero-div}
-use Rattle.std.specs.Int.Bits.{or_add_and, or_zero_r}
-use Rattle.std.specs.Int.{bit_at}
-use Rattle.std.proofs.Common.{below_more}
 use borrow.Author.Count.{below_none}
-use Rattle.key_bits.specs.Bits.{bit_of}
-use Rattle.key_bits.specs.Key.{with_zeros}
-use Rattle.std.proofs.Math.Seq.{take-suc}
-use Rattle.std.proofs.lemmas.List.{append_assoc, ext_get_or, get_or-append_right, get_or-drop, get_or-map, get_or-replicate, get_or-take, length-drop, length-map, length-replicate, length-take-le, map-append, map-id, map_push, take-append-le, take_all}
-use Rattle.std.proofs.lemmas.Nat.{and_le_l, and_le_r, and_mask}
-use Rattle.std.proofs.lemmas.Simd.{Each1-all, Each1-get_or, Each1-weaker, Each1-zip2, Each2-splat, SwzOk, SwzOk-from_below, bit_mask_l, bitmask_splat, get_or-chunk, get_or-swz_l_below, get_or-zip2, length-chunk, length-swz_l, length-zip2, map-map, pick_l_left, pick_l_whole, swz_l}
-use Rattle.std.specs.List.{range_with_len}
 use lib.Lanes.{zip2, sel_l, pick_l, mask_l, top, Each1, chunk}
-use Rattle.key_bits.specs.Gather.{code, gathered}
-use Rattle.key_bits.proofs.Gather.{code-lt, code-shifted}
-use Rattle.node_tries.specs.Positions.{Ascends}
 use Rattle.partial_keys.specs.Columns.{AreColumnLanes, HoldsColumns, IsColumns}
 use Rattle.partial_keys.proofs.Rows.{code-append, code-falses}
 use Rattle.partial_keys.specs.declared.gathering.TheConstants.{MASKS}

@@ -1,7 +1,5 @@
 -- The rows of the keys a, b, c (97, 98, 99), of d behind them and of the byte 96 before them, by computation.
-use Rattle.std.proofs.Common.{◌≡◌, true, false, [], ◌∷◌, refl}
-use Rattle.node_tries.specs.Growth.{grown}
-use Rattle.node_tries.specs.Changes.{without}
+use Rattle.partial_keys.proofs.Common.{◌≡◌, true, false, [], ◌∷◌, refl, grown, without}
 use Rattle.node_tries.proofs.Worked.{three}
 use Rattle.partial_keys.specs.Rows.{rows_of}
 use Rattle.partial_keys.specs.Shown.{piece_of}

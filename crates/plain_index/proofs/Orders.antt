@@ -1,11 +1,6 @@
 -- The weave of several passes' calls has those of each pass once, in their order.
 pub mod InOrder
-use Rattle.std.proofs.Common.{◌≡◌, ℕ, ◌+◌, List, [], ◌∷◌, ◌++◌, Bool, filter, not, ◌&&◌, nat_eq, refl, ap, sym, subst, ◌∙◌}
-use Rattle.std.proofs.lemmas.List.Elements.{filter-append}
-use Rattle.finite_map.specs.declared.Change.{Change}
-use Rattle.finite_map.specs.declared.Note.{Note}
-use Rattle.finite_map.specs.Calls.{is_change, LegalCalls}
-use Rattle.finite_map.specs.Weaves.{Event, answered, quiet_at, changing_at, calls_of, made_by, weave_from, weave, notes_of, AllLegal}
+use Rattle.plain_index.proofs.Common.{◌≡◌, ℕ, ◌+◌, List, [], ◌∷◌, ◌++◌, Bool, filter, not, ◌&&◌, nat_eq, refl, ap, sym, subst, ◌∙◌, filter-append, Change, Note, is_change, LegalCalls, Event, answered, quiet_at, changing_at, calls_of, made_by, weave_from, weave, notes_of, AllLegal}
 use Rattle.plain_index.specs.Orders.{calls_in, AreWoven, empty, of_first, of_second, CallsAreWoven}
 use Rattle.plain_index.proofs.Orders.InOrder.{weave-in_order}
 

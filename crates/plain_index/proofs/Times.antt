@@ -1,16 +1,8 @@
 -- The weave of calls that are listed in the order of time has them in this order.
-use Rattle.std.proofs.Common.{◌≡◌, ◌≢◌, ℕ, suc, ◌+◌, ◌<◌, ◌≤◌, List, [], ◌∷◌, ◌++◌, length, get_or, filter, Bool, true, false, cond, not, ◌&&◌, nat_eq, refl, sym, ap, subst, ◌∙◌, arith, ⊎_elim}
-use Rattle.std.specs.Prelude.{All, AllPairs, Contains, IsPermutation}
-use Rattle.std.proofs.lemmas.Bool.{cases_eq, eq-eqb, eqb-true, ne_eqb, and_parts, cond-true, cond-false}
-use Rattle.std.proofs.lemmas.List.Elements.{All-append, All-cons, All-contains_itself, All-filter, All-head, All-nil, All-tail, All-weaker, filter_passes}
+use Rattle.plain_index.proofs.Common.{◌≡◌, ◌≢◌, ℕ, suc, ◌+◌, ◌<◌, ◌≤◌, List, [], ◌∷◌, ◌++◌, length, get_or, filter, Bool, true, false, cond, not, ◌&&◌, nat_eq, refl, sym, ap, subst, ◌∙◌, arith, ⊎_elim, AllPairs, IsPermutation, cases_eq, eq-eqb, eqb-true, ne_eqb, and_parts, cond-true, cond-false, All-append, All-cons, All-contains_itself, All-filter, All-head, All-nil, All-tail, All-weaker, filter_passes, Change, Note, is_change, place_after, StandsIn, Event, answered, quiet_at, changing_at, calls_of, weave_from, AllLegal, notes_of, place_after-within, weave-legal_listed}
+use Rattle.std.specs.Prelude.{All, Contains}
 use Rattle.std.proofs.lemmas.List.Kept.{AllPairs-cons, AllPairs-filter}
 use Rattle.std.proofs.lemmas.List.Sorted.{All-permutation, IsPermutation-append_right, IsPermutation-cons, IsPermutation-middle, IsPermutation-refl, IsPermutation-sym, IsPermutation-trans}
-use Rattle.finite_map.specs.declared.Change.{Change}
-use Rattle.finite_map.specs.declared.Note.{Note}
-use Rattle.finite_map.specs.Calls.{is_change, place_after, StandsIn}
-use Rattle.finite_map.specs.Weaves.{Event, answered, quiet_at, changing_at, calls_of, weave_from, AllLegal, notes_of}
-use Rattle.finite_map.proofs.Calls.{place_after-within}
-use Rattle.finite_map.proofs.Weaves.{weave-legal_listed}
 use Rattle.plain_index.specs.Orders.{calls_in}
 use Rattle.plain_index.specs.Statements.{WeavePutsReturnedFirst}
 use Rattle.plain_index.specs.Times.{FitsPlaces, IsInTime, noted}

@@ -1,26 +1,8 @@
 -- What is chosen at a node, and what follows from it.
-use Rattle.std.proofs.Common.{◌≡◌, ◌≢◌, ◌⊎◌, inl, inr, ℕ, zero, suc, ◌+◌, ◌<◌, ◌≤◌, max, Bool, true, false, List, length, nat_lt, refl, ap, ap₂, sym, ◌∙◌, subst, arith, Some, if◌then◌else◌}
-use Rattle.std.specs.Prelude.{◌↔◌, IsTrue, MatchBool, not, slice_get, slice_set}
-use Rattle.std.proofs.lemmas.Bool.{lt-ltb, le-ltb, cases_lt, false≢true}
-use Rattle.node_tries.specs.Growth.{affected_first, affected_count, grown}
-use Rattle.node_tries.specs.Grafts.{grafted}
-use Rattle.node_tries.specs.Piece.{Place, Fork, places, size}
-use Rattle.compound_node.specs.Nodes.{NodeView, piece, height_of, greatest_height, IsEntry, IsBuiltFrom}
-use Rattle.compound_node.specs.declared.entries.Entry.{Entry}
-use Rattle.compound_node.specs.declared.entries.Entry.TheVariants.{Leaf, Node}
+use Rattle.plain_trie_records.proofs.Common.{◌≡◌, ◌≢◌, ◌⊎◌, inl, inr, ℕ, zero, suc, ◌+◌, ◌<◌, ◌≤◌, max, Bool, true, false, List, length, nat_lt, refl, ap, ap₂, sym, ◌∙◌, subst, arith, Some, if◌then◌else◌, ◌↔◌, IsTrue, not, slice_get, slice_set, lt-ltb, le-ltb, cases_lt, false≢true, affected_first, affected_count, grown, grafted, Place, Fork, places, size, NodeView, piece, height_of, greatest_height, IsEntry, IsBuiltFrom, Entry, Leaf, Node, Risen, Whole, Split, subtrie_of, below, body, case_of, is_leaf, stage, IsAffectedNode, WayBelow, part_of_two, size_affected, tip_child, tip_of_one_place, affected, subtrie_forked, IsPart, Item, Key, bit, spot, child, seek, Subtrie, Fixed, Tree, leaf, node, fork, subtrie}
+use Rattle.std.specs.Prelude.{MatchBool}
 use Rattle.insert_cases.specs.declared.choice.Case.{Case}
 use Rattle.insert_cases.specs.declared.choice.Case.TheVariants.{LeafPushdown}
-use Rattle.insert_cases.specs.declared.raising.Risen.{Risen}
-use Rattle.insert_cases.specs.declared.raising.Risen.TheVariants.{Whole, Split}
-use Rattle.insert_cases.specs.Risen.{subtrie_of}
-use Rattle.insert_cases.specs.Ways.{below, body, case_of, is_leaf, stage, IsAffectedNode, WayBelow}
-use Rattle.insert_cases.proofs.Ways.{part_of_two, size_affected, tip_child, tip_of_one_place}
-use Rattle.tries.specs.Affected.{affected, subtrie_forked, IsPart}
-use Rattle.tries.specs.Content.{Item}
-use Rattle.tries.specs.Keys.{Key, bit}
-use Rattle.tries.specs.Place.{spot}
-use Rattle.tries.specs.Search.{child, seek}
-use Rattle.tries.specs.Tree.{Subtrie, Fixed, Tree, leaf, node, fork, subtrie}
 use Rattle.plain_trie_records.specs.declared.leaf.LeafRecord.{LeafRecord}
 use Rattle.plain_trie_records.specs.Cases.{IsOneSide, IsByCase, AddsByCase, DoesLevel, DoesCase, IsNewNode, IsPutBetween, DoesLevels, TakesFork, is_overflow, is_split}
 use Rattle.plain_trie_records.specs.Rising.{IsAddable, NoNode}

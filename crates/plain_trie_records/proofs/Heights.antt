@@ -1,20 +1,9 @@
 -- The nodes that remain and those that are built, up the way of an insertion.
-use Rattle.std.proofs.Common.{◌≡◌, ◌⊎◌, inl, inr, ℕ, List, [], ◌∷◌, ◌++◌, refl, ap, sym, ◌∙◌, subst, arith, Some, set, length-append, length-set, eqb, get_or}
-use Rattle.std.specs.Prelude.{slice_get}
-use Rattle.std.proofs.lemmas.Bool.{cases_Bool, eqb-true, eqb-false}
-use Rattle.std.proofs.lemmas.Option.{slice_get-get_or, slice_get_within}
-use Rattle.node_tries.specs.Piece.{Piece, Place, Fork}
-use Rattle.compound_node.specs.Nodes.{NodeView}
-use Rattle.compound_node.specs.declared.entries.Entry.{Entry}
-use Rattle.compound_node.specs.declared.halves.Cut.{Cut}
-use Rattle.compound_node.specs.declared.halves.Half.{Half}
-use Rattle.compound_node.specs.declared.halves.Half.TheVariants.{One, Many, Same}
-use Rattle.insert_cases.specs.Grown.{GrownShows, SidesShow}
-use Rattle.insert_cases.specs.declared.growth.Grown.TheVariants.{One as Whole, Two}
+use Rattle.plain_trie_records.proofs.Common.{◌≡◌, ◌⊎◌, inl, inr, ℕ, List, [], ◌∷◌, ◌++◌, refl, ap, sym, ◌∙◌, subst, arith, Some, set, length-append, length-set, eqb, get_or, slice_get, cases_Bool, eqb-true, eqb-false, slice_get-get_or, slice_get_within, Piece, Place, Fork, NodeView, Entry, Cut, Half, One, Many, Same, GrownShows, SidesShow, Two, some_injective}
+use Rattle.insert_cases.specs.declared.growth.Grown.TheVariants.{One as Whole}
 use Rattle.plain_trie_records.specs.Heights.{Remains, HasHeightAnew, KeepsHeight, KeepsHeights, IsHalfSteady, IsGrownSteady}
 use Rattle.plain_trie_records.specs.Rising.{IsNew}
 use Rattle.plain_trie_records.specs.Risen.{OthersStay, AllStay, pushed_nodes, kept_nodes}
-use Rattle.insert_cases.proofs.Ways.{some_injective}
 use Rattle.plain_trie_records.proofs.Risen.{set_back, push_back, push_old, others_kept, others_pushed}
 
 same_steady : {u v : NodeView} → v ≡ u → KeepsHeight u v

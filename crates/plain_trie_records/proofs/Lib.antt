@@ -1,4 +1,5 @@
 -- The lemmas of the crate.
+mod Common
 pub mod Values
 pub mod Store
 pub mod Risen

@@ -1,23 +1,7 @@
 -- Records that are written or added.
-use Rattle.std.proofs.Common.{◌≡◌, ◌≢◌, ◌⊎◌, inl, inr, ℕ, ◌+◌, ◌<◌, List, [], ◌∷◌, ◌++◌, length, refl, ap, sym, ◌∙◌, arith, Some, set, length-append, length-set, eqb, get_or}
-use Rattle.std.proofs.lemmas.Bool.{cases_Bool, eqb-true, eqb-false}
-use Rattle.std.specs.Prelude.{slice_get}
-use Rattle.std.proofs.lemmas.List.{get_or-set_same, get_or-set_other, get_or_append_left}
-use Rattle.std.proofs.Math.Seq.{get_or-append_seam}
-use Rattle.std.proofs.lemmas.Option.{slice_get-get_or, get_or_from_slice_get, slice_get_within}
-use Rattle.node_tries.specs.Piece.{Piece, Place, Fork, places, size}
-use Rattle.compound_node.specs.Halves.{HalfShows}
-use Rattle.compound_node.specs.Nodes.{NodeView, piece, IsLawfulNode, IsBuiltFrom, greatest_height}
-use Rattle.compound_node.specs.declared.entries.Entry.{Entry}
-use Rattle.compound_node.specs.declared.entries.Entry.TheVariants.{Node}
-use Rattle.compound_node.specs.declared.halves.Half.{Half}
-use Rattle.compound_node.specs.declared.halves.Half.TheVariants.{One, Many, Same}
-use Rattle.insert_cases.specs.Grown.{GrownShows}
-use Rattle.insert_cases.specs.declared.growth.Grown.TheVariants.{Two}
+use Rattle.plain_trie_records.proofs.Common.{◌≡◌, ◌≢◌, ◌⊎◌, inl, inr, ℕ, ◌+◌, ◌<◌, List, [], ◌∷◌, ◌++◌, length, refl, ap, sym, ◌∙◌, arith, Some, set, length-append, length-set, eqb, get_or, cases_Bool, eqb-true, eqb-false, slice_get, get_or-set_same, get_or-set_other, get_or_append_left, get_or-append_seam, slice_get-get_or, get_or_from_slice_get, slice_get_within, Piece, Place, Fork, places, size, HalfShows, NodeView, piece, IsLawfulNode, IsBuiltFrom, greatest_height, Entry, Node, Half, One, Many, Same, GrownShows, Two, Split, some_injective}
 use Rattle.plain_trie_records.specs.Cases.{IsOneSide}
 use Rattle.plain_trie_records.specs.Risen.{IsNamed, IsFor, RisenShows, OthersStay, AllStay, pushed_nodes, pushed_entry, kept_nodes, kept_entry}
-use Rattle.insert_cases.specs.declared.raising.Risen.TheVariants.{Split}
-use Rattle.insert_cases.proofs.Ways.{some_injective}
 
 module _ {A : Type 0} where
   pub set_same : (xs : List A) (n : ℕ) (v : A) → n < length xs → slice_get (set xs n v) n ≡ Some v

@@ -2,19 +2,11 @@
 pub mod Putting
 pub mod Reading
 pub mod Searching
-use Rattle.std.proofs.Common.{◌≡◌, inl, inr, ℕ, ◌≤◌, List, ap, ap₂, sym, ◌∙◌, subst, arith, Some}
-use Rattle.std.specs.Prelude.{slice_get}
-use Rattle.node_tries.specs.Piece.{Place, Fork}
-use Rattle.compound_node.specs.Nodes.{NodeView, piece, head_of}
-use Rattle.compound_node.specs.declared.entries.Entry.TheVariants.{Leaf, Node}
-use Rattle.tries.specs.Tree.{Subtrie, Fixed, Tree, leaf, node, fork, subtrie, Has, IsBuilt, IsLower}
-use Rattle.tries.specs.Content.{first}
-use Rattle.tries.proofs.Tree.{has_first}
+use Rattle.plain_trie_records.proofs.Common.{◌≡◌, inl, inr, ℕ, ◌≤◌, List, ap, ap₂, sym, ◌∙◌, subst, arith, Some, slice_get, Place, Fork, NodeView, piece, head_of, Leaf, Node, Subtrie, Fixed, Tree, leaf, node, fork, subtrie, Has, IsBuilt, IsLower, first, has_first, some_injective}
 use Rattle.plain_trie_records.specs.declared.leaf.LeafRecord.{LeafRecord}
 use Rattle.plain_trie_records.specs.Rising.{NoNode, StaysStored}
 use Rattle.plain_trie_records.specs.Risen.{OthersStay}
 use Rattle.plain_trie_records.specs.Store.{IsNodeStored, ShowsTree}
-use Rattle.insert_cases.proofs.Ways.{some_injective}
 
 -- the trees have no key in common
 abbrev pub IsApart : Tree → Tree → Type 0

@@ -1,12 +1,6 @@
 -- What a search tells of the map.
-use Rattle.std.proofs.Common.{◌≡◌, ◌≢◌, inl, inr, ℕ, ◌++◌, true, false, if◌then◌else◌, refl, ap, sym, ◌∙◌, subst, Option, Some, None}
-use Rattle.finite_map.specs.Maps.{value_at}
-use Rattle.tries.specs.Keys.{Key, bit}
-use Rattle.tries.specs.Tree.{Tree, leaf, node, fork, Has, IsTrie}
-use Rattle.tries.specs.Content.{items, pairs, IsIn}
-use Rattle.tries.proofs.Content.{content_rises, in_append_left, in_append_right, holds_has}
+use Rattle.plain_trie_records.proofs.Common.{◌≡◌, ◌≢◌, inl, inr, ℕ, ◌++◌, true, false, if◌then◌else◌, refl, ap, sym, ◌∙◌, subst, Option, Some, None, value_at, Key, bit, Tree, leaf, node, fork, Has, IsTrie, items, pairs, IsIn, content_rises, in_append_left, in_append_right, holds_has, found}
 use Rattle.tries.proofs.Content.Maps.{are_keys, lookup_in, value_holds}
-use Rattle.tries.specs.Search.{found}
 
 -- a search ends at a leaf of the tree
 pub found_in : (k : Key) (t : Tree) → IsIn (found k t) (items t)

@@ -1,11 +1,6 @@
 -- Locks and loads under them, and what a pass recalls after an act.
-use Rattle.std.proofs.Common.{◌≡◌, ◌+◌, subst, ◌∙◌, arith, suc}
-use Rattle.rowex_core.specs.declared.event.Act.TheVariants.{LoadFixed}
-use Rattle.record_words.specs.declared.records.Rec.TheVariants.{Node as a_node}
-use Rattle.rowex_core.specs.Knowing.{IsEvent}
-use Rattle.rowex_core.proofs.Sharing.Owning.{recalls, pin_is}
+use Rattle.publish_laws.proofs.Common.{◌≡◌, ◌+◌, subst, ◌∙◌, arith, suc, LoadFixed, a_node, IsEvent, recalls, pin_is, silent}
 use Rattle.rowex_core.proofs.Writers.Leading.{led_is_in_tree}
-use Rattle.rowex_table.specs.Runs.{silent}
 use Rattle.rowex_table.proofs.Made.ActsBefore as before
 use Rattle.rowex_table.proofs.Made.ActsLeave as leave
 use Rattle.publish_laws.specs.Acts.{LedMayLock, LoadsOfLocked, ActGoesOn}

@@ -1,46 +1,16 @@
 -- Values may be stored, and removals published; and leaves that a pass has read keep their keys.
 pub mod Merging
 pub mod Publishing
-use Rattle.std.proofs.Common.{ℕ, inl, List, [], ◌∷◌, Some, None, refl, sym, ap, subst, ◌∙◌}
-use Rattle.rowex_core.specs.declared.known.Locked.{Locked}
-use Rattle.rowex_core.specs.Knowing.{IsPinnedSince}
-use Rattle.version_laws.specs.Scan.{IsRead}
-use Rattle.tries.specs.Keys.{Key}
+use Rattle.publish_laws.proofs.Common.{ℕ, inl, List, [], ◌∷◌, Some, None, refl, sym, ap, subst, ◌∙◌, Locked, IsPinnedSince, IsRead, Key, Layout, Known, Leaf, Node, Change, seek, subtrie_without, leaf, Within, a_node, a_leaf, NodeWords, LeafWords, replaced_change, removed_change, IsLeafOf, linked_for_entry, IsPublished, newest_tree_if_spot_held, leaf_at, Root, Value, node_words_of, bare, heap_of, stored_words, stored_root, knows_all, Made, recs_of, publishes_made, MayPublish, value_is_legal, in_root, left_tree, same_entry, remove_at_spot, remove_only, leaf_now, state_of, item}
 use Rattle.publish_laws.specs.Stages.{IsLeafThere, IsSure}
-use Rattle.record_words.specs.declared.layout.Layout.{Layout}
-use Rattle.rowex_core.specs.declared.known.Known.{Known}
-use Rattle.compound_node.specs.declared.entries.Entry.TheVariants.{Leaf, Node}
-use Rattle.finite_map.specs.declared.Change.{Change}
-use Rattle.tries.specs.Search.{seek}
-use Rattle.tries.specs.Place.{subtrie_without}
-use Rattle.tries.specs.Tree.{leaf, Within}
-use Rattle.record_words.specs.declared.records.Rec.TheVariants.{Node as a_node, Leaf as a_leaf}
-use Rattle.versions.specs.Heap.{NodeWords, LeafWords}
-use Rattle.version_laws.specs.Writer.{replaced_change, removed_change}
-use Rattle.version_laws.specs.Rise.{IsLeafOf, linked_for_entry}
-use Rattle.version_laws.specs.Statements.{IsPublished}
-use Rattle.version_laws.proofs.Spots.{newest_tree_if_spot_held, leaf_at}
-use Rattle.rowex_core.specs.declared.event.Spot.TheVariants.{Root, Value}
-use Rattle.rowex_core.specs.Reading.{node_words_of}
-use Rattle.rowex_core.specs.Cores.{bare, heap_of}
-use Rattle.rowex_core.specs.Events.{stored_words, stored_root}
-use Rattle.rowex_core.proofs.Sharing.Owning.{knows_all}
-use Rattle.rowex_table.specs.Made.{Made, recs_of}
-use Rattle.rowex_table.proofs.Made.ActsAfter.{publishes_made, MayPublish}
 use Rattle.publish_laws.proofs.Stages.{locked_node, stage_of}
 use Rattle.publish_laws.proofs.Spots.{spot_in, stores_at}
 use Rattle.publish_laws.proofs.Stages.Valuing.{loaded_leaf, locked_value, named_at, named_below}
-use Rattle.rowex_core.proofs.Writers.{value_is_legal}
 use Rattle.finite_map.specs.declared.Kind.TheVariants.{Replaced}
-use Rattle.versions.specs.Steps.{in_root}
 use Rattle.publish_laws.proofs.Sure.{reach_since}
 use Rattle.publish_laws.proofs.Cases.Publishing.{publish_words, publish_root, leaf_held}
 use Rattle.publish_laws.proofs.Rises.{side_in}
-use Rattle.version_laws.proofs.Rise.Taking.{left_tree, same_entry, remove_at_spot, remove_only}
-use Rattle.version_laws.proofs.Statements.Search.{leaf_now}
 use Rattle.publish_laws.specs.Cases.{MayStoreValue, MayRemove, MayRemoveLast}
-use Rattle.rowex_core.proofs.Cores.Loading.{view as state_of}
-use Rattle.tries.specs.Content.{item}
 
 -- A leaf that a pinned pass has read keeps its key.
 pub leaf_stays : (layout : Layout) (k : Known) (held : List Locked) (news : List Made) (since j : ℕ) (key : Key) (value : ℕ) → IsPinnedSince k since →

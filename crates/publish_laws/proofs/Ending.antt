@@ -1,19 +1,9 @@
 -- From the publish to rest.
-use Rattle.std.proofs.Common.{◌≡◌, inl, ℕ, List, [], ◌∷◌, refl, sym, ap, subst, ◌∙◌}
-use Rattle.record_words.specs.declared.layout.Layout.{Layout}
-use Rattle.record_words.specs.declared.records.Rec.{Rec}
+use Rattle.publish_laws.proofs.Common.{◌≡◌, inl, ℕ, List, [], ◌∷◌, refl, sym, ap, subst, ◌∙◌, Layout, Rec, Known, Owned, AreApart, not, a_node, owns_none, locks_none, marks_own, unlocks_node, unlock_round, epoch_owns, epoch_leaves, mark_gives, mark_leaves, unlock_gives, unlock_leaves, unlock_anchor_gives, silent}
 use Rattle.versions.specs.declared.Round.{Round}
-use Rattle.rowex_core.specs.declared.known.Known.{Known}
-use Rattle.rowex_core.specs.declared.known.Owned.{Owned}
-use Rattle.versions.specs.Trades.{AreApart}
 use Rattle.rowex_core.specs.Having.{OwnsJust, LocksJust, IsUnlinkedBefore, is_among}
 use Rattle.rowex_table.proofs.Rights.{unlocks_anchor}
-use Rattle.std.specs.Prelude.{not}
-use Rattle.record_words.specs.declared.records.Rec.TheVariants.{Node as a_node}
 use Rattle.rowex_core.proofs.Having.Kept.{kept_are_not_gone, filter_apart}
-use Rattle.rowex_core.proofs.Having.{owns_none, locks_none}
-use Rattle.rowex_table.proofs.Made.ActsAfter.{marks_own, unlocks_node, unlock_round, epoch_owns, epoch_leaves, mark_gives, mark_leaves, unlock_gives, unlock_leaves, unlock_anchor_gives}
-use Rattle.rowex_table.specs.Runs.{silent}
 use Rattle.publish_laws.specs.Ending.{KeptAreNotGone, EndInAnyOrder, EndBegins, EndMarks, EndRests, EndUnlocks, EndUnlocksAnchor, EndsAtOnce, MarksEach, Settles, UnlocksEach}
 
 -- all marks

@@ -1,12 +1,6 @@
 -- Each case of an insertion below a node.
 pub mod Inserting
-use Rattle.std.proofs.Common.{inl, inr, List, [], ◌∷◌, ◌++◌, refl, sym, subst}
-use Rattle.compound_node.specs.declared.entries.Entry.TheVariants.{Node}
-use Rattle.tries.specs.Content.{Item}
-use Rattle.record_words.specs.declared.records.Rec.TheVariants.{Node as a_node}
-use Rattle.versions.proofs.Trades.{of_right}
-use Rattle.version_laws.specs.Rise.{body, entry}
-use Rattle.rowex_table.specs.Made.{Made}
+use Rattle.publish_laws.proofs.Common.{inl, inr, List, [], ◌∷◌, ◌++◌, refl, sym, subst, Node, Item, a_node, of_right, body, entry, Made}
 use Rattle.publish_laws.specs.Stages.{HasLeaf, HasRisen}
 use Rattle.publish_laws.specs.Rises.{made_of_node, made_of_leaf}
 use Rattle.publish_laws.specs.Insertions.{NormalInsert, Overflow, StaysWhole, PullUp, PullUpOverflow}

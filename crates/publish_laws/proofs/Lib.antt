@@ -1,4 +1,5 @@
 -- The lemmas of the crate.
+mod Common
 pub mod Stages
 pub mod Spots
 pub mod Sure

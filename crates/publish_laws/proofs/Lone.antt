@@ -2,36 +2,13 @@
 pub mod Fates
 pub mod Published
 pub mod Timely
-use Rattle.std.proofs.Common.{◌≡◌, ◌≢◌, ◌⊎◌, inl, inr, ℕ, ◌<◌, List, [], ◌∷◌, ◌++◌, refl, sym, ap, subst, ◌∙◌, arith, append-nil, Some}
-use Rattle.std.specs.Prelude.{All, Contains}
+use Rattle.publish_laws.proofs.Common.{◌≡◌, ◌≢◌, ◌⊎◌, inl, inr, ℕ, ◌<◌, List, [], ◌∷◌, ◌++◌, refl, sym, ap, subst, ◌∙◌, arith, append-nil, Some, All, Contains, Layout, Fate, Free, Held, Ready, InTree, Unlinked, Marked, IsOneOf, Rec, a_node, all_of, Act, LoadState, Event, HeldBy, ReadyBy, Known, Owned, Core, IsLawful, holder_of, after, Knows, learned, EventsLead, IsOwned, not_free, knows_all, stays_lawful, Runs, Steps, StepsWith, silent, TableView, SeatView}
 use Rattle.std.proofs.lemmas.List.Elements.{All-cons, All-contains, All-head, All-nil, All-tail, All-weaker}
 use Rattle.finite_map.specs.declared.Note.{Note}
-use Rattle.record_words.specs.declared.layout.Layout.{Layout}
-use Rattle.versions.specs.Core.{Fate, Free, Held, Ready, InTree, Unlinked, Marked}
-use Rattle.versions.specs.Trades.{IsOneOf}
-use Rattle.record_words.specs.declared.records.Rec.{Rec}
-use Rattle.record_words.specs.declared.records.Rec.TheVariants.{Node as a_node}
-use Rattle.versions.proofs.Trades.{all_of}
-use Rattle.rowex_core.specs.declared.event.Act.{Act}
-use Rattle.rowex_core.specs.declared.event.Act.TheVariants.{LoadState}
-use Rattle.rowex_core.specs.declared.event.Event.{Event}
-use Rattle.rowex_core.specs.declared.known.Holding.TheVariants.{Held as HeldBy, Ready as ReadyBy}
-use Rattle.rowex_core.specs.declared.known.Known.{Known}
-use Rattle.rowex_core.specs.declared.known.Owned.{Owned}
-use Rattle.rowex_core.specs.Cores.{Core, IsLawful, holder_of}
-use Rattle.rowex_core.specs.Events.{after}
-use Rattle.rowex_core.specs.Knowing.{Knows, learned}
 use Rattle.rowex_core.specs.Opening.{opening}
-use Rattle.rowex_core.specs.Runs.{EventsLead}
-use Rattle.rowex_core.specs.Sharing.{IsOwned}
 use Rattle.rowex_core.specs.Words.{lock_of}
 use Rattle.rowex_core.proofs.Knowing.{learns}
-use Rattle.rowex_core.proofs.Having.{not_free}
-use Rattle.rowex_core.proofs.Sharing.Owning.{knows_all}
 use Rattle.rowex_core.proofs.Words.{free_tag}
-use Rattle.rowex_core.proofs.Cores.{stays_lawful}
-use Rattle.rowex_table.specs.Runs.{Runs, Steps, StepsWith, silent}
-use Rattle.rowex_table.specs.Seats.{TableView, SeatView}
 use Rattle.rowex_table.proofs.Runs.Linking.{lead_rest}
 use Rattle.publish_laws.specs.Lone.{IsFreeAt, IsLone, IsOut, LeavesTree, IsUnused, KeepsSpare}
 use Rattle.publish_laws.proofs.Lone.Fates.{fate_kept, out_closed, out_marks, unused_closed, unused_marks}
@@ -95,8 +72,8 @@ module _ {G : Type 0} (table : TableView) (becomes : G → Event → G → Type 
       subst (λ (z : Core). z.fate (a_node n) ≡ Free) (sym is) (free_tag (lock_of c (a_node n)) (c.fate (a_node n)) (sym step.event.legal.1.1))
 
   -- ---- many
-  -- Steps that are no publishes, back from the core to which they lead: there was one to which the trace had led before. What stood in no tree
-  -- there still doesn't, and what was unused is. Of both what the pass knew is true, if it has made a step.
+  -- Steps that are no publishes, back from the core to which they lead: there was one to which the trace had led before. What stood in no
+  -- tree there still doesn't, and what was unused is. Of both what the pass knew is true, if it has made a step.
   pub record IsBack (a b : SeatView × G) (d : Core) : Type 0 where
     pub core : Core
     pub lone : IsLone table.layout a.0 core

@@ -1,27 +1,11 @@
 -- The loop before a publish, and what may be done with what is held.
-use Rattle.std.proofs.Common.{◌≡◌, inl, inr, ℕ, ◌+◌, ◌-◌, List, [], ◌∷◌, ◌++◌, map, refl, sym, ap, subst, ◌∙◌, append_assoc, ◌<◌, ◌^◌}
-use Rattle.std.proofs.lemmas.List.{append-nil, map-append}
+use Rattle.publish_laws.proofs.Common.{◌≡◌, inl, inr, ℕ, ◌+◌, ◌-◌, List, [], ◌∷◌, ◌++◌, map, refl, sym, ap, subst, ◌∙◌, append_assoc, ◌<◌, ◌^◌, map-append, IsOffset, Layout, Fill, LoadRef, Release, Value, IsReady, Known, Core, FitsIn, HasWord, IsPacked, Knows, IsEvent, Act, IsOwned, knows_all, owned_used, IsOneOf, AreApart, of_right, all_of, ready_gives_next, recalls_on, later_trans, same_later, value_loaded, silent, HasReadied, IsLater, Made, held_as, recs_of, HoldsMade}
+use Rattle.std.proofs.lemmas.List.{append-nil}
 use Rattle.rowex_table.specs.Rule.{MayStep}
-use Rattle.rowex_core.specs.Events.{IsOffset}
-use Rattle.record_words.specs.declared.layout.Layout.{Layout}
-use Rattle.rowex_core.specs.declared.event.Act.TheVariants.{Fill, LoadRef, Ready, Release}
-use Rattle.rowex_core.specs.declared.event.Spot.TheVariants.{Value}
-use Rattle.rowex_core.specs.declared.known.Holding.TheVariants.{Held, Ready as IsReady}
-use Rattle.rowex_core.specs.declared.known.Known.{Known}
-use Rattle.rowex_core.specs.Cores.{Core, FitsIn, HasWord}
-use Rattle.rowex_core.specs.Reading.{IsPacked}
-use Rattle.rowex_core.specs.Knowing.{Knows, IsEvent}
-use Rattle.rowex_core.specs.declared.event.Act.{Act}
+use Rattle.rowex_core.specs.declared.event.Act.TheVariants.{Ready}
+use Rattle.rowex_core.specs.declared.known.Holding.TheVariants.{Held}
 use Rattle.rowex_table.specs.Stays.{KeepsRecall, LeavesLocks, LeavesAnchor}
 use Rattle.rowex_table.proofs.Made.ActsLeave.{act_leaves}
-use Rattle.rowex_core.specs.Sharing.{IsOwned}
-use Rattle.rowex_core.proofs.Sharing.Owning.{knows_all}
-use Rattle.rowex_core.proofs.Having.{owned_used}
-use Rattle.versions.specs.Trades.{IsOneOf, AreApart}
-use Rattle.versions.proofs.Trades.{of_right, all_of}
-use Rattle.rowex_table.proofs.Made.ActsBefore.{ready_gives_next, recalls_on, later_trans, same_later, value_loaded}
-use Rattle.rowex_table.specs.Runs.{silent}
-use Rattle.rowex_table.specs.Made.{HasReadied, IsLater, Made, held_as, recs_of, HoldsMade}
 use Rattle.publish_laws.specs.Loops.{KeepsLoaded, KeepsValues, ReadiesEach, StaysLocked}
 use Rattle.publish_laws.specs.Stages.{HasLoaded}
 

@@ -1,39 +1,14 @@
 -- What has risen stays while the pass goes on, and grows by one step.
 pub mod Bounding
-use Rattle.std.proofs.Common.{◌≡◌, inl, ℕ, List, [], ◌∷◌, ◌++◌, refl, sym, ap, ap₂, subst, ◌∙◌}
-use Rattle.record_words.specs.declared.records.Rec.{Rec}
-use Rattle.compound_node.specs.Nodes.{piece, NodeView}
-use Rattle.compound_node.specs.declared.entries.Entry.{Entry}
-use Rattle.compound_node.specs.declared.entries.Entry.TheVariants.{Node, Leaf}
-use Rattle.node_tries.specs.Piece.{Place, Fork}
-use Rattle.record_words.specs.declared.layout.Layout.{Layout}
-use Rattle.tries.specs.Keys.{bit}
-use Rattle.tries.specs.Tree.{Subtrie, Tree, fork, subtrie, IsTrie, IsBuilt}
-use Rattle.tries.specs.Place.{with_subtrie}
-use Rattle.record_words.specs.declared.records.Rec.TheVariants.{Node as a_node, Leaf as a_leaf}
-use Rattle.versions.specs.Heap.{NodeWords}
-use Rattle.version_laws.specs.Rise.{IsEntryFor, alone, in_node, IsNewSubtrie, IsRise, body, entry, grows, pulls, copies, halves, stays_whole, wraps, linked_for_entry, linked_by_rise, unlinked_by_rise, Side}
+use Rattle.publish_laws.proofs.Common.{◌≡◌, inl, ℕ, List, [], ◌∷◌, ◌++◌, refl, sym, ap, ap₂, subst, ◌∙◌, Rec, piece, NodeView, Entry, Node, Leaf, Place, Fork, Layout, bit, Subtrie, Tree, fork, subtrie, IsTrie, IsBuilt, with_subtrie, a_node, a_leaf, NodeWords, IsEntryFor, alone, in_node, IsNewSubtrie, IsRise, body, entry, grows, pulls, copies, halves, stays_whole, wraps, linked_for_entry, linked_by_rise, unlinked_by_rise, Side, Known, Locked, node_words_of, Core, bare, IsOwned, IsLocked, IsOneOf, of_left, of_right, fork_parts, subtrie_affected, subtrie_forked, subtrie_grown, IsPartSubtrie, FirstForkIsBefore, FirstForkIsFrom, IsWayBelow, IsFoundBelow, Newcomer, IsLater, Made, held_as, recs_of, recalls_before}
 use Rattle.rowex_core.specs.declared.known.Holding.TheVariants.{Ready}
-use Rattle.rowex_core.specs.declared.known.Known.{Known}
-use Rattle.rowex_core.specs.declared.known.Locked.{Locked}
-use Rattle.rowex_core.specs.Reading.{node_words_of}
-use Rattle.rowex_core.specs.Cores.{Core, bare}
-use Rattle.rowex_core.specs.Sharing.{IsOwned, IsLocked}
-use Rattle.versions.specs.Trades.{IsOneOf}
-use Rattle.versions.proofs.Trades.{of_left, of_right}
-use Rattle.version_laws.proofs.Rise.{fork_parts}
 use Rattle.version_laws.proofs.Statements.Upwards.{upper_goes_on}
 use Rattle.publish_laws.proofs.Rises.Bounding.{bound_of, tree_risen, bound_risen}
 use Rattle.publish_laws.proofs.Sure.{reach_since}
 use Rattle.publish_laws.proofs.Stages.{node_fixed, locked_node, upper_in, made_node}
-use Rattle.tries.specs.Affected.{subtrie_affected, subtrie_forked, subtrie_grown, IsPartSubtrie, FirstForkIsBefore}
-use Rattle.versions.specs.State.{FirstForkIsFrom}
-use Rattle.version_laws.specs.Writer.{IsWayBelow, IsFoundBelow, Newcomer}
-use Rattle.rowex_table.specs.Made.{IsLater, Made, held_as, recs_of}
 use Rattle.publish_laws.specs.Stages.{IsStage, HasRisen, HasLeaf, IsLockedAbove}
 use Rattle.publish_laws.specs.Rises.{AboveGoesOn, HasFoundBelow, IsSide, anew, made_of_leaf, made_of_node, one, IsBuiltAnew}
 use Rattle.publish_laws.proofs.Loops.{recs_append}
-use Rattle.rowex_table.proofs.Made.ActsBefore.{recalls_before}
 
 -- What stays
 

@@ -1,24 +1,5 @@
 -- A spot of which a pass knows that it holds the lock is one in each core of which that is true, and so is a store there.
-use Rattle.std.proofs.Common.{◌≡◌, inl, inr, ℕ, List, Some, refl, sym, ap, subst, ◌∙◌}
-use Rattle.compound_node.specs.declared.entries.Entry.{Entry}
-use Rattle.compound_node.specs.declared.entries.Entry.TheVariants.{Leaf, Node}
-use Rattle.record_words.specs.declared.layout.Layout.{Layout}
-use Rattle.tries.specs.Keys.{Key}
-use Rattle.tries.specs.Search.{seek}
-use Rattle.tries.specs.Affected.{subtrie_affected, FirstForkIsBefore, IsTipSubtrie}
-use Rattle.tries.specs.Tree.{Subtrie}
-use Rattle.versions.specs.Heap.{NodeWords}
-use Rattle.version_laws.specs.Spots.{HoldsSpot, by_anchor, by_node, IsLowAt, AffectsSpotAloneInCore, IsStoredAt, subtrie_below}
-use Rattle.rowex_core.specs.declared.event.Spot.{Spot}
-use Rattle.rowex_core.specs.declared.known.Known.{Known}
-use Rattle.rowex_core.specs.declared.known.Locked.{Locked}
-use Rattle.record_words.specs.Decoding.{entry_of}
-use Rattle.rowex_core.specs.Cores.{Core, bare, heap_of}
-use Rattle.rowex_core.specs.Events.{IsLockedAt, IsOfEntry, IsPackedAt, stored_words, stored_root}
-use Rattle.rowex_core.specs.Knowing.{Knows}
-use Rattle.rowex_core.proofs.Sharing.Owning.{knows_all}
-use Rattle.rowex_core.proofs.Reading.{entry_of_word}
-use Rattle.rowex_table.specs.Made.{Made}
+use Rattle.publish_laws.proofs.Common.{◌≡◌, inl, inr, ℕ, List, Some, refl, sym, ap, subst, ◌∙◌, Entry, Leaf, Node, Layout, Key, seek, subtrie_affected, FirstForkIsBefore, IsTipSubtrie, Subtrie, NodeWords, HoldsSpot, by_anchor, by_node, IsLowAt, AffectsSpotAloneInCore, IsStoredAt, subtrie_below, Spot, Known, Locked, entry_of, Core, bare, heap_of, IsLockedAt, IsOfEntry, IsPackedAt, stored_words, stored_root, Knows, knows_all, entry_of_word, Made}
 use Rattle.publish_laws.specs.Cases.{IsWord}
 use Rattle.publish_laws.specs.Spots.{HoldsAt, at_root, in_node, FitsAt, AffectsSpotAlone, IsSubtrieBelow, IsSpotOf}
 use Rattle.publish_laws.specs.Stages.{IsStage}

@@ -1,51 +1,15 @@
 -- What holds in each core in which a writer's records are made, from their words and those of its locks.
 pub mod Valuing
-use Rattle.std.proofs.Common.{◌≡◌, inl, inr, ℕ, ◌+◌, ◌-◌, ◌*◌, ◌<◌, ◌≤◌, List, length, set, Some, refl, sym, ap, ap₂, subst, ◌∙◌, arith}
-use Rattle.std.specs.Prelude.{All}
-use Rattle.compound_node.specs.declared.entries.Entry.{Entry}
-use Rattle.compound_node.specs.declared.entries.Entry.TheVariants.{Leaf, Node}
-use Rattle.compound_node.specs.Nodes.{NodeView, StandsBelow, height_of, piece}
-use Rattle.key_bits.specs.declared.TheConstants.{MAX_BYTES}
-use Rattle.node_tries.specs.Piece.{Place, Fork, size, places}
+use Rattle.publish_laws.proofs.Common.{◌≡◌, inl, inr, ℕ, ◌+◌, ◌-◌, ◌*◌, ◌<◌, ◌≤◌, List, length, set, Some, refl, sym, ap, ap₂, subst, ◌∙◌, arith, All, Entry, Leaf, Node, NodeView, StandsBelow, height_of, piece, MAX_BYTES, Place, Fork, size, places, Layout, HasEntryWord, entry_word, Key, Fixed, Subtrie, first_position, Item, spot, with_entry, subtrie_affected, IsLowerSubtrie, IsTipSubtrie, FirstForkIsBefore, seek, spot_below, a_node, a_leaf, NodeWords, IsNewLeaf, IsSubtrieStored, IsLockedNode, IsNewSubtrie, IsUpper, Slot, Known, Locked, node_words_of, leaf_of, IsPacked, Core, IsLawful, MustSpellValue, bare, heap_of, IsPackedAt, IsLockedAt, stored_words, IsLocked, IsOwned, Knows, knows_all, recalls, node_is, IsOneOf, of_left, of_right, all_of, map_of, node_used, Made, held_as, node_number, leaf_node, size-piece}
 use Rattle.partial_keys.specs.Shows.{ShowsPiece}
-use Rattle.record_words.specs.declared.layout.Layout.{Layout}
-use Rattle.record_words.specs.Entry.{HasEntryWord, entry_word}
 use Rattle.record_words.specs.Node.{HasNodeWords, node_words}
 use Rattle.record_words.specs.Leaf.{up_to_key}
-use Rattle.tries.specs.Keys.{Key}
-use Rattle.tries.specs.Tree.{Fixed, Subtrie, first_position}
-use Rattle.tries.specs.Content.{Item}
-use Rattle.tries.specs.Place.{spot, with_entry}
-use Rattle.tries.specs.Affected.{subtrie_affected, IsLowerSubtrie, IsTipSubtrie, FirstForkIsBefore}
-use Rattle.tries.specs.Search.{seek}
-use Rattle.tries.proofs.Place.{spot_below}
-use Rattle.record_words.specs.declared.records.Rec.TheVariants.{Node as a_node, Leaf as a_leaf}
-use Rattle.versions.specs.Heap.{NodeWords}
 use Rattle.versions.proofs.Core.{same_rec_refl}
-use Rattle.version_laws.specs.Writer.{IsNewLeaf, IsSubtrieStored}
-use Rattle.version_laws.specs.Spots.{IsLockedNode}
-use Rattle.version_laws.specs.Rise.{IsNewSubtrie, IsUpper}
-use Rattle.rowex_core.specs.declared.event.Spot.TheVariants.{Slot}
-use Rattle.rowex_core.specs.declared.known.Known.{Known}
-use Rattle.rowex_core.specs.declared.known.Locked.{Locked}
-use Rattle.rowex_core.specs.Reading.{node_words_of, leaf_of, IsPacked}
-use Rattle.rowex_core.specs.Cores.{Core, IsLawful, MustSpellValue, bare, heap_of}
-use Rattle.rowex_core.specs.Events.{IsPackedAt, IsLockedAt, stored_words}
-use Rattle.rowex_core.specs.Sharing.{IsLocked, IsOwned}
-use Rattle.rowex_core.specs.Knowing.{Knows}
-use Rattle.rowex_core.proofs.Sharing.Owning.{knows_all, recalls}
 use Rattle.rowex_core.specs.declared.known.Holding.TheVariants.{Ready}
 use Rattle.rowex_core.proofs.Reading.Leafing.{leaf_is}
-use Rattle.rowex_core.proofs.Reading.{node_is}
 use Rattle.rowex_core.proofs.Cores.Publishing.{other_words}
-use Rattle.versions.specs.Trades.{IsOneOf}
-use Rattle.versions.proofs.Trades.{of_left, of_right, all_of, map_of}
-use Rattle.rowex_core.proofs.Having.{node_used}
 use Rattle.rowex_core.proofs.Writers.Slots.{slot_is_stored}
-use Rattle.rowex_table.specs.Made.{Made, held_as}
 use Rattle.publish_laws.specs.Stages.{HasReady, HasLeaf, IsLockedAbove, IsStage}
-use Rattle.versions.proofs.Heap.{node_number, leaf_node}
-use Rattle.tries.proofs.Tree.Building.{size-piece}
 
 abbrev pub node_fixed : NodeView → Fixed
 node_fixed v = record { height = v.height; columns = v.columns; rows = v.rows }

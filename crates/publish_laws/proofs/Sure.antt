@@ -1,29 +1,13 @@
 -- What a pass is sure of.
 use Rattle.std.specs.Prelude.{List}
-use Rattle.std.proofs.Common.{◌≡◌, ℕ, ◌+◌, length, refl, ap, ◌∙◌, arith, length-append}
-use Rattle.rowex_core.specs.declared.known.Locked.{Locked}
+use Rattle.publish_laws.proofs.Common.{◌≡◌, ℕ, ◌+◌, length, refl, ap, ◌∙◌, arith, length-append, Locked, Key, Entry, Subtrie, first_position, Node, Leaf, EntryStoodSince, HadShapeSince, IsPlaced, IsRead, Past, IsReach, KeepsFixedWordsSince, pin_version, IsWayBelow, Newcomer, Known, node_words_of, Core, IsLawful, Recalls, IsPinnedSince, IsLater, view, recalls_before}
 use Rattle.publish_laws.specs.Rises.{HasFoundBelow}
-use Rattle.tries.specs.Keys.{Key}
-use Rattle.compound_node.specs.declared.entries.Entry.{Entry}
 use Rattle.version_laws.specs.Ways.{IsOnWay, IsWayFrom}
-use Rattle.tries.specs.Tree.{Subtrie, first_position}
-use Rattle.compound_node.specs.declared.entries.Entry.TheVariants.{Node, Leaf}
-use Rattle.version_laws.specs.Scan.{EntryStoodSince, HadShapeSince, IsPlaced, IsRead}
-use Rattle.versions.specs.State.{Past, IsReach, KeepsFixedWordsSince}
-use Rattle.versions.specs.Core.{pin_version}
 use Rattle.versions.specs.Frames.{IsGrown}
 use Rattle.versions.proofs.State.{steady}
-use Rattle.version_laws.specs.Writer.{IsWayBelow, Newcomer}
 use Rattle.version_laws.proofs.Ways.{way_begins, way_goes_on, way_ends, way_is_below}
-use Rattle.rowex_core.specs.declared.known.Known.{Known}
-use Rattle.rowex_core.specs.Reading.{node_words_of}
-use Rattle.rowex_core.specs.Cores.{Core, IsLawful}
-use Rattle.rowex_core.specs.Knowing.{Recalls, IsPinnedSince}
-use Rattle.rowex_table.specs.Made.{IsLater}
 use Rattle.publish_laws.specs.Stages.{IsSure}
 use Rattle.publish_laws.specs.Sure.{DescentFinds}
-use Rattle.rowex_core.proofs.Cores.Loading.{view}
-use Rattle.rowex_table.proofs.Made.ActsBefore.{recalls_before}
 
 -- what stood since a pass's pin is still in that life, in each core in which it recalls its pin
 pub reach_since : (k : Known) (m : ℕ) → IsPinnedSince k m → (c : Core) → IsLawful c → Recalls c k → IsReach (view c) m

@@ -1,11 +1,8 @@
 -- A word of a key against its eight bytes.
-use Rattle.std.proofs.Common.{ℕ, ◌≡◌, ◌+◌, ◌-◌, ◌*◌, ◌^◌, ◌<◌, ◌≤◌, arith, List, get_or, drop, length, sym, ◌∙◌, ◌⊎◌, ⊎_elim, inl, inr, ◌≢◌, ap, take, get_or-take, lit<, rules, get_or-drop, below_more, subst}
+use Rattle.record_words.proofs.Common.{ℕ, ◌≡◌, ◌+◌, ◌-◌, ◌*◌, ◌^◌, ◌<◌, ◌≤◌, arith, List, get_or, drop, length, sym, ◌∙◌, ◌⊎◌, ⊎_elim, inl, inr, ◌≢◌, ap, take, get_or-take, lit<, rules, below_more, subst, get_or_past, places, get_or_append_left, length-take-le, get_or-append_right, cases_lt, from_be_bytes, to_be_bytes, w64, from_be_bytes-to_be_bytes_8}
+use Rattle.std.proofs.Common.{get_or-drop}
 use borrow.Author.Count.{below_none}
 use borrow.Rule.Slice.PartMut.{put_mid}
-use Rattle.std.proofs.lemmas.List.{get_or_past, places, get_or_append_left, length-take-le, get_or-append_right}
-use Rattle.std.proofs.lemmas.Bool.{cases_lt}
-use Rattle.std.specs.Int.{from_be_bytes, to_be_bytes, w64}
-use Rattle.std.proofs.lemmas.Nat.{from_be_bytes-to_be_bytes_8}
 use Rattle.record_words.specs.Leaf.{key_word}
 
 eight_digits : (a b c d e f g h p q r s t u v w : ℕ) → a < 256 → b < 256 → c < 256 → d < 256 → e < 256 → f < 256 → g < 256 → h < 256 → p < 256 → q < 256 → r < 256 → s < 256 → t < 256 → u < 256 → v < 256 → w < 256 →

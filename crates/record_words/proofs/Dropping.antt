@@ -1,18 +1,6 @@
 -- A node's words without an entry.
-use Rattle.std.proofs.Common.{ℕ, suc, ◌≡◌, ◌+◌, ◌-◌, ◌/◌, ◌^◌, ◌<◌, ◌≤◌, ◌++◌, [], ◌∷◌, arith, List, Some, None, drop, get_or, get_or-take, map, max, take, length, length-append, refl, sym, ap, ap₂, subst, ◌∙◌, ⊎_elim}
-use Rattle.std.specs.List.{All}
-use Rattle.std.specs.Prelude.{slice_get, remove, Option}
-use Rattle.std.proofs.lemmas.Bool.{cases_lt}
-use Rattle.std.proofs.lemmas.List.{drop_more, ext_get_or, get_or_at, get_or-append_right, get_or-drop, get_or-map, get_or_append_left, length-drop, length-map, length-take-le}
-use Rattle.std.proofs.lemmas.List.Elements.{All-append, All-drop, All-take}
-use Rattle.std.proofs.lemmas.List.Edits.{get_or-remove_above, get_or-remove_below, length-remove}
-use Rattle.std.proofs.lemmas.Option.{slice_get-get_or, slice_get_past}
-use Rattle.compound_node.specs.declared.entries.Entry.{Entry}
-use Rattle.compound_node.specs.declared.entries.Entry.TheVariants.{Leaf, Node}
-use Rattle.compound_node.specs.Nodes.{IsEntry, IsLawfulNode, NodeView, StandsBelow, greatest_height, head_of, height_of, piece}
-use Rattle.compound_node.proofs.Removal.Taken.{one_left}
-use Rattle.node_tries.specs.Changes.{without}
-use Rattle.node_tries.specs.Piece.{Place}
+use Rattle.record_words.proofs.Common.{ℕ, suc, ◌≡◌, ◌+◌, ◌-◌, ◌/◌, ◌^◌, ◌<◌, ◌≤◌, ◌++◌, [], ◌∷◌, arith, List, Some, None, drop, get_or, get_or-take, map, max, take, length, length-append, refl, sym, ap, ap₂, subst, ◌∙◌, ⊎_elim, All, slice_get, remove, cases_lt, drop_more, ext_get_or, get_or_at, get_or-append_right, get_or-drop, get_or-map, get_or_append_left, length-drop, length-map, length-take-le, All-append, All-drop, All-take, get_or-remove_above, get_or-remove_below, length-remove, slice_get-get_or, slice_get_past, Entry, Leaf, Node, IsEntry, IsLawfulNode, NodeView, StandsBelow, greatest_height, head_of, height_of, piece, one_left, without, Place}
+use Rattle.std.specs.Prelude.{Option}
 use Rattle.record_words.specs.Entry.{HasEntryWord, entry_word}
 use Rattle.record_words.specs.Node.{HasNodeWords, HaveEntryWords, SpellEntries, entry_words, head_words, node_words}
 use Rattle.record_words.proofs.Nodes.{length-head_words, length-node_words, node_words-entry}

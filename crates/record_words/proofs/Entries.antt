@@ -1,10 +1,5 @@
 -- Entries against their words.
-use Rattle.std.proofs.Common.{ℕ, ◌≡◌, ◌<◌, ◌≤◌, ⊎_elim, arith, List, [], ◌∷◌, get_or, length, refl, sym, ap, suc, ◌∙◌}
-use Rattle.std.specs.Prelude.{slice_get}
-use Rattle.std.proofs.lemmas.Bool.{cases_lt}
-use Rattle.std.proofs.lemmas.Option.{slice_get_past, same_Some}
-use Rattle.std.proofs.lemmas.List.FromFn.{fill_by_all, length-map-range_with_len, get_or-map-range_with_len}
-use Rattle.compound_node.specs.declared.entries.Entry.{Entry}
+use Rattle.record_words.proofs.Common.{ℕ, ◌≡◌, ◌<◌, ◌≤◌, ⊎_elim, arith, List, [], ◌∷◌, get_or, length, refl, sym, ap, suc, ◌∙◌, slice_get, cases_lt, slice_get_past, same_Some, fill_by_all, length-map-range_with_len, get_or-map-range_with_len, Entry}
 use Rattle.record_words.specs.Entry.{entry_word}
 use Rattle.record_words.specs.Node.{HaveEntryWords, entry_words}
 use Rattle.record_words.proofs.Spellings.{same_entry}

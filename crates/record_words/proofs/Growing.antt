@@ -1,16 +1,6 @@
 -- A node's words with a new leaf.
-use Rattle.std.proofs.Common.{ℕ, ◌≡◌, ◌+◌, ◌-◌, ◌/◌, ◌%◌, ◌^◌, ◌<◌, ◌≤◌, ◌++◌, arith, List, Some, drop, get_or, get_or-take, take, length, length-append, lit<, sym, ap, subst, ◌∙◌, ⊎_elim}
-use Rattle.std.specs.List.{insert}
-use Rattle.std.specs.Prelude.{slice_get, Bool, Option, cond, true, false}
-use Rattle.std.proofs.lemmas.Bool.{cases_lt}
-use Rattle.std.proofs.lemmas.List.{ext_get_or, get_or-append_right, get_or-drop, get_or_append_left, length-drop, length-take-le}
-use Rattle.std.proofs.lemmas.List.Edits.{get_or-insert_above, get_or-insert_at, get_or-insert_below, length-insert}
-use Rattle.std.proofs.lemmas.Option.{slice_get-get_or, slice_get_past}
-use Rattle.compound_node.specs.declared.entries.Entry.{Entry}
-use Rattle.compound_node.specs.declared.entries.Entry.TheVariants.{Leaf}
-use Rattle.compound_node.specs.Nodes.{NodeView, IsLawfulNode, head_of}
-use Rattle.compound_node.proofs.Forking.{NewLeaf, new_leaf}
-use Rattle.compound_node.proofs.Lawful.{same_count}
+use Rattle.record_words.proofs.Common.{ℕ, ◌≡◌, ◌+◌, ◌-◌, ◌/◌, ◌%◌, ◌^◌, ◌<◌, ◌≤◌, ◌++◌, arith, List, Some, drop, get_or, get_or-take, take, length, length-append, lit<, sym, ap, subst, ◌∙◌, ⊎_elim, insert, slice_get, cases_lt, ext_get_or, get_or-append_right, get_or-drop, get_or_append_left, length-drop, length-take-le, get_or-insert_above, get_or-insert_at, get_or-insert_below, length-insert, slice_get-get_or, slice_get_past, Entry, Leaf, NodeView, IsLawfulNode, head_of, NewLeaf, new_leaf, same_count}
+use Rattle.std.specs.Prelude.{Bool, Option, cond, true, false}
 use Rattle.record_words.specs.Entry.{HasEntryWord, entry_word}
 use Rattle.record_words.specs.Node.{HasNodeWords, HaveEntryWords, CanGrowAt, entry_words, head_words, node_words}
 use Rattle.record_words.proofs.Nodes.{head_part, length-head_words, length-node_words, node_words-entry}

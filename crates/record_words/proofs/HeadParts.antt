@@ -1,16 +1,10 @@
 -- What the parts of the words of a node's head tell, by the kind of its columns.
 pub mod HeadsByKind
-use Rattle.std.proofs.Common.{ℕ, ◌≡◌, ◌≢◌, ◌+◌, ◌-◌, ◌*◌, ◌/◌, ◌%◌, ◌^◌, ◌<◌, ◌≤◌, ◌++◌, inl, inr, ⊎_elim, arith, cond, List, drop, get_or, length, refl, sym, ap, subst, ◌∙◌, below_more, get_or-drop}
+use Rattle.record_words.proofs.Common.{ℕ, ◌≡◌, ◌≢◌, ◌+◌, ◌-◌, ◌*◌, ◌/◌, ◌%◌, ◌^◌, ◌<◌, ◌≤◌, ◌++◌, inl, inr, ⊎_elim, arith, cond, List, drop, get_or, length, refl, sym, ap, subst, ◌∙◌, below_more, cases_eq, cases_lt, eq-eqb, ne_eqb, get_or-append_right, get_or-replicate, get_or_append_left, get_or_default, get_or_past, get_or-map-range_with_len, length-map-range_with_len, pow_mono, get_or-chunk, IsLawfulNode, NodeView, head_of, same_count}
+use Rattle.std.proofs.Common.{get_or-drop}
 use borrow.Author.Count.{below_none}
-use Rattle.std.proofs.lemmas.Bool.{cases_eq, cases_lt, eq-eqb, ne_eqb}
-use Rattle.std.proofs.lemmas.List.{get_or-append_right, get_or-replicate, get_or_append_left, get_or_default, get_or_past}
-use Rattle.std.proofs.lemmas.List.FromFn.{get_or-map-range_with_len, length-map-range_with_len}
-use Rattle.std.proofs.Math.Pow.{pow_mono}
-use Rattle.std.proofs.lemmas.Simd.{get_or-chunk}
 use lib.Count.{count_leading_zeros}
 use lib.Lanes.{chunk}
-use Rattle.compound_node.specs.Nodes.{IsLawfulNode, NodeView, head_of}
-use Rattle.compound_node.proofs.Lawful.{same_count}
 use Rattle.record_words.specs.Kinds.{bit_mask, first_byte, head_size, index_lanes, kind_of, lane_words, mask_index, mask_lanes, near_position, position_index, rows_a_word, rows_from}
 use Rattle.record_words.specs.Node.{head_words}
 use Rattle.record_words.specs.Packed.{position_at, row_at, row_lanes}

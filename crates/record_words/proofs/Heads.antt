@@ -1,9 +1,5 @@
 -- The numbers of a node are those of a node and of a head.
-use Rattle.std.proofs.Common.{◌≡◌, List, ℕ, length, take, refl, sym, ap}
-use Rattle.std.proofs.lemmas.List.{take_at}
-use Rattle.partial_keys.specs.Rows.{with_unused}
-use Rattle.compound_node.specs.Nodes.{NodeView, HeadView, IsLawfulNode, IsHead, IsNode, head_of}
-use Rattle.compound_node.proofs.Lawful.{same_count}
+use Rattle.record_words.proofs.Common.{◌≡◌, List, ℕ, length, take, refl, sym, ap, take_at, with_unused, NodeView, HeadView, IsLawfulNode, IsHead, IsNode, head_of, same_count}
 
 -- the rows of a node are the used places
 pub used_rows : (node : NodeView) → IsLawfulNode node → take (length node.entries) (with_unused node.rows) ≡ node.rows

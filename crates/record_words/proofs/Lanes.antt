@@ -1,21 +1,13 @@
 -- Words as lanes of fewer bits.
-use Rattle.std.proofs.Common.{Bool, true, false, cond, eqb, map, not, ◌||◌, ℕ, zero, suc, ◌≡◌, ◌+◌, ◌-◌, ◌*◌, ◌/◌, ◌%◌, ◌^◌, ◌<◌, ◌≤◌, ◌++◌, List, [], ◌∷◌, arith, get_or, length, length-append, replicate, take, drop, refl, sym, ap, subst, ◌∙◌, w32, w64, Fits, below_more}
+use Rattle.record_words.proofs.Common.{Bool, true, false, cond, eqb, map, not, ◌||◌, ℕ, zero, suc, ◌≡◌, ◌+◌, ◌-◌, ◌*◌, ◌/◌, ◌%◌, ◌^◌, ◌<◌, ◌≤◌, ◌++◌, List, [], ◌∷◌, arith, get_or, length, length-append, replicate, take, drop, refl, sym, ap, subst, ◌∙◌, w32, Fits, below_more, ext_get_or, get_or_default, get_or-append_right, get_or-drop, get_or-replicate, length-replicate, take_at, below_from_Fits, get_or-chunk, get_or-zip2, get_or_narrower, get_or_wider, length-chunk, length-zip2, ap₂, inl, inr, get_or-append, cases_lt, eq-eqb, eqb-false, eqb-true, ne_eqb, has, NodeView, IsLawfulNode, same_count, AreColumnLanes, IsColumns, with_unused}
+use Rattle.std.proofs.Common.{w64}
 use borrow.Author.Count.{below_none}
-use Rattle.std.proofs.lemmas.List.{ext_get_or, get_or_default, get_or-append_right, get_or-drop, get_or-replicate, get_or-take, length-replicate, take_at}
-use Rattle.std.proofs.lemmas.Simd.{below_from_Fits, get_or-chunk, get_or-zip2, get_or_narrower, get_or_wider, length-chunk, length-zip2}
+use Rattle.std.proofs.lemmas.List.{get_or-take}
 use lib.Lanes.{Each1, chunk, digits_l, mask_l, number_l, zip2}
-use Rattle.std.proofs.Common.{ap₂, inl, inr}
-use Rattle.std.proofs.Math.ListN.{get_or-append}
-use Rattle.std.proofs.lemmas.Bool.{cases_lt, eq-eqb, eqb-false, eqb-true, ne_eqb}
-use Rattle.node_tries.specs.Positions.{has}
-use Rattle.compound_node.specs.Nodes.{NodeView, IsLawfulNode}
-use Rattle.compound_node.proofs.Lawful.{same_count}
 use Rattle.record_words.specs.Kinds.{with_free_to_16}
 use Rattle.record_words.specs.Packed.{position_at, row_at, row_word}
 use Rattle.record_words.proofs.near.Digits.{base_8, number-lt, number_of_digits}
 use Rattle.record_words.proofs.Lawful.{get_or-padded, length-with_unused}
-use Rattle.partial_keys.specs.Columns.{AreColumnLanes, IsColumns}
-use Rattle.partial_keys.specs.Rows.{with_unused}
 
 -- a list of one word
 pub one_of : (xs : List ℕ) → length xs ≡ 1 → xs ≡ get_or xs 0 0 ∷ []

@@ -1,12 +1,5 @@
 -- What the fixed words need of a lawful node.
-use Rattle.std.proofs.Common.{ℕ, ◌≡◌, ◌-◌, ◌^◌, ◌<◌, ◌≤◌, ◌++◌, ⊎_elim, arith, List, [], ◌∷◌, get_or, length, replicate, lit<, sym, ◌∙◌, refl, zero, suc, length-append}
-use Rattle.std.proofs.lemmas.Bool.{cases_lt}
-use Rattle.std.proofs.lemmas.List.{length-map, length-replicate, get_or-map, get_or_past, get_or_append_left, get_or-append_right, get_or-replicate}
-use Rattle.key_bits.proofs.Gather.{code-lt}
-use Rattle.node_tries.specs.Positions.{AllBelow}
-use Rattle.node_tries.specs.Piece.{paths}
-use Rattle.partial_keys.specs.Rows.{row_of, with_unused}
-use Rattle.compound_node.specs.Nodes.{NodeView, IsLawfulNode, piece}
+use Rattle.record_words.proofs.Common.{ℕ, ◌≡◌, ◌-◌, ◌^◌, ◌<◌, ◌≤◌, ◌++◌, ⊎_elim, arith, List, [], ◌∷◌, get_or, length, replicate, lit<, sym, ◌∙◌, refl, zero, suc, length-append, cases_lt, length-map, length-replicate, get_or-map, get_or_past, get_or_append_left, get_or-append_right, get_or-replicate, code-lt, AllBelow, paths, row_of, with_unused, NodeView, IsLawfulNode, piece}
 use Rattle.record_words.specs.Packed.{row_at}
 
 pub small_below : (bound : ℕ) (xs : List ℕ) → 0 < bound → AllBelow bound xs → (i : ℕ) → get_or xs i 0 < bound

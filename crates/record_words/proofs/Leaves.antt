@@ -1,13 +1,8 @@
 -- A leaf against its words.
-use Rattle.std.proofs.Common.{ℕ, ◌≡◌, ◌+◌, ◌-◌, ◌*◌, ◌<◌, ◌≤◌, arith, List, ◌/◌, ◌%◌, get_or, length, take, drop, sym, ap, ◌∙◌, ⊎_elim, refl, lit<, length-take, get_or-take, get_or-drop}
+use Rattle.record_words.proofs.Common.{ℕ, ◌≡◌, ◌+◌, ◌-◌, ◌*◌, ◌<◌, ◌≤◌, arith, List, ◌/◌, ◌%◌, get_or, length, take, drop, sym, ap, ◌∙◌, ⊎_elim, refl, lit<, length-take, get_or-take, cases_lt, All-get_or, ext_get_or, get_or_past, length-take-le, nat_tests, length-map-range_with_len, HoldsKey, with_zeros}
+use Rattle.std.proofs.Common.{get_or-drop}
 use Rattle.std.specs.Prelude.{All}
-use Rattle.std.proofs.lemmas.Bool.{cases_lt}
-use Rattle.std.proofs.lemmas.List.Elements.{All-get_or}
-use Rattle.std.proofs.lemmas.List.{ext_get_or, get_or_past, length-take-le}
-use Rattle.std.proofs.lemmas.Bool.Decides.{nat_tests}
-use Rattle.std.proofs.lemmas.List.FromFn.{length-map-range_with_len}
 use Rattle.record_words.specs.Leaf.{key_word, leaf_word, leaf_words, HasLeafWords, IsBytesOf}
-use Rattle.key_bits.specs.Key.{HoldsKey, with_zeros}
 use Rattle.key_bits.proofs.Holding.{holds, length-with_zeros}
 use Rattle.record_words.proofs.Lawful.{get_or-padded}
 use Rattle.record_words.proofs.Bytes.{same_key_bytes}

@@ -1,4 +1,5 @@
 -- The lemmas of the crate.
+mod Common
 pub mod Bytes
 pub mod Dropping
 pub mod Entries

@@ -1,9 +1,5 @@
 -- A node against its words.
-use Rattle.std.proofs.Common.{ℕ, ◌≡◌, ◌≢◌, ◌+◌, ◌-◌, ◌*◌, ◌/◌, ◌%◌, ◌^◌, ◌<◌, arith, List, get_or, length, take, drop, refl, sym, ap, ap₂, ◌∙◌, length-append}
-use Rattle.std.specs.Prelude.{slice_get}
-use Rattle.std.proofs.lemmas.List.{ext_get_or, take_at, drop_at, take_all, get_or-append_right}
-use Rattle.compound_node.specs.Nodes.{NodeView, HeadView, IsLawfulNode, head_of, node_of}
-use Rattle.compound_node.proofs.Lawful.{same_count}
+use Rattle.record_words.proofs.Common.{ℕ, ◌≡◌, ◌≢◌, ◌+◌, ◌-◌, ◌*◌, ◌/◌, ◌%◌, ◌^◌, ◌<◌, arith, List, get_or, length, take, drop, refl, sym, ap, ap₂, ◌∙◌, length-append, slice_get, ext_get_or, take_at, drop_at, take_all, get_or-append_right, NodeView, HeadView, IsLawfulNode, head_of, node_of, same_count}
 use Rattle.record_words.specs.Entry.{entry_word}
 use Rattle.record_words.specs.Kinds.{bit_mask, first_byte, kind_of, mask_index, position_index}
 use Rattle.record_words.specs.Node.{HasNodeWords, head_words, entry_words, node_words}

@@ -1,9 +1,5 @@
 -- What the columns of each kind are.
-use Rattle.std.proofs.Common.{ℕ, zero, suc, ◌≡◌, ◌≢◌, ◌+◌, ◌/◌, ◌%◌, ◌<◌, ◌≤◌, Bool, true, false, ◌&&◌, not, eqb, nat_lt, List, [], ◌∷◌, length, get_or, refl, arith}
-use Rattle.std.specs.Prelude.{nat_le}
-use Rattle.std.proofs.lemmas.Bool.{eqb-false, false≢true, le-leb, leb-true, ltb-true}
-use Rattle.partial_keys.specs.Columns.{IsColumns}
-use Rattle.node_tries.specs.Positions.{all}
+use Rattle.record_words.proofs.Common.{ℕ, zero, suc, ◌≡◌, ◌≢◌, ◌+◌, ◌/◌, ◌%◌, ◌<◌, ◌≤◌, Bool, true, false, ◌&&◌, not, eqb, nat_lt, List, [], ◌∷◌, length, get_or, refl, arith, nat_le, eqb-false, false≢true, le-leb, leb-true, ltb-true, IsColumns, all}
 use Rattle.record_words.specs.Kinds.{HasNearLanes, are_near, first_byte, is_near, kind_of}
 use Rattle.record_words.specs.declared.kind.HeadKind.{HeadKind}
 use Rattle.record_words.specs.declared.kind.HeadKind.TheVariants.{Middle, Narrow, Wide}

@@ -1,8 +1,6 @@
 -- Numbers that share a word.
 pub mod Parts
-use Rattle.std.proofs.Common.{ℕ, ◌≡◌, ◌+◌, ◌*◌, ◌/◌, ◌%◌, ◌^◌, ◌<◌, ◌≤◌, ⊎_elim, arith, List, get_or, length, subst, lit<}
-use Rattle.std.proofs.lemmas.Bool.{cases_lt}
-use Rattle.std.proofs.lemmas.List.{get_or_default, get_or_past}
+use Rattle.record_words.proofs.Common.{ℕ, ◌≡◌, ◌+◌, ◌*◌, ◌/◌, ◌%◌, ◌^◌, ◌<◌, ◌≤◌, ⊎_elim, arith, List, get_or, length, subst, lit<, cases_lt, get_or_default, get_or_past}
 use Rattle.record_words.specs.Packed.{position_at, position_word, row_at, row_word}
 
 -- each element is below the bound, and so is what stands for those past the last

@@ -1,15 +1,6 @@
 -- What is read of words that spell a value.
-use Rattle.std.proofs.Common.{ℕ, ◌≡◌, ◌+◌, ◌-◌, ◌/◌, ◌%◌, ◌<◌, ◌≤◌, ◌++◌, List, [], ◌∷◌, Option, Some, suc, arith, get_or, length, replicate, take, refl, sym, ap, ◌∙◌, length-append, get_or-take, lit<}
-use Rattle.std.proofs.Math.Seq.{take-suc}
-use Rattle.std.proofs.lemmas.Option.{slice_get-get_or}
-use Rattle.compound_node.specs.declared.entries.Entry.{Entry}
-use Rattle.compound_node.specs.declared.entries.Entry.TheVariants.{Leaf}
+use Rattle.record_words.proofs.Common.{ℕ, ◌≡◌, ◌+◌, ◌-◌, ◌/◌, ◌%◌, ◌<◌, ◌≤◌, ◌++◌, List, [], ◌∷◌, Option, Some, suc, arith, get_or, length, replicate, take, refl, sym, ap, ◌∙◌, length-append, get_or-take, lit<, take-suc, slice_get-get_or, Entry, Leaf, ext_get_or, length-replicate, length-take-le, take_at, with_free, with_unused, NodeView, HeadView, IsHead, IsLawfulNode, head_of, node_of, same_count}
 use Rattle.record_words.specs.Entry.{HasEntryWord, entry_word}
-use Rattle.std.proofs.lemmas.List.{ext_get_or, length-replicate, length-take-le, take_at}
-use Rattle.partial_keys.specs.Columns.{with_free}
-use Rattle.partial_keys.specs.Rows.{with_unused}
-use Rattle.compound_node.specs.Nodes.{NodeView, HeadView, IsHead, IsLawfulNode, head_of, node_of}
-use Rattle.compound_node.proofs.Lawful.{same_count}
 use Rattle.record_words.specs.HeadParts.{HasHeadOf, InNodesOfKind}
 use Rattle.record_words.specs.Kinds.{kind_of}
 use Rattle.record_words.specs.Node.{HasHeadWords, HasNodeWords, head_words, node_words}

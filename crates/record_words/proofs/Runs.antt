@@ -1,9 +1,7 @@
 -- The word of a leaf record of one class, by its distance from the first record of the class.
-use Rattle.std.proofs.Common.{◌≡◌, ℕ, ◌+◌, ◌-◌, ◌*◌, ◌<◌, ◌≤◌, refl, ap, subst, ◌∙◌, inl, inr, zero, suc, arith}
+use Rattle.record_words.proofs.Common.{◌≡◌, ℕ, ◌+◌, ◌-◌, ◌*◌, ◌<◌, ◌≤◌, refl, ap, subst, ◌∙◌, inl, inr, zero, suc, arith, cases_lt, lt-ltb, le-ltb, nat_tests}
 use native.Mathlib.Nat.{mul-le-mul_left}
 use native.Mathlib.Numerals.{unary_clauses}
-use Rattle.std.proofs.lemmas.Bool.{cases_lt, lt-ltb, le-ltb}
-use Rattle.std.proofs.lemmas.Bool.Decides.{nat_tests}
 use Rattle.record_words.specs.declared.TheConstants.{SHORT_WORDS, MEDIUM_WORDS, LARGE_WORDS, WIDE_WORDS, LEAF_WORDS}
 use Rattle.record_words.specs.declared.layout.Layout.{Layout}
 use Rattle.record_words.specs.declared.layout.Location.{Location}

@@ -1,7 +1,6 @@
 -- The words of a leaf behind those that have something.
-use Rattle.std.proofs.Common.{ℕ, ◌≡◌, ◌+◌, ◌-◌, ◌*◌, ◌<◌, ◌≤◌, arith, List, get_or, set, replicate, length, ⊎_elim, sym, ap, ◌∙◌, refl, []}
-use Rattle.std.proofs.lemmas.Bool.{cases_lt}
-use Rattle.std.proofs.lemmas.List.{get_or_past, get_or-replicate, get_or-set_other, get_or-set_same, length-replicate, length-set}
+use Rattle.record_words.proofs.Common.{ℕ, ◌≡◌, ◌+◌, ◌-◌, ◌*◌, ◌<◌, ◌≤◌, arith, List, get_or, set, replicate, length, ⊎_elim, sym, ap, ◌∙◌, refl, [], cases_lt, get_or_past, get_or-replicate, length-replicate}
+use Rattle.std.proofs.lemmas.List.{get_or-set_other, get_or-set_same, length-set}
 use Rattle.record_words.specs.declared.TheConstants.{LEAF_FIELDS}
 use Rattle.record_words.specs.Leaf.{key_word, leaf_words, words_of_key}
 use Rattle.record_words.proofs.Bytes.{same_key_word}

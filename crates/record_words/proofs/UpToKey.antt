@@ -1,9 +1,6 @@
 -- The words of a leaf record up to the end of its key.
-use Rattle.std.proofs.Common.{ℕ, ◌≡◌, ◌+◌, ◌<◌, ◌≤◌, arith, List, get_or, length, ⊎_elim, if◌then◌else◌, sym, ap, ◌∙◌, lit<}
+use Rattle.record_words.proofs.Common.{ℕ, ◌≡◌, ◌+◌, ◌<◌, ◌≤◌, arith, List, get_or, length, ⊎_elim, if◌then◌else◌, sym, ap, ◌∙◌, lit<, cases_lt, lt-ltb, le-ltb, get_or_past, get_or-map-range_with_len, length-map-range_with_len}
 use Rattle.std.specs.Prelude.{nat_lt}
-use Rattle.std.proofs.lemmas.Bool.{cases_lt, lt-ltb, le-ltb}
-use Rattle.std.proofs.lemmas.List.{get_or_past}
-use Rattle.std.proofs.lemmas.List.FromFn.{get_or-map-range_with_len, length-map-range_with_len}
 use Rattle.record_words.specs.declared.TheConstants.{LEAF_FIELDS}
 use Rattle.record_words.specs.Leaf.{key_word, leaf_words, up_to_key, words_of_key}
 use Rattle.record_words.proofs.Leaves.{leaf_words_made}

@@ -1,13 +1,7 @@
 -- A node's words, written one after another.
-use Rattle.std.proofs.Common.{ℕ, ◌≡◌, ◌+◌, ◌-◌, ◌*◌, ◌^◌, ◌<◌, ◌≤◌, ◌++◌, arith, List, drop, get_or, get_or-take, set, take, replicate, length, length-append, sym, ap, ap₂, refl, ◌∙◌, ⊎_elim, below_more, get_or-set_other, get_or-set_same, ◌⊎◌}
-use Rattle.std.specs.Prelude.{slice_get, Option}
-use Rattle.std.proofs.lemmas.Bool.{cases_lt}
-use Rattle.std.proofs.lemmas.List.{ext_get_or, get_or-append_right, get_or-drop, get_or_append_left, get_or_past, length-drop, length-replicate, length-set, length-take-le}
-use Rattle.std.proofs.lemmas.Option.{slice_get_past}
-use Rattle.std.proofs.lemmas.Simd.{get_or-chunk, length-chunk, get_or-put_chunk_above, get_or-put_chunk_at, length-put_chunk}
-use Rattle.compound_node.specs.declared.entries.Entry.{Entry}
-use Rattle.compound_node.specs.Nodes.{HeadView, NodeView, head_of}
-use Rattle.partial_keys.specs.Rows.{with_unused}
+use Rattle.record_words.proofs.Common.{ℕ, ◌≡◌, ◌+◌, ◌-◌, ◌*◌, ◌^◌, ◌<◌, ◌≤◌, ◌++◌, arith, List, drop, get_or, get_or-take, set, take, replicate, length, length-append, sym, ap, ap₂, refl, ◌∙◌, ⊎_elim, below_more, get_or-set_other, get_or-set_same, ◌⊎◌, slice_get, cases_lt, ext_get_or, get_or-append_right, get_or-drop, get_or_append_left, get_or_past, length-drop, length-replicate, length-take-le, slice_get_past, get_or-chunk, length-chunk, get_or-put_chunk_above, get_or-put_chunk_at, length-put_chunk, Entry, HeadView, NodeView, head_of, with_unused}
+use Rattle.std.specs.Prelude.{Option}
+use Rattle.std.proofs.lemmas.List.{length-set}
 use Rattle.record_words.specs.Entry.{HasEntryWord, entry_word}
 use Rattle.record_words.specs.Node.{HaveEntryWords, head_words, entry_words, node_words}
 use Rattle.record_words.specs.Packed.{fixed_words, row_at, row_word}

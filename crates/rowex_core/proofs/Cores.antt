@@ -3,18 +3,8 @@ pub mod Loading
 pub mod Published
 pub mod Publishing
 pub mod Valuing
-use Rattle.std.proofs.Common.{◌≡◌, ◌≢◌, ◌⊎◌, inl, inr, ℕ, ◌+◌, ◌^◌, ◌<◌, ◌≤◌, Bool, true, false, if◌then◌else◌, nat_eq, eqb, Option, Some, None, refl, sym, ap, ◌∙◌, subst, arith}
+use Rattle.rowex_core.proofs.Common.{◌≡◌, ◌≢◌, ◌⊎◌, inl, inr, ℕ, ◌+◌, ◌^◌, ◌<◌, ◌≤◌, Bool, true, false, if◌then◌else◌, nat_eq, eqb, Option, Some, None, refl, sym, ap, ◌∙◌, subst, arith, eqb-true, cases_Bool, false≢true, state_word, Rec, a_node, a_leaf, Pin, Round, Fate, Free, Held, ReadyBy, InTree, Unlinked, Marked, has_seen, same_rec, IsLawfulCore, claims, fills, readies, releases, locks_anchor, unlocks_anchor, locks, unlocks, marks, loads_epoch, advances, pins, unpins, loads_pin, gives_back, with_fate, with_lock, with_pin, with_round, unlocked, after_mark, same_rec_true, step_lawful}
 use Rattle.std.specs.Prelude.{IsSome}
-use Rattle.std.proofs.lemmas.Bool.{eqb-true, cases_Bool, false≢true}
-use Rattle.record_words.specs.State.{state_word}
-use Rattle.record_words.specs.declared.records.Rec.{Rec}
-use Rattle.record_words.specs.declared.records.Rec.TheVariants.{Node as a_node, Leaf as a_leaf}
-use Rattle.versions.specs.declared.Pin.{Pin}
-use Rattle.versions.specs.declared.Round.{Round}
-use Rattle.versions.specs.Core.{Fate, Free, Held, Ready as ReadyBy, InTree, Unlinked, Marked, has_seen}
-use Rattle.versions.specs.Steps.{same_rec, IsLawfulCore, claims, fills, readies, releases, locks_anchor, unlocks_anchor, locks, unlocks, marks, loads_epoch, advances, pins, unpins, loads_pin, gives_back, with_fate, with_lock, with_pin, with_round, unlocked, after_mark}
-use Rattle.versions.proofs.Core.{same_rec_true}
-use Rattle.versions.proofs.Steps.{step_lawful}
 use Rattle.rowex_core.specs.declared.event.Act.{Act}
 use Rattle.rowex_core.specs.declared.event.Act.TheVariants.{Claim, Fill, Ready, Release, LoadRef, LoadFixed, Lock, Unlock, Publish, Mark, LoadEpoch, Advance, SetPin, ClearPin, LoadPin, LoadState, GiveBack, Load}
 use Rattle.rowex_core.specs.declared.event.Target.TheVariants.{Anchor, Node as NodeTarget}

@@ -2,24 +2,8 @@
 pub mod Appending
 pub mod Finding
 pub mod Records
-use Rattle.std.proofs.Common.{◌≡◌, ◌≢◌, ◌⊎◌, inl, inr, ℕ, zero, suc, ◌+◌, ◌-◌, ◌*◌, ◌<◌, ◌≤◌, List, length, set, get_or, Bool, true, false, if◌then◌else◌, nat_eq, eqb, Option, Some, None, refl, sym, ap, ◌∙◌, subst, arith}
-use Rattle.std.proofs.lemmas.Bool.{eq-eqb, eqb-true, ne_eqb, cases_Bool, false≢true}
-use Rattle.std.proofs.Math.ListN.{length-set}
-use Rattle.std.proofs.lemmas.List.{get_or-set_same, get_or-set_other}
-use Rattle.record_words.specs.declared.layout.Layout.{Layout}
-use Rattle.record_words.specs.declared.layout.Location.{Location}
-use Rattle.record_words.specs.declared.layout.Location.TheVariants.{Epoch, Root as RootWord, Anchor as AnchorWord, Pin as PinOf, NodeWord, LeafWord}
-use Rattle.record_words.specs.Layout.{address, word_count, IsInTable}
-use Rattle.record_words.specs.State.{state_word}
-use Rattle.record_words.specs.Entry.{entry_word}
+use Rattle.rowex_core.proofs.Common.{◌≡◌, ◌≢◌, ◌⊎◌, inl, inr, ℕ, zero, suc, ◌+◌, ◌-◌, ◌*◌, ◌<◌, ◌≤◌, List, length, set, get_or, Bool, true, false, if◌then◌else◌, nat_eq, eqb, Option, Some, None, refl, sym, ap, ◌∙◌, subst, arith, eq-eqb, eqb-true, ne_eqb, cases_Bool, false≢true, length-set, get_or-set_same, get_or-set_other, Layout, Location, Epoch, RootWord, AnchorWord, PinOf, NodeWord, LeafWord, address, word_count, IsInTable, state_word, entry_word, Rec, a_node, a_leaf, Pin, Round, Fate, Free, Held, ReadyBy, InTree, Unlinked, Marked, same_rec, is_linked, next_fate, IsLockable, with_fate, with_lock, with_pin, with_round, with_anchor, with_epoch, after_mark, same_rec_refl, same_rec_true}
 use Rattle.record_words.proofs.Locations.{size_fits, address-below, same_location}
-use Rattle.record_words.specs.declared.records.Rec.{Rec}
-use Rattle.record_words.specs.declared.records.Rec.TheVariants.{Node as a_node, Leaf as a_leaf}
-use Rattle.versions.specs.declared.Pin.{Pin}
-use Rattle.versions.specs.declared.Round.{Round}
-use Rattle.versions.specs.Core.{Fate, Free, Held, Ready as ReadyBy, InTree, Unlinked, Marked}
-use Rattle.versions.specs.Steps.{same_rec, is_linked, next_fate, IsLockable, with_fate, with_lock, with_pin, with_round, with_anchor, with_epoch, after_mark}
-use Rattle.versions.proofs.Core.{same_rec_refl, same_rec_true}
 use Rattle.rowex_core.specs.declared.event.Act.{Act}
 use Rattle.rowex_core.specs.declared.event.Act.TheVariants.{Claim, Fill, Ready, Release, LoadRef, LoadFixed, Lock, Unlock, Publish, Mark, LoadEpoch, Advance, SetPin, ClearPin, LoadPin, LoadState, GiveBack, Load}
 use Rattle.rowex_core.specs.declared.event.Target.TheVariants.{Anchor, Node as NodeTarget}

@@ -1,38 +1,21 @@
 -- Each legal step of one pass leaves to another what it knows.
-use Rattle.std.proofs.Common.{◌≡◌, ◌≢◌, ◌⊎◌, inl, inr, ℕ, suc, List, [], ◌∷◌, get_or, true, false, eqb, Option, Some, None, refl, sym, ap, ◌∙◌, subst, arith, le_refl}
-use Rattle.std.proofs.lemmas.Bool.{eqb-true, cases_Bool}
-use Rattle.std.proofs.lemmas.List.Elements.{All-from_recursion}
-use Rattle.finite_map.specs.Fronts.{OthersGoOn}
-use Rattle.tries.specs.Content.{Item}
-use Rattle.record_words.specs.declared.records.Rec.{Rec}
-use Rattle.record_words.specs.declared.records.Rec.TheVariants.{Node as a_node, Leaf as a_leaf}
-use Rattle.versions.specs.declared.Pin.{Pin}
-use Rattle.versions.specs.declared.Round.{Round}
-use Rattle.versions.specs.Told.{items_of}
-use Rattle.finite_map.specs.Maps.{key_order}
+use Rattle.rowex_core.proofs.Common.{◌≡◌, ◌≢◌, ◌⊎◌, inl, inr, ℕ, suc, List, [], ◌∷◌, get_or, true, false, eqb, Option, Some, None, refl, sym, ap, ◌∙◌, subst, arith, le_refl, eqb-true, cases_Bool, All-from_recursion, OthersGoOn, Item, Rec, a_node, a_leaf, Pin, Round, items_of, key_order, Fate, Free, Held, ReadyBy, InTree, Unlinked, Marked, IsLockable, with_fate, with_lock, with_pin, with_round, unlocked, with_anchor, version_old, state_word, one_locker, IsGrown, others_none}
 use Rattle.std.specs.declared.cmp.Ordering.{Ordering}
 use Rattle.std.specs.declared.cmp.Ordering.TheVariants.{Less, Equal, Greater}
-use Rattle.versions.specs.Core.{Fate, Free, Held, Ready as ReadyBy, InTree, Unlinked, Marked}
-use Rattle.versions.specs.Steps.{IsLockable, with_fate, with_lock, with_pin, with_round, unlocked, with_anchor}
-use Rattle.versions.proofs.State.Publish.{version_old}
 use Rattle.rowex_core.specs.declared.event.Act.{Act}
 use Rattle.rowex_core.specs.declared.event.Act.TheVariants.{Claim, Fill, Ready, Release, LoadRef, LoadFixed, Lock, Unlock, Publish, Mark, LoadEpoch, Advance, SetPin, ClearPin, LoadPin, LoadState, GiveBack, Load}
 use Rattle.rowex_core.specs.declared.event.Target.TheVariants.{Anchor, Node as NodeTarget}
 use Rattle.rowex_core.specs.declared.event.Spot.{Spot}
 use Rattle.rowex_core.specs.declared.event.Spot.TheVariants.{Root, Slot, Value}
 use Rattle.rowex_core.specs.Cores.{Core, IsLawful, bare}
-use Rattle.record_words.specs.State.{state_word}
 use Rattle.rowex_core.specs.Words.{lock_tag, tag_of, state_at, record_word}
 use Rattle.rowex_core.specs.Events.{Legal, after, with_word, claimed, marked, given_back, anchored, stored_words, next_tree, next_change, IsLegalPublish, IsLockedAt, change_at, change_between, locked_where, advanced}
 use Rattle.rowex_core.specs.Frames.{IsFrame}
 use Rattle.rowex_core.specs.Sharing.{share, holding_of, is_by, is_in_tree, anchored_at}
-use Rattle.versions.proofs.Core.Values.{one_locker}
 use Rattle.rowex_core.proofs.Opening.{load_frame}
 use Rattle.rowex_core.proofs.Cores.Publishing.{publish_share}
 use Rattle.rowex_core.proofs.Cores.Valuing.{legal_publish, value_left}
 use Rattle.rowex_core.proofs.Sharing.{same_share, same_fate, same_word, same_lock, same_unlocked, by_another}
-use Rattle.versions.specs.Frames.{IsGrown}
-use Rattle.finite_map.proofs.Fronts.{others_none}
 
 -- nothing that pass q knows has changed
 quiet : (q : ℕ) (c d : Core) → d.layout ≡ c.layout → d.past ≡ c.past → d.changes ≡ c.changes → share q d ≡ share q c →

@@ -1,27 +1,15 @@
 -- What a pass has: of the table, and by lists in which nothing is left out after a publish, a mark and an unlock.
 pub mod Kept
-use Rattle.std.proofs.Common.{◌≡◌, inl, inr, ℕ, ◌<◌, List, [], ◌∷◌, map, filter, Bool, true, false, nat_eq, Option, Some, None, refl, sym, ap, subst, ◌∙◌}
-use Rattle.std.specs.Prelude.{not}
-use Rattle.std.proofs.lemmas.Bool.{false≢true, eq-eqb, eqb-true}
-use Rattle.tries.specs.Tree.{Tree, leaf, node, fork}
-use Rattle.record_words.specs.declared.records.Rec.{Rec}
-use Rattle.record_words.specs.declared.records.Rec.TheVariants.{Node as a_node}
-use Rattle.record_words.proofs.OfKinds.{not_true}
-use Rattle.versions.specs.State.{Links, IsLinked}
-use Rattle.versions.specs.Core.{InTree, Free}
-use Rattle.versions.specs.Steps.{same_rec, is_linked}
-use Rattle.versions.proofs.Core.Growth.{in_tree_now}
-use Rattle.versions.proofs.State.Publish.{within_links}
-use Rattle.versions.proofs.Core.{same_rec_refl, same_rec_true, linked_cases}
+use Rattle.rowex_core.proofs.Common.{◌≡◌, inl, inr, ℕ, ◌<◌, List, [], ◌∷◌, map, Bool, true, false, nat_eq, Option, Some, None, refl, sym, ap, subst, ◌∙◌, not, false≢true, eq-eqb, eqb-true, Tree, leaf, node, fork, Rec, a_node, not_true, Links, IsLinked, InTree, Free, same_rec, is_linked, in_tree_now, within_links, same_rec_refl, same_rec_true, linked_cases, IsOneOf, AreApart, HasTraded, all_of, of_append, of_left, of_right, of_map, of_filter, filter_of, none_of}
+use Rattle.std.proofs.Common.{filter}
 use Rattle.rowex_core.specs.declared.known.Locked.{Locked}
 use Rattle.rowex_core.specs.declared.known.Owned.{Owned}
 use Rattle.rowex_core.specs.Cores.{Core, IsLawful, bare, HasRecord}
 use Rattle.rowex_core.specs.Events.{IsInTree, stored_words, next_tree}
 use Rattle.rowex_core.specs.Knowing.{records_of, records_in, owned_unlinked, own_after, locked_with_words, locks_after, without_record, without_lock}
 use Rattle.rowex_core.proofs.Cores.Publishing.{linked_now, true_linked}
-use Rattle.versions.specs.Trades.{IsOneOf, AreApart, HasTraded}
 use Rattle.rowex_core.specs.Having.{OwnsJust, LocksJust, AreKept, InAnyWay, IsUnlinked}
-use Rattle.versions.proofs.Trades.{all_of, of_append, of_left, of_right, of_map, map_of, of_filter, filter_of, none_of}
+use Rattle.versions.proofs.Trades.{map_of}
 use Rattle.rowex_core.specs.declared.known.Holding.{Holding}
 use Rattle.rowex_core.specs.declared.known.Holding.TheVariants.{Held, Ready, Unlinked}
 use Rattle.rowex_core.specs.Sharing.{IsOwned, IsLocked, fate_of}

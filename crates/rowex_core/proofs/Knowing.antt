@@ -1,23 +1,7 @@
 -- What a pass knows after a step of its own is true.
 pub mod Keeping
-use Rattle.std.proofs.Common.{◌≡◌, ◌≢◌, ◌⊎◌, inl, inr, ℕ, suc, ◌+◌, ◌-◌, ◌<◌, ◌&&◌, ◌≤◌, List, [], ◌∷◌, Bool, true, false, if◌then◌else◌, nat_eq, eqb, set, get_or, Option, Some, None, refl, sym, ap, ◌∙◌, subst, arith, le_refl, append-nil, append_assoc, ◌++◌}
-use Rattle.std.specs.Prelude.{All, filter, map, not}
-use Rattle.std.proofs.lemmas.Bool.{eqb-true, cases_Bool, false≢true}
-use Rattle.std.proofs.lemmas.List.Elements.{All-cons, All-weaker, All-from_recursion, filter-append}
-use Rattle.finite_map.specs.declared.Change.{Change}
-use Rattle.finite_map.specs.Fronts.{BeginsWith, OthersGoOn}
-use Rattle.compound_node.specs.declared.entries.Entry.{Entry}
-use Rattle.node_tries.specs.Piece.{Place}
-use Rattle.tries.specs.Tree.{Tree, leaf, node, fork, subtrie}
-use Rattle.record_words.specs.declared.records.Rec.{Rec}
-use Rattle.record_words.specs.declared.records.Rec.TheVariants.{Node as a_node, Leaf as a_leaf}
-use Rattle.versions.specs.declared.Pin.{Pin}
-use Rattle.versions.specs.declared.Round.{Round}
-use Rattle.versions.specs.Heap.{Heap}
-use Rattle.versions.specs.State.{Past, IsTop, IsReach}
-use Rattle.versions.specs.Core.{Fate, Free, Held as HeldBy, Ready as ReadyBy, InTree, Unlinked as UnlinkedBy, Marked, pin_version}
-use Rattle.versions.specs.Steps.{same_rec, is_linked, next_fate, IsLockable, lowered, with_fate, with_lock, with_pin, with_round, unlocked, with_anchor}
-use Rattle.versions.proofs.Core.{same_rec_refl, same_rec_true}
+use Rattle.rowex_core.proofs.Common.{◌≡◌, ◌≢◌, ◌⊎◌, inl, inr, ℕ, suc, ◌+◌, ◌-◌, ◌<◌, ◌&&◌, ◌≤◌, List, [], ◌∷◌, Bool, true, false, if◌then◌else◌, nat_eq, eqb, set, get_or, Option, Some, None, refl, sym, ap, ◌∙◌, subst, arith, le_refl, append-nil, append_assoc, ◌++◌, All, filter, not, eqb-true, cases_Bool, false≢true, All-cons, All-weaker, All-from_recursion, filter-append, Change, BeginsWith, OthersGoOn, Entry, Place, Tree, leaf, node, fork, subtrie, Rec, a_node, a_leaf, Pin, Round, Heap, Past, IsTop, IsReach, Fate, Free, HeldBy, ReadyBy, InTree, UnlinkedBy, Marked, pin_version, same_rec, is_linked, next_fate, IsLockable, lowered, with_fate, with_lock, with_pin, with_round, unlocked, with_anchor, same_rec_refl, same_rec_true, entry_of, version_old, Location, loaded_past, added_change, items_of, Layout}
+use Rattle.std.specs.Prelude.{map}
 use Rattle.rowex_core.specs.declared.event.Act.{Act}
 use Rattle.rowex_core.specs.declared.event.Act.TheVariants.{Claim, Fill, Ready, Release, LoadRef, LoadFixed, Lock, Unlock, Publish, Mark, LoadEpoch, Advance, SetPin, ClearPin, LoadPin, LoadState, GiveBack, Load}
 use Rattle.rowex_core.specs.declared.event.Target.TheVariants.{Anchor, Node as NodeTarget}
@@ -31,18 +15,12 @@ use Rattle.rowex_core.specs.declared.known.Locked.{Locked}
 use Rattle.rowex_core.specs.declared.known.FailedAct.{FailedAct}
 use Rattle.rowex_core.specs.declared.known.FailedAct.TheVariants.{Claim as a_claim, Lock as a_lock, LoadState as a_load}
 use Rattle.rowex_core.specs.declared.known.Known.{Known}
-use Rattle.record_words.specs.Decoding.{entry_of}
 use Rattle.rowex_core.specs.Reading.{head_entry, root_of}
 use Rattle.rowex_core.specs.Cores.{Core, IsLawful, heap_of, holder_of}
 use Rattle.rowex_core.specs.Words.{record_word}
-use Rattle.versions.proofs.State.Publish.{version_old}
 use Rattle.rowex_core.specs.declared.event.Spot.{Spot}
 use Rattle.rowex_core.specs.Events.{IsLegalPublish, IsLockedAt, stored_words, stored_root, next_tree, next_change, loaded_tree, Legal, after, with_word, claimed, marked, anchored, word_of, target_word, IsInTree}
 use Rattle.rowex_core.specs.Knowing.{IsFact, IsStillLoaded, HasSeen, facts_with, AreCounted, Knows, learned_by, learned, entry_learned, with_holding, with_filled_word, without_record, failed_with, claim_learned, load_learned, anchor_learned, node_learned, blocking_pass_of, without_lock, records_in, owned_unlinked, own_after, locked_with_words, locks_after, anchor_after, publish_learned}
-use Rattle.record_words.specs.declared.layout.Location.{Location}
-use Rattle.versions.specs.Loads.{loaded_past}
-use Rattle.versions.specs.Told.{added_change, items_of}
-use Rattle.record_words.specs.declared.layout.Layout.{Layout}
 use Rattle.rowex_core.specs.Opening.{opening}
 use Rattle.rowex_core.proofs.Opening.{loaded, load_grows, load_shares}
 use Rattle.rowex_core.proofs.Frames.{advance_frame, give_back_frame, unlocked_node}

@@ -1,4 +1,5 @@
 -- The lemmas of the crate.
+mod Common
 pub mod Lists
 pub mod Words
 pub mod Reading

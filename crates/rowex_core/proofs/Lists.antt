@@ -1,8 +1,6 @@
 -- Filtered lists.
-use Rattle.std.proofs.Common.{◌≡◌, ◌⊎◌, inl, inr, zero, suc, List, [], ◌∷◌, Bool, true, false, refl, ap, ◌∙◌, arith}
-use Rattle.std.specs.Prelude.{Contains, map, filter}
-use Rattle.std.proofs.lemmas.List.Elements.{All-contains, All-contains_itself, All-filter}
-use Rattle.std.proofs.lemmas.Bool.{cases_Bool}
+use Rattle.rowex_core.proofs.Common.{◌≡◌, ◌⊎◌, inl, inr, zero, suc, List, [], ◌∷◌, Bool, true, false, refl, ap, ◌∙◌, arith, Contains, filter, All-contains, All-contains_itself, All-filter, cases_Bool}
+use Rattle.std.specs.Prelude.{map}
 
 -- a map that the test does not see
 pub filter_mapped : {X Y : Type 0} (p : Y → Bool) (o : X → Bool) (f : X → Y) → ((x : X) → p (f x) ≡ o x) → (xs : List X) → filter p (map f xs) ≡ map f (filter o xs)

@@ -1,28 +1,6 @@
 -- A bulk load as the first step.
-use Rattle.std.proofs.Common.{◌≡◌, ◌≢◌, ◌⊎◌, inl, inr, ℕ, ◌^◌, ◌<◌, ◌≤◌, ◌+◌, ◌&&◌, List, [], ◌∷◌, ◌++◌, length, map, get_or, nat_lt, Bool, true, false, if◌then◌else◌, Option, Some, None, refl, sym, ap, subst, ◌∙◌, arith, le_refl, lit<}
-use Rattle.std.specs.Prelude.{All}
-use Rattle.std.proofs.lemmas.Option.{none-some}
-use Rattle.std.proofs.lemmas.List.Elements.{All-cons, All-get_or, All-map, All-nil}
-use Rattle.std.proofs.lemmas.List.{get_or_past}
-use Rattle.std.proofs.lemmas.List.FromFn.{length-map-range_with_len}
-use Rattle.std.proofs.lemmas.Bool.{cases_lt}
+use Rattle.rowex_core.proofs.Common.{◌≡◌, ◌≢◌, ◌⊎◌, inl, inr, ℕ, ◌^◌, ◌<◌, ◌≤◌, ◌+◌, ◌&&◌, List, [], ◌∷◌, ◌++◌, length, map, get_or, nat_lt, Bool, true, false, if◌then◌else◌, Option, Some, None, refl, sym, ap, subst, ◌∙◌, arith, le_refl, lit<, All, none-some, All-cons, All-get_or, All-map, All-nil, get_or_past, length-map-range_with_len, cases_lt, NODE_FIELDS, LEAF_FIELDS, node_start, leaf_start, leaf_size, Change, OthersGoOn, Layout, Item, Tree, Rec, a_node, a_leaf, Fate, Free, InTree, Unlinked, Marked, IsGrown, loaded_past, loaded_by, IsLinked, at_first, is_linked, in_root, in_node, HasLockedNamer, items_of, added_change, linked_cases}
 use Rattle.std.specs.List.{range_with_len}
-use Rattle.record_words.specs.declared.TheConstants.{NODE_FIELDS, LEAF_FIELDS}
-use Rattle.record_words.specs.Layout.{node_start, leaf_start, leaf_size}
-use Rattle.finite_map.specs.declared.Change.{Change}
-use Rattle.finite_map.specs.Fronts.{OthersGoOn}
-use Rattle.record_words.specs.declared.layout.Layout.{Layout}
-use Rattle.tries.specs.Content.{Item}
-use Rattle.tries.specs.Tree.{Tree}
-use Rattle.record_words.specs.declared.records.Rec.{Rec}
-use Rattle.record_words.specs.declared.records.Rec.TheVariants.{Node as a_node, Leaf as a_leaf}
-use Rattle.versions.specs.Core.{Fate, Free, InTree, Unlinked, Marked}
-use Rattle.versions.specs.Frames.{IsGrown}
-use Rattle.versions.specs.Loads.{loaded_past, loaded_by}
-use Rattle.versions.specs.State.{IsLinked}
-use Rattle.versions.specs.Steps.{at_first, is_linked, in_root, in_node, HasLockedNamer}
-use Rattle.versions.specs.Told.{items_of, added_change}
-use Rattle.versions.proofs.Core.{linked_cases}
 use Rattle.versions.proofs.Loads.{load_is_lawful, loaded_first}
 use Rattle.rowex_core.specs.declared.event.Spot.TheVariants.{Value}
 use Rattle.rowex_core.specs.declared.known.Known.{Known}

@@ -1,32 +1,11 @@
 -- Reading the words of a record that spell a value gives the value's parts.
 pub mod Leafing
 pub mod Storing
-use Rattle.std.proofs.Common.{◌≡◌, ◌⊎◌, inl, inr, ℕ, zero, suc, ◌+◌, ◌-◌, ◌*◌, ◌/◌, ◌%◌, ◌^◌, ◌<◌, ◌≤◌, List, [], ◌∷◌, ◌++◌, length, get_or, take, drop, map, Option, Some, None, nat_lt, eqb, ltb, if◌then◌else◌, true, false, refl, sym, ap, ap₂, ◌∙◌, arith, length-take, get_or-take, get_or-drop}
-use Rattle.std.specs.Prelude.{All, slice_get}
-use Rattle.std.specs.Option.{unwrap_or}
-use Rattle.std.proofs.lemmas.Bool.{eq-eqb, ne_eqb, cases_lt, lt-ltb, le-ltb}
-use Rattle.std.proofs.lemmas.List.{ext_get_or, get_or_default, take_at, drop_at, length-take-le, length-map, get_or-map}
-use Rattle.std.proofs.lemmas.List.FromFn.{length-map-range_with_len, get_or-map-range_with_len}
-use Rattle.std.proofs.lemmas.Option.{unwrap_or-slice_get}
-use Rattle.compound_node.specs.declared.entries.Entry.{Entry}
-use Rattle.compound_node.specs.declared.entries.Entry.TheVariants.{Leaf, Node}
-use Rattle.compound_node.specs.Nodes.{NodeView, head_of, piece}
-use Rattle.compound_node.proofs.Lawful.{same_count}
-use Rattle.partial_keys.specs.Shown.{piece_of}
-use Rattle.node_tries.specs.Piece.{Place, Fork, size, places}
-use Rattle.record_words.specs.Entry.{HasEntryWord, entry_word}
-use Rattle.record_words.specs.Node.{HasNodeWords, head_words, entry_words, node_words}
+use Rattle.rowex_core.proofs.Common.{◌≡◌, ◌⊎◌, inl, inr, ℕ, zero, suc, ◌+◌, ◌-◌, ◌*◌, ◌/◌, ◌%◌, ◌^◌, ◌<◌, ◌≤◌, List, [], ◌∷◌, ◌++◌, length, get_or, take, drop, map, Option, Some, None, nat_lt, eqb, ltb, if◌then◌else◌, true, false, refl, sym, ap, ap₂, ◌∙◌, arith, length-take, get_or-take, get_or-drop, All, slice_get, unwrap_or, eq-eqb, ne_eqb, cases_lt, lt-ltb, le-ltb, ext_get_or, get_or_default, take_at, drop_at, length-take-le, length-map, get_or-map, length-map-range_with_len, get_or-map-range_with_len, unwrap_or-slice_get, Entry, Leaf, Node, NodeView, head_of, piece, same_count, piece_of, Place, Fork, size, places, HasEntryWord, entry_word, HasNodeWords, head_words, entry_words, node_words, fixed_words, length-entry_words, entry_words_at, middle_row_is, narrow_row_is, near_column_is, told, whole, wide_position, wide_row, Subtrie, entry_at, NodeWords, column_byte, column_in, entry_of, entries_of, row_in}
 use Rattle.record_words.specs.Kinds.{kind_in, kind_of, mask_index, position_index}
-use Rattle.record_words.specs.Packed.{fixed_words}
 use Rattle.record_words.specs.declared.kind.HeadKind.{HeadKind}
 use Rattle.record_words.specs.declared.kind.HeadKind.TheVariants.{Middle, Narrow, Wide}
-use Rattle.record_words.proofs.Entries.{length-entry_words, entry_words_at}
 use Rattle.record_words.proofs.HeadParts.HeadsByKind.{Tells}
-use Rattle.record_words.proofs.HeadParts.{middle_row_is, narrow_row_is, near_column_is, told, whole, wide_position, wide_row}
-use Rattle.tries.specs.Tree.{Subtrie}
-use Rattle.tries.specs.Place.{entry_at}
-use Rattle.versions.specs.Heap.{NodeWords}
-use Rattle.record_words.specs.Decoding.{column_byte, column_in, entry_of, entries_of, row_in}
 use Rattle.rowex_core.specs.Reading.{fixed_of, node_words_of}
 use Rattle.node_tries.proofs.Piece.{length-places}
 

@@ -1,12 +1,6 @@
 -- What a change of the core makes of what a pass has.
 pub mod Owning
-use Rattle.std.proofs.Common.{◌≡◌, ◌≢◌, inl, inr, ℕ, ◌-◌, ◌&&◌, set, Bool, true, false, if◌then◌else◌, nat_eq, eqb, Option, Some, None, refl, sym, ap, subst}
-use Rattle.std.proofs.lemmas.Bool.{eq-eqb, eqb-true, cases_Bool, false≢true}
-use Rattle.record_words.specs.declared.records.Rec.{Rec}
-use Rattle.record_words.specs.declared.records.Rec.TheVariants.{Node as a_node}
-use Rattle.versions.specs.Core.{Fate}
-use Rattle.versions.specs.Steps.{same_rec, with_fate, with_lock, unlocked}
-use Rattle.versions.proofs.Core.{same_rec_true}
+use Rattle.rowex_core.proofs.Common.{◌≡◌, ◌≢◌, inl, inr, ℕ, ◌-◌, ◌&&◌, set, Bool, true, false, if◌then◌else◌, nat_eq, eqb, Option, Some, None, refl, sym, ap, subst, eq-eqb, eqb-true, cases_Bool, false≢true, Rec, a_node, Fate, same_rec, with_fate, with_lock, unlocked, same_rec_true}
 use Rattle.rowex_core.specs.Cores.{Core}
 use Rattle.rowex_core.specs.Events.{with_word}
 use Rattle.rowex_core.specs.Sharing.{Share, share, holding_of, owned, locked, is_by, is_in_tree}

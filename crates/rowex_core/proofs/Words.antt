@@ -1,7 +1,5 @@
 -- The state words of fates.
-use Rattle.std.proofs.Common.{◌≡◌, ◌^◌, ◌<◌, ◌≤◌, ℕ, Option, Some, None, refl, arith}
-use Rattle.record_words.specs.State.{HasStateWord, state_word}
-use Rattle.versions.specs.Core.{Fate, Free, Held, Ready, InTree, Unlinked, Marked}
+use Rattle.rowex_core.proofs.Common.{◌≡◌, ◌^◌, ◌<◌, ◌≤◌, ℕ, Option, Some, None, refl, arith, HasStateWord, state_word, Fate, Free, Held, Ready, InTree, Unlinked, Marked}
 use Rattle.rowex_core.specs.Words.{tag_of}
 
 -- A fate of a lawful core has a state word.

@@ -1,9 +1,7 @@
 -- A publish that is legal for versions is legal for words.
 pub mod Leading
 pub mod Slots
-use Rattle.std.proofs.Common.{◌≡◌, sym, ap, ◌∙◌, subst}
-use Rattle.versions.specs.Told.{items_of}
-use Rattle.versions.specs.Steps.{IsNextVersion}
+use Rattle.rowex_core.proofs.Common.{◌≡◌, sym, ap, ◌∙◌, subst, items_of, IsNextVersion}
 use Rattle.rowex_core.specs.Cores.{heap_of}
 use Rattle.rowex_core.specs.declared.event.Spot.TheVariants.{Value}
 use Rattle.rowex_core.specs.Events.{IsLegalPublish, stored_words, stored_root, next_tree, next_change}

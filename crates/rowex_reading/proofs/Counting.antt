@@ -1,9 +1,5 @@
 -- How many steps were made by a run, and by loads.
-use Rattle.std.proofs.Common.{◌≡◌, ℕ, ◌+◌, ◌≤◌, List, [], ◌∷◌, length, ap, arith}
-use Rattle.rowex_core.specs.declared.event.Act.{Act}
-use Rattle.rowex_core.specs.declared.event.Event.{Event}
-use Rattle.rowex_table.specs.Runs.{Runs, Steps}
-use Rattle.rowex_table.specs.Seats.{TableView, SeatView}
+use Rattle.rowex_reading.proofs.Common.{◌≡◌, ℕ, ◌+◌, ◌≤◌, List, [], ◌∷◌, length, ap, arith, Act, Event, Runs, Steps, TableView, SeatView}
 use Rattle.rowex_table.proofs.Made.ActsLeave.{act_leaves}
 use Rattle.rowex_reading.specs.Reads.{Looks, Reads}
 

@@ -1,4 +1,5 @@
 -- The lemmas of the crate.
+mod Common
 pub mod Seen
 pub mod Possible
 pub mod Touching

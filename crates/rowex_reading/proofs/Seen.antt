@@ -5,35 +5,13 @@ pub mod Loading
 pub mod Naming
 pub mod Standing
 pub mod Valuing
-use Rattle.std.proofs.Common.{◌≡◌, inl, inr, ℕ, suc, zero, ◌≤◌, List, [], ◌∷◌, ◌++◌, length, take, refl, ap, sym, ◌∙◌, arith, le_trans}
+use Rattle.rowex_reading.proofs.Common.{◌≡◌, inl, inr, ℕ, suc, zero, ◌≤◌, List, [], ◌∷◌, ◌++◌, length, take, refl, ap, sym, ◌∙◌, arith, le_trans, bit_of, leads_to, HeadView, NodeView, IsLawfulNode, head_of, leaves, node_of, piece, Entry, Change, map_of, Key, spot, leads_spot, Subtrie, Tree, Rec, Past, Stands, IsHeldSince, WasAbsentSince, IsLed, KeepsFixedWordsSince, rec_of, pin_version, TellChanges, stands_grown, steady, reach_later, Known, Core, IsLawful, Recalls, IsPinnedSince, EntryStoodSince, IsRooted, IsPlaced, HadShapeSince, IsRead, IsBlank, IsLater, view}
 use Rattle.std.proofs.lemmas.List.{length-append}
-use Rattle.key_bits.specs.Bits.{bit_of}
-use Rattle.node_tries.specs.Piece.{leads_to}
-use Rattle.compound_node.specs.Nodes.{HeadView, NodeView, IsLawfulNode, head_of, leaves, node_of, piece}
-use Rattle.compound_node.specs.declared.entries.Entry.{Entry}
-use Rattle.finite_map.specs.declared.Change.{Change}
-use Rattle.finite_map.specs.Fronts.{map_of}
 use Rattle.finite_map.proofs.Fronts.{legal_front_part, others_none}
-use Rattle.tries.specs.Keys.{Key}
-use Rattle.tries.specs.Place.{spot}
-use Rattle.tries.proofs.Place.{leads_spot}
-use Rattle.tries.specs.Tree.{Subtrie, Tree}
-use Rattle.record_words.specs.declared.records.Rec.{Rec}
-use Rattle.versions.specs.State.{Past, Stands, IsHeldSince, WasAbsentSince, IsLed, KeepsFixedWordsSince, rec_of}
-use Rattle.versions.specs.Core.{pin_version}
 use Rattle.versions.specs.Frames.{IsGrown}
-use Rattle.versions.specs.Told.{TellChanges}
-use Rattle.versions.proofs.Core.Growth.{stands_grown}
-use Rattle.versions.proofs.State.{steady, reach_later}
-use Rattle.rowex_core.specs.declared.known.Known.{Known}
-use Rattle.rowex_core.specs.Cores.{Core, IsLawful}
-use Rattle.rowex_core.specs.Knowing.{Recalls, IsPinnedSince}
-use Rattle.version_laws.specs.Scan.{EntryStoodSince, IsRooted, IsPlaced, HadShapeSince, IsRead, IsBlank}
 use Rattle.version_laws.proofs.Scan.Persist.{rooted_grown, placed_grown, shaped_grown, read_grown}
 use Rattle.rowex_reading.specs.Seen.{seen, shape_of, Sure, HasMorePlaces}
-use Rattle.rowex_table.specs.Made.{IsLater}
 pub use Rattle.rowex_table.proofs.Made.ActsBefore.{later_trans, recalls_before}
-use Rattle.rowex_core.proofs.Cores.Loading.{view}
 
 -- Later on
 

@@ -1,18 +1,6 @@
 -- Touches beside the steps of a pass: how many there may be, and where they stand.
-use Rattle.std.proofs.Common.{◌≡◌, ℕ, ◌+◌, ◌*◌, ◌<◌, ◌≤◌, List, [], ◌∷◌, cond, refl, sym, ap, subst, ◌∙◌, arith, le_refl, ⊎_elim}
-use Rattle.std.proofs.lemmas.Bool.{cases_lt}
-use Rattle.std.proofs.lemmas.List.Sums.{sum_by-cons}
-use Rattle.finite_map.specs.declared.Note.{Note}
-use Rattle.rowex_core.specs.declared.event.Act.{Act}
-use Rattle.rowex_core.specs.declared.event.Act.TheVariants.{Claim, Fill, Ready, Release, LoadRef, LoadFixed, Lock, Unlock, Publish, Mark, LoadEpoch, Advance, SetPin, ClearPin, LoadPin, LoadState, GiveBack, Load}
-use Rattle.rowex_core.specs.declared.event.Event.{Event}
-use Rattle.rowex_core.specs.declared.event.Spot.TheVariants.{Root, Slot, Value}
-use Rattle.rowex_core.specs.declared.known.Known.{Known}
-use Rattle.rowex_table.specs.Runs.{Ends, MayTouch, Runs, StepsWith, entry_touches, most_touches}
-use Rattle.rowex_table.specs.Seats.{HasTouched, SeatView, TableView, touched, touched_to}
+use Rattle.rowex_reading.proofs.Common.{◌≡◌, ℕ, ◌+◌, ◌*◌, ◌<◌, ◌≤◌, List, [], ◌∷◌, cond, refl, sym, ap, subst, ◌∙◌, arith, le_refl, ⊎_elim, cases_lt, sum_by-cons, Note, Act, Claim, Fill, Ready, Release, LoadRef, LoadFixed, Lock, Unlock, Publish, Mark, LoadEpoch, Advance, SetPin, ClearPin, LoadPin, LoadState, GiveBack, Load, Event, Root, Slot, Value, Known, Ends, MayTouch, Runs, StepsWith, entry_touches, most_touches, HasTouched, SeatView, TableView, touched, touched_to, Entry, Rec}
 use Rattle.rowex_reading.specs.Reads.{IsReader, Reads, ReadsAndTouches, ReadsRoot, entries_in, loads_entry}
-use Rattle.compound_node.specs.declared.entries.Entry.{Entry}
-use Rattle.record_words.specs.declared.records.Rec.{Rec}
 use Rattle.rowex_reading.specs.Lookups.{search_touches}
 use Rattle.rowex_reading.specs.Seen.{AreLoaded, IsLedTo}
 use Rattle.rowex_reading.proofs.Seen.Led.{reads_trans}

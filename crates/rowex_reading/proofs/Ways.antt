@@ -1,17 +1,5 @@
 -- The way of a search: what names its nodes; and what was found stays known while the pass goes on.
-use Rattle.std.proofs.Common.{◌≡◌, ℕ, zero, suc, ◌<◌, ◌≤◌, List, [], ◌∷◌, length, Option, Some, None, refl, ap, arith, subst, sym}
-use Rattle.std.specs.Prelude.{slice_get}
-use Rattle.insert_cases.specs.declared.choice.PathNode.{PathNode}
-use Rattle.insert_cases.proofs.Ways.{some_injective}
-use Rattle.compound_node.specs.declared.entries.Entry.{Entry}
-use Rattle.compound_node.specs.declared.entries.Entry.TheVariants.{Node}
-use Rattle.node_tries.specs.Piece.{size}
-use Rattle.record_words.specs.declared.layout.Layout.{Layout}
-use Rattle.tries.specs.Keys.{Key}
-use Rattle.tries.proofs.Place.{spot_below}
-use Rattle.rowex_core.specs.declared.known.Known.{Known}
-use Rattle.rowex_table.specs.Made.{IsLater}
-use Rattle.version_laws.specs.Scan.{EntryStoodSince, IsRooted, IsBlank, IsPlaced, HadShapeSince, IsRead}
+use Rattle.rowex_reading.proofs.Common.{◌≡◌, ℕ, zero, suc, ◌<◌, ◌≤◌, List, [], ◌∷◌, length, Option, Some, None, refl, ap, arith, subst, sym, slice_get, PathNode, some_injective, Entry, Node, size, Layout, Key, spot_below, Known, IsLater, EntryStoodSince, IsRooted, IsBlank, IsPlaced, HadShapeSince, IsRead}
 use Rattle.rowex_reading.specs.Seen.{HasPlace}
 use Rattle.rowex_reading.proofs.Seen.Led.{shape_place}
 use Rattle.rowex_reading.proofs.Seen.{sure_later, since_later, seen_stable, rooted_stable, placed_stable, shaped_stable, read_stable, blank_stable}

@@ -1,41 +1,17 @@
 -- What claims of records come to.
 pub mod Making
-use Rattle.std.proofs.Common.{◌≡◌, ◌≢◌, ℕ, zero, suc, ◌+◌, ◌-◌, ◌<◌, ◌≤◌, min, inl, inr, List, [], ◌∷◌, ◌++◌, length, Option, Bool, true, false, nat_lt, nat_eq, if◌then◌else◌, refl, sym, ap, subst, ◌∙◌, arith, add-zero, length-append}
-use Rattle.std.specs.Prelude.{All, Contains, IfNone, IfSome, MatchOption, Some, None, map}
-use Rattle.std.proofs.lemmas.Bool.{eqb-true, eqb-false, ltb-true, ltb-false, lt-ltb, le-ltb}
-use Rattle.std.proofs.lemmas.List.Elements.{All-contains, All-head, All-tail, All-weaker}
-use Rattle.record_words.specs.declared.layout.Layout.{Layout}
+use Rattle.rowex_records.proofs.Common.{◌≡◌, ◌≢◌, ℕ, zero, suc, ◌+◌, ◌-◌, ◌<◌, ◌≤◌, min, inl, inr, List, [], ◌∷◌, ◌++◌, length, Option, Bool, true, false, nat_lt, nat_eq, if◌then◌else◌, refl, sym, ap, subst, ◌∙◌, arith, add-zero, length-append, All, Contains, IfNone, IfSome, MatchOption, Some, None, eqb-true, eqb-false, ltb-true, ltb-false, lt-ltb, le-ltb, All-contains, All-head, All-tail, All-weaker, Layout, Rec, a_node, IsOneOf, Fate, Free, HeldBy, ReadyBy, InTree, Unlinked, Marked, Act, Claim, LoadState, Event, a_claim, a_lock, a_load, Holding, Held, IsReady, IsUnlinked, Known, Owned, Core, HasRecord, IsLawful, holder_of, word_of, IsLocked, IsOwned, fate_of, Knows, claim_learned, failed_with, knows_all, OwnsAs, IsClaimed, Steps, Does, TableView, SeatView, in_turn_more, does_count}
+use Rattle.std.specs.Prelude.{map}
 use Rattle.record_words.specs.Layout.{leaf_size, leaf_start}
 use Rattle.record_words.specs.State.{state_word}
-use Rattle.record_words.specs.declared.records.Rec.{Rec}
-use Rattle.record_words.specs.declared.records.Rec.TheVariants.{Node as a_node}
-use Rattle.versions.specs.Trades.{IsOneOf}
 use Rattle.versions.proofs.Trades.{all_of, map_of, of_map}
-use Rattle.versions.specs.Core.{Fate, Free, Held as HeldBy, Ready as ReadyBy, InTree, Unlinked, Marked}
-use Rattle.rowex_core.specs.declared.event.Act.{Act}
-use Rattle.rowex_core.specs.declared.event.Act.TheVariants.{Claim, LoadState}
-use Rattle.rowex_core.specs.declared.event.Event.{Event}
 use Rattle.rowex_core.specs.declared.known.Failed.{Failed}
 use Rattle.rowex_core.specs.declared.known.FailedAct.{FailedAct}
-use Rattle.rowex_core.specs.declared.known.FailedAct.TheVariants.{Claim as a_claim, Lock as a_lock, LoadState as a_load}
-use Rattle.rowex_core.specs.declared.known.Holding.{Holding}
-use Rattle.rowex_core.specs.declared.known.Holding.TheVariants.{Held, Ready as IsReady, Unlinked as IsUnlinked}
-use Rattle.rowex_core.specs.declared.known.Known.{Known}
 use Rattle.rowex_core.specs.declared.known.Locked.{Locked}
-use Rattle.rowex_core.specs.declared.known.Owned.{Owned}
-use Rattle.rowex_core.specs.Cores.{Core, HasRecord, IsLawful, holder_of}
 use Rattle.rowex_core.specs.Words.{lock_of, tag_of}
-use Rattle.rowex_core.specs.Events.{word_of}
-use Rattle.rowex_core.specs.Sharing.{IsLocked, IsOwned, fate_of}
-use Rattle.rowex_core.specs.Knowing.{Knows, claim_learned, failed_with}
-use Rattle.rowex_core.proofs.Sharing.Owning.{knows_all}
 use Rattle.rowex_table.specs.Made.{nodes_of}
 use Rattle.rowex_table.specs.Rule.{IsStartOf}
-use Rattle.rowex_table.specs.Rights.{OwnsAs, IsClaimed}
-use Rattle.rowex_table.specs.Runs.{Steps, Does}
-use Rattle.rowex_table.specs.Seats.{TableView, SeatView}
 use Rattle.rowex_core.proofs.Words.{free_tag}
-use Rattle.rowex_table.proofs.Runs.{in_turn_more, does_count}
 use Rattle.rowex_records.specs.declared.claiming.RecordKind.{RecordKind}
 use Rattle.rowex_records.specs.declared.claiming.RecordKind.TheVariants.{Node, Leaf}
 use Rattle.rowex_records.specs.Claims.{claiming, begin_of, count_of, record_of, wrapped, HasIndex, IsKindOf, Misses, IsAnothers, IsAnothersTo, TellsState, HasMissedSince, records_had, MissesOne, HoldsOneMore, ClaimsOne, FindsNone, Claims, AllMissed, GoesOnBehind, GoesOnTrying, TriesSome}

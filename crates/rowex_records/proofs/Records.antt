@@ -1,28 +1,8 @@
 -- What filling a record comes to, making it ready, and giving it up.
-use Rattle.std.proofs.Common.{◌≡◌, ◌≢◌, ℕ, zero, suc, ◌+◌, ◌-◌, ◌<◌, ◌≤◌, List, [], ◌∷◌, ◌++◌, length, map, take, set, get_or, Bool, true, false, if◌then◌else◌, refl, sym, ap, subst, ◌∙◌, arith, add-one, get_or-take}
-use Rattle.std.specs.Prelude.{All, Contains, not}
-use Rattle.std.proofs.lemmas.List.{length-set, take_all, take_more, take_more_set}
-use Rattle.std.proofs.lemmas.List.Elements.{All-head, All-tail, All-weaker}
+use Rattle.rowex_records.proofs.Common.{◌≡◌, ◌≢◌, ℕ, zero, suc, ◌+◌, ◌-◌, ◌<◌, ◌≤◌, List, [], ◌∷◌, ◌++◌, length, map, take, set, get_or, Bool, true, false, if◌then◌else◌, refl, sym, ap, subst, ◌∙◌, arith, add-one, get_or-take, All, Contains, not, length-set, take_all, take_more, take_more_set, All-head, All-tail, All-weaker, HasLeafWords, leaf_words, up_to_key, words_for, leaf_words_parts, Rec, same_rec, same_rec_true, Ready, Release, Event, Holding, Owned, Known, Core, IsLawful, word_count_of, IsOwned, Knows, with_filled_word, knows_all, OwnsAs, Steps, TableView, SeatView}
 use Rattle.record_words.specs.declared.TheConstants.{LEAF_FIELDS}
-use Rattle.record_words.specs.Leaf.{HasLeafWords, leaf_words, up_to_key, words_for}
-use Rattle.record_words.proofs.Leaves.{leaf_words_parts}
 use Rattle.record_words.proofs.UpToKey.{spells_up_to_key}
-use Rattle.record_words.specs.declared.records.Rec.{Rec}
-use Rattle.versions.specs.Steps.{same_rec}
-use Rattle.versions.proofs.Core.{same_rec_true}
-use Rattle.rowex_core.specs.declared.event.Act.TheVariants.{Ready, Release}
-use Rattle.rowex_core.specs.declared.event.Event.{Event}
-use Rattle.rowex_core.specs.declared.known.Holding.{Holding}
-use Rattle.rowex_core.specs.declared.known.Owned.{Owned}
-use Rattle.rowex_core.specs.declared.known.Known.{Known}
-use Rattle.rowex_core.specs.Cores.{Core, IsLawful, word_count_of}
-use Rattle.rowex_core.specs.Sharing.{IsOwned}
-use Rattle.rowex_core.specs.Knowing.{Knows, with_filled_word}
 use Rattle.rowex_core.proofs.Lists.{kept}
-use Rattle.rowex_core.proofs.Sharing.Owning.{knows_all}
-use Rattle.rowex_table.specs.Rights.{OwnsAs}
-use Rattle.rowex_table.specs.Runs.{Steps}
-use Rattle.rowex_table.specs.Seats.{TableView, SeatView}
 use Rattle.rowex_core.proofs.Having.{other_rec}
 use Rattle.rowex_records.specs.Records.{fill_with, stored, stored_in, Readies, GivesUp}
 use Rattle.rowex_records.proofs.Claims.Making.{owns_one}

@@ -1,15 +1,8 @@
 -- The change between two lists of leaves is found.
-use Rattle.std.proofs.Common.{◌≡◌, ◌≢◌, inl, inr, ℕ, zero, suc, ◌<◌, ◌≤◌, List, [], ◌∷◌, length, get_or, drop, map, true, false, Option, Some, None, eqb, refl, ap, ap₂, sym, ◌∙◌, subst, arith}
-use Rattle.std.proofs.lemmas.Bool.{eq-eqb, ne_eqb}
-use Rattle.std.proofs.lemmas.List.{get_or-map, length-map}
+use Rattle.rowex_replay_state.proofs.Common.{◌≡◌, ◌≢◌, inl, inr, ℕ, zero, suc, ◌<◌, ◌≤◌, List, [], ◌∷◌, length, get_or, drop, map, true, false, Option, Some, None, eqb, refl, ap, ap₂, sym, ◌∙◌, subst, arith, eq-eqb, ne_eqb, get_or-map, length-map, Change, Added, Replaced, Removed, Item, IsMore, added, behind, IsExchange, exchanged, past_one, item_of, IsChanged, added_change, replaced_change, removed_change, AreSame, change_between, change_at}
 use Rattle.std.specs.declared.cmp.Ordering.{Ordering}
-use Rattle.finite_map.specs.declared.Change.{Change}
 use Rattle.finite_map.specs.declared.Kind.{Kind}
-use Rattle.finite_map.specs.declared.Kind.TheVariants.{Added, Replaced, Removed}
 use Rattle.finite_map.specs.Maps.{key_order}
-use Rattle.tries.specs.Content.{Item, IsMore, added, behind, IsExchange, exchanged, past_one}
-use Rattle.versions.specs.Told.{item_of, IsChanged, added_change, replaced_change, removed_change}
-use Rattle.rowex_core.specs.Events.{AreSame, change_between, change_at}
 use Rattle.rowex_replay_state.specs.declared.linked.Item.{Item as ReadItem}
 use Rattle.rowex_replay_state.specs.Versions.{read_item}
 use Rattle.rowex_replay_state.specs.Changed.{BeginApart, numbers, Changes, IsFoundChange, IsMade}

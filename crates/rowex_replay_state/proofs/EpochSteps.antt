@@ -1,17 +1,8 @@
 -- The steps on the epoch and on pins.
-use Rattle.std.proofs.Common.{◌≡◌, ◌≢◌, inl, inr, ⊎_elim, ◌<◌, ◌≤◌, ℕ, List, [], ◌∷◌, length, set, replicate, slice_get, Option, Some, None, IsSome, is_none, option_map, unwrap_or, Bool, true, false, nat_eq, if◌then◌else◌, refl, sym, ap, ◌∙◌, subst, arith}
-use Rattle.std.proofs.lemmas.Bool.{eq-eqb, ne_eqb, cases_Bool, eqb-true}
-use Rattle.std.proofs.lemmas.List.{length-set, length-replicate}
-use Rattle.std.proofs.lemmas.Option.{same_Some, none-some, slice_get_within}
-use Rattle.record_words.specs.declared.layout.Layout.{Layout}
+use Rattle.rowex_replay_state.proofs.Common.{◌≡◌, ◌≢◌, inl, inr, ⊎_elim, ◌<◌, ◌≤◌, ℕ, List, [], ◌∷◌, length, set, replicate, slice_get, Option, Some, None, IsSome, is_none, option_map, unwrap_or, Bool, true, false, nat_eq, if◌then◌else◌, refl, sym, ap, ◌∙◌, subst, arith, eq-eqb, ne_eqb, cases_Bool, eqb-true, length-replicate, same_Some, none-some, slice_get_within, Layout, has_seen, lowered, with_pin, with_epoch, ClearPin, LoadEpoch, LoadPin, SetPin, Core, IsLawful, pin_word, LegalAct, after}
+use Rattle.std.proofs.lemmas.List.{length-set}
 use Rattle.versions.specs.declared.Pin.{Pin}
 use Rattle.versions.specs.declared.Round.{Round}
-use Rattle.versions.specs.Core.{has_seen}
-use Rattle.versions.specs.Steps.{lowered, with_pin, with_epoch}
-use Rattle.rowex_core.specs.declared.event.Act.TheVariants.{ClearPin, LoadEpoch, LoadPin, SetPin}
-use Rattle.rowex_core.specs.Cores.{Core, IsLawful}
-use Rattle.rowex_core.specs.Words.{pin_word}
-use Rattle.rowex_core.specs.Events.{LegalAct, after}
 use Rattle.rowex_replay_state.specs.declared.passes.PassState.{PassState}
 use Rattle.rowex_replay_state.specs.Passes.{ArePassesOf, IsPassStateOf, in_round, with_pin_seen, lowered_by}
 use Rattle.rowex_replay_state.specs.States.{StateView, IsStateOf}

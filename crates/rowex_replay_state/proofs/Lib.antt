@@ -1,4 +1,5 @@
 -- The lemmas of the crate.
+mod Common
 pub mod Tables
 pub mod States
 pub mod Sound

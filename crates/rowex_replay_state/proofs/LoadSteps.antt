@@ -1,16 +1,6 @@
 -- The loads of words of records, and of the root.
-use Rattle.std.proofs.Common.{◌≡◌, ◌↔◌, ◌+◌, ◌-◌, ◌<◌, ℕ, suc, get_or, Some, Bool, true, false, refl, sym, ap, ◌∙◌, subst, arith}
-use Rattle.std.proofs.lemmas.Option.{slice_get-get_or, get_or_from_slice_get}
-use Rattle.record_words.specs.declared.records.Rec.{Rec}
-use Rattle.record_words.specs.declared.records.Rec.TheVariants.{Node as a_node, Leaf as a_leaf}
-use Rattle.record_words.specs.Entry.{HasEntryWord, entry_word}
+use Rattle.rowex_replay_state.proofs.Common.{◌≡◌, ◌↔◌, ◌+◌, ◌-◌, ◌<◌, ℕ, suc, get_or, Some, Bool, true, false, refl, sym, ap, ◌∙◌, subst, arith, slice_get-get_or, get_or_from_slice_get, Rec, a_node, a_leaf, HasEntryWord, entry_word, LoadFixed, LoadRef, LoadState, Root, Slot, Value, Layout, Core, IsLawful, HasRecord, HasPlace, word_count_of, record_word, LegalAct, after, IsFixedOffset}
 use Rattle.rowex_core.specs.declared.event.Act.{Act}
-use Rattle.rowex_core.specs.declared.event.Act.TheVariants.{LoadFixed, LoadRef, LoadState}
-use Rattle.rowex_core.specs.declared.event.Spot.TheVariants.{Root, Slot, Value}
-use Rattle.record_words.specs.declared.layout.Layout.{Layout}
-use Rattle.rowex_core.specs.Cores.{Core, IsLawful, HasRecord, HasWord as HasPlace, word_count_of}
-use Rattle.rowex_core.specs.Words.{record_word}
-use Rattle.rowex_core.specs.Events.{LegalAct, after, IsFixedOffset}
 use Rattle.rowex_replay_state.specs.Records.{HasState, HasWordStored}
 use Rattle.rowex_replay_state.specs.States.{StateView, IsStateOf, IsStepped}
 use Rattle.rowex_replay_state.proofs.Tables as table

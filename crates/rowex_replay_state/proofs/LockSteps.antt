@@ -1,17 +1,11 @@
 -- The steps that lock and unlock nodes.
-use Rattle.std.proofs.Common.{◌≡◌, ◌≢◌, ℕ, Option, Some, None}
-use Rattle.std.proofs.lemmas.Bool.{eq-eqb, ne_eqb}
-use Rattle.record_words.specs.declared.records.Rec.TheVariants.{Node as a_node}
-use Rattle.rowex_core.specs.declared.event.Act.TheVariants.{Lock, Unlock}
+use Rattle.rowex_replay_state.proofs.Common.{◌≡◌, ◌≢◌, ℕ, Option, Some, None, eq-eqb, ne_eqb, a_node, Lock, Unlock, Core, IsLawful, LegalAct, after, IsInTree, with_lock}
 use Rattle.rowex_core.specs.declared.event.Target.TheVariants.{Node as NodeTarget}
-use Rattle.rowex_core.specs.Cores.{Core, IsLawful}
-use Rattle.rowex_core.specs.Events.{LegalAct, after, IsInTree}
 use Rattle.rowex_replay_state.specs.declared.fate.Fate.TheVariants.{InTree as IsPutChange}
 use Rattle.rowex_replay_state.specs.Records.{RecordsView, HasState, fate_in, lock_in, with_lock_in}
 use Rattle.rowex_replay_state.specs.States.{StateView, IsStateOf}
 use Rattle.rowex_replay_state.proofs.Tables as table
 use Rattle.rowex_replay_state.proofs.States.{state_from, fate_at, tree_from, with_records_is}
-use Rattle.versions.specs.Steps.{with_lock}
 
 pub lock_is : (s : StateView) (c : Core) → IsStateOf s c → (n : ℕ) (o : Option ℕ) → IsStateOf (record s { records = with_lock_in s.records n o }) (record c { shared = with_lock c.shared n o })
 lock_is s c h n o = with_records_is s c h (with_lock_in s.records n o) c.words c.fate _ (table.lock_set s.records c.layout c.words c.fate c.lock h.records n o)

@@ -1,18 +1,6 @@
 -- The tree that words show is made the newest version.
 pub mod Stores
-use Rattle.std.proofs.Common.{◌≡◌, ◌⊎◌, inl, inr, ℕ, suc, List, [], ◌∷◌, ◌++◌, length, map, get_or, slice_get, Option, Some, None, Bool, true, false, refl, sym, ap, ◌∙◌, subst}
-use Rattle.std.proofs.lemmas.Bool.{cases_Bool, false≢true, eq-eqb}
-use Rattle.std.proofs.lemmas.Option.{get_or_from_slice_get}
-use Rattle.compound_node.specs.declared.entries.Entry.{Entry}
-use Rattle.finite_map.specs.declared.Change.{Change}
-use Rattle.record_words.specs.declared.records.Rec.{Rec}
-use Rattle.record_words.specs.declared.records.Rec.TheVariants.{Node as a_node, Leaf as a_leaf}
-use Rattle.versions.specs.State.{IsLinked}
-use Rattle.versions.specs.Told.{items_of}
-use Rattle.versions.specs.Core.{Free, Ready as ReadyBy, InTree as InTreeSince}
-use Rattle.versions.specs.Steps.{is_linked, next_fate}
-use Rattle.rowex_core.specs.Cores.{Core, HasRecord, heap_of}
-use Rattle.rowex_core.specs.Events.{AreSame, IsInTree, tree_of, change_between}
+use Rattle.rowex_replay_state.proofs.Common.{◌≡◌, ◌⊎◌, inl, inr, ℕ, suc, List, [], ◌∷◌, ◌++◌, length, map, get_or, slice_get, Option, Some, None, Bool, true, false, refl, sym, ap, ◌∙◌, subst, cases_Bool, false≢true, eq-eqb, get_or_from_slice_get, Entry, Change, Rec, a_node, a_leaf, IsLinked, items_of, Free, ReadyBy, InTreeSince, is_linked, next_fate, Core, HasRecord, heap_of, AreSame, IsInTree, tree_of, change_between}
 use Rattle.rowex_replay_state.specs.Changed.{IsFoundChange}
 use Rattle.rowex_replay_state.specs.Versions.{AreWordsOf, IsVersion, IsReadVersion, Tells, read_item}
 use Rattle.rowex_replay_state.specs.declared.linked.Item.{Item as ReadItem}

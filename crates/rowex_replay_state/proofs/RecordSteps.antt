@@ -1,13 +1,5 @@
 -- The steps on records of a pass's own.
-use Rattle.std.proofs.Common.{◌≡◌, ◌≢◌, ◌-◌, ◌^◌, ◌<◌, ℕ, List, set, Some, refl, sym, ap, ◌∙◌, subst}
-use Rattle.record_words.specs.declared.records.Rec.{Rec}
-use Rattle.versions.specs.Core.{Fate, Free, Held, Ready as ReadyBy, InTree, Unlinked, Marked}
-use Rattle.rowex_core.specs.declared.event.Act.TheVariants.{Claim, Fill, Ready, Release}
-use Rattle.rowex_core.specs.Reading.{IsPacked}
-use Rattle.record_words.specs.declared.layout.Layout.{Layout}
-use Rattle.rowex_core.specs.Cores.{Core, IsLawful, FitsIn, HasRecord, HasWord as HasPlace}
-use Rattle.rowex_core.specs.Words.{tag_of, lock_of, state_at}
-use Rattle.rowex_core.specs.Events.{LegalAct, after, claimed, IsOffset}
+use Rattle.rowex_replay_state.proofs.Common.{◌≡◌, ◌≢◌, ◌-◌, ◌^◌, ◌<◌, ℕ, List, set, Some, refl, sym, ap, ◌∙◌, subst, Rec, Fate, Free, Held, ReadyBy, InTree, Unlinked, Marked, Claim, Fill, Ready, Release, IsPacked, Layout, Core, IsLawful, FitsIn, HasRecord, HasPlace, tag_of, lock_of, state_at, LegalAct, after, claimed, IsOffset, with_fate, free_tag}
 use Rattle.rowex_replay_state.specs.declared.fate.Fate.{Fate as Stored}
 use Rattle.rowex_replay_state.specs.declared.fate.Fate.TheVariants.{Free as IsFree, Held as IsHeld, Ready as IsReady}
 use Rattle.rowex_replay_state.specs.Fates.{stored_fate}
@@ -15,8 +7,6 @@ use Rattle.rowex_replay_state.specs.Records.{RecordsView, HasState, IsPackedIn, 
 use Rattle.rowex_replay_state.specs.States.{StateView, IsStateOf}
 use Rattle.rowex_replay_state.proofs.Tables as table
 use Rattle.rowex_replay_state.proofs.States.{held_at, state_from, state_is, words_from, with_records_is}
-use Rattle.versions.specs.Steps.{with_fate}
-use Rattle.rowex_core.proofs.Words.{free_tag}
 
 -- the replay with one fate changed is at the core with that fate changed
 pub with_fate_is : (s : StateView) (c : Core) → IsStateOf s c → (r : Rec) (g : Stored) → IsStateOf (record s { records = with_fate_in s.records r g }) (record c { shared = with_fate c.shared r (stored_fate g) })

@@ -1,12 +1,5 @@
 -- What the lawfulness of a core says even where its proof is not at hand.
-use Rattle.std.proofs.Common.{◌≡◌, ◌≢◌, inl, inr, length}
-use Rattle.std.proofs.Props.{props}
-use Rattle.std.proofs.Math.Logic.{∥∥₁_elim}
-use Rattle.record_words.specs.declared.layout.Layout.{Layout}
-use Rattle.record_words.specs.declared.records.Rec.{Rec}
-use Rattle.record_words.specs.declared.records.Rec.TheVariants.{Node as a_node, Leaf as a_leaf}
-use Rattle.versions.specs.Core.{Free}
-use Rattle.rowex_core.specs.Cores.{Core, IsLawful, HasRecord}
+use Rattle.rowex_replay_state.proofs.Common.{◌≡◌, ◌≢◌, inl, inr, length, props, ∥∥₁_elim, Layout, Rec, a_node, a_leaf, Free, Core, IsLawful, HasRecord}
 
 -- there is a version after each change
 pub count : (c : Core) → ∥ IsLawful c ∥₁ → length c.changes ≡ c.past.now

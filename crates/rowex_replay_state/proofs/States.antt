@@ -1,21 +1,15 @@
 -- What a replay stores, and what the core says that it is at.
 pub mod Valued
-use Rattle.std.proofs.Common.{◌≡◌, ◌<◌, ℕ, Option, Some, None, option_map, option_and_then, refl, sym, ap, ◌∙◌, List}
-use Rattle.std.proofs.lemmas.Option.{same_Some, none-some}
+use Rattle.rowex_replay_state.proofs.Common.{◌≡◌, ◌<◌, ℕ, Option, Some, None, option_map, option_and_then, refl, sym, ap, ◌∙◌, List, same_Some, none-some, Rec, a_node, a_leaf, Fate, Free, Held, InTree, Unlinked, Marked, Core, IsLawful, HasRecord, tag_of, lock_of, state_at, has_state_word}
 use Rattle.record_words.specs.declared.state.Tag.{Tag}
 use Rattle.record_words.specs.State.{state_word}
-use Rattle.record_words.specs.declared.records.Rec.{Rec}
-use Rattle.record_words.specs.declared.records.Rec.TheVariants.{Node as a_node, Leaf as a_leaf}
-use Rattle.versions.specs.Core.{Fate, Free, Held, Ready, InTree, Unlinked, Marked}
-use Rattle.rowex_core.specs.Cores.{Core, IsLawful, HasRecord}
-use Rattle.rowex_core.specs.Words.{tag_of, lock_of, state_at}
+use Rattle.versions.specs.Core.{Ready}
 use Rattle.rowex_replay_state.specs.declared.fate.Fate.{Fate as Stored}
 use Rattle.rowex_replay_state.specs.declared.fate.Fate.TheVariants.{Free as IsFree, Held as IsHeld, Ready as IsReady, InTree as IsInTree, Unlinked as IsUnlinked, Marked as IsMarked}
 use Rattle.rowex_replay_state.specs.Fates.{stored_fate}
 use Rattle.rowex_replay_state.specs.Records.{HasState, words_in, fate_in, lock_in, AreRecordsOf, RecordsView}
 use Rattle.rowex_replay_state.specs.States.{StateView, IsStateOf}
 use Rattle.rowex_replay_state.proofs.Tables as table
-use Rattle.rowex_core.proofs.Words.{has_state_word}
 
 -- ---- a stored fate is that of one fate
 

@@ -1,15 +1,6 @@
 -- The records as data, and the functions that they stand for.
-use Rattle.std.proofs.Common.{◌≡◌, ◌≢◌, ◌⊎◌, inl, inr, ⊎_elim, ℕ, zero, suc, ◌<◌, List, [], ◌∷◌, length, set, slice_get, replicate, Option, Some, None, nat_eq, if◌then◌else◌, refl, sym, ap, ◌∙◌, arith}
-use Rattle.std.proofs.lemmas.Bool.{cases_Bool}
+use Rattle.rowex_replay_state.proofs.Common.{◌≡◌, ◌≢◌, ◌⊎◌, inl, inr, ⊎_elim, ℕ, zero, suc, ◌<◌, List, [], ◌∷◌, length, set, slice_get, replicate, Option, Some, None, nat_eq, if◌then◌else◌, refl, sym, ap, ◌∙◌, arith, cases_Bool, slice_get_within, same_Some, none-some, Layout, Rec, a_node, a_leaf, Fate, same_rec, same_rec_refl, same_rec_true, HasRecord}
 use Rattle.std.proofs.lemmas.List.{length-set}
-use Rattle.std.proofs.lemmas.Option.{slice_get_within, same_Some, none-some}
-use Rattle.record_words.specs.declared.layout.Layout.{Layout}
-use Rattle.record_words.specs.declared.records.Rec.{Rec}
-use Rattle.record_words.specs.declared.records.Rec.TheVariants.{Node as a_node, Leaf as a_leaf}
-use Rattle.versions.specs.Core.{Fate}
-use Rattle.versions.specs.Steps.{same_rec}
-use Rattle.versions.proofs.Core.{same_rec_refl, same_rec_true}
-use Rattle.rowex_core.specs.Cores.{HasRecord}
 use Rattle.rowex_replay_state.specs.declared.fate.Fate.{Fate as Stored}
 use Rattle.rowex_replay_state.specs.Fates.{stored_fate}
 use Rattle.rowex_replay_state.specs.Records.{RecordsView, AreRecordsOf, words_in, fate_in, lock_in, with_fate_in, with_lock_in, with_words_in}

@@ -1,21 +1,8 @@
 -- What was read from a root, and whether it is a lawful version.
-use Rattle.std.proofs.Common.{◌≡◌, ◌⊎◌, ◌↔◌, inl, inr, ℕ, List, [], ◌++◌, Bool, true, false, length, get_or, map, replicate, Option, Some, None, refl, ap, sym, ◌∙◌, subst, arith}
-use Rattle.std.proofs.lemmas.Bool.{false≢true, cases_lt}
-use Rattle.std.proofs.lemmas.List.{get_or-replicate, get_or_past, length-replicate}
-use Rattle.node_tries.specs.Piece.{Place}
-use Rattle.compound_node.specs.declared.entries.Entry.{Entry}
-use Rattle.tries.specs.Tree.{Tree, subtrie, IsTrie, IsBuilt}
-use Rattle.tries.specs.Content.{items}
+use Rattle.rowex_replay_state.proofs.Common.{◌≡◌, ◌⊎◌, ◌↔◌, inl, inr, ℕ, List, [], ◌++◌, Bool, true, false, length, get_or, map, replicate, Option, Some, None, refl, ap, sym, ◌∙◌, subst, arith, false≢true, cases_lt, get_or-replicate, get_or_past, length-replicate, Place, Entry, Tree, subtrie, IsTrie, IsBuilt, items, Rec, a_node, a_leaf, IsShown, Links, IsTop, IsLinked, items_of, heap_of, tree_of}
 use Rattle.tries.proofs.Content.{trie_if_local, local_if_trie}
-use Rattle.record_words.specs.declared.records.Rec.{Rec}
-use Rattle.record_words.specs.declared.records.Rec.TheVariants.{Node as a_node, Leaf as a_leaf}
-use Rattle.versions.specs.Heap.{IsShown}
 use Rattle.versions.specs.Read.{read}
-use Rattle.versions.specs.State.{Links, IsTop, IsLinked}
-use Rattle.versions.specs.Told.{items_of}
 use Rattle.versions.proofs.Read.{read_exact}
-use Rattle.rowex_core.specs.Cores.{heap_of}
-use Rattle.rowex_core.specs.Events.{tree_of}
 use Rattle.rowex_replay_state.specs.declared.linked.Linked.{Linked}
 use Rattle.rowex_replay_state.specs.Versions.{IsSpelled, IsReadVersion, read_item, Table}
 use Rattle.rowex_replay_state.specs.Parts.{ShowsPart, HasMarks, IsTreeRead}

@@ -1,4 +1,5 @@
 -- The lemmas of the crate.
+mod Common
 pub mod Walking
 pub mod Starts
 pub mod Scanned

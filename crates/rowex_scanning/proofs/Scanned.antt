@@ -1,26 +1,14 @@
 -- What a scan gives is lawful.
-use Rattle.std.proofs.Common.{◌≡◌, ℕ, ◌≤◌, List, [], ◌∷◌, ◌++◌, length, map, Bool, true, false, Some, refl, ap, sym, ◌∙◌, subst, arith, le_refl}
-use Rattle.std.proofs.lemmas.List.{append-nil, append_assoc, map-append}
+use Rattle.rowex_scanning.proofs.Common.{◌≡◌, ℕ, ◌≤◌, List, [], ◌∷◌, ◌++◌, length, map, Bool, true, false, Some, refl, ap, sym, ◌∙◌, subst, arith, le_refl, append-nil, append_assoc, map-append, IsKey, Layout, KeepsFixedWordsSince, Past, Known, IsEvent, Key, Pair, Range, in_order_taken, seen, since, IsAnswer, IsLawfulBy, Direction, seen_told, seen_steady}
 use Rattle.finite_map.specs.declared.Change.{Change}
 use Rattle.finite_map.specs.declared.Note.{Note}
 use Rattle.finite_map.specs.declared.Scan.{Scan}
-use Rattle.key_bits.specs.Key.{IsKey}
-use Rattle.record_words.specs.declared.layout.Layout.{Layout}
 use Rattle.versions.specs.declared.Pin.{Pin}
-use Rattle.versions.specs.State.{KeepsFixedWordsSince, Past}
 use Rattle.versions.specs.Told.{TellChanges}
 use Rattle.rowex_core.specs.declared.event.Act.TheVariants.{ClearPin}
-use Rattle.rowex_core.specs.declared.known.Known.{Known}
-use Rattle.rowex_core.specs.Knowing.{IsEvent}
-use Rattle.tries.specs.Keys.{Key}
-use Rattle.version_laws.specs.Scan.{Pair, Range, in_order_taken}
 use Rattle.version_laws.proofs.Scan.Fronts.{scan_is_lawful}
-use Rattle.rowex_reading.specs.Seen.{seen, since}
-use Rattle.version_laws.specs.Directions.{IsAnswer, IsLawfulBy}
 use Rattle.rowex_scanning.specs.Scanning.{HasScanned, HasTaken}
 use Rattle.rowex_scanning.specs.Tallies.{tally_of_pairs, values_taken}
-use Rattle.packed_pairs.specs.declared.direction.Direction.{Direction}
-use Rattle.rowex_reading.proofs.Seen.{seen_told, seen_steady}
 use Rattle.rowex_reading.proofs.Seen.Later.{event_recalls}
 
 -- What a scan has taken is lawful from the last load of the root to what the pass has seen.

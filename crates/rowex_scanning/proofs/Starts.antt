@@ -1,54 +1,22 @@
 -- Where a scan starts: from the way of a search to the frames of a walk.
 pub mod Turning
-use Rattle.std.proofs.Common.{◌≡◌, ◌≢◌, inl, inr, ⊎_elim, ℕ, zero, suc, ◌+◌, ◌-◌, ◌<◌, ◌≤◌, List, [], ◌∷◌, ◌++◌, length, take, le_refl, Bool, true, false, nat_lt, Option, Some, None, nat_eq, not, ◌⊎◌, refl, ap, sym, ◌∙◌, subst, arith, get_or, take-suc, if◌then◌else◌}
-use Rattle.std.specs.Prelude.{slice_get}
-use Rattle.std.proofs.lemmas.Bool.{cases_Bool, cases_lt, eq-eqb, false≢true, le-ltb, ne_eqb}
-use Rattle.std.proofs.lemmas.Option.{get_or_from_slice_get}
-use Rattle.compound_node.specs.declared.entries.Entry.{Entry}
-use Rattle.compound_node.specs.declared.entries.Entry.TheVariants.{Leaf as LeafEntry, Node}
+use Rattle.rowex_scanning.proofs.Common.{◌≡◌, ◌≢◌, inl, inr, ⊎_elim, ℕ, zero, suc, ◌+◌, ◌-◌, ◌<◌, ◌≤◌, List, [], ◌∷◌, ◌++◌, length, take, le_refl, Bool, true, false, nat_lt, Option, Some, None, nat_eq, not, ◌⊎◌, refl, ap, sym, ◌∙◌, subst, arith, get_or, take-suc, if◌then◌else◌, slice_get, cases_Bool, cases_lt, eq-eqb, false≢true, le-ltb, ne_eqb, get_or_from_slice_get, Entry, LeafEntry, Node, PathNode, some_injective, some_at, size_pos, Place, Fork, size, Layout, bit_of, Key, bit, AgreeBelow, IsBefore, IsAtMost, spot_below, Past, KeepsFixedWordsSince, Core, IsLawful, IsPinnedSince, Recalls, Known, recalls, Range, IsBlank, IsRooted, IsPlaced, HadShapeSince, IsRead, IsStack, MayStandAt, Stage, may_stand_at_child_place, leaf_may_stand, near_may_stand, may_stand_in_order, shaped_several, at_beyond, at_on_way, fit_sole, scan_started, sides, sides_beyond, stack_at, start_fits, AreAt, affected_from, start_place, scan_skipped, stack_place, IsPossible, IsLater, a_leaf, seen, since, IsAtRoot, Sure, read_stable, seen_steady, since_later, sure_later, named_at, named_end, way_later, IsMismatch, IsWayOf, IsWayNode, RootWas, named, Nothing, IsNoLater, IsPastKey, IsScanBy, first_key, gap_before, gap_behind, Direction, Upwards, Downwards}
 use Rattle.insert_cases.specs.declared.choice.Case.{Case}
 use Rattle.insert_cases.specs.declared.choice.Choice.{Choice}
-use Rattle.insert_cases.specs.declared.choice.PathNode.{PathNode}
 use Rattle.insert_cases.specs.Levels.{IsLevel, IsChosen}
 use Rattle.insert_cases.proofs.Ways.Affecting.{first_zero, first_one, key_part}
-use Rattle.insert_cases.proofs.Ways.{some_injective, some_at}
 use Rattle.node_tries.proofs.Growth.{affected_fits}
-use Rattle.node_tries.proofs.Piece.{size_pos}
 use Rattle.node_tries.specs.Growth.{affected_first, affected_count}
-use Rattle.node_tries.specs.Piece.{Place, Fork, size}
-use Rattle.record_words.specs.declared.layout.Layout.{Layout}
-use Rattle.key_bits.specs.Bits.{bit_of}
 use Rattle.tries.specs.Affected.{subtrie_affected}
-use Rattle.tries.specs.Keys.{Key, bit, AgreeBelow, IsBefore, IsAtMost}
 use Rattle.tries.specs.Place.{spot}
 use Rattle.tries.specs.Tree.{Subtrie, first_position, leaf}
-use Rattle.tries.proofs.Place.{spot_below}
-use Rattle.versions.specs.State.{Past, KeepsFixedWordsSince}
-use Rattle.rowex_core.specs.Cores.{Core, IsLawful}
-use Rattle.rowex_core.specs.Knowing.{IsPinnedSince, Recalls}
-use Rattle.rowex_core.specs.declared.known.Known.{Known}
-use Rattle.rowex_core.proofs.Sharing.Owning.{recalls}
-use Rattle.version_laws.specs.Scan.{Range, IsBlank, IsRooted, IsPlaced, HadShapeSince, IsRead, IsStack, MayStandAt, Frame as Stage}
-use Rattle.version_laws.proofs.Scan.{may_stand_at_child_place, leaf_may_stand, near_may_stand, may_stand_in_order, shaped_several}
-use Rattle.version_laws.proofs.Directions.Starts.{at_beyond, at_on_way, fit_sole, scan_started, sides, sides_beyond, stack_at, start_fits, AreAt, affected_from, start_place}
-use Rattle.version_laws.proofs.Directions.{scan_skipped, stack_place}
-use Rattle.rowex_reading.specs.Possible.{IsPossible}
-use Rattle.rowex_table.specs.Made.{IsLater}
-use Rattle.record_words.specs.declared.records.Rec.TheVariants.{Leaf as a_leaf}
-use Rattle.rowex_reading.specs.Seen.{seen, since, IsAtRoot, Sure}
-use Rattle.rowex_reading.proofs.Seen.{read_stable, seen_steady, since_later, sure_later}
 use Rattle.rowex_reading.proofs.Possible.Shapes.{same_shape}
-use Rattle.rowex_reading.proofs.Ways.{named_at, named_end, way_later}
-use Rattle.rowex_reading.specs.Ways.{IsMismatch, IsWayOf, IsWayNode, RootWas, named}
 use Rattle.rowex_reading.specs.declared.descent.Found.{Found}
-use Rattle.rowex_reading.specs.declared.descent.Found.TheVariants.{Leaf, Nothing}
-use Rattle.version_laws.specs.Directions.{IsNoLater, IsPastKey, IsScanBy, first_key, gap_before, gap_behind}
+use Rattle.rowex_reading.specs.declared.descent.Found.TheVariants.{Leaf}
 use Rattle.rowex_scanning.specs.Scanning.{ArePastKey, AreInside, IsBound, IsReached, IsWalk, frame, frames_of}
 use Rattle.rowex_scanning.specs.Tallies.{IsNone, Tally, tally_of_number}
 use Rattle.rowex_scanning.specs.declared.start.SearchEnd.{SearchEnd}
 use Rattle.rowex_scanning.specs.Starts.{IsSearchEnd, IsBegun, IsFirst, IsParting, IsStart}
-use Rattle.packed_pairs.specs.declared.direction.Direction.{Direction}
-use Rattle.packed_pairs.specs.declared.direction.Direction.TheVariants.{Upwards, Downwards}
 use Rattle.rowex_scanning.specs.declared.start.Start.{Start}
 use Rattle.rowex_scanning.proofs.Walking.{beyond_append, walk_before, IsAtEntry, tallied_none, walk_tallied}
 

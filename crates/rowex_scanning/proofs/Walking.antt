@@ -1,60 +1,22 @@
 -- The steps of a walk, over what its pass knows.
 use Rattle.std.proofs.Math.Nat.{min-eq_left, min-eq_right}
-use Rattle.std.proofs.Common.{◌≡◌, ◌≢◌, ◌⊎◌, inl, inr, ℕ, suc, ◌+◌, ◌-◌, ◌*◌, ◌^◌, ◌<◌, ◌≤◌, List, [], ◌∷◌, ◌++◌, length, refl, ap, sym, ◌∙◌, subst, arith, Bool, true, false, length-append, Option, Some, None, ⊎_elim}
-use Rattle.std.specs.Prelude.{◌↔◌, IsSome, IsTrue, option_to_list}
+use Rattle.rowex_scanning.proofs.Common.{◌≡◌, ◌≢◌, ◌⊎◌, inl, inr, ℕ, suc, ◌+◌, ◌-◌, ◌*◌, ◌^◌, ◌<◌, ◌≤◌, List, [], ◌∷◌, ◌++◌, length, refl, ap, sym, ◌∙◌, subst, arith, Bool, true, false, length-append, Option, Some, None, ⊎_elim, ◌↔◌, IsSome, IsTrue, option_to_list, cases_lt, length-replicate, slice_cmp, nat_list_cmp_total, is_lt, nat_cmp, Ordering, Less, Equal, Greater, bit_of, IsFirstDifference, IsKey, HeadView, IsLawfulNode, node_of, leaves, Entry, Leaf, Node, size, length-places, Key, bit, IsBefore, IsAtMost, KeepsFixedWordsSince, Known, Core, IsLawful, Recalls, IsPinnedSince, recalls, HEAD_WORDS, LEAF_FIELDS, Layout, PathNode, beyond_at_place, beyond_behind, beyond_in_child, beyond_grown, Pair, Range, IsInRange, IsRooted, IsPlaced, IsRead, IsBlank, HadShapeSince, IsStack, Stage, leaf_may_stand, shaped_several, before, behind, scan_ended, scan_filled, scan_passed, scan_popped, scan_pushed, scan_taken, stack_shape, IsLater, SeatView, TableView, IsPossible, Reads, seen, Sure, IsAtRoot, IsLedTo, since, shape_of, step_at, looks_on, placed_led, reads_trans, shape_place, HasShape, placed_stable, recalls_before, seen_grown, seen_steady, since_later, sure_later, IsStable, IsAnswer, IsPastKey, IsEarlier, IsNoLater, IsScanBy, first_gap, first_key, gap_after, gap_before, gap_behind, last_key, place_ahead, to_come, Direction, Upwards, Downwards}
 use Rattle.std.proofs.Math.Nat.{add-mul, pow-suc, pow-le-pow_right, one-le-pow, mul-le-mul_right}
-use Rattle.std.proofs.lemmas.Bool.{cases_lt}
-use Rattle.std.proofs.lemmas.List.{length-replicate}
 use Rattle.std.proofs.lemmas.Cmp.{tied_itself}
 use Rattle.std.proofs.lemmas.Map.Lookups.{exact_bytes}
-use Rattle.std.specs.Cmp.Lexicographic.{slice_cmp, nat_list_cmp_total}
-use Rattle.std.specs.Ordering.{is_lt, nat_cmp}
-use Rattle.std.specs.declared.cmp.Ordering.{Ordering}
-use Rattle.std.specs.declared.cmp.Ordering.TheVariants.{Less, Equal, Greater}
-use Rattle.key_bits.specs.Bits.{bit_of, IsFirstDifference}
-use Rattle.key_bits.specs.Key.{IsKey}
 use Rattle.key_bits.specs.declared.TheConstants.{MAX_BYTES}
 use Rattle.key_bits.proofs.Bits.Order.{first_difference, greater_by_first, less_iff_first}
-use Rattle.compound_node.specs.Nodes.{HeadView, IsLawfulNode, node_of, leaves}
-use Rattle.compound_node.specs.declared.entries.Entry.{Entry}
-use Rattle.compound_node.specs.declared.entries.Entry.TheVariants.{Leaf, Node}
-use Rattle.node_tries.specs.Piece.{size}
-use Rattle.node_tries.proofs.Piece.{length-places}
-use Rattle.tries.specs.Keys.{Key, bit, IsBefore, IsAtMost}
-use Rattle.versions.specs.State.{KeepsFixedWordsSince}
 use Rattle.rowex_core.specs.declared.event.Event.{Event}
-use Rattle.rowex_core.specs.declared.known.Known.{Known}
-use Rattle.rowex_core.specs.Cores.{Core, IsLawful}
-use Rattle.rowex_core.specs.Knowing.{Recalls, IsPinnedSince}
-use Rattle.rowex_core.proofs.Sharing.Owning.{recalls}
-use Rattle.record_words.specs.declared.TheConstants.{HEAD_WORDS, LEAF_FIELDS}
-use Rattle.record_words.specs.declared.layout.Layout.{Layout}
-use Rattle.insert_cases.specs.declared.choice.PathNode.{PathNode}
-use Rattle.version_laws.proofs.Directions.Starts.{beyond_at_place, beyond_behind, beyond_in_child, beyond_grown}
-use Rattle.version_laws.specs.Scan.{Pair, Range, IsInRange, IsRooted, IsPlaced, IsRead, IsBlank, HadShapeSince, IsStack, Frame as Stage}
-use Rattle.version_laws.proofs.Scan.{leaf_may_stand, shaped_several}
-use Rattle.version_laws.proofs.Directions.{before, behind, scan_ended, scan_filled, scan_passed, scan_popped, scan_pushed, scan_taken, stack_shape}
 use Rattle.version_laws.proofs.Scan.Ends.{answer_blank, answer_nought, answer_one, answer_outside, none_between, stack_depth, stack_high, stack_low, stack_seen}
 use Rattle.version_laws.proofs.Scan.Persist.{rooted_grown, scan_grown}
-use Rattle.rowex_table.specs.Made.{IsLater}
-use Rattle.rowex_table.specs.Seats.{SeatView, TableView}
 use Rattle.rowex_reading.specs.Lookups.{HasSearched}
-use Rattle.rowex_reading.specs.Possible.{IsPossible}
-use Rattle.rowex_reading.specs.Reads.{Reads}
-use Rattle.rowex_reading.specs.Seen.{seen, Sure, IsAtRoot, IsLedTo, since, shape_of}
-use Rattle.rowex_reading.specs.Ways.{step_at}
 use Rattle.rowex_reading.proofs.Counting.{looks_count}
-use Rattle.rowex_reading.proofs.Seen.Led.{looks_on, placed_led, reads_trans, shape_place, HasShape}
-use Rattle.rowex_reading.proofs.Seen.{placed_stable, recalls_before, seen_grown, seen_steady, since_later, sure_later, IsStable}
 use Rattle.rowex_scanning.specs.Counts.{AreWalkLoads, Scans, Walks, limit_by, scan_loads}
 use Rattle.rowex_scanning.specs.declared.ahead.TheConstants.{MOST_AHEAD}
 use Rattle.rowex_scanning.specs.Ahead.{HasPlaces, entries_ahead}
 use Rattle.rowex_scanning.specs.declared.ahead.Ahead.{Ahead}
-use Rattle.version_laws.specs.Directions.{IsAnswer, IsPastKey, IsEarlier, IsNoLater, IsScanBy, first_gap, first_key, gap_after, gap_before, gap_behind, last_key, place_ahead, to_come}
 use Rattle.rowex_scanning.specs.Scanning.{ArePastKey, AreInside, HasTaken, IsBound, IsEntered, IsLeafTaken, IsPairTaken, IsReached, IsWalk, frame, frames_of}
 use Rattle.rowex_scanning.specs.Tallies.{AreTallied, IsKept, IsNone, IsOneMore, IsTalliedScan, Tally, tally_of_number}
-use Rattle.packed_pairs.specs.declared.direction.Direction.{Direction}
-use Rattle.packed_pairs.specs.declared.direction.Direction.TheVariants.{Upwards, Downwards}
 use Rattle.rowex_scanning.specs.declared.scan.Verdict.{Verdict}
 use Rattle.rowex_scanning.specs.declared.scan.Verdict.TheVariants.{Further, Past as IsPast, Full}
 use Rattle.rowex_scanning.proofs.direction.Directed.{before_fits, behind_fits, come_after, come_behind, come_first, come_most, first_fits, gap_before_place, place_inside, out_first, out_last}

@@ -1,4 +1,5 @@
 -- The lemmas of the crate.
+mod Common
 pub mod Onward
 pub mod Rule
 pub mod Seats

@@ -1,13 +1,5 @@
 -- Lists of steps, and traces, where the run goes on.
-use Rattle.std.proofs.Common.{◌≡◌, ◌≢◌, ◌⊎◌, ℕ, ◌<◌, List, [], ◌∷◌, ◌++◌, refl, sym, ap, subst, ◌∙◌, inl, inr, ⊎_elim, append_assoc, append-nil}
-use Rattle.std.proofs.lemmas.Bool.{cases_lt}
-use Rattle.std.proofs.lemmas.List.Elements.{All-append, All-cons, All-nil}
-use Rattle.rowex_core.specs.declared.event.Act.{Act}
-use Rattle.rowex_core.specs.declared.event.Event.{Event}
-use Rattle.rowex_core.specs.Cores.{Core}
-use Rattle.rowex_core.specs.Events.{Legal, after}
-use Rattle.rowex_core.specs.Knowing.{IsViewOf}
-use Rattle.rowex_core.specs.Runs.{EventsLead}
+use Rattle.rowex_table.proofs.Common.{◌≡◌, ◌≢◌, ◌⊎◌, ℕ, ◌<◌, List, [], ◌∷◌, ◌++◌, refl, sym, ap, subst, ◌∙◌, inl, inr, ⊎_elim, append_assoc, append-nil, cases_lt, All-append, All-cons, All-nil, Act, Event, Core, Legal, after, IsViewOf, EventsLead}
 use Rattle.rowex_table.specs.declared.traces.TracedView.{TracedView}
 use Rattle.rowex_table.specs.declared.traces.TracedView.TheVariants.{Spent, Dealer, Founder, Pass, Pair, Witness, Follower}
 use Rattle.rowex_table.specs.Traces.{HasTraces, IsNextStep, OthersStepOn, RunBeginsWith, view_of}

@@ -1,26 +1,7 @@
 -- Steps that a pass may make by what it knows, and what they leave it.
-use Rattle.std.proofs.Common.{◌≡◌, ℕ, ◌<◌, map, ◌^◌, List, Option, Some, None, IsSome, refl, sym, ap, subst, ◌∙◌, arith}
-use Rattle.std.specs.Prelude.{Contains}
-use Rattle.std.proofs.lemmas.List.{get_or-map, length-map}
-use Rattle.std.proofs.lemmas.List.Elements.{All-contains}
-use Rattle.compound_node.specs.declared.entries.Entry.{Entry}
-use Rattle.record_words.specs.declared.layout.Layout.{Layout}
-use Rattle.record_words.specs.State.{state_word}
-use Rattle.record_words.specs.declared.records.Rec.{Rec}
-use Rattle.record_words.specs.declared.records.Rec.TheVariants.{Node as a_node, Leaf as a_leaf}
-use Rattle.rowex_core.specs.declared.event.Act.TheVariants.{Fill, Ready, Release, Unlock}
-use Rattle.rowex_core.specs.declared.event.Target.TheVariants.{Anchor}
-use Rattle.rowex_core.specs.declared.known.Holding.{Holding}
-use Rattle.rowex_core.specs.declared.known.Holding.TheVariants.{Held}
-use Rattle.rowex_core.specs.declared.known.Owned.{Owned}
-use Rattle.rowex_core.specs.declared.known.Known.{Known}
-use Rattle.rowex_core.specs.Cores.{Core, HasRecord, HasWord, FitsIn}
-use Rattle.rowex_core.specs.Words.{lock_tag, state_at, word_at}
+use Rattle.rowex_table.proofs.Common.{◌≡◌, ℕ, ◌<◌, map, ◌^◌, List, Option, None, IsSome, refl, sym, ap, subst, ◌∙◌, arith, Contains, get_or-map, length-map, All-contains, Entry, Layout, state_word, Rec, a_node, a_leaf, Fill, Ready, Release, Unlock, Anchor, Holding, Held, Owned, Known, Core, HasRecord, HasWord, FitsIn, lock_tag, state_at, word_at, IsOffset, state_of, IsOwned, knows_all, Knows}
+use Rattle.std.proofs.Common.{Some}
 use Rattle.rowex_core.specs.Reading.{IsPacked}
-use Rattle.rowex_core.specs.Events.{IsOffset, state_of}
-use Rattle.rowex_core.specs.Sharing.{IsOwned}
-use Rattle.rowex_core.proofs.Sharing.Owning.{knows_all}
-use Rattle.rowex_core.specs.Knowing.{Knows}
 use Rattle.rowex_table.specs.Rule.{MayStep}
 use Rattle.rowex_table.specs.Rights.{OwnsAs}
 

@@ -1,31 +1,14 @@
 -- A step that its pass may make keeps the rule.
 pub mod Located
 pub mod Touched
-use Rattle.std.proofs.Common.{◌≡◌, ◌≢◌, ℕ, zero, suc, ◌+◌, ◌<◌, ◌≤◌, arith, eqb, List, [], ◌∷◌, ◌++◌, set, get_or, true, false, Option, Some, refl, sym, ap, subst, ◌∙◌, ⊎_elim}
+use Rattle.rowex_table.proofs.Common.{◌≡◌, ◌≢◌, ℕ, zero, suc, ◌+◌, ◌<◌, ◌≤◌, arith, eqb, List, [], ◌∷◌, ◌++◌, set, get_or, true, false, Option, refl, sym, ap, subst, ◌∙◌, ⊎_elim, Me, Step, Allows, at_set, set_else, eqb_tells, Note, address, word_count, Layout, Location, Act, Claim, Fill, Ready, Release, LoadRef, LoadFixed, Lock, Unlock, Publish, Mark, LoadEpoch, Advance, SetPin, ClearPin, LoadPin, LoadState, GiveBack, Load, Event, Known, Core, IsLawful, Shows, word_at, IsAtomic, Legal, after, location_of, writes, Knows, IsViewOf, IsEvent, learned, opening, keeps, stays_lawful}
+use Rattle.std.proofs.Common.{Some}
 use mathlib.Core.Option.{none, some, some-injective, some-ne-none}
 use lib.ListN.{get_elem?}
 use Rattle.atomic_table.specs.Seated.{TableId}
-use Rattle.atomic_table.specs.Table.{Me, Step, Allows}
 use Rattle.atomic_table.specs.Table as table
-use Rattle.atomic_table.proofs.Lists.{at_set, set_else}
-use Rattle.std.proofs.lemmas.Bool.Decides.{eqb_tells}
-use Rattle.finite_map.specs.declared.Note.{Note}
-use Rattle.record_words.specs.Layout.{address, word_count}
-use Rattle.record_words.specs.declared.layout.Layout.{Layout}
-use Rattle.record_words.specs.declared.layout.Location.{Location}
 use Rattle.record_words.proofs.Locations.{address-below}
-use Rattle.rowex_core.specs.declared.event.Act.{Act}
-use Rattle.rowex_core.specs.declared.event.Act.TheVariants.{Claim, Fill, Ready, Release, LoadRef, LoadFixed, Lock, Unlock, Publish, Mark, LoadEpoch, Advance, SetPin, ClearPin, LoadPin, LoadState, GiveBack, Load}
-use Rattle.rowex_core.specs.declared.event.Event.{Event}
-use Rattle.rowex_core.specs.declared.known.Known.{Known}
-use Rattle.rowex_core.specs.Cores.{Core, IsLawful}
-use Rattle.rowex_core.specs.Words.{Shows, word_at}
-use Rattle.rowex_core.specs.Events.{IsAtomic, Legal, after, location_of, writes}
-use Rattle.rowex_core.specs.Knowing.{Knows, IsViewOf, IsEvent, learned}
-use Rattle.rowex_core.specs.Opening.{opening}
-use Rattle.rowex_core.proofs.Knowing.Keeping.{keeps}
 use Rattle.rowex_core.proofs.Knowing.{learns}
-use Rattle.rowex_core.proofs.Cores.{stays_lawful}
 use Rattle.rowex_core.proofs.Events.{step_writes, writes_one, in_table}
 use Rattle.rowex_table.specs.declared.traces.Trace.{Trace}
 use Rattle.rowex_table.specs.declared.traces.TracedView.{TracedView}

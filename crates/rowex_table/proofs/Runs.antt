@@ -1,11 +1,7 @@
 -- Steps one after the other: how they follow one another, and what the gate was told.
 pub mod Linking
-use Rattle.std.proofs.Common.{◌≡◌, ℕ, ◌+◌, List, [], ◌∷◌, ◌++◌, length, refl, sym, ap, subst, ◌∙◌, arith, add-one, length-append}
+use Rattle.rowex_table.proofs.Common.{◌≡◌, ℕ, ◌+◌, List, [], ◌∷◌, ◌++◌, length, refl, sym, ap, subst, ◌∙◌, arith, add-one, length-append, Note, Act, Event, Known}
 use Rattle.std.proofs.lemmas.List.{append-nil}
-use Rattle.finite_map.specs.declared.Note.{Note}
-use Rattle.rowex_core.specs.declared.event.Act.{Act}
-use Rattle.rowex_core.specs.declared.event.Event.{Event}
-use Rattle.rowex_core.specs.declared.known.Known.{Known}
 use Rattle.rowex_table.specs.Seats.{TableView, SeatView, MakesNoAside}
 use Rattle.rowex_table.specs.Runs.{IsTold, events_of, Steps, Runs, Ends, Does, InTurn}
 use Rattle.rowex_table.specs.Statements.{GateIsToldEachStep}
@@ -18,8 +14,8 @@ same_none s = (refl, refl, refl, refl)
 pub same_more : (s t u : SeatView) → MakesNoAside s t → MakesNoAside t u → MakesNoAside s u
 same_more s t u first second = (second.0 ∙ first.0, second.1 ∙ first.1, second.2 ∙ first.2, second.3 ∙ first.3)
 
--- A step is counted, and no note comes with it. Where what it has taught (l) differs from what the pass knew (k) by no more than `changed` takes,
--- so does what the pass knows then.
+-- A step is counted, and no note comes with it. Where what it has taught (l) differs from what the pass knew (k) by no more than `changed`
+-- takes, so does what the pass knows then.
 pub settled : (changed : Known → Known → Known) (k l j : Known) → j ≡ record l { steps = k.steps + 1; notes = k.notes ++ [] } →
     (let z : Known = record l { steps = k.steps + 1; notes = k.notes } in z ≡ record (changed k z) { steps = k.steps + 1 }) → j ≡ record (changed k j) { steps = k.steps + 1 }
 settled changed k l j e same = subst (λ (z : Known). z ≡ record (changed k z) { steps = k.steps + 1 })

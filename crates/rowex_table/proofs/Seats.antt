@@ -1,32 +1,11 @@
 -- The opening, and how seats are split and joined.
 pub mod Seeing
-use Rattle.std.proofs.Common.{◌≡◌, ◌≢◌, ◌⊎◌, ℕ, zero, suc, ◌+◌, ◌<◌, ◌≤◌, List, [], ◌∷◌, ◌++◌, length, set, get_or, Bool, true, false, eqb, Option, Some, None, refl, sym, ap, subst, ◌∙◌, arith, inl, inr, ⊎_elim}
-use Rattle.std.proofs.lemmas.List.{set-get_or}
-use Rattle.std.proofs.lemmas.List.Elements.{All-from_recursion, All-nil, All-cons, All-weaker}
-use Rattle.std.specs.Prelude.{All, IfOk, Result, Ok, Err}
+use Rattle.rowex_table.proofs.Common.{◌≡◌, ◌≢◌, ◌⊎◌, ℕ, zero, suc, ◌+◌, ◌<◌, ◌≤◌, List, [], ◌∷◌, ◌++◌, length, set, get_or, Bool, true, false, eqb, Option, None, refl, sym, ap, subst, ◌∙◌, arith, inl, inr, ⊎_elim, set-get_or, All-from_recursion, All-nil, All-cons, All-weaker, All, IfOk, Result, Ok, Err, State, Me, Step, Allows, Splits, Joins, first_state, at_set, at_longer, at_last, set_else, cases_lt, eqb_tells, Change, BeginsWith, OthersGoOn, Layout, Event, Known, Core, Shows, IsFact, IsStillLoaded, IsUntouched, Knows, IsViewOf, Act, IsLawful, IsLoad, Legal, after, keeps, stays_lawful, opening, opening_words, opening_is_lawful}
+use Rattle.std.proofs.Common.{Some}
 use mathlib.Core.Option.{none, some, some-ne-none, some-injective}
 use lib.ListN.{get_elem?}
-use Rattle.atomic_table.specs.Table.{State, Me, Step, Allows, Splits, Joins, opening as first_state}
 use Rattle.atomic_table.specs.Table as table
-use Rattle.atomic_table.proofs.Lists.{at_set, at_longer, at_last, set_else}
-use Rattle.std.proofs.lemmas.Bool.{cases_lt}
-use Rattle.std.proofs.lemmas.Bool.Decides.{eqb_tells}
-use Rattle.finite_map.specs.declared.Change.{Change}
-use Rattle.finite_map.specs.Fronts.{BeginsWith, OthersGoOn}
-use Rattle.record_words.specs.declared.layout.Layout.{Layout}
-use Rattle.rowex_core.specs.declared.event.Event.{Event}
-use Rattle.rowex_core.specs.declared.known.Known.{Known}
-use Rattle.rowex_core.specs.Cores.{Core}
-use Rattle.rowex_core.specs.Words.{Shows}
-use Rattle.rowex_core.specs.Knowing.{IsFact, IsStillLoaded, IsUntouched, Knows, IsViewOf}
 use Rattle.rowex_core.specs.declared.known.View.TheVariants as seen
-use Rattle.rowex_core.specs.declared.event.Act.{Act}
-use Rattle.rowex_core.specs.Cores.{IsLawful}
-use Rattle.rowex_core.specs.Events.{IsLoad, Legal, after}
-use Rattle.rowex_core.proofs.Knowing.Keeping.{keeps}
-use Rattle.rowex_core.proofs.Cores.{stays_lawful}
-use Rattle.rowex_core.specs.Opening.{opening, opening_words}
-use Rattle.rowex_core.proofs.Statements.Promises.{opening_is_lawful}
 use Rattle.rowex_table.specs.declared.traces.Trace.{Trace}
 use Rattle.rowex_table.specs.declared.traces.TracedView.{TracedView}
 use Rattle.rowex_table.specs.declared.traces.TracedView.TheVariants.{Spent, Dealer, Founder, Pass, Pair}

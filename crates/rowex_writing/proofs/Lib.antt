@@ -1,2 +1,3 @@
 -- The lemmas of the crate.
+mod Common
 pub mod Cited

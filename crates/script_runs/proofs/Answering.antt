@@ -1,15 +1,5 @@
 -- The answers to commands, one command after another.
-use Rattle.std.proofs.Common.{◌≡◌, ◌≤◌, ℕ, List, [], ◌∷◌, ◌++◌, length, map, Ok, refl, sym, ap, ap₂, ◌∙◌}
-use Rattle.std.specs.List.{All}
-use Rattle.std.proofs.lemmas.Bool.{ltb_from_iff, le-ltb}
-use Rattle.std.proofs.lemmas.List.Elements.{All-head, All-tail}
-use Rattle.finite_map.specs.declared.Scan.{Scan}
-use Rattle.finite_map.specs.Maps.{Map, map_after, reply_of}
-use Rattle.finite_map.specs.Scans.{IsScanOf}
-use Rattle.hot_scripts.specs.declared.command.Command.{Command}
-use Rattle.hot_scripts.specs.declared.command.KeyRange.{KeyRange}
-use Rattle.hot_scripts.specs.Grammar.{commands_of}
-use Rattle.hot_scripts.specs.Meaning.{line, reply_text, scan_lines, scan_text, script_meaning, text_from}
+use Rattle.script_runs.proofs.Common.{◌≡◌, ◌≤◌, ℕ, List, [], ◌∷◌, ◌++◌, length, map, Ok, refl, sym, ap, ap₂, ◌∙◌, All, ltb_from_iff, le-ltb, All-head, All-tail, Scan, Map, map_after, reply_of, IsScanOf, Command, KeyRange, commands_of, line, reply_text, scan_lines, scan_text, script_meaning, text_from}
 use Rattle.script_runs.specs.Answers.{Answered, called, refused, listed, IsGranted, answered_command}
 use Rattle.script_runs.specs.Runs.{AreAnswered, IsAnsweredScript, text_told}
 

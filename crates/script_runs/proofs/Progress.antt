@@ -1,37 +1,17 @@
 -- What a pass goes through by commands: its attempts, and where its answers stand in its front.
 use denote.RawPtr.{null_ptr}
 use Rattle.std.specs.Global.{Global}
-use Rattle.std.proofs.Common.{◌≡◌, ◌<◌, ◌^◌, ℕ, Bool, ◌≤◌, le_refl, List, [], ◌∷◌, ◌++◌, length, take, filter_map, Some, refl, sym, ap, ap₂, subst, ◌∙◌, arith, append_assoc, append-nil}
+use Rattle.script_runs.proofs.Common.{◌≡◌, ◌<◌, ◌^◌, ℕ, Bool, ◌≤◌, le_refl, List, [], ◌∷◌, ◌++◌, length, take, filter_map, Some, refl, sym, ap, ap₂, subst, ◌∙◌, arith, append_assoc, append-nil, flat_map-cons, All-append, All-cons, All-nil, All-pop, All, Change, Note, Replied, Scan, LegalCalls, StandsIn, place_after, BeginsWith, begins_itself, begins_on, place_after-within, Layout, Event, TableView, IsListed, IsNoted, IsScanned, range_from, PassView, AreByPasses, HasRead, HasMadeCallSteps, untold, Command, KeyRange, line, scan_lines}
 use Rattle.std.proofs.Math.Seq.{take-append_seam}
-use Rattle.std.proofs.lemmas.List.Concat.{flat_map-cons}
-use Rattle.std.proofs.lemmas.List.Elements.{All-append, All-cons, All-nil, All-pop}
-use Rattle.std.specs.List.{All}
 use Rattle.finite_map.specs.declared.Call.{Call}
-use Rattle.finite_map.specs.declared.Change.{Change}
-use Rattle.finite_map.specs.declared.Note.{Note}
-use Rattle.finite_map.specs.declared.Reply.{Reply as Replied}
-use Rattle.finite_map.specs.declared.Scan.{Scan}
-use Rattle.finite_map.specs.Calls.{LegalCalls, StandsIn, place_after}
-use Rattle.finite_map.specs.Fronts.{BeginsWith}
-use Rattle.finite_map.proofs.Fronts.{begins_itself, begins_on}
-use Rattle.finite_map.proofs.Calls.{place_after-within}
-use Rattle.record_words.specs.declared.layout.Layout.{Layout}
 use Rattle.rowex_core.specs.declared.event.Act.{Act}
-use Rattle.rowex_core.specs.declared.event.Event.{Event}
 use Rattle.rowex_table.specs.Runs.{events_of}
-use Rattle.rowex_table.specs.Seats.{TableView}
 use Rattle.rowex_table.proofs.Runs.{told_append}
-use Rattle.hot_index_calls.specs.Answers.{IsListed, IsNoted, IsScanned, range_from}
-use Rattle.hot_index_calls.specs.Passes.{PassView, AreByPasses}
-use Rattle.hot_index_calls.specs.Traces.{HasRead, HasMadeCallSteps, untold}
 use Rattle.hot_index_calls.proofs.Traces.{read_told, told_untold}
 use Rattle.hot_index_calls.proofs.Noting.{longer}
-use Rattle.hot_scripts.specs.declared.command.Command.{Command}
 use Rattle.hot_scripts.specs.declared.command.Command.TheVariants.{Call as Asks, Scan as Lists}
-use Rattle.hot_scripts.specs.declared.command.KeyRange.{KeyRange}
 use Rattle.script_runs.specs.declared.answer.Answer.{Answer}
 use Rattle.script_runs.specs.declared.answer.Answer.TheVariants.{Reply, Full as Refused}
-use Rattle.hot_scripts.specs.Meaning.{line, scan_lines}
 use Rattle.script_runs.specs.Answers.{Answered, called, refused, listed, answer_text, lines_of_answer, note_of}
 use Rattle.script_runs.specs.Progress.{HasAnsweredCommand, HasRunCommands, answered_as}
 use Rattle.script_runs.specs.Scripts.{StandFrom}

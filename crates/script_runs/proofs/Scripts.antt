@@ -1,26 +1,8 @@
 -- Scripts that run at the same time and meet: their answers are lawful together.
-use Rattle.std.proofs.Common.{◌≡◌, ◌≢◌, ℕ, suc, ◌+◌, ◌≤◌, ◌<◌, List, [], ◌∷◌, ◌++◌, length, map, true, false, cond, Bool, refl, sym, ap, ap₂, subst, ◌∙◌, arith, append_assoc, append-nil, eqb}
-use Rattle.std.specs.Prelude.{codes}
-use Rattle.std.specs.List.{All, zip}
-use Rattle.std.proofs.lemmas.Bool.{eq-eqb}
-use Rattle.std.proofs.lemmas.List.{append_cancel_left, length-map}
-use Rattle.std.proofs.lemmas.List.Elements.{All-nil, All-cons, All-weaker, filter-append}
+use Rattle.script_runs.proofs.Common.{◌≡◌, ◌≢◌, ℕ, suc, ◌+◌, ◌≤◌, ◌<◌, List, [], ◌∷◌, ◌++◌, length, map, true, false, cond, Bool, refl, sym, ap, ap₂, subst, ◌∙◌, arith, append_assoc, append-nil, eqb, codes, All, zip, eq-eqb, append_cancel_left, length-map, All-nil, All-cons, All-weaker, filter-append, Change, Note, LegalCalls, own_changes, BeginsWith, begins_itself, begins_on, legal_front_part, nothing_before, legal_at_first, legal_longer, Event, TableView, handle_at, PassView, AreByPasses, IsNewPass, untold, Command, line}
 use Rattle.std.proofs.lemmas.Slice.Zip.{seconds-zip}
-use Rattle.finite_map.specs.declared.Change.{Change}
-use Rattle.finite_map.specs.declared.Note.{Note}
-use Rattle.finite_map.specs.Calls.{LegalCalls, own_changes}
-use Rattle.finite_map.specs.Fronts.{BeginsWith}
 use Rattle.finite_map.specs.Weaves.{AllLegal}
-use Rattle.finite_map.proofs.Fronts.{begins_itself, begins_on, legal_front_part, nothing_before}
-use Rattle.finite_map.proofs.Calls.{legal_at_first, legal_longer}
-use Rattle.rowex_core.specs.declared.event.Event.{Event}
-use Rattle.rowex_table.specs.Seats.{TableView}
-use Rattle.hot_index.specs.Handles.{handle_at}
-use Rattle.hot_index_calls.specs.Passes.{PassView, AreByPasses, IsNewPass}
-use Rattle.hot_index_calls.specs.Traces.{untold}
-use Rattle.hot_scripts.specs.declared.command.Command.{Command}
 use Rattle.script_runs.specs.declared.answer.Done.{Done}
-use Rattle.hot_scripts.specs.Meaning.{line}
 use Rattle.script_runs.specs.Progress.{AllThree, HasAnsweredLast, HasRunCommands, IsDone, IsNewPassOf, MeetInTurn}
 use Rattle.script_runs.specs.Scripts.{AllFrom, AllTwoFrom, AreAllAnswered, IsLegalRun, LawfulScripts, Ran, by_pass, commands_in, notes_in, sections, text_in}
 use Rattle.script_runs.specs.Told.{IsOfSize, IsToldOf, WasToldAnew}

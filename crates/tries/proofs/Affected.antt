@@ -1,10 +1,6 @@
 -- The keys of the part that an insertion affects.
-use Rattle.std.proofs.Common.{◌≡◌, ◌≢◌, ◌⊎◌, inl, inr, ℕ, ◌<◌, ◌≤◌, Bool, true, false, refl, ap, sym, ◌∙◌, arith, lt_trans, if◌then◌else◌, ltb}
-use Rattle.std.proofs.lemmas.Bool.{ltb-true, ltb-false, cases_order}
+use Rattle.tries.proofs.Common.{◌≡◌, ◌≢◌, ◌⊎◌, inl, inr, ℕ, ◌<◌, ◌≤◌, Bool, true, false, refl, ap, sym, ◌∙◌, arith, lt_trans, if◌then◌else◌, ltb, ltb-true, ltb-false, cases_order, Entry, Leaf, Fork}
 use Rattle.tries.specs.Keys.{Key, bit, AgreeBelow}
-use Rattle.compound_node.specs.declared.entries.Entry.{Entry}
-use Rattle.compound_node.specs.declared.entries.Entry.TheVariants.{Leaf}
-use Rattle.node_tries.specs.Piece.{Fork}
 use Rattle.tries.specs.Tree.{subtrie, IsLower, Tree, leaf, node, fork, Has, IsTrie, Within, here, inside, zero_side, one_side}
 use Rattle.tries.specs.Search.{Follows, child}
 use Rattle.tries.specs.Content.{Item, first}

@@ -1,7 +1,6 @@
 -- What a tree holds is a finite map in strict order; a change at one place.
 pub mod Maps
-use Rattle.std.proofs.Common.{◌≡◌, ◌⊎◌, inl, inr, ℕ, suc, List, [], ◌∷◌, ◌++◌, Bool, true, false, refl, ap, sym, ◌∙◌, subst, arith, lt_trans, if◌then◌else◌}
-use Rattle.std.proofs.lemmas.Bool.{false≢true}
+use Rattle.tries.proofs.Common.{◌≡◌, ◌⊎◌, inl, inr, ℕ, suc, List, [], ◌∷◌, ◌++◌, Bool, true, false, refl, ap, sym, ◌∙◌, subst, arith, lt_trans, if◌then◌else◌, false≢true}
 use Rattle.tries.specs.Keys.{Key, bit, AgreeBelow, IsParted, IsBefore}
 use Rattle.tries.specs.Tree.{Tree, leaf, node, fork, Has, Holds, IsTrie, Within, here, inside, zero_side, one_side}
 use Rattle.tries.specs.Content.{Item, items, Each, IsIn, IsMore, added, behind, IsExchange, exchanged, past_one, IsAbove, first, IsLocal}

@@ -1,17 +1,5 @@
 -- The order of keys by bits is the order by bytes, and what stays of a map under a change.
-use Rattle.std.proofs.Common.{◌≡◌, ◌≢◌, ◌⊎◌, inl, inr, ℕ, List, [], ◌∷◌, Bool, true, false, cond, refl, sym, ◌∙◌, subst, Option, Some, None}
-use Rattle.std.proofs.lemmas.Bool.{false≢true}
-use Rattle.std.proofs.lemmas.Cmp.{tied_itself}
-use Rattle.std.proofs.lemmas.Map.Lookups.{exact_bytes}
-use Rattle.std.specs.Cmp.Lexicographic.{slice_cmp, nat_list_cmp_total}
-use Rattle.std.specs.Ordering.{nat_cmp, is_le, is_lt, match_ordering}
-use Rattle.std.specs.declared.cmp.Ordering.{Ordering}
-use Rattle.std.specs.declared.cmp.Ordering.TheVariants.{Less, Equal, Greater}
-use Rattle.std.specs.Map.{lookup, remove_entry}
-use Rattle.std.specs.BTreeMap.{insert_entry, is_at}
-use Rattle.key_bits.specs.Key.{IsKey}
-use Rattle.key_bits.specs.Bits.{bit_of, IsFirstDifference}
-use Rattle.key_bits.proofs.Bits.Order.{first_difference}
+use Rattle.tries.proofs.Common.{◌≡◌, ◌≢◌, ◌⊎◌, inl, inr, ℕ, List, [], ◌∷◌, Bool, true, false, cond, refl, sym, ◌∙◌, subst, Option, Some, None, false≢true, tied_itself, exact_bytes, slice_cmp, nat_list_cmp_total, nat_cmp, is_le, is_lt, match_ordering, Ordering, Less, Equal, Greater, lookup, remove_entry, insert_entry, is_at, IsKey, bit_of, IsFirstDifference, first_difference}
 use Rattle.tries.specs.Keys.{Key, bit, IsBefore, IsAtMost}
 use Rattle.tries.specs.Tree.{Tree, leaf, node, fork, Has, IsTrie}
 use Rattle.tries.proofs.Tree.{same_key}

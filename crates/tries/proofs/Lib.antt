@@ -1,4 +1,5 @@
 -- The lemmas of the crate.
+mod Common
 pub mod Tree
 pub mod Content
 pub mod Counts

@@ -1,12 +1,8 @@
 -- The places of a subtrie; the bit trie without marks; one key more.
 pub mod Spots
-use Rattle.key_bits.specs.Key.{IsKey}
-use Rattle.key_bits.specs.Bits.{bit_of}
-use Rattle.std.proofs.Common.{◌≡◌, ◌⊎◌, inl, inr, ℕ, ◌+◌, ◌-◌, ◌<◌, List, [], ◌∷◌, ◌++◌, Bool, true, false, refl, ap, ap₂, sym, ◌∙◌, subst, arith, if◌then◌else◌, ltb}
-use Rattle.std.proofs.lemmas.Bool.{cond-true, cond-false, lt-ltb, le-ltb}
+use Rattle.tries.proofs.Common.{IsKey, bit_of, ◌≡◌, ◌⊎◌, inl, inr, ℕ, ◌+◌, ◌-◌, ◌<◌, List, [], ◌∷◌, ◌++◌, Bool, true, false, refl, ap, ap₂, sym, ◌∙◌, subst, arith, if◌then◌else◌, ltb, cond-true, cond-false, lt-ltb, le-ltb, Place, Fork, size, leads_to}
 use Rattle.tries.specs.Keys.{Key, bit, AgreeBelow}
 use Rattle.tries.specs.Tree.{Subtrie, Tree, leaf, node, fork, Has, IsTrie}
-use Rattle.node_tries.specs.Piece.{Place, Fork, size, leads_to}
 use Rattle.tries.specs.Search.{seek}
 use Rattle.tries.specs.Place.{spot, entry_at, shape}
 use Rattle.tries.specs.Content.{Item, items, IsMore, added, behind}

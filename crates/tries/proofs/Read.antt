@@ -1,9 +1,5 @@
 -- Reading gives the tree that records show, and finds one that is well built, whatever the records are.
-use Rattle.std.proofs.Common.{◌≡◌, ℕ, suc, zero, ◌≤◌, List, refl, ap, ap₂, sym, ◌∙◌, subst, arith, Option, Some, None}
-use Rattle.node_tries.specs.Piece.{Place, Fork}
-use Rattle.compound_node.specs.Nodes.{height_of}
-use Rattle.compound_node.specs.declared.entries.Entry.{Entry}
-use Rattle.compound_node.specs.declared.entries.Entry.TheVariants.{Leaf, Node}
+use Rattle.tries.proofs.Common.{◌≡◌, ℕ, suc, zero, ◌≤◌, List, refl, ap, ap₂, sym, ◌∙◌, subst, arith, Option, Some, None, Place, Fork, height_of, Entry, Leaf, Node}
 use Rattle.tries.specs.Read.{join_fork, join_node, read_subtrie}
 use Rattle.tries.specs.Tree.{Subtrie, Fixed, Tree, leaf, node, fork, subtrie, IsLower, IsBuilt}
 use Rattle.tries.proofs.Tree.Fitting.{lower_positive}

@@ -1,11 +1,9 @@
 -- Laws of the tree of one version.
 pub mod Building
 pub mod Fitting
-use Rattle.std.proofs.Common.{◌≡◌, ◌⊎◌, inl, inr, ℕ, ◌+◌, ◌<◌, ◌≤◌, Bool, true, false, if◌then◌else◌, refl, ap, sym, ◌∙◌, subst, arith, ◌-◌, ltb, ap₂}
-use Rattle.std.proofs.lemmas.Bool.{false≢true, cases_order, cond-true, cond-false, lt-ltb, le-ltb}
+use Rattle.tries.proofs.Common.{◌≡◌, ◌⊎◌, inl, inr, ℕ, ◌+◌, ◌<◌, ◌≤◌, Bool, true, false, if◌then◌else◌, refl, ap, sym, ◌∙◌, subst, arith, ◌-◌, ltb, ap₂, false≢true, cases_order, cond-true, cond-false, lt-ltb, le-ltb, Place, Fork, size}
 use Rattle.tries.specs.Keys.{Key, bit, AgreeBelow, IsParted}
 use Rattle.tries.specs.Tree.{Subtrie, Tree, leaf, node, fork, subtrie, Has, IsTrie, IsFork, IsBuilt, Within, here, inside, zero_side, one_side}
-use Rattle.node_tries.specs.Piece.{Place, Fork, size}
 use Rattle.tries.specs.Search.{Follows, child, seek, Kin, tips, forks, between, IsUnder}
 use mathlib.Core.List.{List-discrete}
 use Rattle.std.proofs.Math.Decide.{ℕ_discrete}

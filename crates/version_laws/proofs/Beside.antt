@@ -1,28 +1,10 @@
 -- Two nodes that stand beside each other: on the sides of the last fork on a key's way.
-use Rattle.std.proofs.Common.{◌≡◌, ◌<◌, ◌+◌, ◌-◌, inl, inr, ℕ, Bool, true, false, refl, ap, sym, ◌∙◌, subst, Some, Option, if◌then◌else◌, arith}
-use Rattle.tries.specs.Keys.{Key, bit, AgreeBelow}
-use Rattle.compound_node.specs.declared.entries.Entry.{Entry}
-use Rattle.compound_node.specs.declared.entries.Entry.TheVariants.{Node}
-use Rattle.compound_node.specs.Nodes.{greatest_height}
-use Rattle.node_tries.specs.Piece.{Place, Fork, RisesFrom, places}
+use Rattle.version_laws.proofs.Common.{◌≡◌, ◌<◌, ◌+◌, ◌-◌, inl, inr, ℕ, Bool, true, false, refl, ap, sym, ◌∙◌, subst, Some, Option, if◌then◌else◌, arith, Key, bit, AgreeBelow, Entry, Node, greatest_height, Place, Fork, RisesFrom, places, Fixed, Tree, leaf, node, fork, subtrie, Has, IsLower, IsTrie, IsBuilt, Subtrie, Within, here, inside, zero_side, one_side, child, seek, put, IsInOwnSubtrie, fork_of, side_beside, spot, subtrie_collapsed, subtrie_sibling, subtrie_without, NodeWords, Heap, IsShown, IsLawfulState, Links, BareCore, view, Rec, without_spot, built_within, rises, within_trans, shown_within, lower_within, none-some}
 use Rattle.node_tries.proofs.Changes.{RisesFrom-without}
-use Rattle.tries.specs.Tree.{Fixed, Tree, leaf, node, fork, subtrie, Has, IsLower, IsTrie, IsBuilt, Subtrie, Within, here, inside, zero_side, one_side}
-use Rattle.tries.specs.Search.{child, seek}
-use Rattle.tries.proofs.Changes.{put, IsInOwnSubtrie}
-use Rattle.tries.specs.Place.{fork_of, side_beside, spot, subtrie_collapsed, subtrie_sibling, subtrie_without}
-use Rattle.versions.specs.Heap.{NodeWords, Heap, IsShown}
-use Rattle.versions.specs.State.{IsLawfulState, Links}
-use Rattle.versions.specs.Core.{BareCore, view}
-use Rattle.record_words.specs.declared.records.Rec.{Rec}
 use Rattle.tries.proofs.Tree.Building.{greatest-append, greatest_if_lower, greatest_without}
-use Rattle.tries.proofs.Place.Spots.{without_spot}
-use Rattle.tries.proofs.Tree.{built_within, rises, within_trans}
-use Rattle.versions.proofs.Heap.{shown_within}
-use Rattle.versions.proofs.Heap.Stored.{lower_within}
 use Rattle.version_laws.proofs.Now.{shown_now}
 use Rattle.version_laws.proofs.Standing.{entry_node}
 use Rattle.version_laws.proofs.Scan.{node_of}
-use Rattle.std.proofs.lemmas.Option.{none-some}
 
 -- The last fork on a key's way
 

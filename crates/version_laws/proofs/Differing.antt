@@ -1,21 +1,8 @@
 -- A publish by which a leaf comes or goes makes the leaves others.
-use Rattle.std.proofs.Common.{◌≡◌, ◌⊎◌, inl, inr, ℕ, List, Option, Some, None, refl, sym, ap, subst}
-use Rattle.compound_node.specs.declared.entries.Entry.{Entry}
-use Rattle.finite_map.specs.declared.Change.{Change}
-use Rattle.tries.specs.Tree.{Tree, leaf, node, fork, here}
-use Rattle.tries.specs.Content.{Item, items}
-use Rattle.versions.specs.Heap.{Heap}
-use Rattle.record_words.specs.declared.records.Rec.{Rec}
-use Rattle.record_words.specs.declared.records.Rec.TheVariants.{Leaf as a_leaf}
-use Rattle.versions.specs.State.{Links, IsLinked, IsLawfulState}
-use Rattle.versions.specs.Told.{items_of}
-use Rattle.versions.specs.Core.{BareCore, view}
-use Rattle.versions.specs.Steps.{IsVersionPublish}
-use Rattle.versions.specs.Trades.{IsOneOf, HasTraded}
-use Rattle.versions.proofs.Trades.{of_append, of_left, of_right}
+use Rattle.version_laws.proofs.Common.{◌≡◌, ◌⊎◌, inl, inr, ℕ, List, Option, Some, None, refl, sym, ap, subst, Entry, Change, Tree, leaf, node, fork, here, Item, items, Heap, Rec, a_leaf, Links, IsLinked, IsLawfulState, items_of, BareCore, view, IsVersionPublish, IsOneOf, HasTraded, of_append, of_left, of_right, leaf_number}
 use Rattle.version_laws.specs.Statements.{IsPublished}
 use Rattle.version_laws.proofs.Trading.{IsTrade, old_now}
-use Rattle.versions.proofs.Heap.{leaf_node, leaf_number}
+use Rattle.versions.proofs.Heap.{leaf_node}
 
 -- a leaf is linked where its number is among the leaves
 leaf_among : (t : Tree) (n : ℕ) → Links t (a_leaf n) → (x : Item) × IsOneOf x (items t) × (x.number ≡ n)

@@ -1,19 +1,8 @@
 -- The steps of a scan keep what it knows, in either direction.
 pub mod Starts
-use Rattle.std.proofs.Common.{◌≡◌, ◌⊎◌, inl, inr, ℕ, ◌<◌, List, [], ◌∷◌, length, sym, subst, arith, le_refl, ⊎_elim}
-use Rattle.std.proofs.lemmas.Bool.{cases_lt}
-use Rattle.tries.specs.Keys.{Key}
-use Rattle.compound_node.specs.declared.entries.Entry.TheVariants.{Leaf, Node}
-use Rattle.tries.specs.Tree.{Subtrie}
-use Rattle.node_tries.specs.Piece.{size}
-use Rattle.versions.specs.State.{Past, IsKeptSince, KeepsFixedWordsSince}
-use Rattle.record_words.specs.declared.records.Rec.TheVariants.{Node as a_node}
-use Rattle.tries.specs.Place.{spot}
+use Rattle.version_laws.proofs.Common.{◌≡◌, ◌⊎◌, inl, inr, ℕ, ◌<◌, List, [], ◌∷◌, length, sym, subst, arith, le_refl, ⊎_elim, cases_lt, Key, Leaf, Node, Subtrie, size, Past, IsKeptSince, KeepsFixedWordsSince, a_node, spot, Direction, Upwards, Downwards, spot_below}
 use Rattle.version_laws.specs.Scan.{IsPlaced, HadShapeSince, IsRead, MayStandAt, HadKeyBelow, Frame, IsStack, Pair, Every, IsKeyListed, Range, IsInRange}
 use Rattle.version_laws.specs.Directions.{gap_before, gap_behind, first_gap, to_come, first_key, last_key, IsEarlier, IsNoLater, IsToCome, WasPassed, MayStandBeforeFrames, HasPassed, ComesOnWay, Comes, IsScanBy, IsComplete, IsCut, IsReachedBy}
-use Rattle.packed_pairs.specs.declared.direction.Direction.{Direction}
-use Rattle.packed_pairs.specs.declared.direction.Direction.TheVariants.{Upwards, Downwards}
-use Rattle.tries.proofs.Place.{spot_below}
 use Rattle.version_laws.proofs.Scan.{may_stand_in_order, may_stand_at_child_place, leaf_may_stand, had_key_may_stand, child_had_key, leaf_had_key, read_held, before_trans, never_before}
 
 pub every_map : (P Q : Pair → Type 0) (xs : List Pair) → ((x : Pair) → P x → Q x) → Every P xs → Every Q xs

@@ -1,4 +1,5 @@
 -- The lemmas of the crate.
+mod Common
 pub mod Now
 pub mod Replaced
 pub mod Paths

@@ -1,10 +1,5 @@
 -- The tree of the newest version.
-use Rattle.std.proofs.Common.{◌≡◌, Some, le_refl}
-use Rattle.tries.specs.Tree.{Tree, IsTrie, IsBuilt}
-use Rattle.versions.specs.Heap.{IsShown}
-use Rattle.versions.specs.State.{IsLawfulState}
-use Rattle.versions.specs.Core.{BareCore, view}
-use Rattle.versions.proofs.State.Publish.{top_shown}
+use Rattle.version_laws.proofs.Common.{◌≡◌, Some, le_refl, Tree, IsTrie, IsBuilt, IsShown, IsLawfulState, BareCore, view, top_shown}
 
 -- it is a bit trie, built as nodes are, and the words show it
 module _ (c : BareCore) (law : IsLawfulState (view c)) (t : Tree) (now : c.past.version c.past.now ≡ Some t) where

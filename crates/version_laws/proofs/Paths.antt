@@ -1,8 +1,5 @@
 -- Places of the tree, and the forks above them.
-use Rattle.std.proofs.Common.{◌≡◌, inl, inr, ℕ, ◌<◌, ◌≤◌, true, false, refl, ap, arith}
-use Rattle.tries.specs.Tree.{Fixed, Tree, leaf, node, fork, IsTrie, IsTip, IsFork, Within, here, inside, zero_side, one_side}
-use Rattle.tries.proofs.Changes.{put, IsPathBelow}
-use Rattle.tries.proofs.Tree.{within_trans, rises}
+use Rattle.version_laws.proofs.Common.{◌≡◌, inl, inr, ℕ, ◌<◌, ◌≤◌, true, false, refl, ap, arith, Fixed, Tree, leaf, node, fork, IsTrie, IsTip, IsFork, Within, here, inside, zero_side, one_side, put, IsPathBelow, within_trans, rises}
 
 -- A place of a node's body is one of the whole.
 abbrev pub in_body : {n : ℕ} {x : Fixed} {b s t : Tree} → Within (node n x b) t → Within s b → Within s t

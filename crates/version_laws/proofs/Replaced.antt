@@ -1,31 +1,9 @@
 -- A publish that puts one tree in the place of another is legal.
-use Rattle.versions.specs.Told.{IsChange}
-use Rattle.std.proofs.Common.{◌≡◌, ◌⊎◌, ◌≢◌, inl, inr, ℕ, ◌<◌, refl, ap, sym, ◌∙◌, subst, arith, Option, Some, None, le_refl}
-use Rattle.std.proofs.lemmas.Bool.{cases_eq}
-use Rattle.tries.specs.Tree.{Fixed, Tree, leaf, node, fork, subtrie, IsTrie, IsTip, IsFork, IsLower, IsBuilt, Within, here, inside, zero_side, one_side}
-use Rattle.compound_node.specs.declared.entries.Entry.{Entry}
-use Rattle.node_tries.specs.Piece.{Place}
-use Rattle.versions.specs.Heap.{NodeWords, LeafWords, Heap, IsShown}
-use Rattle.tries.specs.Place.{Swap, swap, in_zero, in_one}
-use Rattle.versions.specs.State.{IsRecord, Links, Spans, IsLived, IsTop, IsLawfulState}
-use Rattle.record_words.specs.declared.records.Rec.{Rec}
-use Rattle.record_words.specs.declared.records.Rec.TheVariants.{Node as a_node}
-use Rattle.finite_map.specs.declared.Change.{Change}
-use Rattle.versions.specs.Core.{Fate, Free, Held, Ready, InTree, Unlinked, Marked, life_of, BareCore, view}
-use Rattle.versions.specs.Steps.{at_root, at_slot, IsNextVersion, IsVersionPublish}
-use Rattle.tries.proofs.Changes.{put, IsInOwnSubtrie}
+use Rattle.version_laws.proofs.Common.{IsChange, ◌≡◌, ◌⊎◌, ◌≢◌, inl, inr, ℕ, ◌<◌, refl, ap, sym, ◌∙◌, subst, arith, Option, Some, None, le_refl, cases_eq, Fixed, Tree, leaf, node, fork, subtrie, IsTrie, IsTip, IsFork, IsLower, IsBuilt, Within, here, inside, zero_side, one_side, Entry, Place, NodeWords, LeafWords, Heap, IsShown, Swap, swap, in_zero, in_one, IsRecord, Links, Spans, IsLived, IsTop, IsLawfulState, Rec, a_node, Change, Fate, Free, Held, Ready, InTree, Unlinked, Marked, life_of, BareCore, view, at_root, at_slot, IsNextVersion, IsVersionPublish, put, IsInOwnSubtrie, links_within, within_links, shown_within, near_refl, node_number, not_above, lower_within, put_shown, put_built, in_tree_now, built_within, fit_swap, subtrie_put, lower_in_own_subtrie, built_in_own_subtrie, some_same}
 use Rattle.version_laws.specs.Writer.{IsSubtrieStored}
-use Rattle.versions.proofs.State.Publish.{links_within, within_links}
 use Rattle.versions.proofs.State.Quiet.{shown_if_same_words}
-use Rattle.versions.proofs.Heap.{shown_within, near_refl, node_number}
-use Rattle.versions.proofs.Heap.Stored.{not_above, lower_within, put_shown, put_built}
-use Rattle.versions.proofs.Core.Growth.{in_tree_now}
-use Rattle.tries.proofs.Tree.{built_within}
-use Rattle.tries.proofs.Tree.Fitting.{fit_swap}
-use Rattle.tries.proofs.Changes.Puts.{subtrie_put, lower_in_own_subtrie, built_in_own_subtrie}
 use Rattle.version_laws.proofs.Now.{built_now, shown_now, trie_now}
 use Rattle.version_laws.proofs.Writer.AtHand.{IsAtHand}
-use Rattle.tries.proofs.Read.{some_injective as some_same}
 
 -- A part put in its own place leaves the tree.
 put_own : {s t : Tree} (w : Within s t) → put w s ≡ t

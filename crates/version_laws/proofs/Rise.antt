@@ -4,37 +4,14 @@ pub mod Insertions
 pub mod Merging
 pub mod Removal
 pub mod Taking
-use Rattle.std.proofs.Common.{◌≡◌, ◌⊎◌, inl, inr, ℕ, List, [], ◌∷◌, ◌++◌, refl, ap, ap₂, sym, ◌∙◌, subst, arith, Some}
-use Rattle.std.proofs.lemmas.Bool.{le-ltb}
-use Rattle.tries.specs.Keys.{Key, bit}
-use Rattle.compound_node.specs.declared.entries.Entry.{Entry}
-use Rattle.compound_node.specs.declared.entries.Entry.TheVariants.{Leaf, Node}
-use Rattle.node_tries.specs.Piece.{Place, Fork}
-use Rattle.tries.specs.Tree.{Fixed, Subtrie, Tree, leaf, node, fork, subtrie, Has, IsTrie, IsFork, Within, here, inside, IsFit, IsBuilt}
-use Rattle.tries.specs.Search.{child}
-use Rattle.tries.proofs.Changes.{put, IsPathBelow, IsInOwnSubtrie}
-use Rattle.tries.specs.Place.{with_subtrie}
-use Rattle.tries.specs.Affected.{affected, IsPart, subtrie_affected, subtrie_forked, subtrie_grown, IsPartSubtrie, IsLowerSubtrie, FirstForkIsBefore, IsTipSubtrie}
-use Rattle.versions.specs.Heap.{NodeWords, IsShown}
-use Rattle.versions.specs.State.{FirstForkIsFrom, IsLawfulState, Links}
-use Rattle.versions.specs.Core.{BareCore, view, Ready}
+use Rattle.version_laws.proofs.Common.{◌≡◌, ◌⊎◌, inl, inr, ℕ, List, [], ◌∷◌, ◌++◌, refl, ap, ap₂, sym, ◌∙◌, subst, arith, Some, le-ltb, Key, bit, Entry, Leaf, Node, Place, Fork, Fixed, Subtrie, Tree, leaf, node, fork, subtrie, Has, IsTrie, IsFork, Within, here, inside, IsFit, IsBuilt, child, put, IsPathBelow, IsInOwnSubtrie, with_subtrie, affected, IsPart, subtrie_affected, subtrie_forked, subtrie_grown, IsPartSubtrie, IsLowerSubtrie, FirstForkIsBefore, IsTipSubtrie, NodeWords, IsShown, FirstForkIsFrom, IsLawfulState, Links, BareCore, view, Ready, trie_within, built_within, within_trans, affected_subtrie, part_subtrie, part_place, lower_subtrie, place_subtrie, grown_subtrie, grown, shown_within, added_in_whole, IsSpot, subtrie_spot, a_node, a_leaf, IsOneOf, Rec, of_append, of_left, of_right}
 use Rattle.version_laws.specs.Writer.{added_change, IsNewLeaf, IsFoundBelow, Newcomer}
 use Rattle.version_laws.specs.Rise.{IsNewSubtrie, IsEntryFor, alone, in_node, IsUpper, Side, body, entry, IsRise, grows, pulls, copies, halves, stays_whole, wraps, linked_for_entry, linked_by_rise, unlinked_by_rise}
-use Rattle.tries.proofs.Tree.{trie_within, built_within, within_trans}
-use Rattle.tries.proofs.Affected.{affected_subtrie, part_subtrie, part_place, lower_subtrie, place_subtrie, grown_subtrie}
-use Rattle.tries.proofs.Place.{grown}
-use Rattle.versions.proofs.Heap.{shown_within}
 use Rattle.version_laws.proofs.Now.{built_now, shown_now, trie_now}
 use Rattle.version_laws.proofs.Paths.{path_rises_node}
 use Rattle.version_laws.proofs.Rise.Insertions.{with_leaf, part_of}
 use Rattle.version_laws.proofs.Rise.Growing.{growth_around, growth_open, growth_cut, growth_leaf, growth_beside, pulled}
 use Rattle.version_laws.proofs.Standing.{entry_node}
-use Rattle.tries.proofs.Changes.Adding.{added_in_whole}
-use Rattle.tries.proofs.Place.Spots.{IsSpot, subtrie_spot}
-use Rattle.record_words.specs.declared.records.Rec.TheVariants.{Node as a_node, Leaf as a_leaf}
-use Rattle.versions.specs.Trades.{IsOneOf}
-use Rattle.record_words.specs.declared.records.Rec.{Rec}
-use Rattle.versions.proofs.Trades.{of_append, of_left, of_right}
 use Rattle.version_laws.proofs.Trading.{IsTrade, old_now, traded_in_whole, grown_trade, open_trade, around_trade}
 use Rattle.version_laws.proofs.Spots.{is_tip, newest_tree_if_spot_held, node_at, published_at}
 use Rattle.version_laws.specs.Statements.{InsertAtSpot}

@@ -3,26 +3,9 @@ pub mod Ends
 pub mod Fronts
 pub mod Loads
 pub mod Persist
-use Rattle.std.proofs.Common.{◌≡◌, ◌⊎◌, inl, inr, ℕ, suc, ◌+◌, ◌-◌, ◌<◌, ◌≤◌, true, false, refl, ap, ap₂, sym, ◌∙◌, subst, arith, Some, if◌then◌else◌, ltb}
-use Rattle.std.proofs.lemmas.Bool.{cases_order, cases_lt, cond-true, cond-false, lt-ltb, le-ltb, false≢true}
-use Rattle.tries.specs.Keys.{IsAtMost, Key, bit, AgreeBelow, IsParted, IsBefore}
-use Rattle.tries.specs.Tree.{Fixed, Subtrie, Tree, leaf, node, fork, subtrie, Has, IsTip, IsTrie, IsFork, IsBuilt, Within, here, inside, zero_side, one_side, first_position}
-use Rattle.compound_node.specs.declared.entries.Entry.{Entry}
-use Rattle.compound_node.specs.declared.entries.Entry.TheVariants.{Leaf, Node}
-use Rattle.node_tries.proofs.Piece.{size_pos}
-use Rattle.node_tries.specs.Piece.{Place, Fork, size}
-use Rattle.tries.specs.Search.{Follows, child, Kin, tips, forks, between, IsUnder}
-use Rattle.versions.specs.State.{rec_of, IsRecord, Past, Stands, IsHeldSince, IsKeptSince, WasAbsentSince, IsLed, KeepsFixedWordsSince}
-use Rattle.record_words.specs.declared.records.Rec.TheVariants.{Node as a_node, Leaf as a_leaf}
-use Rattle.tries.specs.Place.{spot, shape}
+use Rattle.version_laws.proofs.Common.{◌≡◌, ◌⊎◌, inl, inr, ℕ, suc, ◌+◌, ◌-◌, ◌<◌, ◌≤◌, true, false, refl, ap, ap₂, sym, ◌∙◌, subst, arith, Some, if◌then◌else◌, ltb, cases_order, cases_lt, cond-true, cond-false, lt-ltb, le-ltb, false≢true, IsAtMost, Key, bit, AgreeBelow, IsParted, IsBefore, Fixed, Subtrie, Tree, leaf, node, fork, subtrie, Has, IsTip, IsTrie, IsFork, IsBuilt, Within, here, inside, zero_side, one_side, first_position, Entry, Leaf, Node, size_pos, Place, Fork, size, Follows, child, Kin, tips, forks, between, IsUnder, rec_of, IsRecord, Past, Stands, IsHeldSince, IsKeptSince, WasAbsentSince, IsLed, KeepsFixedWordsSince, a_node, a_leaf, spot, shape, has_first, has_within, within_trans, trie_within, built_within, rises, has_if_follows, follows_if_has, follows_kin, descend, has_child, has_under, under_below, between_low, between_mid, between_high, parting, kin_tips, record_of_subtrie, before_irrefl, spot_below, shape_tips, spot_shape, first, some_same}
 use Rattle.version_laws.specs.Scan.{at_place, AgreeUpToPlace, Stood, IsRooted, IsPlaced, HadShapeSince, IsRead, MayStandAt, HadKeyBelow}
-use Rattle.tries.proofs.Tree.{has_first, has_within, within_trans, trie_within, built_within, rises, has_if_follows, follows_if_has, follows_kin, descend, has_child, has_under, under_below, between_low, between_mid, between_high, parting, kin_tips}
-use Rattle.versions.proofs.State.{record_of_subtrie}
-use Rattle.tries.proofs.Content.{before_irrefl}
-use Rattle.tries.proofs.Place.{spot_below, shape_tips, spot_shape}
-use Rattle.tries.specs.Content.{first}
 use Rattle.version_laws.proofs.Statements.Search.{holds_within}
-use Rattle.tries.proofs.Read.{some_injective as some_same}
 
 pub place_same : {a b : Entry} → Place a ≡ Place b → a ≡ b
 place_same e = cc

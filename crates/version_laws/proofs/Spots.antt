@@ -1,28 +1,5 @@
 -- What stands at a spot whose lock a pass holds, and that the store of something else there is a legal publish.
-use Rattle.std.proofs.Common.{◌≡◌, ◌⊎◌, inl, inr, ℕ, List, Option, Some, ap, sym, ◌∙◌, subst}
-use Rattle.tries.specs.Keys.{Key}
-use Rattle.compound_node.specs.declared.entries.Entry.{Entry}
-use Rattle.compound_node.specs.declared.entries.Entry.TheVariants.{Leaf, Node}
-use Rattle.node_tries.specs.Piece.{Place}
-use Rattle.tries.specs.Tree.{Fixed, Tree, leaf, node, fork, subtrie, IsTrie, IsTip, Within, here}
-use Rattle.tries.specs.Search.{child, seek}
-use Rattle.tries.specs.Place.{with_subtrie}
-use Rattle.tries.specs.Affected.{affected, subtrie_affected, IsLowerSubtrie, FirstForkIsBefore, IsTipSubtrie}
-use Rattle.tries.proofs.Changes.{put, IsPathBelow}
-use Rattle.tries.proofs.Tree.{built_within, subtrie_child}
-use Rattle.tries.proofs.Affected.{affected_subtrie, lower_subtrie}
-use Rattle.tries.proofs.Tree.Fitting.{lower_positive}
-use Rattle.tries.proofs.Place.Spots.{subtrie_spot, with_subtrie_entry}
-use Rattle.finite_map.specs.declared.Change.{Change}
-use Rattle.versions.specs.Heap.{Heap}
-use Rattle.versions.proofs.Heap.{shown_within}
-use Rattle.versions.specs.State.{IsLawfulState}
-use Rattle.versions.specs.Core.{BareCore, view}
-use Rattle.record_words.specs.declared.records.Rec.{Rec}
-use Rattle.record_words.specs.declared.records.Rec.TheVariants.{Leaf as a_leaf}
-use Rattle.versions.specs.Steps.{IsVersionPublish}
-use Rattle.versions.specs.Told.{IsChange}
-use Rattle.versions.specs.Trades.{IsOneOf}
+use Rattle.version_laws.proofs.Common.{◌≡◌, ◌⊎◌, inl, inr, ℕ, List, Option, Some, ap, sym, ◌∙◌, subst, Key, Entry, Leaf, Node, Place, Fixed, Tree, leaf, node, fork, subtrie, IsTrie, IsTip, Within, here, child, seek, with_subtrie, affected, subtrie_affected, IsLowerSubtrie, FirstForkIsBefore, IsTipSubtrie, put, IsPathBelow, built_within, subtrie_child, affected_subtrie, lower_subtrie, lower_positive, subtrie_spot, with_subtrie_entry, Change, Heap, shown_within, IsLawfulState, BareCore, view, Rec, a_leaf, IsVersionPublish, IsChange, IsOneOf}
 use Rattle.version_laws.specs.Writer.{IsSubtrieStored}
 use Rattle.version_laws.specs.Spots.{IsLockedNode, HoldsSpot, by_anchor, by_node, IsLowAt, subtrie_below, AffectsSpotAloneInCore, IsStoredAt}
 use Rattle.version_laws.specs.Statements.{IsPublished}

@@ -1,21 +1,7 @@
 -- What a pass's locks and the words that it has read say of the present tree.
-use Rattle.std.proofs.Common.{◌≡◌, ℕ, refl, ap, sym, ◌∙◌, subst, Some, Option, None}
-use Rattle.tries.specs.Keys.{Key}
-use Rattle.tries.specs.Tree.{Fixed, Tree, leaf, node, subtrie, Within, here, inside}
-use Rattle.compound_node.specs.declared.entries.Entry.TheVariants.{Leaf, Node}
-use Rattle.node_tries.specs.Piece.{Place}
-use Rattle.tries.specs.Search.{child, seek}
-use Rattle.versions.specs.Heap.{NodeWords, LeafWords, IsShown}
-use Rattle.versions.specs.State.{IsLawfulState, IsTop}
-use Rattle.record_words.specs.declared.records.Rec.TheVariants.{Node as a_node}
-use Rattle.versions.specs.Core.{InTree, BareCore, view}
-use Rattle.tries.proofs.Tree.{within_trans, subtrie_child, within_child}
-use Rattle.versions.proofs.Heap.{shown_within}
-use Rattle.versions.proofs.Core.Growth.{in_tree_now}
-use Rattle.compound_node.specs.declared.entries.Entry.{Entry}
+use Rattle.version_laws.proofs.Common.{◌≡◌, ℕ, refl, ap, sym, ◌∙◌, subst, Some, Option, None, Key, Fixed, Tree, leaf, node, subtrie, Within, here, inside, Leaf, Node, Place, child, seek, NodeWords, LeafWords, IsShown, IsLawfulState, IsTop, a_node, InTree, BareCore, view, within_trans, subtrie_child, within_child, shown_within, in_tree_now, Entry, some_same}
 use Rattle.version_laws.proofs.Now.{shown_now}
 use Rattle.version_laws.proofs.Scan.{node_of, leaf_of as leaf_named}
-use Rattle.tries.proofs.Read.{some_injective as some_same}
 
 -- A leaf is the one of its number, with its words.
 pub leaf_of : (c : BareCore) {j : ℕ} (u : Tree) → IsShown c.heap u → subtrie u ≡ Place (Leaf j) → u ≡ leaf j (c.heap.leaves j).key (c.heap.leaves j).value

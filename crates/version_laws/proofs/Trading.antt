@@ -1,20 +1,6 @@
 -- What a publish links anew and unlinks, put together step by step.
-use Rattle.std.proofs.Common.{◌≡◌, inl, inr, ℕ, List, [], ◌∷◌, Bool, true, false, refl, ap, sym, ◌∙◌, subst, Some, ◌⊎◌}
-use Rattle.tries.specs.Tree.{Fixed, Tree, leaf, node, IsTrie, IsBuilt, Within, here, inside, zero_side, one_side}
-use Rattle.tries.proofs.Changes.{put}
-use Rattle.tries.specs.Content.{Item}
-use Rattle.tries.proofs.Place.{grown}
-use Rattle.tries.proofs.Tree.{built_within}
-use Rattle.versions.specs.Heap.{Heap, IsShown}
-use Rattle.versions.specs.State.{Links, IsLawfulState}
-use Rattle.record_words.specs.declared.records.Rec.{Rec}
-use Rattle.record_words.specs.declared.records.Rec.TheVariants.{Node as a_node, Leaf as a_leaf}
-use Rattle.versions.proofs.Heap.Stored.{not_above, not_beside}
-use Rattle.versions.proofs.Heap.{shown_within}
+use Rattle.version_laws.proofs.Common.{◌≡◌, inl, inr, ℕ, List, [], ◌∷◌, Bool, true, false, refl, ap, sym, ◌∙◌, subst, Some, ◌⊎◌, Fixed, Tree, leaf, node, IsTrie, IsBuilt, Within, here, inside, zero_side, one_side, put, Item, grown, built_within, Heap, IsShown, Links, IsLawfulState, Rec, a_node, a_leaf, not_above, not_beside, shown_within, IsOneOf, AreApart, Key, bit, BareCore, Ready, InTree, view}
 use Rattle.version_laws.proofs.Replaced.{linked_after_put, linked_before_put, links_new, links_old, linked_fate}
-use Rattle.versions.specs.Trades.{IsOneOf, AreApart}
-use Rattle.tries.specs.Keys.{Key, bit}
-use Rattle.versions.specs.Core.{BareCore, Ready, InTree, view}
 use Rattle.version_laws.specs.Writer.{IsNewLeaf}
 use Rattle.version_laws.proofs.Now.{built_now, shown_now}
 

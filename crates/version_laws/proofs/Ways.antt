@@ -1,27 +1,10 @@
 -- The descent of a writer below its lock; and where nothing has changed since.
 pub mod Descent
-use Rattle.std.proofs.Common.{◌≡◌, ◌⊎◌, inl, inr, ℕ, ◌<◌, ◌≤◌, false, true, refl, ap, sym, ◌∙◌, subst, arith, Some, Bool}
-use Rattle.std.proofs.lemmas.Bool.{false≢true, cases_lt}
-use Rattle.compound_node.specs.declared.entries.Entry.{Entry}
-use Rattle.compound_node.specs.declared.entries.Entry.TheVariants.{Node}
-use Rattle.node_tries.specs.Piece.{Place}
-use Rattle.tries.specs.Keys.{Key, bit, AgreeBelow}
-use Rattle.tries.specs.Tree.{Fixed, Subtrie, Tree, leaf, node, fork, subtrie, Has, IsTrie, IsFork, IsBuilt, Within, here, inside, zero_side, one_side, first_position}
-use Rattle.tries.specs.Search.{child, seek, Kin, tips, forks, found}
-use Rattle.tries.specs.Content.{Item, first}
-use Rattle.tries.specs.Place.{spot, shape}
-use Rattle.tries.proofs.Tree.{has_first, has_within, within_trans, trie_within, built_within, rises, within_child}
-use Rattle.versions.specs.State.{Past, Stands, StoodWithKeys, KeepsFixedWordsSince}
-use Rattle.record_words.specs.declared.records.Rec.TheVariants.{Node as a_node, Leaf as a_leaf}
-use Rattle.versions.proofs.Heap.Stored.{lower_within}
+use Rattle.version_laws.proofs.Common.{◌≡◌, ◌⊎◌, inl, inr, ℕ, ◌<◌, ◌≤◌, false, true, refl, ap, sym, ◌∙◌, subst, arith, Some, Bool, false≢true, cases_lt, Entry, Node, Place, Key, bit, AgreeBelow, Fixed, Subtrie, Tree, leaf, node, fork, subtrie, Has, IsTrie, IsFork, IsBuilt, Within, here, inside, zero_side, one_side, first_position, child, seek, Kin, tips, forks, found, Item, first, spot, shape, has_first, has_within, within_trans, trie_within, built_within, rises, within_child, Past, Stands, StoodWithKeys, KeepsFixedWordsSince, a_node, a_leaf, lower_within, spot_shape, found_child, some_same, none-some}
 use Rattle.version_laws.specs.Scan.{IsRooted, IsBlank, at_place, IsPlaced}
 use Rattle.version_laws.specs.Ways.{IsOnWay, IsWayFrom, from_leaf, from_node, WayBegins, WayGoesOn, WayEnds, WayOfLeaf, WayIsBelow, StillRooted, StillPlaced, StillGrows, OneBody, RootedSame, PlacedSame, FoundSame}
 use Rattle.version_laws.specs.Writer.{BeganAt, IsWayBelow, at_leaf, below}
 use Rattle.version_laws.proofs.Scan.{node_of, leaf_of, within_at, placed_stands, at_spot, shaped, place_same}
-use Rattle.tries.proofs.Place.{spot_shape}
-use Rattle.tries.proofs.Content.{found_child}
-use Rattle.tries.proofs.Read.{some_injective as some_same}
-use Rattle.std.proofs.lemmas.Option.{none-some}
 
 -- keys of a body that is kin to one whose keys agree with `like` before r agree with it too
 kin_like : (r : ℕ) (like : Key) {b d : Tree} → Kin b d → IsFork b → IsTrie b → ((y : Key) → Has b y → AgreeBelow r like y) → (y : Key) → Has d y → AgreeBelow r like y

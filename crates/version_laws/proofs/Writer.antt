@@ -1,18 +1,9 @@
 -- What a writer knows stays true under the steps of other passes.
 pub mod AtHand
 pub mod Hands
-use Rattle.std.proofs.Common.{◌≡◌, ℕ, ◌≤◌, Some, ap, sym, subst, le_trans}
-use Rattle.tries.specs.Keys.{Key}
-use Rattle.tries.specs.Tree.{Subtrie}
-use Rattle.versions.specs.Heap.{NodeWords}
-use Rattle.versions.specs.State.{Past, IsLawfulState}
-use Rattle.record_words.specs.declared.records.Rec.TheVariants.{Node as a_node}
-use Rattle.versions.specs.Core.{BareCore, pin_version, view}
+use Rattle.version_laws.proofs.Common.{◌≡◌, ℕ, ◌≤◌, Some, ap, sym, subst, le_trans, Key, Subtrie, NodeWords, Past, IsLawfulState, a_node, BareCore, pin_version, view, IsGrown, stands_grown, marked_grown, reach_later}
 use Rattle.versions.specs.declared.Pin.{Pin}
-use Rattle.versions.specs.Frames.{IsGrown}
 use Rattle.version_laws.specs.Writer.{BeganAt, IsWayBelow, at_leaf, below, IsFoundBelow, Newcomer}
-use Rattle.versions.proofs.Core.Growth.{stands_grown, marked_grown}
-use Rattle.versions.proofs.State.{reach_later}
 
 begun_grown : (a b : Past) → IsGrown a b → (m r : ℕ) (like : Key) (n : ℕ) → BeganAt a m r like n → BeganAt b m r like n
 begun_grown a b g m r like n (o, x, d, e, lo, hi, st, h) = (o, x, d, e, lo, le_trans hi g.longer, stands_grown a b g o (a_node n) _ hi st, h)

@@ -2,15 +2,9 @@
 pub mod Growth
 pub mod Pace
 pub mod Values
-use Rattle.std.proofs.Common.{◌≡◌, ◌⊎◌, inl, inr, ℕ, ◌<◌, true, false, if◌then◌else◌, refl, ap, sym, ◌∙◌, subst, Option, Some, None, eqb}
-use Rattle.std.proofs.lemmas.Bool.{eq-eqb, eqb-true, cases_Bool, false≢true, or_cases, or_left, or_right}
-use Rattle.compound_node.specs.declared.entries.Entry.{Entry}
-use Rattle.tries.specs.Tree.{Tree, leaf, node, fork}
+use Rattle.versions.proofs.Common.{◌≡◌, ◌⊎◌, inl, inr, ℕ, ◌<◌, true, false, if◌then◌else◌, refl, ap, sym, ◌∙◌, subst, Option, Some, None, eqb, eq-eqb, eqb-true, cases_Bool, false≢true, or_cases, or_left, or_right, Entry, Tree, leaf, node, fork, Rec, a_node, a_leaf, Change}
 use Rattle.versions.specs.Heap.{Heap}
 use Rattle.versions.specs.State.{Out, Links, IsLinked, IsLawfulState}
-use Rattle.record_words.specs.declared.records.Rec.{Rec}
-use Rattle.record_words.specs.declared.records.Rec.TheVariants.{Node as a_node, Leaf as a_leaf}
-use Rattle.finite_map.specs.declared.Change.{Change}
 use Rattle.versions.specs.Core.{has_seen, Fate, Free, Held, Ready, InTree, Unlinked, Marked, life_of, BareCore, pin_version, view, HasLawfulEpochs}
 use Rattle.versions.specs.declared.Pin.{Pin}
 use Rattle.versions.specs.Steps.{same_rec, with_fate, links, is_linked, next_fate, after_publish, IsVersionPublish, after_set_pin, with_pin}

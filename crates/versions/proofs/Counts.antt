@@ -1,10 +1,5 @@
 -- The node records in the tree are fewer than its keys.
-use Rattle.std.proofs.Common.{◌≡◌, inl, inr, ℕ, suc, ◌-◌, ◌≤◌, List, [], ◌∷◌, ◌++◌, length, Option, Some, None, refl, sym, ap, subst, ◌∙◌, arith, le_refl}
-use Rattle.std.specs.Prelude.{All}
-use Rattle.std.proofs.lemmas.List.{length-append, take_all}
-use Rattle.finite_map.specs.Fronts.{map_of}
-use Rattle.tries.specs.Tree.{Tree, leaf, node, fork}
-use Rattle.tries.specs.Content.{Item, items, pairs}
+use Rattle.versions.proofs.Common.{◌≡◌, inl, inr, ℕ, suc, ◌-◌, ◌≤◌, List, [], ◌∷◌, ◌++◌, length, Option, Some, None, refl, sym, ap, subst, ◌∙◌, arith, le_refl, All, length-append, take_all, map_of, Tree, leaf, node, fork, Item, items, pairs, Rec, a_node}
 use Rattle.tries.specs.Counts.{node_numbers}
 use Rattle.tries.proofs.Counts.{nodes_are_fewer}
 use Rattle.versions.specs.Core.{BareCore, InTree, life_of}
@@ -12,8 +7,6 @@ use Rattle.versions.specs.State.{Links, IsLived, Spans, Stands}
 use Rattle.versions.specs.Steps.{IsLawfulCore}
 use Rattle.versions.specs.Told.{content}
 use Rattle.versions.specs.Trades.{IsOneOf, AreApart}
-use Rattle.record_words.specs.declared.records.Rec.{Rec}
-use Rattle.record_words.specs.declared.records.Rec.TheVariants.{Node as a_node}
 use Rattle.versions.proofs.Trades.{of_append, of_left, of_right, all_of}
 use Rattle.versions.proofs.State.Publish.{within_links}
 

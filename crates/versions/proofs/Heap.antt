@@ -1,16 +1,8 @@
 -- Laws of the words and the trees that they show.
 pub mod Revalued
 pub mod Stored
-use Rattle.std.proofs.Common.{◌≡◌, ◌⊎◌, inl, inr, ℕ, ◌<◌, refl, ap, sym, ◌∙◌, subst}
-use Rattle.tries.specs.Keys.{Key}
-use Rattle.compound_node.specs.declared.entries.Entry.TheVariants.{Leaf, Node}
-use Rattle.tries.specs.Tree.{Subtrie, Tree, leaf, node, fork, subtrie, Has, IsTrie, IsBuilt, Within, here, inside, zero_side, one_side}
-use Rattle.node_tries.specs.Piece.{Place, Fork}
-use Rattle.tries.specs.Search.{Kin, tips, forks}
-use Rattle.tries.proofs.Tree.{has_within}
+use Rattle.versions.proofs.Common.{◌≡◌, ◌⊎◌, inl, inr, ℕ, ◌<◌, refl, ap, sym, ◌∙◌, subst, Key, Leaf, Node, Subtrie, Tree, leaf, node, fork, subtrie, Has, IsTrie, IsBuilt, Within, here, inside, zero_side, one_side, Place, Fork, Kin, tips, forks, has_within, Swap, in_zero, in_one, a_node, a_leaf}
 use Rattle.versions.specs.Heap.{NodeWords, LeafWords, Heap, IsCopied, IsShown, KeepsAllButOneEntry}
-use Rattle.tries.specs.Place.{Swap, in_zero, in_one}
-use Rattle.record_words.specs.declared.records.Rec.TheVariants.{Node as a_node, Leaf as a_leaf}
 
 pub node_number : {n o : ℕ} → a_node n ≡ a_node o → n ≡ o
 node_number e = cc

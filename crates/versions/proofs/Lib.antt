@@ -1,4 +1,5 @@
 -- The lemmas of the crate.
+mod Common
 pub mod Heap
 pub mod State
 pub mod Core

@@ -1,27 +1,11 @@
 -- After a load the core is lawful.
-use Rattle.std.proofs.Common.{◌≡◌, ◌⊎◌, inl, inr, ℕ, zero, suc, ◌+◌, ◌-◌, ◌<◌, ◌≤◌, List, [], ◌∷◌, ◌++◌, length, map, take, if◌then◌else◌, refl, ap, sym, ◌∙◌, subst, arith, Option, Some, None, le_refl, append-nil, append_assoc}
-use Rattle.std.proofs.lemmas.Bool.{cases_lt}
-use Rattle.std.proofs.lemmas.Option.{none-some}
-use Rattle.std.proofs.lemmas.List.{take_all, take-map, length-append, length-map, map-append}
-use Rattle.finite_map.specs.declared.Change.{Change}
-use Rattle.finite_map.specs.Maps.{reply_of, step_where, value_at, with_value}
+use Rattle.versions.proofs.Common.{◌≡◌, ◌⊎◌, inl, inr, ℕ, zero, suc, ◌+◌, ◌-◌, ◌<◌, ◌≤◌, List, [], ◌∷◌, ◌++◌, length, map, take, if◌then◌else◌, refl, ap, sym, ◌∙◌, subst, arith, Option, Some, None, le_refl, append-nil, append_assoc, cases_lt, none-some, take_all, take-map, length-append, length-map, map-append, Change, reply_of, step_where, value_at, with_value, map_of, LegalFront, map_of-push, legal_front_push, Entry, Key, Tree, leaf, node, fork, Has, IsTrie, IsBuilt, Item, items, pairs, Each, IsRising, content_rises, AreKeys, are_keys, more_inserts, more_was_absent, some_same, trie_within, built_within, Rec}
 use Rattle.finite_map.specs.declared.Call.TheVariants.{Insert}
 use Rattle.finite_map.specs.declared.Note.{Note}
 use Rattle.finite_map.specs.declared.Reply.TheVariants.{Inserted}
 use Rattle.finite_map.specs.Calls.{LegalCalls}
 use Rattle.finite_map.proofs.Calls.{legal_at_first, legal_change}
-use Rattle.finite_map.specs.Fronts.{map_of, LegalFront}
-use Rattle.finite_map.proofs.Fronts.{map_of-push, legal_front_push}
-use Rattle.compound_node.specs.declared.entries.Entry.{Entry}
-use Rattle.tries.specs.Keys.{Key}
-use Rattle.tries.specs.Tree.{Tree, leaf, node, fork, Has, IsTrie, IsBuilt}
-use Rattle.tries.specs.Content.{Item, items, pairs, Each}
-use Rattle.tries.proofs.Content.{IsRising, content_rises}
-use Rattle.tries.proofs.Content.Maps.{AreKeys, are_keys, more_inserts, more_was_absent}
 use Rattle.tries.proofs.Place.{more_after}
-use Rattle.tries.proofs.Read.{some_injective as some_same}
-use Rattle.tries.proofs.Tree.{trie_within, built_within}
-use Rattle.record_words.specs.declared.records.Rec.{Rec}
 use Rattle.versions.specs.Heap.{Heap, IsCopied, IsShown}
 use Rattle.versions.specs.State.{Past, State, Life, Linked, Spans, last_of, Stands, IsSameRecord, IsTop, IsReach, IsLived, IsLinked, IsLawfulState}
 use Rattle.versions.specs.Core.{Fate, Free, InTree, life_of, view}

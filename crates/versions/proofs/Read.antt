@@ -1,15 +1,8 @@
 -- Reading gives the tree that the words show, and finds one that is well built.
-use Rattle.std.proofs.Common.{◌≡◌, ℕ, suc, zero, ap, ap₂, ◌∙◌, Some, None, eqb}
-use Rattle.std.proofs.lemmas.Bool.{cond-true, eq-eqb}
-use Rattle.tries.specs.Keys.{Key}
-use Rattle.tries.specs.Tree.{Fixed, Tree, leaf, node, subtrie, IsBuilt}
-use Rattle.compound_node.specs.declared.entries.Entry.{Entry}
-use Rattle.compound_node.specs.declared.entries.Entry.TheVariants.{Leaf, Node}
-use Rattle.node_tries.specs.Piece.{Place}
+use Rattle.versions.proofs.Common.{◌≡◌, ℕ, suc, zero, ap, ap₂, ◌∙◌, Some, None, eqb, cond-true, eq-eqb, Key, Fixed, Tree, leaf, node, subtrie, IsBuilt, Entry, Leaf, Node, Place, exactly_read}
 use Rattle.versions.specs.Heap.{NodeWords, LeafWords, Heap, IsShown}
 use Rattle.versions.specs.Read.{read}
 use Rattle.tries.specs.Read.{join_node, read_subtrie}
-use Rattle.tries.proofs.Read.{read_exact as exactly_read}
 use Rattle.compound_node.specs.Nodes.{height_of}
 
 read_leaf : (m : Heap) (f n : ℕ) (k : Key) (v : ℕ) → m.leaves n ≡ record { key = k; value = v } → read m f (Leaf n) ≡ Some (leaf n k v)

@@ -1,19 +1,9 @@
 -- The laws of the core.
 pub mod Publish
 pub mod Quiet
-use Rattle.std.proofs.Common.{◌≡◌, ◌⊎◌, inl, inr, ℕ, ◌<◌, ◌≤◌, ap, sym, ◌∙◌, subst, arith, le_refl, le_trans}
-use Rattle.tries.specs.Keys.{Key, IsParted}
-use Rattle.tries.specs.Tree.{Fixed, Tree, leaf, node, fork, subtrie, Has, IsTrie, IsBuilt, here, inside}
-use Rattle.compound_node.specs.declared.entries.Entry.{Entry}
-use Rattle.compound_node.specs.declared.entries.Entry.TheVariants.{Leaf, Node}
-use Rattle.node_tries.specs.Piece.{Place}
-use Rattle.tries.specs.Search.{Follows, child, seek, between, IsUnder}
+use Rattle.versions.proofs.Common.{◌≡◌, ◌⊎◌, inl, inr, ℕ, ◌<◌, ◌≤◌, ap, sym, ◌∙◌, subst, arith, le_refl, le_trans, Key, IsParted, Fixed, Tree, leaf, node, fork, subtrie, Has, IsTrie, IsBuilt, here, inside, Entry, Leaf, Node, Place, Follows, child, seek, between, IsUnder, Rec, a_node, within_trans, trie_within, built_within, descend, within_child, subtrie_child, follows_kin, kin_trans, kin_sym, parting, some_same}
 use Rattle.versions.specs.Heap.{NodeWords, IsCopied}
 use Rattle.versions.specs.State.{rec_of, IsRecord, Life, Out, Linked, Retired, Spans, last_of, State, Stands, IsSameRecord, IsReach, IsLawfulState, WasAbsentSince, IsLed, IsLived, KeepsFixedWordsSince}
-use Rattle.record_words.specs.declared.records.Rec.{Rec}
-use Rattle.record_words.specs.declared.records.Rec.TheVariants.{Node as a_node}
-use Rattle.tries.proofs.Tree.{within_trans, trie_within, built_within, descend, within_child, subtrie_child, follows_kin, kin_trans, kin_sym, parting}
-use Rattle.tries.proofs.Read.{some_injective as some_same}
 use Rattle.versions.proofs.Heap.{node_number}
 
 pub record_of_subtrie : (e : Entry) (u : Tree) → subtrie u ≡ Place e → IsRecord (rec_of e) u

@@ -1,13 +1,7 @@
 -- Each step keeps the whole core lawful.
-use Rattle.std.proofs.Common.{◌≡◌, ◌⊎◌, ◌≢◌, inl, inr, ℕ, true, false, if◌then◌else◌, refl, ap, sym, ◌∙◌, subst, Option, Some, None, eqb, [], take, ◌≤◌, arith, le_refl}
-use Rattle.std.proofs.lemmas.Bool.{cases_Bool, false≢true, eqb-true}
-use Rattle.finite_map.specs.declared.Change.{Change}
-use Rattle.compound_node.specs.declared.entries.Entry.{Entry}
-use Rattle.tries.specs.Tree.{Tree}
+use Rattle.versions.proofs.Common.{◌≡◌, ◌⊎◌, ◌≢◌, inl, inr, ℕ, true, false, if◌then◌else◌, refl, ap, sym, ◌∙◌, subst, Option, Some, None, eqb, [], take, ◌≤◌, arith, le_refl, cases_Bool, false≢true, eqb-true, Change, Entry, Tree, Rec, a_node, a_leaf, map_of, none-some}
 use Rattle.versions.specs.Heap.{Heap}
 use Rattle.versions.specs.State.{Out, IsLinked, Stands, IsSameRecord}
-use Rattle.record_words.specs.declared.records.Rec.{Rec}
-use Rattle.record_words.specs.declared.records.Rec.TheVariants.{Node as a_node, Leaf as a_leaf}
 use Rattle.versions.specs.Core.{Fate, Free, Held, Ready, InTree, Unlinked, Marked, life_of, BareCore, view, pin_version}
 use Rattle.versions.specs.declared.Pin.{Pin}
 use Rattle.versions.specs.Steps.{bare_opening, same_rec, with_fate, is_linked, next_fate, IsVersionPublish, with_lock, unlocked, after_mark, ChangesNoOther, IsLockable, IsLawfulCore, IsCoreStep, claims, fills, readies, releases, locks_anchor, unlocks_anchor, locks, unlocks, publishes, marks, loads_epoch, advances, pins, unpins, loads_pin, gives_back}
@@ -15,11 +9,9 @@ use Rattle.versions.proofs.Core.{same_rec_refl, same_rec_true, linked_cases, leg
 use Rattle.versions.proofs.Core.Pace.{set_pin_paced, load_epoch_paced, load_pin_paced, mark_paced, publish_paced, fate_paced, lock_paced, anchor_paced, advance_paced, clear_pin_paced, reach_kept}
 use Rattle.versions.proofs.Told.{publish_told, content_in_order}
 use Rattle.versions.proofs.Heap.Stored.{opening_lawful}
-use Rattle.finite_map.specs.Fronts.{map_of}
 use Rattle.finite_map.specs.Maps.{IsRising}
 use Rattle.versions.specs.Told.{content}
 use Rattle.versions.proofs.State.{steady}
-use Rattle.std.proofs.lemmas.Option.{none-some}
 
 pub some_pass_injective : {p q : ℕ} → Some p ≡ Some q → p ≡ q
 some_pass_injective e = cc

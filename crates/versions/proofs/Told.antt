@@ -1,24 +1,12 @@
 -- A legal publish tells its one change.
-use Rattle.std.proofs.Common.{◌≡◌, ◌⊎◌, inl, inr, ℕ, suc, ◌<◌, ◌≤◌, List, [], ◌∷◌, ◌++◌, length, take, refl, ap, sym, ◌∙◌, subst, arith, Option, Some, None, le_refl}
-use Rattle.std.proofs.lemmas.Bool.{cases_lt}
-use Rattle.std.proofs.lemmas.List.{take-append-le, take_all, length-append}
-use Rattle.finite_map.specs.declared.Change.{Change}
+use Rattle.versions.proofs.Common.{◌≡◌, ◌⊎◌, inl, inr, ℕ, suc, ◌<◌, ◌≤◌, List, [], ◌∷◌, ◌++◌, length, take, refl, ap, sym, ◌∙◌, subst, arith, Option, Some, None, le_refl, cases_lt, take-append-le, take_all, length-append, Change, Added, Replaced, Removed, value_at, IsInOrder, map_of, changed, changed_by, FitsKind, Fits, Entry, Tree, IsTrie, Item, pairs, content_rises, IsRising, AreKeys, are_keys, pairs_rise, more_inserts, more_was_absent, more_removes, more_was_held, exchange_inserts, exchange_was_held, map_of-push, legal_front_push}
 use Rattle.finite_map.specs.declared.Kind.{Kind}
-use Rattle.finite_map.specs.declared.Kind.TheVariants.{Added, Replaced, Removed}
-use Rattle.finite_map.specs.Maps.{value_at, IsRising as IsInOrder}
-use Rattle.finite_map.specs.Fronts.{map_of, changed, changed_by, FitsKind, Fits}
-use Rattle.compound_node.specs.declared.entries.Entry.{Entry}
-use Rattle.tries.specs.Tree.{Tree, IsTrie}
-use Rattle.tries.specs.Content.{Item, pairs}
-use Rattle.tries.proofs.Content.{content_rises, IsRising}
-use Rattle.tries.proofs.Content.Maps.{AreKeys, are_keys, pairs_rise, more_inserts, more_was_absent, more_removes, more_was_held, exchange_inserts, exchange_was_held}
 use Rattle.versions.specs.Heap.{Heap}
 use Rattle.versions.specs.State.{IsLawfulState}
 use Rattle.versions.specs.Core.{BareCore, view}
 use Rattle.versions.specs.Told.{items_of, content, item_of, IsChanged, IsChange, TellChanges}
 use Rattle.versions.specs.Steps.{after_publish, IsVersionPublish}
 use Rattle.versions.proofs.State.Publish.{version_old, version_new}
-use Rattle.finite_map.proofs.Fronts.{map_of-push, legal_front_push}
 
 -- A change of the leaves is the change of the map, and is legal on it.
 changed_pairs : (k : Kind) (x : Item) (xs ys : List Item) → IsChanged k x xs ys → IsRising xs → AreKeys xs → IsRising ys → AreKeys ys →

@@ -1,38 +1,14 @@
 -- A piece that is closed: a node stands for it.
-use Rattle.std.proofs.Common.{◌≡◌, ◌⊎◌, inl, inr, ℕ, suc, ◌+◌, ◌-◌, ◌*◌, ◌^◌, ◌<◌, ◌≤◌, List, [], ◌∷◌, ◌++◌, take, drop, Option, Some, None, get_or, length, refl, ap, sym, subst, ◌∙◌, arith}
-use Rattle.std.specs.Prelude.{All}
-use Rattle.std.proofs.lemmas.Bool.{cases_order}
-use Rattle.std.proofs.lemmas.List.{append-nil, ext_get_or, get_or-append_right, length-append, drop_at, take_at}
-use Rattle.std.proofs.lemmas.List.Elements.{All-append, All-from_recursion, All-from_get_or, All-head}
-use Rattle.std.proofs.Math.ListN.{get_or-append}
-use Rattle.key_bits.specs.declared.TheConstants.{MAX_BYTES}
-use Rattle.compound_node.specs.Nodes.{NodeView, IsBuiltFrom, IsEntry, head_of}
-use Rattle.compound_node.specs.declared.entries.Entry.{Entry}
-use Rattle.compound_node.specs.declared.entries.Entry.TheVariants.{Leaf, Node}
-use Rattle.node_tries.specs.Piece.{RisesFrom}
+use Rattle.bulk_load.proofs.Common.{◌≡◌, ◌⊎◌, inl, inr, ℕ, suc, ◌+◌, ◌-◌, ◌*◌, ◌^◌, ◌<◌, ◌≤◌, List, [], ◌∷◌, ◌++◌, take, drop, Option, Some, None, get_or, length, refl, ap, sym, subst, ◌∙◌, arith, All, cases_order, append-nil, ext_get_or, get_or-append_right, length-append, drop_at, take_at, All-append, All-from_recursion, All-from_get_or, All-head, get_or-append, MAX_BYTES, NodeView, IsBuiltFrom, IsEntry, head_of, Entry, Leaf, Node, RisesFrom, first, IsAbove, IsLocal, Tree, leaf, node, fork, subtrie, IsBuilt, trie_if_local, children_are, has_first, Rec, a_node, Heap, IsShown, node_number, Links, heap_of, IsPacked, node_is, fields_in}
 use Rattle.record_words.specs.Node.{HasNodeWords, node_words}
-use Rattle.tries.specs.Content.{first, IsAbove, IsLocal}
-use Rattle.tries.specs.Tree.{Tree, leaf, node, fork, subtrie, IsBuilt}
 use Rattle.tries.proofs.Tree.Building.{bit_below, node_built_from}
-use Rattle.tries.proofs.Content.{trie_if_local}
-use Rattle.tries.proofs.Tree.Fitting.{children_are}
 use Rattle.tries.proofs.Keys.{has_key}
-use Rattle.tries.proofs.Tree.{has_first}
-use Rattle.record_words.specs.declared.records.Rec.{Rec}
-use Rattle.record_words.specs.declared.records.Rec.TheVariants.{Node as a_node}
-use Rattle.versions.specs.Heap.{Heap, IsShown}
-use Rattle.versions.proofs.Heap.{node_number}
-use Rattle.versions.specs.State.{Links}
-use Rattle.rowex_core.specs.Cores.{heap_of}
-use Rattle.rowex_core.specs.Reading.{IsPacked}
-use Rattle.rowex_core.proofs.Reading.{node_is}
 use Rattle.bulk_load.specs.Tips.{tip, tips_of, MayBeTip, AreTipsOf}
 use Rattle.bulk_load.specs.declared.tips.Tip.{Tip}
 use Rattle.bulk_load.specs.Stacks.{LeftPiece, whole_of, position_of, front_tips, with_right}
 use Rattle.bulk_load.specs.declared.builder.Builder.{Builder}
 use Rattle.bulk_load.specs.Loading.{IsPiece, size_right}
 use Rattle.bulk_load.specs.Tables.{IsPut, HoldsTree}
-use Rattle.rowex_core.specs.Cores.{fields_in}
 use Rattle.bulk_load.proofs.tips.Rows.{tips_split as piece_split}
 use Rattle.bulk_load.proofs.records.Fields.{node_field, node_fields_long}
 use Rattle.bulk_load.proofs.Tables.Putting.{IsAddedTo, added, still_shown}

@@ -1,26 +1,14 @@
 -- The last two pieces become one.
-use Rattle.std.proofs.Common.{append_assoc, zero, suc, ◌≡◌, ◌⊎◌, inl, inr, ℕ, ◌+◌, ◌-◌, ◌*◌, ◌<◌, ◌≤◌, List, [], ◌∷◌, ◌++◌, Bool, true, false, IsTrue, if◌then◌else◌, Option, Some, None, get_or, length, map, take, slice_set, refl, ap, sym, subst, ◌∙◌, arith}
-use Rattle.std.specs.Prelude.{All}
-use Rattle.std.proofs.lemmas.List.{get_or-append_right, get_or-map, length-append, length-map, map-set, set-append_right, take_at}
-use Rattle.std.proofs.lemmas.List.Elements.{All-get_or, All-head, All-push, All-set, All-take}
-use Rattle.std.proofs.Math.ListN.{get_or-append}
-use Rattle.node_tries.specs.Piece.{size}
-use Rattle.tries.specs.Content.{Item, items}
-use Rattle.tries.specs.Keys.{bit}
-use Rattle.tries.specs.Tree.{Tree, fork, subtrie}
-use Rattle.std.specs.Vec.{vec_len}
-use Rattle.record_words.specs.declared.layout.Layout.{Layout}
+use Rattle.bulk_load.proofs.Common.{zero, suc, ◌≡◌, ◌⊎◌, inl, inr, ℕ, ◌+◌, ◌-◌, ◌*◌, ◌<◌, ◌≤◌, List, [], ◌∷◌, ◌++◌, Bool, true, false, IsTrue, if◌then◌else◌, Option, Some, None, get_or, length, map, take, slice_set, refl, ap, sym, subst, ◌∙◌, arith, All, get_or-append_right, get_or-map, length-append, length-map, map-set, set-append_right, take_at, All-get_or, All-head, All-push, All-set, All-take, get_or-append, size, Item, items, bit, Tree, fork, subtrie, vec_len, Layout, cases_order, trie_if_local, size_pos}
+use Rattle.std.proofs.Common.{append_assoc}
 use Rattle.bulk_load.specs.declared.builder.Builder.{Builder}
 use Rattle.bulk_load.specs.declared.builder.StackedPiece.{StackedPiece}
-use Rattle.std.proofs.lemmas.Bool.{cases_order}
 use Rattle.bulk_load.specs.Loading.{CanJoin, HasPieces, IsOnePiece, HasTakenNone, IsJoined, IsLoading, CanPart, FitsOneNode, HasNodesFor, IsOfLeaves, MayStandBeside, IsPiece, IsStackOf, IsTreeOf, StandsFor, greatest_key}
 use Rattle.bulk_load.specs.Stacks.{LeftPiece, left_piece, whole_of, counts, position_of, front_tips, with_right}
 use Rattle.bulk_load.proofs.Stacks.{fronts, items_joined, last_joined, local_inner, tips_joined}
 use Rattle.bulk_load.proofs.tips.Rows.{head_entry, tips_split as piece_split}
 use Rattle.bulk_load.proofs.Stacks.Closing.{fits}
 use Rattle.bulk_load.proofs.builder.Pushing.{has_last}
-use Rattle.tries.proofs.Content.{trie_if_local}
-use Rattle.node_tries.proofs.Piece.{size_pos}
 use Rattle.bulk_load.specs.declared.tips.Tip.{Tip}
 use Rattle.bulk_load.specs.Tips.{tip, tips_of}
 

@@ -1,21 +1,6 @@
 -- A table with one record more.
-use Rattle.std.proofs.Common.{◌≡◌, ◌≢◌, ◌⊎◌, inl, inr, ℕ, ◌+◌, ◌*◌, ◌<◌, ◌≤◌, List, get_or, true, false, nat_lt, if◌then◌else◌, Option, Some, refl, ap, sym, subst, ◌∙◌, arith}
-use Rattle.std.proofs.lemmas.Bool.{cases_Bool, cases_order, ltb-true}
-use Rattle.std.proofs.lemmas.List.{ext_get_or}
-use Rattle.record_words.specs.declared.TheConstants.{NODE_FIELDS, LEAF_FIELDS, NODE_WORDS, EPOCH_WORD, ROOT_WORD, ANCHOR_WORD, FIRST_PIN, LINE_WORDS}
-use Rattle.record_words.specs.declared.layout.Layout.{Layout}
-use Rattle.record_words.specs.Layout.{node_start, leaf_start, leaf_size}
-use Rattle.record_words.proofs.Locations.{leaf_before, size_fits}
-use Rattle.tries.specs.Tree.{Tree, leaf, node, fork}
-use Rattle.tries.proofs.Read.{some_injective}
-use Rattle.record_words.specs.declared.records.Rec.{Rec}
-use Rattle.record_words.specs.declared.records.Rec.TheVariants.{Node as a_node, Leaf as a_leaf}
-use Rattle.versions.specs.Heap.{Heap, IsShown}
-use Rattle.versions.specs.State.{Links, IsLinked}
-use Rattle.rowex_core.specs.Cores.{heap_of, size_of, HasRecord, FitsIn}
-use Rattle.rowex_core.specs.Reading.{IsPacked, node_words_of, leaf_of}
+use Rattle.bulk_load.proofs.Common.{◌≡◌, ◌≢◌, ◌⊎◌, inl, inr, ℕ, ◌+◌, ◌*◌, ◌<◌, ◌≤◌, List, get_or, true, false, nat_lt, if◌then◌else◌, Option, Some, refl, ap, sym, subst, ◌∙◌, arith, cases_Bool, cases_order, ltb-true, ext_get_or, NODE_FIELDS, LEAF_FIELDS, NODE_WORDS, EPOCH_WORD, ROOT_WORD, ANCHOR_WORD, FIRST_PIN, LINE_WORDS, Layout, node_start, leaf_start, leaf_size, leaf_before, size_fits, Tree, leaf, node, fork, some_injective, Rec, a_node, a_leaf, Heap, IsShown, Links, IsLinked, heap_of, size_of, HasRecord, FitsIn, IsPacked, node_words_of, leaf_of, fields_in}
 use Rattle.bulk_load.specs.Tables.{start_of, state_in, IsPut, IsRootless, HoldsTree}
-use Rattle.rowex_core.specs.Cores.{fields_in}
 use Rattle.bulk_load.proofs.records.Fields.{node_field, node_fields_long, node_fields_are, leaf_field, leaf_fields_long}
 
 -- the words of two records stand apart

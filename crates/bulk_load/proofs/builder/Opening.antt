@@ -1,17 +1,5 @@
 -- The words of a new table hold no tree.
-use Rattle.std.proofs.Common.{◌≡◌, ℕ, ◌+◌, List, None, get_or, sym, ap, subst, ◌∙◌, arith}
-use Rattle.std.proofs.lemmas.Option.{none-some}
-use Rattle.record_words.specs.declared.layout.Layout.{Layout}
-use Rattle.record_words.specs.declared.layout.Location.TheVariants.{Epoch, Root, Anchor, Pin as PinOf, NodeWord, LeafWord}
-use Rattle.record_words.specs.declared.state.Tag.TheVariants.{Free}
-use Rattle.record_words.specs.Layout.{node_start, leaf_start}
-use Rattle.record_words.specs.State.{state_word}
-use Rattle.record_words.proofs.Locations.{size_fits}
-use Rattle.record_words.specs.declared.records.Rec.{Rec}
-use Rattle.record_words.specs.declared.records.Rec.TheVariants.{Node as a_node, Leaf as a_leaf}
-use Rattle.rowex_core.specs.Cores.{HasRecord}
-use Rattle.rowex_core.specs.Opening.{opening, opening_words}
-use Rattle.rowex_core.specs.Words.{Shows}
+use Rattle.bulk_load.proofs.Common.{◌≡◌, ℕ, ◌+◌, List, None, get_or, sym, ap, subst, ◌∙◌, arith, none-some, Layout, Epoch, Root, Anchor, PinOf, NodeWord, LeafWord, Free, node_start, leaf_start, state_word, size_fits, Rec, a_node, a_leaf, HasRecord, opening, opening_words, Shows}
 use Rattle.rowex_core.proofs.Statements.Promises.{opening_is_lawful}
 use Rattle.bulk_load.specs.Tables.{HoldsTree, state_in}
 

@@ -1,24 +1,6 @@
 -- A new leaf behind the last one.
-use Rattle.std.proofs.Common.{◌≡◌, ◌⊎◌, inl, inr, ℕ, ◌+◌, ◌*◌, ◌<◌, ◌≤◌, List, [], ◌∷◌, ◌++◌, Bool, true, false, Some, None, length, refl, ap, sym, subst, ◌∙◌, arith}
-use Rattle.std.proofs.lemmas.List.{append_assoc}
-use Rattle.std.proofs.lemmas.List.Elements.{All-push}
-use Rattle.std.specs.Prelude.{All}
+use Rattle.bulk_load.proofs.Common.{◌≡◌, ◌⊎◌, inl, inr, ℕ, ◌+◌, ◌*◌, ◌<◌, ◌≤◌, List, [], ◌∷◌, ◌++◌, Bool, true, false, Some, None, length, refl, ap, sym, subst, ◌∙◌, arith, append_assoc, All-push, All, Leaf, leaf_size, HasLeafWords, leaf_words, up_to_key, words_for, Key, bit, IsParted, item, items, first, IsAbove, IsLocal, Tree, leaf, node, fork, subtrie, Has, IsTrie, IsBuilt, trie_if_local, has_first, Rec, a_node, a_leaf, Heap, Links, node_leaf, heap_of, IsPacked, fields_in}
 use Rattle.key_bits.specs.Bits.{bit_of, IsFirstDifference}
-use Rattle.compound_node.specs.declared.entries.Entry.TheVariants.{Leaf}
-use Rattle.record_words.specs.Layout.{leaf_size}
-use Rattle.record_words.specs.Leaf.{HasLeafWords, leaf_words, up_to_key, words_for}
-use Rattle.tries.specs.Keys.{Key, bit, IsParted}
-use Rattle.tries.specs.Content.{item, items, first, IsAbove, IsLocal}
-use Rattle.tries.specs.Tree.{Tree, leaf, node, fork, subtrie, Has, IsTrie, IsBuilt}
-use Rattle.tries.proofs.Content.{trie_if_local}
-use Rattle.tries.proofs.Tree.{has_first}
-use Rattle.record_words.specs.declared.records.Rec.{Rec}
-use Rattle.record_words.specs.declared.records.Rec.TheVariants.{Node as a_node, Leaf as a_leaf}
-use Rattle.versions.specs.Heap.{Heap}
-use Rattle.versions.specs.State.{Links}
-use Rattle.versions.proofs.Heap.{node_leaf}
-use Rattle.rowex_core.specs.Cores.{heap_of}
-use Rattle.rowex_core.specs.Reading.{IsPacked}
 use Rattle.rowex_core.proofs.Reading.Leafing.{leaf_is, leaf_size_is}
 use Rattle.bulk_load.specs.declared.builder.Builder.{Builder}
 use Rattle.bulk_load.specs.declared.builder.StackedPiece.{StackedPiece}
@@ -26,7 +8,6 @@ use Rattle.bulk_load.specs.Loading.{greatest_key, IsOfLeaves, IsTreeOf}
 use Rattle.bulk_load.specs.Tips.{tip, tips_of}
 use Rattle.bulk_load.specs.Stacks.{LeftPiece, whole_of, position_of, front_tips}
 use Rattle.bulk_load.specs.Tables.{IsPut, HoldsTree, state_in}
-use Rattle.rowex_core.specs.Cores.{fields_in}
 use Rattle.bulk_load.proofs.Tables.Putting.{IsAddedTo, added, still_shown}
 use Rattle.bulk_load.proofs.Stacks.{fronts, items_joined, tips_joined, built_joined, shown_joined, links_inner, links_kept, links_added, local_inner, IsAboveHead, local_joined}
 

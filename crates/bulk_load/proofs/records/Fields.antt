@@ -1,15 +1,8 @@
 -- The fields of a record that was written.
-use Rattle.std.proofs.Common.{◌≡◌, ℕ, ◌+◌, ◌<◌, ◌≤◌, List, get_or, length, nat_lt, set, subst, if◌then◌else◌, sym, ap, ◌∙◌, arith}
-use Rattle.std.proofs.lemmas.Bool.{lt-ltb}
-use Rattle.std.proofs.lemmas.List.{ext_get_or, get_or-set_other, get_or-set_same, length-set}
+use Rattle.bulk_load.proofs.Common.{◌≡◌, ℕ, ◌+◌, ◌<◌, ◌≤◌, List, get_or, length, nat_lt, subst, if◌then◌else◌, sym, ap, ◌∙◌, arith, lt-ltb, ext_get_or, get_or-set_other, get_or-set_same, length-set, NODE_FIELDS, LEAF_FIELDS, Layout, node_start, leaf_start, leaf_size, HasLeafWords, key_word, leaf_words, up_to_key, words_for, words_of_key, a_node, a_leaf, fields_in}
+use Rattle.std.proofs.Common.{set}
 use Rattle.std.proofs.lemmas.List.FromFn.{get_or-map-range_with_len, length-map-range_with_len}
-use Rattle.record_words.specs.declared.TheConstants.{NODE_FIELDS, LEAF_FIELDS}
-use Rattle.record_words.specs.declared.layout.Layout.{Layout}
-use Rattle.record_words.specs.Layout.{node_start, leaf_start, leaf_size}
-use Rattle.record_words.specs.Leaf.{HasLeafWords, key_word, leaf_words, up_to_key, words_for, words_of_key}
 use Rattle.record_words.proofs.UpToKey.{spells_up_to_key}
-use Rattle.record_words.specs.declared.records.Rec.TheVariants.{Node as a_node, Leaf as a_leaf}
-use Rattle.rowex_core.specs.Cores.{fields_in}
 
 pub node_field : (layout : Layout) (table : List ℕ) (n i : ℕ) → i < NODE_FIELDS → get_or (fields_in layout table (a_node n)) i 0 ≡ get_or table (node_start layout n + (1 + i)) 0
 unfolding fields_in

@@ -1,23 +1,13 @@
 -- The rows of a piece: each from the one before and the fork between the two.
-use Rattle.std.proofs.Common.{Bool, List, [], ap, ap₂, arith, cond, drop, eqb, false, get_or, length, map, refl, subst, suc, sym, take, true, ℕ, ⊎_elim, ◌*◌, ◌++◌, ◌+◌, ◌-◌, ◌/◌, ◌<◌, ◌^◌, ◌||◌, ◌∙◌, ◌∷◌, ◌≡◌, ◌≤◌}
+use Rattle.bulk_load.proofs.Common.{Bool, List, [], ap, ap₂, arith, cond, drop, eqb, false, get_or, length, map, refl, subst, suc, sym, take, true, ℕ, ⊎_elim, ◌*◌, ◌++◌, ◌+◌, ◌-◌, ◌/◌, ◌<◌, ◌^◌, ◌||◌, ◌∙◌, ◌∷◌, ◌≡◌, ◌≤◌, div-div-eq-div-mul, pow-suc, eq-eqb, ne_eqb, or_left, or_right, drop_more, get_or-take, length-map, length-take-le, map-append, take-append-drop, div-mul-add, pow-add, pow_pos, Entry, IsPlaceOf, front_below-place, has-at, Fork, Piece, Place, RisesFrom, UsesOnly, paths, uses, Ascends, front_below, has, IsColumns, rows_of, ShowsPiece}
 use Rattle.std.proofs.Math.Bool.{or_assoc}
-use Rattle.std.proofs.Math.Nat.{div-div-eq-div-mul, pow-suc}
-use Rattle.std.proofs.lemmas.Bool.{eq-eqb, ne_eqb, or_left, or_right}
-use Rattle.std.proofs.lemmas.List.{drop_more, get_or-take, length-map, length-take-le, map-append, take-append-drop}
-use Rattle.std.proofs.lemmas.Nat.{div-mul-add, pow-add, pow_pos}
 use Rattle.std.proofs.lemmas.Simd.{map-map}
-use Rattle.compound_node.specs.declared.entries.Entry.{Entry}
 use Rattle.compound_node.proofs.Beside.{front-le}
 use Rattle.key_bits.proofs.Gather.{code-lt}
 use Rattle.key_bits.specs.Gather.{code}
-use Rattle.node_tries.proofs.Positions.{IsPlaceOf, front_below-place, has-at}
 use Rattle.node_tries.proofs.Positions.Tests.{map_same}
-use Rattle.node_tries.specs.Piece.{Fork, Piece, Place, RisesFrom, UsesOnly, paths, places, uses}
-use Rattle.node_tries.specs.Positions.{Ascends, front_below, has}
+use Rattle.node_tries.specs.Piece.{places}
 use Rattle.partial_keys.proofs.Rows.{code-falses, code-join}
-use Rattle.partial_keys.specs.Columns.{IsColumns}
-use Rattle.partial_keys.specs.Rows.{rows_of}
-use Rattle.partial_keys.specs.Shows.{ShowsPiece}
 use Rattle.partial_keys.proofs.Rows.Joining.{all_of}
 use Rattle.bulk_load.specs.Tips.{AreTipsOf, entries_in_tips, forks_between, next_row, rows_behind, tip, tips_of}
 use Rattle.bulk_load.specs.declared.tips.Tip.{Tip}

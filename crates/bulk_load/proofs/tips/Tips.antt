@@ -1,23 +1,11 @@
 -- The pieces of a node, made tip by tip.
-use Rattle.std.proofs.Common.{Bool, List, [], ap, ap₂, arith, bit_or, div-add-mod', drop, eqb, false, get_or, length, refl, replicate, set, subst, suc, sym, take, true, zero, ℕ, ⊎_elim, ◌%◌, ◌*◌, ◌++◌, ◌+◌, ◌-◌, ◌/◌, ◌<◌, ◌^◌, ◌||◌, ◌∙◌, ◌∷◌, ◌≡◌, ◌≤◌}
-use Rattle.std.proofs.Math.Nat.{div-div-eq-div-mul, div-lt_iff_lt-mul, mod-eq_of_lt, pow-suc}
-use Rattle.std.proofs.lemmas.Bool.{cases_Bool, eqb-true}
-use Rattle.std.proofs.lemmas.List.{append_assoc, get_or-map, length-map, length-take-le, map-append, set_at, take_all, take_at, take_more}
-use Rattle.std.proofs.lemmas.Nat.{mod_below, mul-le, or_block, pow-add, pow_pos}
+use Rattle.bulk_load.proofs.Common.{Bool, List, [], ap, ap₂, arith, bit_or, div-add-mod', drop, eqb, false, get_or, length, refl, replicate, subst, suc, sym, take, true, zero, ℕ, ⊎_elim, ◌%◌, ◌*◌, ◌++◌, ◌+◌, ◌-◌, ◌/◌, ◌<◌, ◌^◌, ◌||◌, ◌∙◌, ◌∷◌, ◌≡◌, ◌≤◌, div-div-eq-div-mul, div-lt_iff_lt-mul, mod-eq_of_lt, pow-suc, cases_Bool, eqb-true, append_assoc, get_or-map, length-map, length-take-le, map-append, set_at, take_all, take_at, take_more, mod_below, mul-le, or_block, pow-add, pow_pos, FitTogether, IsBuiltFrom, IsEntry, NodeView, greatest_height, Entry, Leaf, has-with_position, Piece, front_below, has, with_position, IsColumns, with_unused, ShowsPiece}
+use Rattle.std.proofs.Common.{set}
 use Rattle.std.specs.Int.Bits.{or_zero_r}
 use Rattle.std.specs.List.{All}
 use Rattle.compound_node.proofs.Forking.{fit_from_shown}
 use Rattle.compound_node.proofs.Lawful.{built_lawful}
-use Rattle.compound_node.specs.Nodes.{FitTogether, IsBuiltFrom, IsEntry, NodeView, greatest_height}
-use Rattle.compound_node.specs.declared.entries.Entry.{Entry}
-use Rattle.compound_node.specs.declared.entries.Entry.TheVariants.{Leaf}
-use Rattle.node_tries.proofs.Positions.{has-with_position}
-use Rattle.node_tries.specs.Piece.{Piece}
-use Rattle.node_tries.specs.Positions.{front_below, has, with_position}
 use Rattle.partial_keys.proofs.Shown.{piece_of_shown}
-use Rattle.partial_keys.specs.Columns.{IsColumns}
-use Rattle.partial_keys.specs.Rows.{with_unused}
-use Rattle.partial_keys.specs.Shows.{ShowsPiece}
 use Rattle.bulk_load.proofs.tips.Rows.{has-append, last_row, last_row-append, pieces_show, rows_behind-append}
 use Rattle.bulk_load.specs.Tips.{AreTipsOf, MayBeTip, entries_in_tips, forks_between, next_row, rows_behind}
 use Rattle.bulk_load.specs.declared.tips.Tip.{Tip}

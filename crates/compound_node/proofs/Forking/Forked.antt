@@ -1,19 +1,11 @@
 -- The words of a head with a new fork.
-use Rattle.std.proofs.Common.{Bool, List, [], ap, ap₂, arith, bit_or, cond, drop, false, get_or, length, length-append, map, replicate, subst, sym, take, true, ℕ, ◌%◌, ◌*◌, ◌++◌, ◌+◌, ◌-◌, ◌<◌, ◌^◌, ◌∙◌, ◌∷◌, ◌≡◌, ◌≤◌}
-use Rattle.std.proofs.lemmas.List.{drop_at, length-drop, length-map, length-replicate, length-take-le, take-replicate, take_at}
-use Rattle.std.proofs.lemmas.Nat.{one_shl}
-use Rattle.std.proofs.Math.Seq.{take-append-add}
+use Rattle.compound_node.proofs.Common.{Bool, List, [], ap, ap₂, arith, bit_or, cond, drop, false, get_or, length, length-append, map, replicate, subst, sym, take, true, ℕ, ◌%◌, ◌*◌, ◌++◌, ◌+◌, ◌-◌, ◌<◌, ◌^◌, ◌∙◌, ◌∷◌, ◌≡◌, ◌≤◌, drop_at, length-drop, length-map, length-replicate, length-take-le, take-replicate, take_at, one_shl, take-append-add, IsColumns, forked_rows, spread_row, length-with_position, edited, front_below, has, with_position}
 use Rattle.compound_node.proofs.Lawful.{same_count}
 use Rattle.compound_node.specs.Forking.{forked_head}
 use Rattle.compound_node.specs.Nodes.{FitsHead, HeadView, IsLawfulNode, leaves, node_of}
 use Rattle.compound_node.specs.declared.entries.Entry.TheVariants.{Leaf}
 use Rattle.partial_keys.proofs.Putting.{drop_pad}
-use Rattle.partial_keys.specs.Columns.{IsColumns}
-use Rattle.partial_keys.specs.Spread.{forked_rows, spread_row}
 use Rattle.node_tries.proofs.Edits.{edited-left}
-use Rattle.node_tries.proofs.Positions.{length-with_position}
-use Rattle.node_tries.specs.Growth.{edited}
-use Rattle.node_tries.specs.Positions.{front_below, has, with_position}
 
 -- there is room for the column
 pub room_for_column : (p : ℕ) (cs : List ℕ) → IsColumns (cond (has cs p) cs (with_position p cs)) → has cs p ≡ false → length cs < 31

@@ -1,17 +1,5 @@
 -- Rows that use each column: none of them goes.
-use Rattle.std.proofs.Common.{Bool, List, [], ap, arith, length, map, refl, suc, sym, true, ℕ, ◌-◌, ◌/◌, ◌^◌, ◌∙◌, ◌∷◌, ◌≡◌, ◌≤◌}
-use Rattle.std.proofs.lemmas.Bool.{and_parts}
-use Rattle.std.proofs.lemmas.List.{map-id}
-use Rattle.std.proofs.lemmas.Nat.Bits.{ones_shr}
-use Rattle.std.proofs.Math.Pow.{pow_mono}
-use Rattle.std.proofs.lemmas.Nat.{pow_pos}
-use Rattle.std.specs.List.{All}
-use Rattle.key_bits.specs.Gather.{code}
-use Rattle.partial_keys.proofs.Rows.{squeezed-code}
-use Rattle.partial_keys.proofs.Squeezed.{kept_coded}
-use Rattle.partial_keys.specs.Squeezed.{IsRowOver, squeezed, used_bits}
-use Rattle.node_tries.specs.Kept.{kept}
-use Rattle.node_tries.specs.Positions.{all}
+use Rattle.compound_node.proofs.Common.{Bool, List, [], ap, arith, length, map, refl, suc, sym, true, ℕ, ◌-◌, ◌/◌, ◌^◌, ◌∙◌, ◌∷◌, ◌≡◌, ◌≤◌, and_parts, map-id, ones_shr, pow_mono, pow_pos, All, code, squeezed-code, kept_coded, IsRowOver, squeezed, used_bits, kept, all}
 use Rattle.compound_node.proofs.Ladders.{full-code}
 
 -- the mask of the first columns

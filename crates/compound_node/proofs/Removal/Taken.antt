@@ -1,10 +1,5 @@
 -- A node without a place, and its head.
-use Rattle.std.proofs.Common.{List, ap, arith, drop, get_or, length, map, refl, replicate, subst, suc, sym, take, ℕ, ◌++◌, ◌+◌, ◌-◌, ◌<◌, ◌∙◌, ◌∷◌, ◌≡◌, ◌≤◌}
-use Rattle.std.proofs.lemmas.List.{drop_at, get_or-replicate, length-map, length-replicate, take_at}
-use Rattle.std.proofs.lemmas.List.Edits.{length-remove}
-use Rattle.std.proofs.lemmas.List.Elements.{All-append, All-drop, All-take}
-use Rattle.std.specs.List.{All}
-use Rattle.std.specs.Prelude.{remove}
+use Rattle.compound_node.proofs.Common.{List, ap, arith, drop, get_or, length, map, refl, replicate, subst, suc, sym, take, ℕ, ◌++◌, ◌+◌, ◌-◌, ◌<◌, ◌∙◌, ◌∷◌, ◌≡◌, ◌≤◌, drop_at, get_or-replicate, length-map, length-replicate, take_at, length-remove, All-append, All-drop, All-take, All, remove, rows_over, used_over, half_shows, piece_of_shown, Covers, ShowsPiece, IsRowOver, or_all, squeezed, used_bits, one_place, without, kept, Place}
 use Rattle.compound_node.proofs.Lawful.{built_lawful, same_count, with_leaves}
 use Rattle.compound_node.proofs.Removal.{covers_without}
 use Rattle.compound_node.proofs.halves.Halves.{fit_used}
@@ -12,15 +7,6 @@ use Rattle.compound_node.specs.Nodes.{FitTogether, FitsHead, HeadView, IsBuiltFr
 use Rattle.compound_node.specs.Removal.{removed_row}
 use Rattle.compound_node.specs.declared.entries.Entry.TheVariants.{Leaf}
 use Rattle.compound_node.specs.declared.entries.Entry.{Entry}
-use Rattle.partial_keys.proofs.Squeezed.Closing.{rows_over, used_over}
-use Rattle.partial_keys.proofs.Shown.Cutting.{half_shows}
-use Rattle.partial_keys.proofs.Shown.{piece_of_shown}
-use Rattle.partial_keys.specs.Shows.{Covers, ShowsPiece}
-use Rattle.partial_keys.specs.Squeezed.{IsRowOver, or_all, squeezed, used_bits}
-use Rattle.node_tries.proofs.Piece.{one_place}
-use Rattle.node_tries.specs.Changes.{without}
-use Rattle.node_tries.specs.Kept.{kept}
-use Rattle.node_tries.specs.Piece.{Place}
 
 -- the head without the place, with this height
 abbrev pub head_without : ℕ → ℕ → HeadView → HeadView

@@ -1,25 +1,11 @@
 -- The sides of a fork, each over the columns that it uses.
-use Rattle.std.proofs.Common.{List, [], ap, arith, drop, get_or, length, length-append, map, refl, subst, sym, take, ℕ, ◌%◌, ◌+◌, ◌<◌, ◌^◌, ◌∙◌, ◌∷◌, ◌≡◌, ◌≤◌}
-use Rattle.std.proofs.lemmas.Bool.{false≢true}
-use Rattle.std.specs.List.{All}
+use Rattle.compound_node.proofs.Common.{List, [], ap, arith, drop, get_or, length, length-append, map, refl, subst, sym, take, ℕ, ◌%◌, ◌+◌, ◌<◌, ◌^◌, ◌∙◌, ◌∷◌, ◌≡◌, ◌≤◌, false≢true, All, covers_one, covers_zero, front_size, half_shows, root_first, IsColumns-kept, covers_self, piece_of_covered, shown_some_column, IsColumns, piece_of, Covers, ShowsPiece, or_all, squeezed, used_bits, length-places, size_pos, kept, Fork, Piece, Place, places, size, front_below}
 use Rattle.compound_node.proofs.Forking.{fit_from_shown}
 use Rattle.compound_node.specs.Halves.{CutShows, HalfShows}
 use Rattle.compound_node.specs.Nodes.{FitTogether, IsEntry}
 use Rattle.compound_node.specs.declared.entries.Entry.TheVariants.{Leaf}
 use Rattle.compound_node.specs.declared.entries.Entry.{Entry}
 use Rattle.compound_node.specs.declared.halves.Half.{Half}
-use Rattle.partial_keys.proofs.Shown.Cutting.{covers_one, covers_zero, front_size, half_shows, root_first}
-use Rattle.partial_keys.proofs.Keeping.{IsColumns-kept}
-use Rattle.partial_keys.proofs.Shown.{covers_self, piece_of_covered}
-use Rattle.partial_keys.proofs.Shows.{shown_some_column}
-use Rattle.partial_keys.specs.Columns.{IsColumns}
-use Rattle.partial_keys.specs.Shown.{piece_of}
-use Rattle.partial_keys.specs.Shows.{Covers, ShowsPiece}
-use Rattle.partial_keys.specs.Squeezed.{or_all, squeezed, used_bits}
-use Rattle.node_tries.proofs.Piece.{length-places, size_pos}
-use Rattle.node_tries.specs.Kept.{kept}
-use Rattle.node_tries.specs.Piece.{Fork, Piece, Place, places, size}
-use Rattle.node_tries.specs.Positions.{front_below}
 
 -- ---- the columns that rows use
 module _ (columns rows : List ℕ) (entries : List Entry) (P : Piece Entry) (covers : Covers columns rows entries P) (more : 2 ≤ length entries) where

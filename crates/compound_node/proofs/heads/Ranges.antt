@@ -1,19 +1,10 @@
 -- The entries of a run of rows are those that agree in the columns before a position.
-use Rattle.std.proofs.Common.{List, ap, arith, get_or, length, subst, sym, ℕ, ⊎_elim, ◌+◌, ◌-◌, ◌/◌, ◌%◌, ◌<◌, ◌^◌, ◌∙◌, ◌≡◌, ◌≤◌, ◌↔◌, [], ◌∷◌, zero, suc, drop}
-use Rattle.std.proofs.Math.Nat.{div-mul-le_self}
-use Rattle.std.proofs.lemmas.Bool.{cases_lt, cases_order, eq-eqb, eqb-true, false≢true}
-use Rattle.std.proofs.lemmas.List.{get_or-drop, length-drop}
-use Rattle.std.proofs.lemmas.Nat.Bits.{bit_at_above, bit_at_cat_high, same_from_bits}
-use Rattle.std.proofs.lemmas.Nat.{le-div, mod_below, pow_pos, shr_split}
+use Rattle.compound_node.proofs.Common.{List, ap, arith, get_or, length, subst, sym, ℕ, ⊎_elim, ◌+◌, ◌-◌, ◌/◌, ◌%◌, ◌<◌, ◌^◌, ◌∙◌, ◌≡◌, ◌≤◌, ◌↔◌, [], ◌∷◌, zero, suc, drop, div-mul-le_self, cases_lt, cases_order, eq-eqb, eqb-true, false≢true, get_or-drop, length-drop, bit_at_above, bit_at_cat_high, same_from_bits, le-div, mod_below, pow_pos, shr_split, IsRunEnd, IsRunStart, affected_count, affected_first, ascends_back, front_below-place, IsPlaceOf, Ascends, front_below}
 use Rattle.std.specs.Int.{bit_at}
 use Rattle.compound_node.proofs.Ladders.{rises-ladder, shown-sparse_keys}
 use Rattle.compound_node.proofs.Lawful.{affected_range_is, rows_fit, same_count}
 use Rattle.compound_node.specs.Nodes.{AgreeBefore, HeadView, IsLawfulNode, NodeView, head_of, piece}
 use Rattle.compound_node.specs.declared.entries.Entry.TheVariants.{Leaf}
-use Rattle.partial_keys.specs.Runs.{IsRunEnd, IsRunStart}
-use Rattle.node_tries.specs.Growth.{affected_count, affected_first}
-use Rattle.node_tries.proofs.Positions.{ascends_back, front_below-place, IsPlaceOf}
-use Rattle.node_tries.specs.Positions.{Ascends, front_below}
 
 -- ---- the first columns of rows
 shr_bit : (n k i : ℕ) → k ≤ i → bit_at n i ≡ bit_at (n / 2 ^ k) (i - k)

@@ -1,9 +1,6 @@
 -- Two nodes under one fork.
-use Rattle.std.proofs.Common.{Bool, List, ap, arith, bit_or, eqb, get_or, length, length-append, map, refl, subst, sym, take, true, ℕ, ⊎_elim, ◌++◌, ◌+◌, ◌<◌, ◌||◌, ◌∙◌, ◌∷◌, ◌≡◌, ◌≤◌}
+use Rattle.compound_node.proofs.Common.{Bool, List, ap, arith, bit_or, eqb, get_or, length, length-append, map, refl, subst, sym, take, true, ℕ, ⊎_elim, ◌++◌, ◌+◌, ◌<◌, ◌||◌, ◌∙◌, ◌∷◌, ◌≡◌, ◌≤◌, eq-eqb, or_cases, or_left, or_right, take_at, All-append, weight, shows-fork, piece_of_shown, covers_of, shown_columns, with_unused, piece_of, Covers, ShowsPiece, same_rising, all_at, AtRootFork, Fork, Piece, Place, RisesFrom, uses, front_below, has}
 use Rattle.std.proofs.Math.Bool.{or_assoc, or_comm}
-use Rattle.std.proofs.lemmas.Bool.{eq-eqb, or_cases, or_left, or_right}
-use Rattle.std.proofs.lemmas.List.{take_at}
-use Rattle.std.proofs.lemmas.List.Elements.{All-append}
 use Rattle.compound_node.proofs.Forking.{fit_from_shown}
 use Rattle.compound_node.proofs.Lawful.{same_count}
 use Rattle.compound_node.proofs.Roots.{first_below, first_column}
@@ -11,18 +8,6 @@ use Rattle.compound_node.specs.Joining.{IsWidened}
 use Rattle.compound_node.specs.Nodes.{FitTogether, IsEntry, IsLawfulNode, NodeView, piece}
 use Rattle.compound_node.specs.declared.entries.Entry.{Entry}
 use Rattle.compound_node.specs.declared.entries.Entry.TheVariants.{Leaf}
-use Rattle.partial_keys.proofs.Rows.Growing.{weight}
-use Rattle.partial_keys.proofs.Rows.Joining.{shows-fork}
-use Rattle.partial_keys.proofs.Shown.{piece_of_shown}
-use Rattle.partial_keys.proofs.Shows.{covers_of, shown_columns}
-use Rattle.partial_keys.specs.Rows.{with_unused}
-use Rattle.partial_keys.specs.Shown.{piece_of}
-use Rattle.partial_keys.specs.Shows.{Covers, ShowsPiece}
-use Rattle.node_tries.proofs.Positions.{same_rising}
-use Rattle.node_tries.proofs.Positions.Tests.{all_at}
-use Rattle.node_tries.specs.Changes.{AtRootFork}
-use Rattle.node_tries.specs.Piece.{Fork, Piece, Place, RisesFrom, uses}
-use Rattle.node_tries.specs.Positions.{front_below, has}
 
 root_after : (low first : ℕ) (P : Piece Entry) → AtRootFork (λ p zero one. first ≡ p) P → RisesFrom low P → low ≤ first
 root_after low first (Place x) root rises = elim root [ ]

@@ -1,15 +1,6 @@
 -- More columns in the rows of a node.
-use Rattle.std.proofs.Common.{Bool, List, [], ap, arith, cond, false, get_or, length, map, refl, subst, suc, sym, take, true, zero, ℕ, ⊎_elim, ◌++◌, ◌+◌, ◌<◌, ◌||◌, ◌∙◌, ◌∷◌, ◌≡◌, ◌≤◌, eqb}
-use Rattle.std.proofs.lemmas.Bool.{cases_Bool, eqb-true, false≢true, or_cases, or_left}
-use Rattle.node_tries.proofs.Positions.Tests.{same_bools}
-use Rattle.std.proofs.lemmas.List.{take-map}
+use Rattle.compound_node.proofs.Common.{Bool, List, [], ap, arith, cond, false, get_or, length, map, refl, subst, suc, sym, take, true, zero, ℕ, ⊎_elim, ◌++◌, ◌+◌, ◌<◌, ◌||◌, ◌∙◌, ◌∷◌, ◌≡◌, ◌≤◌, eqb, cases_Bool, eqb-true, false≢true, or_cases, or_left, same_bools, take-map, covers-new_column, IsColumns-with_position, IsColumns, spread_row, has-with_position, length-with_position, AllBelow, front_below, has, with_position}
 use Rattle.compound_node.specs.Joining.{IsWidened}
-use Rattle.partial_keys.proofs.Rows.Joining.{covers-new_column}
-use Rattle.partial_keys.proofs.Keeping.{IsColumns-with_position}
-use Rattle.partial_keys.specs.Columns.{IsColumns}
-use Rattle.partial_keys.specs.Spread.{spread_row}
-use Rattle.node_tries.proofs.Positions.{has-with_position, length-with_position}
-use Rattle.node_tries.specs.Positions.{AllBelow, front_below, has, with_position}
 
 -- nothing new
 pub widened_none : (count : ℕ) (cs rows : List ℕ) → IsWidened count [] cs rows cs rows

@@ -1,6 +1,5 @@
 -- Rows that lose a bit.
-use Rattle.std.proofs.Common.{List, [], arith, cond, length, refl, ℕ, ◌-◌, ◌∷◌, ◌≡◌, true, false}
-use Rattle.std.specs.Prelude.{bit_and, nat_eq}
+use Rattle.compound_node.proofs.Common.{List, [], arith, cond, length, refl, ℕ, ◌-◌, ◌∷◌, ◌≡◌, true, false, bit_and, nat_eq}
 use Rattle.compound_node.specs.Removal.{cleared_front}
 
 pub length-cleared_front : (bit : ℕ) (rows : List ℕ) → length (cleared_front bit rows) ≡ length rows

@@ -1,13 +1,6 @@
 -- Rows without a column.
-use Rattle.std.proofs.Common.{◌≡◌, ℕ, ◌-◌, ◌*◌, ◌/◌, ◌%◌, ◌^◌, ◌<◌, ◌≤◌, ◌∙◌, Fits, List, ap, arith, get_or, length, map, replicate, suc, sym, w32}
-use Rattle.std.specs.Prelude.{bit_and, bit_or}
-use Rattle.std.proofs.Math.Nat.{pow-suc}
-use Rattle.std.proofs.Math.Pow.{pow_mono}
-use Rattle.std.proofs.lemmas.List.{ext_get_or, get_or-map, length-map}
-use Rattle.std.proofs.lemmas.Nat.{and_mask, or_shifted, pow_pos, mod_below}
-use Rattle.std.proofs.lemmas.Nat.Bits.{ones_shr, and_high_mask}
-use Rattle.std.proofs.lemmas.Simd.{Each1-get_or, map-map, zip2_of_maps, zip2_splat}
-use Rattle.partial_keys.specs.Squeezed.{closed_row}
+use Rattle.compound_node.proofs.Common.{◌≡◌, ℕ, ◌-◌, ◌*◌, ◌/◌, ◌%◌, ◌^◌, ◌<◌, ◌≤◌, ◌∙◌, Fits, List, ap, arith, get_or, length, map, replicate, suc, sym, w32, bit_and, pow-suc, pow_mono, ext_get_or, get_or-map, length-map, and_mask, or_shifted, pow_pos, mod_below, ones_shr, and_high_mask, Each1-get_or, map-map, zip2_of_maps, zip2_splat, closed_row}
+use Rattle.std.specs.Prelude.{bit_or}
 use lib.Lanes.{Each1, zip2}
 
 -- two masks part the row round the column

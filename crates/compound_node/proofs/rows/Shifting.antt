@@ -1,15 +1,6 @@
 -- Lanes that move up by one, over the last of them.
-use Rattle.std.proofs.Common.{Bool, List, [], ap, ap₂, arith, bit_or, cond, drop, eqb, false, get_or, length, length-append, map, nat_lt, refl, replicate, sym, take, true, w32, ℕ, ⊎_elim, ◌++◌, ◌+◌, ◌-◌, ◌<◌, ◌∙◌, ◌∷◌, ◌≡◌, ◌≤◌}
-use Rattle.std.proofs.lemmas.Bool.{cases_lt, eq-eqb, le-ltb, lt-ltb, ne_eqb}
-use Rattle.std.proofs.lemmas.List.{append_assoc, ext_get_or, get_or-append_right, get_or-drop, get_or-map, get_or-replicate, get_or-take, get_or_append_left, length-drop, length-map, length-take-le, take_more}
-use Rattle.std.proofs.lemmas.List.Edits.{get_or-insert_above, get_or-insert_at, get_or-insert_below, length-insert}
-use Rattle.std.proofs.lemmas.List.FromFn.{get_or-range_with_len}
-use Rattle.std.proofs.lemmas.Simd.{get_or-sel_l, get_or-zip2, length-sel_l, length-zip2, tops_compared, zip2_splat}
-use Rattle.std.specs.List.{insert, range_with_len}
+use Rattle.compound_node.proofs.Common.{Bool, List, [], ap, ap₂, arith, bit_or, cond, drop, eqb, false, get_or, length, length-append, map, nat_lt, refl, replicate, sym, take, true, w32, ℕ, ⊎_elim, ◌++◌, ◌+◌, ◌-◌, ◌<◌, ◌∙◌, ◌∷◌, ◌≡◌, ◌≤◌, cases_lt, eq-eqb, le-ltb, lt-ltb, ne_eqb, append_assoc, ext_get_or, get_or-append_right, get_or-drop, get_or-map, get_or-replicate, get_or-take, get_or_append_left, length-drop, length-map, length-take-le, take_more, get_or-insert_above, get_or-insert_at, get_or-insert_below, length-insert, get_or-range_with_len, get_or-sel_l, get_or-zip2, length-sel_l, length-zip2, tops_compared, zip2_splat, insert, range_with_len, forked_rows, edited, or_zero_r}
 use Rattle.compound_node.proofs.Editing.{part_first}
-use Rattle.partial_keys.specs.Spread.{forked_rows}
-use Rattle.node_tries.specs.Growth.{edited}
-use Rattle.std.specs.Int.Bits.{or_zero_r}
 use lib.Lanes.{pick_l, sel_l, top, zip2}
 
 -- the lanes whose places a comparison with a number picks

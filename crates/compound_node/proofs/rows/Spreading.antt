@@ -1,10 +1,6 @@
 -- A new column in a row.
-use Rattle.std.proofs.Common.{◌≡◌, ℕ, ◌-◌, ◌/◌, ◌%◌, ◌^◌, ◌<◌, ◌≤◌, ◌∙◌, Fits, List, ap, arith, bit_and, bit_or, get_or, length, map, replicate, sym, w32}
-use Rattle.std.proofs.lemmas.List.{ext_get_or, get_or-map, length-map}
-use Rattle.std.proofs.lemmas.Nat.{and_mask, or_shifted, pow_pos, mod_below}
-use Rattle.std.proofs.lemmas.Nat.Bits.{ones_shr, and_high_mask}
-use Rattle.std.proofs.lemmas.Simd.{Each1-get_or, map-map, zip2_of_maps, zip2_splat}
-use Rattle.partial_keys.specs.Spread.{spread_row}
+use Rattle.compound_node.proofs.Common.{◌≡◌, ℕ, ◌-◌, ◌/◌, ◌%◌, ◌^◌, ◌<◌, ◌≤◌, ◌∙◌, Fits, List, ap, arith, bit_or, get_or, length, map, replicate, sym, w32, ext_get_or, get_or-map, length-map, and_mask, or_shifted, pow_pos, mod_below, ones_shr, and_high_mask, Each1-get_or, map-map, zip2_of_maps, zip2_splat, spread_row}
+use Rattle.std.proofs.Common.{bit_and}
 use lib.Lanes.{Each1, zip2}
 
 -- the two masks part the row at the column

@@ -1,19 +1,6 @@
 -- What loading the pins in turn comes to: the bound of a round.
-use Rattle.std.proofs.Common.{◌≡◌, ℕ, ◌+◌, ◌<◌, ◌≤◌, List, [], ◌∷◌, ◌++◌, Bool, true, false, min, nat_eq, if◌then◌else◌, Option, Some, None, refl, sym, ap, subst, ◌∙◌, arith, eq-eqb, ⊎_elim}
-use Rattle.std.proofs.lemmas.Bool.{cases_lt}
-use Rattle.record_words.specs.declared.layout.Layout.{Layout}
-use Rattle.versions.specs.declared.Pin.{Pin}
-use Rattle.versions.specs.declared.Round.{Round}
-use Rattle.versions.specs.Core.{has_seen}
+use Rattle.epochs.proofs.Common.{◌≡◌, ℕ, ◌+◌, ◌<◌, ◌≤◌, List, [], ◌∷◌, ◌++◌, Bool, true, false, min, nat_eq, if◌then◌else◌, Option, Some, None, refl, sym, ap, subst, ◌∙◌, arith, eq-eqb, ⊎_elim, cases_lt, Layout, Pin, Round, has_seen, LoadEpoch, LoadPin, Known, pin_word, IsEvent, Event, silent, Steps, TableView, SeatView, in_turn_more}
 use Rattle.versions.specs.Steps.{lowered}
-use Rattle.rowex_core.specs.declared.event.Act.TheVariants.{LoadEpoch, LoadPin}
-use Rattle.rowex_core.specs.declared.known.Known.{Known}
-use Rattle.rowex_core.specs.Words.{pin_word}
-use Rattle.rowex_core.specs.Knowing.{IsEvent}
-use Rattle.rowex_core.specs.declared.event.Event.{Event}
-use Rattle.rowex_table.specs.Runs.{silent, Steps}
-use Rattle.rowex_table.specs.Seats.{TableView, SeatView}
-use Rattle.rowex_table.proofs.Runs.{in_turn_more}
 use Rattle.epochs.specs.Rounds.{HasBound, FindsBound, LoadsPin}
 use Rattle.epochs.proofs.Runs.{does_one, does_append}
 

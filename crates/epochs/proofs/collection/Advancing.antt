@@ -1,10 +1,5 @@
 -- The epoch advance_steps, unless it is the last.
-use Rattle.std.proofs.Common.{◌≡◌, ℕ, ◌+◌, ◌^◌, ◌<◌, ◌≤◌, [], ◌∷◌, Bool, true, false, nat_lt, if◌then◌else◌, sym, subst}
-use Rattle.std.proofs.lemmas.Bool.{lt-ltb, le-ltb}
-use Rattle.rowex_core.specs.declared.event.Act.TheVariants.{LoadEpoch, Advance}
-use Rattle.rowex_core.specs.declared.event.Event.{Event}
-use Rattle.rowex_table.specs.Runs.{Steps, Does}
-use Rattle.rowex_table.specs.Seats.{TableView, SeatView}
+use Rattle.epochs.proofs.Common.{◌≡◌, ℕ, ◌+◌, ◌^◌, ◌<◌, ◌≤◌, [], ◌∷◌, Bool, true, false, nat_lt, if◌then◌else◌, sym, subst, lt-ltb, le-ltb, LoadEpoch, Advance, Event, Steps, Does, TableView, SeatView}
 use Rattle.epochs.specs.Runs.{paced}
 use Rattle.epochs.specs.Rounds.{AdvancesEpoch}
 use Rattle.epochs.proofs.Runs.{does_one, does_two}

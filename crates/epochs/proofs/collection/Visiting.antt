@@ -1,23 +1,8 @@
 -- What visits of records come to.
-use Rattle.std.proofs.Common.{◌≡◌, ◌≢◌, ℕ, ◌+◌, ◌^◌, ◌<◌, ◌≤◌, [], ◌∷◌, ◌++◌, Bool, true, false, nat_eq, if◌then◌else◌, refl, sym, ap, subst, ◌∙◌, arith, List, length-append}
-use Rattle.std.specs.Prelude.{count_by}
+use Rattle.epochs.proofs.Common.{◌≡◌, ◌≢◌, ℕ, ◌+◌, ◌^◌, ◌<◌, ◌≤◌, [], ◌∷◌, ◌++◌, Bool, true, false, nat_eq, if◌then◌else◌, refl, sym, ap, subst, ◌∙◌, arith, List, length-append, count_by, Layout, leaf_size, leaf_start, Obsolete, state_word, Rec, Round, Act, LoadState, GiveBack, Known, IsEvent, Event, silent, Steps, TableView, SeatView, in_turn_more, does_none}
 use Rattle.std.proofs.lemmas.List.{append_assoc, append-nil}
 use Rattle.std.proofs.lemmas.List.Sums.{sum_by-append}
-use Rattle.record_words.specs.declared.layout.Layout.{Layout}
-use Rattle.record_words.specs.Layout.{leaf_size, leaf_start}
-use Rattle.record_words.specs.declared.state.Tag.TheVariants.{Obsolete}
-use Rattle.record_words.specs.State.{state_word}
-use Rattle.record_words.specs.declared.records.Rec.{Rec}
-use Rattle.versions.specs.declared.Round.{Round}
-use Rattle.rowex_core.specs.declared.event.Act.{Act}
-use Rattle.rowex_core.specs.declared.event.Act.TheVariants.{LoadState, GiveBack}
-use Rattle.rowex_core.specs.declared.known.Known.{Known}
-use Rattle.rowex_core.specs.Knowing.{IsEvent}
 use Rattle.rowex_core.proofs.Sharing.Owning.{round_is}
-use Rattle.rowex_core.specs.declared.event.Event.{Event}
-use Rattle.rowex_table.specs.Runs.{silent, Steps}
-use Rattle.rowex_table.specs.Seats.{TableView, SeatView}
-use Rattle.rowex_table.proofs.Runs.{in_turn_more, does_none}
 use Rattle.epochs.specs.Runs.{collecting}
 use Rattle.epochs.specs.Rounds.{Visits, VisitEach, has_given, VisitsOne, VisitsFirst, VisitsSome}
 use Rattle.epochs.proofs.Runs.{does_one, collects, collects_look, collects_append}

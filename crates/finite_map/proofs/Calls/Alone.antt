@@ -1,9 +1,5 @@
 -- The calls of a pass that makes all changes of its front: one after the other, each on the map that those before it led to.
-use Rattle.std.proofs.Common.{◌≡◌, ℕ, suc, ◌+◌, ◌≤◌, List, [], ◌∷◌, ◌++◌, length, take, map, true, false, cond, Bool, refl, sym, ap, ap₂, subst, ◌∙◌, arith, append-nil, append_assoc, length-append}
-use Rattle.std.specs.List.{All, cons_option}
-use Rattle.std.proofs.lemmas.Bool.{eq-eqb}
-use Rattle.std.proofs.lemmas.List.Elements.{All-head, All-tail}
-use Rattle.std.proofs.Math.Seq.{take-append_seam}
+use Rattle.finite_map.proofs.Common.{◌≡◌, ℕ, suc, ◌+◌, ◌≤◌, List, [], ◌∷◌, ◌++◌, length, take, map, true, false, cond, Bool, refl, sym, ap, ap₂, subst, ◌∙◌, arith, append-nil, append_assoc, length-append, All, cons_option, eq-eqb, All-head, All-tail, take-append_seam}
 use Rattle.finite_map.specs.declared.Change.{Change}
 use Rattle.finite_map.specs.declared.Note.{Note}
 use Rattle.finite_map.specs.Maps.{map_after, reply_of, replies_of, map_after_all}

@@ -1,6 +1,5 @@
 -- Calls on a map, one after the other.
-use Rattle.std.proofs.Common.{◌≡◌, List, [], ◌∷◌, ◌++◌, refl, ap}
-use Rattle.std.proofs.lemmas.List.Sums.{fold-append}
+use Rattle.finite_map.proofs.Common.{◌≡◌, List, [], ◌∷◌, ◌++◌, refl, ap, fold-append}
 use Rattle.finite_map.specs.declared.Call.{Call}
 use Rattle.finite_map.specs.Maps.{Map, reply_of, replies_of, map_after, map_after_all}
 

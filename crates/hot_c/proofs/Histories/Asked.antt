@@ -1,38 +1,12 @@
 -- How a call for a key has ended: the steps of its pass, its response, and what was told of it.
-use Rattle.std.proofs.Common.{◌≡◌, ◌≢◌, ⊎_elim, ℕ, List, [], ◌∷◌, ◌++◌, map, Option, None, Some, Result, Ok, Err, inl, inr, refl, sym, ap, subst, ◌∙◌}
-use Rattle.std.specs.Prelude.{IsPermutation}
-use Rattle.std.specs.Option.{option_to_list}
-use Rattle.std.proofs.lemmas.Bool.{cases_eq}
-use Rattle.std.proofs.lemmas.List.Sorted.{IsPermutation-refl}
-use Rattle.finite_map.specs.declared.Call.{Call}
-use Rattle.finite_map.specs.declared.Call.TheVariants.{Add, Exchange, Get, Insert, Remove, RemoveIf, Upsert}
-use Rattle.finite_map.specs.declared.Note.{Note}
-use Rattle.finite_map.specs.declared.Reply.{Reply}
-use Rattle.finite_map.specs.declared.Reply.TheVariants.{Absent, Differs, Exchanged, Exists, Inserted, New, Removed, Value, Was}
-use Rattle.rowex_core.specs.declared.event.Act.{Act}
+use Rattle.hot_c.proofs.Common.{◌≡◌, ◌≢◌, ⊎_elim, ℕ, List, [], ◌∷◌, ◌++◌, map, Option, None, Some, Result, Ok, Err, inl, inr, refl, sym, ap, subst, ◌∙◌, IsPermutation, option_to_list, cases_eq, IsPermutation-refl, Call, Add, Exchange, Get, Insert, Remove, RemoveIf, Upsert, Note, Reply, Absent, Differs, Exchanged, Exists, Inserted, New, Removed, Value, Was, Act, Known, Ends, Runs, silent, SeatView, TableView, Leaves, Nodes, IsNoted, IsRefused, IsRefusedFor, MayRefuse, GetsOr, GetsOrCounts, IsTriedAndCounted, HasCounted, loads_in, PassView, pass_of, IsToldAfter, fault_in, HasMadeChangeSteps, HasRead, reading, untold, Refusal, IsBusy, HeldBack, IsFull, answers, Happening, refuses, responds, HasEndedAs, answered, refused, silent_steps_end}
 use Rattle.rowex_core.specs.declared.event.Act.TheVariants.{ClearPin}
-use Rattle.rowex_core.specs.declared.known.Known.{Known}
-use Rattle.rowex_table.specs.Runs.{Ends, Runs, silent}
-use Rattle.rowex_table.specs.Seats.{SeatView, TableView}
 use Rattle.rowex_table.proofs.Runs.{runs_append}
 use Rattle.rowex_writing.specs.attempts.Attempts.{LacksNoLeaf}
 use Rattle.rowex_writing.specs.declared.attempts.TryFault.{TryFault}
 use Rattle.rowex_writing.specs.declared.attempts.TryFault.TheVariants.{Busy, FullLeaves, FullNodes}
-use Rattle.rowex_writing.specs.declared.plan.Full.TheVariants.{Leaves, Nodes}
-use Rattle.hot_index_calls.specs.Answers.{IsNoted, IsRefused, IsRefusedFor, MayRefuse}
-use Rattle.hot_index_calls.specs.Calls.{GetsOr, GetsOrCounts, IsTriedAndCounted}
-use Rattle.hot_index_calls.specs.Census.{HasCounted, loads_in}
 use Rattle.hot_index_calls.specs.Noting.{change_notes}
-use Rattle.hot_index_calls.specs.Passes.{PassView, pass_of}
-use Rattle.hot_index_calls.specs.Refusals.{IsToldAfter, fault_in}
-use Rattle.hot_index_calls.specs.Traces.{HasMadeChangeSteps, HasRead, reading, untold}
 use Rattle.hot_index_calls.specs.declared.census.RecordCounts.{RecordCounts}
-use Rattle.hot_index_calls.specs.declared.refusals.Refusal.{Refusal}
-use Rattle.hot_index_calls.specs.declared.refusals.Refusal.TheVariants.{Busy as IsBusy, HeldBack, Full as IsFull}
-use Rattle.linearizability.specs.Histories.{answers}
-use Rattle.linearizability.specs.Configurations.{Happening, refuses, responds}
-use Rattle.index_laws.specs.Joined.{HasEndedAs, answered, refused}
-use Rattle.index_laws.proofs.Joined.{silent_steps_end}
 use Rattle.hot_c.specs.Calls.{TellsOutcome}
 use Rattle.hot_c.specs.Histories.{told_of, told_reply}
 use Rattle.hot_c.specs.Refusals.{TellsRefusal}

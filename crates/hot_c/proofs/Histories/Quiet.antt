@@ -1,11 +1,5 @@
 -- Calls that ask nothing of the map.
-use Rattle.std.proofs.Common.{◌≡◌, ⊎_elim, ℕ, List, Bool, Option, Some, inl, inr, refl, sym, subst, ◌∙◌}
-use Rattle.finite_map.specs.Calls.{LegalCalls}
-use Rattle.record_words.specs.declared.layout.Layout.{Layout}
-use Rattle.version_laws.specs.Scan.{Range}
-use Rattle.rowex_table.specs.Seats.{TableView}
-use Rattle.hot_index_calls.specs.Passes.{PassView}
-use Rattle.hot_index_calls.specs.Traces.{HasMadeScanSteps, untold}
+use Rattle.hot_c.proofs.Common.{◌≡◌, ⊎_elim, ℕ, List, Bool, Option, Some, inl, inr, refl, sym, subst, ◌∙◌, LegalCalls, Layout, Range, TableView, PassView, HasMadeScanSteps, untold}
 use Rattle.hot_c.specs.Calls.{StaysOpen}
 use Rattle.hot_c.specs.Histories.{AsksNothing, QuietCalls}
 use Rattle.hot_c.specs.Orders.{IsFilledIn, IsListedIn}

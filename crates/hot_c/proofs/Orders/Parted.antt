@@ -1,24 +1,11 @@
 -- The first pairs of a scan are those of a scan that was cut after them, upwards and downwards.
-use Rattle.std.proofs.Common.{◌≡◌, ◌≢◌, ℕ, ◌+◌, ◌<◌, ◌≤◌, List, [], length, take, get_or, All, Any, Contains, Bool, true, false, IsTrue, leb, refl, sym, ap, ◌∙◌, subst, ⊎_elim, arith}
+use Rattle.hot_c.proofs.Common.{◌≡◌, ◌≢◌, ℕ, ◌+◌, ◌<◌, ◌≤◌, List, [], length, take, get_or, All, Any, Contains, Bool, true, false, IsTrue, leb, refl, sym, ap, ◌∙◌, subst, ⊎_elim, arith, ordering_reverse, Ordering, Less, Greater, nat_list_cmp_total, cases_Bool, leb-true, leb-false, get_or_default, get_or-take, length-take-le, All-take, Change, Scan, Map, key_order, falling_order, IsLawfulReverseScan, is_within, IsHeldBetween, IsLawfulScan, IsLawfulScanWith, IsHeldThroughout, ScanOrder, ScanLaw}
 use Rattle.std.specs.Cmp.{IsTotalOrder}
 use Rattle.std.specs.List.Sorted.{IsStrictlySortedBy}
 use Rattle.std.specs.Map.{keys_of}
-use Rattle.std.specs.Ordering.{ordering_reverse}
-use Rattle.std.specs.declared.cmp.Ordering.{Ordering}
-use Rattle.std.specs.declared.cmp.Ordering.TheVariants.{Less, Greater}
-use Rattle.std.specs.Cmp.Lexicographic.{nat_list_cmp_total}
-use Rattle.std.proofs.lemmas.Bool.{cases_Bool, leb-true, leb-false}
-use Rattle.std.proofs.lemmas.List.{get_or_default, get_or-take, length-take-le}
-use Rattle.std.proofs.lemmas.List.Elements.{All-take}
 use Rattle.std.proofs.lemmas.Map.Entries.{length-keys_of}
 use Rattle.std.proofs.lemmas.Map.Keys.{Less-from_sorted, sorted_from_all_adjacent}
 use Rattle.std.proofs.Math.ListN.{get_or-map}
-use Rattle.finite_map.specs.declared.Change.{Change}
-use Rattle.finite_map.specs.declared.Scan.{Scan}
-use Rattle.finite_map.specs.Maps.{Map, key_order}
-use Rattle.finite_map.specs.Reverse.{falling_order, IsLawfulReverseScan}
-use Rattle.finite_map.specs.Scans.{is_within, IsHeldBetween, IsLawfulScan, IsLawfulScanWith, IsHeldThroughout, ScanOrder}
-use Rattle.version_laws.specs.Directions.{ScanLaw}
 
 -- a pair that is read where there is none
 abbrev some : List ℕ × ℕ

@@ -1,13 +1,5 @@
 -- What a count of a range for C says, and a scan of its values, where it was made.
-use Rattle.std.proofs.Common.{◌≡◌, ℕ, ◌-◌, ◌^◌, List, length, Bool, Option, None, Some, Ok, Err, inl, inr, sym, ◌∙◌, subst}
-use Rattle.std.specs.declared.alloc.AllocError.{AllocError}
-use Rattle.version_laws.specs.Scan.{Range}
-use Rattle.rowex_table.specs.Seats.{TableView}
-use Rattle.hot_index_calls.specs.Answers.{AreValuesListed, HasFoundPair, IsUnnoted, range_from}
-use Rattle.hot_index_calls.specs.Calls.{IsCountRead, IsValuesRead}
-use Rattle.hot_index_calls.specs.Passes.{PassView}
-use Rattle.hot_index_calls.specs.Traces.{HasMadeScanSteps, untold}
-use Rattle.hot_index.specs.Handles.{Stays}
+use Rattle.hot_c.proofs.Common.{◌≡◌, ℕ, ◌-◌, ◌^◌, List, length, Bool, Option, None, Some, Ok, Err, inl, inr, sym, ◌∙◌, subst, AllocError, Range, TableView, AreValuesListed, HasFoundPair, IsUnnoted, range_from, IsCountRead, IsValuesRead, PassView, HasMadeScanSteps, untold, Stays}
 use Rattle.hot_c.specs.Calls.{FitsInKey, StaysOpen}
 use Rattle.hot_c.specs.Values.{AreWritten, ListsValues, ValueListing}
 use Rattle.hot_c.specs.Counting.{CountsRange}

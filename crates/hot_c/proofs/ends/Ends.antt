@@ -1,9 +1,6 @@
 -- What a search for one pair says, by what a scan for one pair left in the handle's list.
-use Rattle.std.proofs.Common.{◌≡◌, ℕ, ◌≤◌, List, [], ◌∷◌, length, slice_get, Bool, Option, Some, inl, inr, refl, subst, arith}
-use Rattle.std.specs.Option.{option_to_list}
-use Rattle.record_words.specs.declared.layout.Layout.{Layout}
-use Rattle.hot_index_calls.specs.Answers.{range_from}
-use Rattle.hot_index_calls.specs.Passes.{PassView}
+use Rattle.hot_c.proofs.Common.{◌≡◌, ℕ, ◌≤◌, List, [], ◌∷◌, length, Bool, Option, Some, inl, inr, refl, subst, arith, option_to_list, Layout, range_from, PassView}
+use Rattle.std.proofs.Common.{slice_get}
 use Rattle.hot_c.specs.Calls.{KeepsAll}
 use Rattle.hot_c.specs.Ends.{FindsBy, FindsFirstIn}
 use Rattle.hot_c.specs.Orders.{IsFilledIn}

@@ -1,9 +1,5 @@
 -- Look-ups, answered one after the other.
-use Rattle.std.proofs.Common.{◌≡◌, ℕ, zero, suc, ◌+◌, ◌<◌, List, [], ◌∷◌, ◌++◌, length, map, take, get_or, slice_set, All, Option, None, Some, inl, refl, sym, ap, ◌∙◌, subst, arith}
-use Rattle.std.proofs.lemmas.List.{length-map}
-use Rattle.hot_index.specs.Handles.{Stays}
-use Rattle.hot_index_calls.specs.Many.{AreNoted, HasMadeGetManySteps, gets}
-use Rattle.hot_index_calls.specs.Traces.{untold}
+use Rattle.hot_c.proofs.Common.{◌≡◌, ℕ, zero, suc, ◌+◌, ◌<◌, List, [], ◌∷◌, ◌++◌, length, map, take, get_or, slice_set, All, Option, None, Some, inl, refl, sym, ap, ◌∙◌, subst, arith, length-map, Stays, AreNoted, HasMadeGetManySteps, gets, untold}
 use Rattle.hot_c.specs.Calls.{FitsInKey}
 use Rattle.hot_c.specs.Lookups.{LooksUpAll, answer, are_answered, key_in}
 use Rattle.hot_c.specs.declared.lookups.Lookup.{Lookup}

@@ -1,13 +1,5 @@
 -- An index whose passes are kept by the handle of the last one.
-use Rattle.std.proofs.Common.{◌≡◌, ℕ, suc, ◌+◌, List, [], ◌∷◌, ◌++◌, length, map, reverse, All, Box, Some, Result, Ok, Err, IfOk, IsErrAnd, MatchResult, refl, sym, ap, ◌∙◌, subst, arith, length-append}
-use Rattle.std.specs.Global.{Global}
-use Rattle.std.specs.List.{slice_get}
-use Rattle.std.proofs.lemmas.List.{length-map, length-reverse}
-use Rattle.std.proofs.lemmas.List.Elements.{All-nil, All-cons}
-use Rattle.record_words.specs.declared.layout.Layout.{Layout}
-use Rattle.rowex_table.specs.Seats.{TableView}
-use Rattle.hot_index_calls.specs.Passes.{Owns, PassView}
-use Rattle.hot_index.specs.Handles.{HandleView, handle_at}
+use Rattle.hot_c.proofs.Common.{◌≡◌, ℕ, suc, ◌+◌, List, [], ◌∷◌, ◌++◌, length, map, reverse, All, Box, Some, Result, Ok, Err, IfOk, IsErrAnd, MatchResult, refl, sym, ap, ◌∙◌, subst, arith, length-append, Global, slice_get, length-map, length-reverse, All-nil, All-cons, Layout, TableView, Owns, PassView, HandleView, handle_at}
 use Rattle.hot_c.specs.Calls.{KeepsPasses}
 use Rattle.hot_c.specs.declared.opened.Opened.{Opened}
 use Rattle.hot_c.proofs.opening.Places.{mapped}

@@ -1,7 +1,5 @@
 -- Lists of passes, pairs and handles, a place after the other.
-use Rattle.std.proofs.Common.{◌≡◌, ℕ, zero, suc, ◌+◌, ◌<◌, List, [], ◌∷◌, ◌++◌, length, map, take, drop, All, Some, get_or, refl, sym, ap, ◌∙◌, subst, arith, slice_set}
-use Rattle.std.specs.List.{slice_get}
-use Rattle.std.proofs.lemmas.List.{length-drop}
+use Rattle.hot_c.proofs.Common.{◌≡◌, ℕ, zero, suc, ◌+◌, ◌<◌, List, [], ◌∷◌, ◌++◌, length, map, take, drop, All, Some, get_or, refl, sym, ap, ◌∙◌, subst, arith, slice_set, slice_get, length-drop}
 
 -- what holds of each item by its number, the first of which is this one
 abbrev pub AreFrom : {A : Type 0} → (ℕ → A → Type 0) → ℕ → List A → Type 0

@@ -1,10 +1,5 @@
 -- New passes, in boxes and behind handles.
-use Rattle.std.proofs.Common.{◌≡◌, ℕ, List, [], ◌∷◌, length, map, Box, Vec, Option, Some, Result, Ok, Err, IfOk, IsErrAnd, MatchResult, refl, sym, ap, ◌∙◌, subst}
-use Rattle.std.specs.Global.{Global}
-use Rattle.std.specs.List.{slice_get}
-use Rattle.std.proofs.lemmas.List.{length-map}
-use Rattle.record_words.specs.declared.layout.Layout.{Layout}
-use Rattle.rowex_table.specs.Seats.{TableView}
+use Rattle.hot_c.proofs.Common.{◌≡◌, ℕ, List, [], ◌∷◌, length, map, Box, Vec, Option, Some, Result, Ok, Err, IfOk, IsErrAnd, MatchResult, refl, sym, ap, ◌∙◌, subst, Global, slice_get, length-map, Layout, TableView}
 use Rattle.hot_c.specs.Calls.{AreNew, HaveOpenedOn, IsNewShare}
 use Rattle.hot_c.specs.declared.handle.IndexHandle.{IndexHandle}
 use Rattle.hot_c.specs.declared.opened.Opened.{Opened}

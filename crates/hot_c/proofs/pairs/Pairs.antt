@@ -1,10 +1,6 @@
 -- The pairs of a list are written to an array, one after the other.
-use Rattle.std.proofs.Common.{◌≡◌, ℕ, zero, suc, ◌+◌, ◌<◌, ◌≤◌, List, [], ◌∷◌, ◌++◌, length, drop, reverse, All, Some, sym, ap, ◌∙◌, subst, arith, get_or, slice_set}
-use Rattle.std.specs.List.{slice_get}
-use Rattle.std.proofs.lemmas.List.{drop-set-lt, length-drop, length-set, reverse-append}
-use Rattle.std.proofs.lemmas.List.Elements.{All-head, All-tail}
+use Rattle.hot_c.proofs.Common.{◌≡◌, ℕ, zero, suc, ◌+◌, ◌<◌, ◌≤◌, List, [], ◌∷◌, ◌++◌, length, drop, reverse, All, Some, sym, ap, ◌∙◌, subst, arith, get_or, slice_set, slice_get, drop-set-lt, length-drop, length-set, reverse-append, All-head, All-tail, IsKey}
 use Rattle.std.proofs.lemmas.Option.{slice_get_within}
-use Rattle.key_bits.specs.Key.{IsKey}
 use Rattle.hot_c.specs.Pairs.{AreSpelled, BecomesAt, Spells}
 use Rattle.hot_c.specs.declared.pairs.Pair.{Pair}
 use Rattle.hot_c.proofs.opening.Places.{at_both, one_less, written}

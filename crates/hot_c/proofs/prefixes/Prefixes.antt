@@ -1,17 +1,7 @@
 -- The keys with a prefix that are above a key, or below it, are a range.
-use Rattle.std.proofs.Common.{◌≡◌, ◌≢◌, ℕ, ◌-◌, ◌≤◌, List, [], ◌∷◌, ◌&&◌, not, length, replicate, refl, sym, ap, subst, ◌∙◌, arith, length-append}
+use Rattle.hot_c.proofs.Common.{◌≡◌, ◌≢◌, ℕ, ◌-◌, ◌≤◌, List, [], ◌∷◌, ◌&&◌, not, length, replicate, refl, sym, ap, subst, ◌∙◌, arith, length-append, length-replicate, nat_list_cmp_total, is_le, is_lt, ordering_reverse, Ordering, Less, Equal, Greater, IsKey, MAX_BYTES, key_order, is_within, HasPrefix, IsNextKey, IsPreviousKey, NoKeyAbove, last_with}
 use Rattle.std.specs.Prelude.{IsTrue, Option}
-use Rattle.std.proofs.lemmas.List.{length-replicate}
-use Rattle.std.specs.Cmp.Lexicographic.{nat_list_cmp_total}
-use Rattle.std.specs.Ordering.{is_le, is_lt, ordering_reverse}
-use Rattle.std.specs.declared.cmp.Ordering.{Ordering}
-use Rattle.std.specs.declared.cmp.Ordering.TheVariants.{Less, Equal, Greater}
 use Rattle.std.specs.BTreeMap.Comparable.{le_lt_trans}
-use Rattle.key_bits.specs.Key.{IsKey}
-use Rattle.key_bits.specs.declared.TheConstants.{MAX_BYTES}
-use Rattle.finite_map.specs.Maps.{key_order}
-use Rattle.finite_map.specs.Scans.{is_within}
-use Rattle.key_ranges.specs.Ranges.{HasPrefix, IsNextKey, IsPreviousKey, NoKeyAbove, last_with}
 use Rattle.key_ranges.proofs.Ranges.{between, not_below as not_over, not_over as not_under, prefix_is_range}
 use Rattle.key_ranges.proofs.Ranges.Above.{less_greater}
 use Rattle.hot_c.specs.Calls.{FitsInKey}

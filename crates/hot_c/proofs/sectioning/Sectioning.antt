@@ -1,6 +1,5 @@
 -- What the calls of sections come to, on handles that are open.
-use Rattle.std.proofs.Common.{◌≡◌, ◌⊎◌, ℕ, Bool, true, false, List, [], Option, Some, None, IsSome, Result, Ok, Err, IfOk, IfErr, MatchOption, Box, refl, sym, ap, ◌∙◌, subst, inl, inr}
-use Rattle.std.specs.Global.{Global}
+use Rattle.hot_c.proofs.Common.{◌≡◌, ◌⊎◌, ℕ, Bool, true, false, List, [], Option, Some, None, IsSome, Result, Ok, Err, IfOk, IfErr, MatchOption, Box, refl, sym, ap, ◌∙◌, subst, inl, inr, Global}
 use Rattle.sections.specs.Runs.{IsHeld, IsPast}
 use Rattle.sections.specs.Sections.{Enters, IsInside, Leaves, SeesOthers, SectionView, TakesMoment}
 use Rattle.hot_handles.specs.SectionHandles.{HasOpenedSection, IsUnchangedSection}

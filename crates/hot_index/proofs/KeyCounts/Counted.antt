@@ -1,29 +1,7 @@
 -- The count of a pass, when its notes stay, grow by gets, and grow by a change.
-use Rattle.std.proofs.Common.{◌≡◌, ℕ, ◌<◌, List, [], ◌∷◌, ◌++◌, take, Option, Result, Ok, Err, sym, ap, subst, ◌∙◌, append-nil}
-use Rattle.std.specs.Prelude.{All}
-use Rattle.std.specs.List.{cons_option}
-use Rattle.std.proofs.lemmas.List.Elements.{All-head, All-tail, filter_map-append}
-use Rattle.finite_map.specs.declared.Call.{Call}
-use Rattle.finite_map.specs.declared.Call.TheVariants.{Get}
-use Rattle.finite_map.specs.declared.Change.{Change}
-use Rattle.finite_map.specs.declared.Note.{Note}
-use Rattle.finite_map.specs.declared.Reply.{Reply}
-use Rattle.finite_map.specs.Calls.{LegalCalls, StandsIn, change_of, changes_of}
-use Rattle.finite_map.specs.Fronts.{map_of}
-use Rattle.finite_map.proofs.Calls.{change_of-quiet, legal_longer}
+use Rattle.hot_index.proofs.Common.{◌≡◌, ℕ, ◌<◌, List, [], ◌∷◌, ◌++◌, take, Option, Result, Ok, Err, sym, ap, subst, ◌∙◌, append-nil, All, cons_option, All-head, All-tail, filter_map-append, Call, Get, Change, Note, Reply, LegalCalls, StandsIn, change_of, changes_of, map_of, change_of-quiet, legal_longer, Layout, SeatView, TableView, TryFault, Full, Key, IsNoted, IsUnnoted, got, HasReplied, last_try, as_tried, Refusal, IsSettled, PassView, pass_of, get_changes_nothing}
 use Rattle.hot_index.specs.KeyCounts.{CountsAnswer, CountsReply, IsCountOf, IsNet, MayReply}
 use Rattle.hot_index.specs.declared.key_counts.KeyCount.{KeyCount}
-use Rattle.record_words.specs.declared.layout.Layout.{Layout}
-use Rattle.rowex_table.specs.Seats.{SeatView, TableView}
-use Rattle.rowex_writing.specs.declared.attempts.TryFault.{TryFault}
-use Rattle.rowex_writing.specs.declared.plan.Full.{Full}
-use Rattle.tries.specs.Keys.{Key}
-use Rattle.hot_index_calls.specs.Answers.{IsNoted, IsUnnoted, got}
-use Rattle.hot_index_calls.specs.Asked.{HasReplied, last_try}
-use Rattle.hot_index_calls.specs.Refusals.{as_tried}
-use Rattle.hot_index_calls.specs.declared.refusals.Refusal.{Refusal}
-use Rattle.hot_index_calls.specs.Passes.{IsSettled, PassView, pass_of}
-use Rattle.hot_index_calls.proofs.Noting.{get_changes_nothing}
 use Rattle.hot_index.specs.Passes.{IsSettledWith}
 use Rattle.hot_index.specs.Statements.{CountsAddUp}
 

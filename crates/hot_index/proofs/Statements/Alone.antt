@@ -1,21 +1,13 @@
 -- Two passes are not one.
-use Rattle.std.proofs.Common.{◌≡◌, ◌≢◌, ◌⊎◌, inl, inr, ℕ, zero, suc, ◌+◌, ◌<◌, ◌≤◌, List, [], ◌∷◌, length, Option, Some, None, Contains, ⊎_elim, refl, sym, subst, arith}
-use Rattle.std.proofs.lemmas.Bool.{cases_lt}
-use Rattle.record_words.specs.declared.layout.Layout.{Layout}
+use Rattle.hot_index.proofs.Common.{◌≡◌, ◌≢◌, ◌⊎◌, inl, inr, ℕ, zero, suc, ◌+◌, ◌<◌, ◌≤◌, List, [], ◌∷◌, length, Option, Some, None, Contains, ⊎_elim, refl, sym, subst, arith, cases_lt, Layout, Rec, a_node, a_leaf, word_of, HasMetTaken, IsOvertaken, PassView}
 use Rattle.versions.specs.Trades.{AreApart, IsOneOf}
 use Rattle.versions.proofs.Trades.{all_of, map_of}
-use Rattle.record_words.specs.declared.records.Rec.{Rec}
-use Rattle.record_words.specs.declared.records.Rec.TheVariants.{Node as a_node, Leaf as a_leaf}
 use Rattle.rowex_core.specs.declared.known.Failed.{Failed}
 use Rattle.rowex_core.specs.declared.known.FailedAct.{FailedAct}
 use Rattle.rowex_core.specs.declared.known.FailedAct.TheVariants.{Claim as a_claim, Lock as a_lock, LoadState as a_load}
-use Rattle.rowex_core.specs.Events.{word_of}
 use Rattle.rowex_records.specs.Claims.{AllMissed, HasMissedSince, IsAnothers, TellsState}
 use Rattle.rowex_records.proofs.Claims.{missed_so}
 use Rattle.rowex_writing.specs.build.Changes.{LacksNodes}
-use Rattle.rowex_writing.specs.locks.Locks.{HasMetTaken}
-use Rattle.hot_index_calls.specs.Answers.{IsOvertaken}
-use Rattle.hot_index_calls.specs.Passes.{PassView}
 use Rattle.hot_index_calls.proofs.Lacked.{without_one}
 use Rattle.hot_index_calls.proofs.Refusing.{no_other}
 use Rattle.hot_index.specs.Statements.{IsNobodys, OnePassFullMeansTaken, OnePassIsNeverBusy, ThirdIsTaken}

@@ -1,23 +1,9 @@
 -- A new value of a held key is never refused as full, nor a removal of an absent one.
-use Rattle.std.proofs.Common.{◌≡◌, ◌≢◌, ℕ, ◌+◌, ◌<◌, ◌≤◌, List, [], ◌++◌, length, take, Some, None, Result, Ok, Err, IsOk, refl, sym, ap, subst, ◌∙◌, arith, length-append}
-use Rattle.std.specs.Prelude.{All, IfErr, MatchResult}
+use Rattle.hot_index.proofs.Common.{◌≡◌, ◌≢◌, ℕ, ◌+◌, ◌<◌, ◌≤◌, List, [], ◌++◌, length, take, Some, None, Result, Ok, Err, IsOk, refl, sym, ap, subst, ◌∙◌, arith, length-append, All, IfErr, MatchResult, Call, Add, Exchange, Get, Insert, Remove, RemoveIf, Upsert, Change, Reply, map_of, key_of, value_at, Layout, TryFault, Busy, FullLeaves, FullNodes, Full, IsNoted, IsRefused, IsRefusedFor, MayTake, WasFound, fault_of, last_try, PassView}
 use Rattle.std.proofs.Math.Seq.{take-length}
-use Rattle.finite_map.specs.declared.Call.{Call}
-use Rattle.finite_map.specs.declared.Call.TheVariants.{Add, Exchange, Get, Insert, Remove, RemoveIf, Upsert}
-use Rattle.finite_map.specs.declared.Change.{Change}
-use Rattle.finite_map.specs.declared.Reply.{Reply}
-use Rattle.finite_map.specs.Fronts.{map_of}
-use Rattle.finite_map.specs.Maps.{key_of, value_at}
-use Rattle.record_words.specs.declared.layout.Layout.{Layout}
 use Rattle.rowex_writing.specs.attempts.Attempts.{IsFullFault}
 use Rattle.rowex_writing.specs.build.Spare.{IsRemoval}
-use Rattle.rowex_writing.specs.declared.attempts.TryFault.{TryFault}
-use Rattle.rowex_writing.specs.declared.attempts.TryFault.TheVariants.{Busy, FullLeaves, FullNodes}
-use Rattle.rowex_writing.specs.declared.plan.Full.{Full}
 use Rattle.rowex_writing.specs.declared.plan.Full.TheVariants.{Nodes, Leaves}
-use Rattle.hot_index_calls.specs.Answers.{IsNoted, IsRefused, IsRefusedFor, MayTake, WasFound, fault_of}
-use Rattle.hot_index_calls.specs.Asked.{last_try}
-use Rattle.hot_index_calls.specs.Passes.{PassView}
 use Rattle.hot_index_calls.proofs.Passes.Settled.{none_seen}
 use Rattle.hot_index.specs.Statements.{AbsentIsNeverFull, GivesValue, HeldIsNeverFull, OnePassRefusesOnlyNewKeys}
 use Rattle.hot_index.proofs.Statements.Alone.{one_pass_is_never_busy}

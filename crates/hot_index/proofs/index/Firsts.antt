@@ -1,15 +1,5 @@
 -- A list of one pair at most, and what is taken off its end.
-use Rattle.std.proofs.Common.{◌≡◌, ℕ, ◌<◌, ◌≤◌, List, [], ◌∷◌, ◌++◌, length, Bool, Option, None, Some, refl, sym, ap, subst, arith, length-append}
-use Rattle.std.specs.Prelude.{IsSome}
-use Rattle.std.specs.Option.{option_to_list}
-use Rattle.finite_map.specs.declared.Scan.{Scan}
-use Rattle.record_words.specs.declared.layout.Layout.{Layout}
-use Rattle.tries.specs.Keys.{Key}
-use Rattle.version_laws.specs.Directions.{IsLawfulBy}
-use Rattle.packed_pairs.specs.declared.direction.Direction.{Direction}
-use Rattle.packed_pairs.specs.declared.direction.Direction.TheVariants.{Upwards, Downwards}
-use Rattle.hot_index_calls.specs.Answers.{IsListedBy, range_from}
-use Rattle.hot_index_calls.specs.Passes.{PassView}
+use Rattle.hot_index.proofs.Common.{◌≡◌, ℕ, ◌<◌, ◌≤◌, List, [], ◌∷◌, ◌++◌, length, Bool, Option, None, Some, refl, sym, ap, subst, arith, length-append, IsSome, option_to_list, Scan, Layout, Key, IsLawfulBy, Direction, Upwards, Downwards, IsListedBy, range_from, PassView}
 
 nothing : (found : Option (Key × ℕ)) → found ≡ None → IsSome found → ⊥
 nothing found e is = cc

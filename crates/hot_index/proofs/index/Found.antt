@@ -1,31 +1,8 @@
 -- A scan that is refused memory has found a pair.
 use denote.RawPtr.{null_ptr}
-use Rattle.std.proofs.Common.{◌≢◌, ℕ, ◌<◌, ◌≤◌, ◌^◌, List, [], ◌∷◌, length, Bool, true, refl, sym, subst, arith, le_refl}
-use Rattle.std.specs.Prelude.{All, IsSome, IsTrue}
-use Rattle.std.proofs.lemmas.List.Elements.{All-head}
-use Rattle.finite_map.specs.declared.Scan.{Scan}
-use Rattle.finite_map.specs.Scans.{is_within, IsHeldBetween, IsLawfulScan}
-use Rattle.key_bits.specs.Key.{IsKey}
-use Rattle.record_words.specs.declared.layout.Layout.{Layout}
-use Rattle.versions.specs.State.{IsHeldSince, Past}
-use Rattle.rowex_core.specs.declared.event.Act.TheVariants.{ClearPin}
-use Rattle.rowex_core.specs.declared.known.Known.{Known}
-use Rattle.rowex_core.specs.Knowing.{IsEvent}
+use Rattle.hot_index.proofs.Common.{◌≢◌, ℕ, ◌<◌, ◌≤◌, ◌^◌, List, [], ◌∷◌, length, Bool, true, refl, sym, subst, arith, le_refl, All, IsSome, IsTrue, All-head, Scan, is_within, IsHeldBetween, IsLawfulScan, IsKey, Layout, IsHeldSince, Past, ClearPin, Known, IsEvent, Sure, seen, since, IsAnswer, IsLawfulBy, HasScanned, HasScannedPart, HasTakenPart, limited, Tally, Direction, Upwards, Downwards, silent, SeatView, IsInRange, Pair, Range, Key, GoesOn, HasFoundPair, IsListedBy, PassView, pass_of, HasLooked, goes_on}
 use Rattle.rowex_reading.proofs.Seen.Loading.{pinned_by}
-use Rattle.rowex_reading.specs.Seen.{Sure, seen, since}
 use Rattle.rowex_scanning.proofs.Scanned.{lawful_scan}
-use Rattle.version_laws.specs.Directions.{IsAnswer, IsLawfulBy}
-use Rattle.rowex_scanning.specs.Scanning.{HasScanned, HasScannedPart, HasTakenPart, limited}
-use Rattle.rowex_scanning.specs.Tallies.{Tally}
-use Rattle.packed_pairs.specs.declared.direction.Direction.{Direction}
-use Rattle.packed_pairs.specs.declared.direction.Direction.TheVariants.{Upwards, Downwards}
-use Rattle.rowex_table.specs.Runs.{silent}
-use Rattle.rowex_table.specs.Seats.{SeatView}
-use Rattle.version_laws.specs.Scan.{IsInRange, Pair, Range}
-use Rattle.tries.specs.Keys.{Key}
-use Rattle.hot_index_calls.specs.Answers.{GoesOn, HasFoundPair, IsListedBy}
-use Rattle.hot_index_calls.specs.Passes.{PassView, pass_of}
-use Rattle.hot_index_calls.proofs.Noting.{HasLooked, goes_on}
 
 -- a scan with these pairs
 abbrev scan_of : (pairs : List (Key × ℕ)) → Bool → length pairs < 2 ^ 63 → Scan

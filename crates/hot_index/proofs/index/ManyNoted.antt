@@ -1,38 +1,9 @@
 -- How the gets of one call get their notes, as the pass clears its pin: each its own, and all in the order of their places.
-use Rattle.std.proofs.Common.{◌≡◌, ℕ, suc, zero-le, ◌+◌, ◌<◌, ◌≤◌, List, [], ◌∷◌, ◌++◌, length, map, take, Bool, true, false, if◌then◌else◌, Option, None, Some, refl, sym, ap, subst, ◌∙◌, arith, le_refl, le_trans, append-nil}
-use Rattle.std.specs.Prelude.{All, nat_le, slice_get}
-use Rattle.std.specs.List.{cons_option}
-use Rattle.std.specs.List.Sorted.{IsPermutation}
-use Rattle.std.proofs.lemmas.Bool.Decides.{nat_tests}
-use Rattle.std.proofs.lemmas.List.Elements.{All-append, All-cons, All-head, All-nil, All-tail, All-weaker, filter_map-append}
-use Rattle.std.proofs.lemmas.Option.{slice_get_within}
+use Rattle.hot_index.proofs.Common.{◌≡◌, ℕ, suc, zero-le, ◌+◌, ◌<◌, ◌≤◌, List, [], ◌∷◌, ◌++◌, length, map, take, Bool, true, false, if◌then◌else◌, Option, None, Some, refl, sym, ap, subst, ◌∙◌, arith, le_refl, le_trans, append-nil, All, nat_le, cons_option, IsPermutation, nat_tests, All-append, All-cons, All-head, All-nil, All-tail, All-weaker, filter_map-append, slice_get_within, Call, Get, Change, Note, Reply, LegalCalls, RisesFrom, StandsIn, change_of, changes_of, is_change, place_after, LegalFront, OthersGoOn, change_of-quiet, legal_longer, place_after-within, recalls, Core, IsLawful, Recalls, ClearPin, Event, Known, StepsWith, SeatView, TableView, Pins, since, Key, got, AreNoted, gets, place_of, IsSettled, pass_of, HasLooked, IsRightPlace, WasRight, found_right, get_changes_nothing, goes_on, legal_front, looked, longer, right_place, settles}
+use Rattle.std.specs.Prelude.{slice_get}
 use Rattle.std.proofs.lemmas.List.Sorted.{All-permutation, IsPermutation-cons, IsPermutation-map, IsPermutation-middle, IsPermutation-refl, IsPermutation-trans}
-use Rattle.finite_map.specs.declared.Call.{Call}
-use Rattle.finite_map.specs.declared.Call.TheVariants.{Get}
-use Rattle.finite_map.specs.declared.Change.{Change}
-use Rattle.finite_map.specs.declared.Note.{Note}
-use Rattle.finite_map.specs.declared.Reply.{Reply}
-use Rattle.finite_map.specs.Calls.{LegalCalls, RisesFrom, StandsIn, change_of, changes_of, is_change, place_after}
-use Rattle.finite_map.specs.Fronts.{LegalFront, OthersGoOn}
-use Rattle.finite_map.proofs.Calls.{change_of-quiet, legal_longer, place_after-within}
 use Rattle.hot_index.specs.declared.key_counts.KeyCount.{KeyCount}
-use Rattle.rowex_core.proofs.Sharing.Owning.{recalls}
-use Rattle.rowex_core.specs.Cores.{Core, IsLawful}
-use Rattle.rowex_core.specs.Knowing.{Recalls}
-use Rattle.rowex_core.specs.declared.event.Act.TheVariants.{ClearPin}
-use Rattle.rowex_core.specs.declared.event.Event.{Event}
-use Rattle.rowex_core.specs.declared.known.Known.{Known}
-use Rattle.rowex_table.specs.Runs.{StepsWith}
-use Rattle.rowex_table.specs.Seats.{SeatView, TableView}
-use Rattle.epochs.specs.Runs.{Pins}
 use Rattle.rowex_reading.specs.Lookups.{HasFound, HaveFound, HaveSearched}
-use Rattle.rowex_reading.specs.Seen.{since}
-use Rattle.tries.specs.Keys.{Key}
-use Rattle.hot_index_calls.specs.Answers.{got}
-use Rattle.hot_index_calls.specs.Many.{AreNoted, gets}
-use Rattle.hot_index_calls.specs.Noting.{place_of}
-use Rattle.hot_index_calls.specs.Passes.{IsSettled, pass_of}
-use Rattle.hot_index_calls.proofs.Noting.{HasLooked, IsRightPlace, WasRight, found_right, get_changes_nothing, goes_on, legal_front, looked, longer, right_place, settles}
 use Rattle.hot_index.specs.Passes.{IsSettledWith}
 use Rattle.hot_index.proofs.KeyCounts.Counted.{count_goes, count_stays}
 

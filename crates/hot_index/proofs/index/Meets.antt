@@ -1,18 +1,7 @@
 -- Two passes that meet.
-use Rattle.std.proofs.Common.{◌≡◌, ◌++◌, ◌∙◌, List, sym, subst, ap}
-use Rattle.finite_map.specs.declared.Change.{Change}
-use Rattle.finite_map.specs.Calls.{LegalCalls}
-use Rattle.finite_map.specs.Fronts.{BeginsWith, LegalFront, OthersGoOn}
+use Rattle.hot_index.proofs.Common.{◌≡◌, ◌++◌, ◌∙◌, List, sym, subst, ap, Change, LegalCalls, BeginsWith, LegalFront, OthersGoOn, begins_on, others_begin, legal_longer, Layout, Known, SeatsHaveMet, with_front, SeatView, AreByPasses, IsSettled, pass_of, HaveMet, IsUnnoted}
 use Rattle.finite_map.specs.Weaves.{LegalHistory, weave}
-use Rattle.finite_map.proofs.Fronts.{begins_on, others_begin}
-use Rattle.finite_map.proofs.Calls.{legal_longer}
 use Rattle.finite_map.proofs.Weaves.{weave-legal_two}
-use Rattle.record_words.specs.declared.layout.Layout.{Layout}
-use Rattle.rowex_core.specs.declared.known.Known.{Known}
-use Rattle.rowex_table.specs.Rule.{SeatsHaveMet, with_front}
-use Rattle.rowex_table.specs.Seats.{SeatView}
-use Rattle.hot_index_calls.specs.Passes.{AreByPasses, IsSettled, pass_of}
-use Rattle.hot_index_calls.specs.Answers.{HaveMet, IsUnnoted}
 
 pub seen_more : (front : List Change) (k j : Known) → j ≡ with_front front k → j ≡ with_front j.front k
 seen_more front k j is = is ∙ ap (λ (l : List Change). with_front l k) (sym (ap (λ (z : Known). z.front) is))

@@ -1,23 +1,11 @@
 -- How many keys the map of a front has: as many as its changes have put in less those that they have taken out, pass by pass.
-use Rattle.std.proofs.Common.{◌≡◌, ◌≢◌, ℕ, zero, suc, ◌+◌, ◌%◌, ◌^◌, ◌<◌, ◌≤◌, List, [], ◌∷◌, length, slice_index_or, fold, All, cond, Option, Some, None, IsSome, sum_by, refl, sym, ap, ◌∙◌, subst, arith, ⊎_elim}
-use Rattle.std.specs.Option.{option_map, unwrap_or}
-use Rattle.std.specs.List.Sorted.{IsStrictlySortedBy}
+use Rattle.hot_index.proofs.Common.{◌≡◌, ◌≢◌, ℕ, zero, suc, ◌+◌, ◌%◌, ◌^◌, ◌<◌, ◌≤◌, List, [], ◌∷◌, length, slice_index_or, fold, cond, Option, Some, None, sum_by, refl, sym, ap, ◌∙◌, subst, arith, ⊎_elim, option_map, unwrap_or, IsStrictlySortedBy, length-map, All-head, All-tail, sum_by-cons, eqb_tells, slice_get-get_or, Added, Replaced, Removed, Change, Map, IsRising, key_order, value_at, with_value, without, FitsKind, LegalFrom, LegalFront, changed, changed_by, map_of, own_changes, changed_by-rising}
+use Rattle.std.proofs.Common.{All, IsSome}
 use Rattle.std.specs.Map.{values_of}
 use Rattle.std.specs.BTreeMap.{is_at}
 use Rattle.std.specs.Cmp.Lexicographic.{nat_list_cmp_total}
-use Rattle.std.proofs.lemmas.List.{length-map}
-use Rattle.std.proofs.lemmas.List.Elements.{All-head, All-tail}
-use Rattle.std.proofs.lemmas.List.Sums.{sum_by-cons}
 use Rattle.std.proofs.lemmas.Map.Entries.{sum_by-insert_entry, sum_by-remove_entry}
-use Rattle.std.proofs.lemmas.Bool.Decides.{eqb_tells}
-use Rattle.std.proofs.lemmas.Option.{slice_get-get_or}
 use Rattle.finite_map.specs.declared.Kind.{Kind}
-use Rattle.finite_map.specs.declared.Kind.TheVariants.{Added, Replaced, Removed}
-use Rattle.finite_map.specs.declared.Change.{Change}
-use Rattle.finite_map.specs.Maps.{Map, IsRising, key_order, value_at, with_value, without}
-use Rattle.finite_map.specs.Fronts.{FitsKind, LegalFrom, LegalFront, changed, changed_by, map_of}
-use Rattle.finite_map.specs.Calls.{own_changes}
-use Rattle.finite_map.proofs.Fronts.{changed_by-rising}
 use Rattle.hot_index.specs.declared.key_counts.KeyCount.{KeyCount}
 use Rattle.hot_index.specs.KeyCounts.{AreCounts, IsDifference, IsNet, puts, puts_of, takes, takes_of}
 use Rattle.hot_index.proofs.key_counts.Nets.{differences_add}

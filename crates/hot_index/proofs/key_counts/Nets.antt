@@ -1,16 +1,8 @@
 -- Differences modulo 2^64, and what a call puts in and takes out.
-use Rattle.std.proofs.Common.{◌≡◌, ℕ, ◌+◌, ◌*◌, ◌/◌, ◌%◌, ◌^◌, List, [], ◌∷◌, ◌++◌, Bool, true, false, Option, Some, None, option_to_list, sum_by, filter_map, nat_eq, refl, sym, ap, ◌∙◌, subst, arith}
-use Rattle.std.proofs.lemmas.List.Sums.{sum_by-append}
-use Rattle.std.proofs.lemmas.List.Elements.{filter_map-append}
+use Rattle.hot_index.proofs.Common.{◌≡◌, ℕ, ◌+◌, ◌*◌, ◌/◌, ◌%◌, ◌^◌, List, [], ◌∷◌, ◌++◌, Bool, true, false, Option, Some, None, sum_by, filter_map, nat_eq, refl, sym, ap, ◌∙◌, subst, arith, sum_by-append, filter_map-append, Call, Insert, Upsert, Exchange, Add, Get, Remove, RemoveIf, Reply, Exchanged, Change, Note, Map, key_of, step_where, step_if, value_at, with_value, without, change_of, changes_of}
+use Rattle.std.proofs.Common.{option_to_list}
 use Rattle.std.proofs.Math.Nat.{mod-add-div}
-use Rattle.finite_map.specs.declared.Call.{Call}
-use Rattle.finite_map.specs.declared.Call.TheVariants.{Insert, Upsert, Exchange, Add, Get, Remove, RemoveIf}
-use Rattle.finite_map.specs.declared.Reply.{Reply}
-use Rattle.finite_map.specs.declared.Reply.TheVariants.{Exchanged, Removed}
-use Rattle.finite_map.specs.declared.Change.{Change}
-use Rattle.finite_map.specs.declared.Note.{Note}
-use Rattle.finite_map.specs.Maps.{Map, key_of, step_where, step_if, value_at, with_value, without}
-use Rattle.finite_map.specs.Calls.{change_of, changes_of}
+use Rattle.finite_map.specs.declared.Reply.TheVariants.{Removed}
 use Rattle.hot_index.specs.KeyCounts.{MayReply, IsDifference, IsNet, net_of, puts, takes}
 
 pub differences_add : (x y u v m n : ℕ) → IsDifference x y m → IsDifference u v n → IsDifference (x + u) (y + v) ((m + n) % 2 ^ 64)

@@ -1,12 +1,7 @@
 -- Where all leaf records are long, each has room for each key.
-use Rattle.std.proofs.Common.{◌≡◌, ℕ, ◌≤◌, length, arith}
-use Rattle.std.proofs.lemmas.Bool.Decides.{nat_tests}
-use Rattle.key_bits.specs.Key.{IsKey}
-use Rattle.record_words.specs.declared.layout.Layout.{Layout}
+use Rattle.hot_index.proofs.Common.{◌≡◌, ℕ, ◌≤◌, length, arith, nat_tests, IsKey, Layout, leaf_size, Key}
 use Rattle.record_words.specs.declared.TheConstants.{LEAF_WORDS}
-use Rattle.record_words.specs.Layout.{leaf_size}
 use Rattle.record_words.specs.Leaf.{words_for}
-use Rattle.tries.specs.Keys.{Key}
 use Rattle.hot_index.specs.Statements.{AllLongFullMeansNoneFree}
 
 long_size : (layout : Layout) (q : ℕ) → layout.long_from ≡ 0 → leaf_size layout q ≡ LEAF_WORDS

@@ -1,24 +1,7 @@
 -- A node record that stands in no tree, in an index of one pass.
-use Rattle.std.proofs.Common.{◌≡◌, ◌≢◌, ℕ, ◌<◌, List, [], ◌∷◌, ◌++◌, sym, ap, subst, ◌∙◌, arith}
-use Rattle.std.proofs.lemmas.List.Elements.{All-cons, All-weaker}
-use Rattle.std.specs.Prelude.{All}
-use Rattle.record_words.specs.declared.layout.Layout.{Layout}
-use Rattle.record_words.specs.declared.records.Rec.TheVariants.{Node as a_node}
-use Rattle.rowex_core.specs.Cores.{Core}
-use Rattle.rowex_core.specs.Opening.{opening}
-use Rattle.rowex_core.specs.Runs.{EventsLead}
+use Rattle.hot_index.proofs.Common.{◌≡◌, ◌≢◌, ℕ, ◌<◌, List, [], ◌∷◌, ◌++◌, sym, ap, subst, ◌∙◌, arith, All-cons, All-weaker, All, Layout, a_node, Core, opening, EventsLead, ClearPin, LoadEpoch, LoadRef, SetPin, Event, IsShownAll, SeatView, TableView, IsBelowRoot, HasSpare, IsLone, IsOut, LeavesTree, KeepsSpare, lead_layout, lead_split, none_other, runs_spare, reads_plain, HasCounted, IsNewPass, PassView, HasCollected, HasRead, reading}
 use Rattle.rowex_core.specs.declared.event.Act.{Act}
-use Rattle.rowex_core.specs.declared.event.Act.TheVariants.{ClearPin, LoadEpoch, LoadRef, SetPin}
-use Rattle.rowex_core.specs.declared.event.Event.{Event}
 use Rattle.rowex_core.specs.declared.event.Spot.TheVariants.{Root}
-use Rattle.rowex_table.specs.Seats.{IsShownAll, SeatView, TableView}
-use Rattle.rowex_reading.specs.Reads.{IsBelowRoot}
-use Rattle.publish_laws.specs.Lone.{HasSpare, IsLone, IsOut, LeavesTree, KeepsSpare}
-use Rattle.publish_laws.proofs.Lone.{lead_layout, lead_split, none_other, runs_spare}
-use Rattle.rowex_writing.proofs.Cited.{reads_plain}
-use Rattle.hot_index_calls.specs.Census.{HasCounted}
-use Rattle.hot_index_calls.specs.Passes.{IsNewPass, PassView}
-use Rattle.hot_index_calls.specs.Traces.{HasCollected, HasRead, reading}
 use Rattle.hot_index_calls.specs.declared.census.RecordCounts.{RecordCounts}
 use Rattle.hot_index_calls.proofs.Rooms.{counts_spare, noted_spare, round_spare}
 

@@ -1,23 +1,10 @@
 -- How a scan ends: its pass clears the pin, and adds no note.
-use Rattle.std.specs.Prelude.{IsSome, IfOk, OnErr, Result, Ok, Err}
+use Rattle.hot_index_calls.proofs.Common.{IfOk, OnErr, ◌≡◌, ℕ, Bool, List, [], ◌++◌, sym, ap, subst, ◌∙◌, ◌+◌, ◌≤◌, arith, append-nil, Note, LegalCalls, legal_longer, Layout, ClearPin, Known, IsEvent, StepsWith, silent, Pins, Event, SeatView, TableView, Key, seen, since, event_recalls}
+use Rattle.std.specs.Prelude.{IsSome, Result, Ok, Err}
 use Rattle.std.specs.declared.alloc.AllocError.{AllocError}
-use Rattle.std.proofs.Common.{◌≡◌, ℕ, Bool, List, [], ◌++◌, sym, ap, subst, ◌∙◌, ◌+◌, ◌≤◌, arith}
-use Rattle.std.proofs.lemmas.List.{append-nil}
-use Rattle.finite_map.specs.declared.Note.{Note}
 use Rattle.finite_map.specs.declared.Scan.{Scan}
-use Rattle.finite_map.specs.Calls.{LegalCalls}
-use Rattle.finite_map.proofs.Calls.{legal_longer}
 use Rattle.key_bits.specs.Key.{IsKey}
-use Rattle.record_words.specs.declared.layout.Layout.{Layout}
-use Rattle.rowex_core.specs.declared.event.Act.TheVariants.{ClearPin}
-use Rattle.rowex_core.specs.declared.known.Known.{Known}
-use Rattle.rowex_core.specs.Knowing.{IsEvent}
-use Rattle.rowex_table.specs.Runs.{StepsWith, silent}
-use Rattle.epochs.specs.Runs.{Pins}
-use Rattle.rowex_core.specs.declared.event.Event.{Event}
-use Rattle.rowex_table.specs.Seats.{SeatView, TableView}
 use Rattle.version_laws.specs.Scan.{Pair, Range, in_order_taken}
-use Rattle.tries.specs.Keys.{Key}
 use Rattle.hot_index_calls.specs.Passes.{PassView, IsSettled, pass_of}
 use Rattle.version_laws.specs.Directions.{ScanLaw}
 use Rattle.hot_index_calls.specs.Answers.{AreValuesListed, IsListed, IsListedBy, IsRangeCounted, IsScannedBy, IsUnnoted}
@@ -27,8 +14,6 @@ use Rattle.rowex_scanning.specs.Scanning.{HasScanned, HasTaken}
 use Rattle.rowex_scanning.specs.Tallies.{tally_of_number, tally_of_values}
 use Rattle.packed_pairs.specs.declared.direction.Direction.{Direction}
 use Rattle.packed_pairs.specs.declared.direction.Direction.TheVariants.{Upwards}
-use Rattle.rowex_reading.specs.Seen.{seen, since}
-use Rattle.rowex_reading.proofs.Seen.Later.{event_recalls}
 use Rattle.rowex_scanning.proofs.Scanned.{answer_short, lawful_scan, lawful_taken, values_of_pairs}
 use Rattle.hot_index_calls.proofs.Noting.{HasLooked, goes_on, legal_front, settles}
 use Rattle.rowex_reading.proofs.Seen.Loading.{pinned_by}

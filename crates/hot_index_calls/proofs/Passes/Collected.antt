@@ -1,20 +1,5 @@
 -- A round of collection leaves a settled pass settled.
-use Rattle.std.proofs.Common.{◌≡◌, ℕ, zero, suc, inl, inr, refl, ◌+◌, ◌*◌, ◌<◌, ◌≤◌, List, [], ◌∷◌, ◌++◌, length, nat_lt, true, false, Bool, if◌then◌else◌, None, sym, ap, subst, ◌∙◌, arith, length-append}
-use Rattle.std.proofs.lemmas.List.{append-nil}
-use Rattle.record_words.specs.declared.TheConstants.{EPOCHS}
-use Rattle.record_words.specs.declared.records.Rec.{Rec}
-use Rattle.record_words.specs.declared.records.Rec.TheVariants.{Node as a_node, Leaf as a_leaf}
-use Rattle.rowex_core.specs.declared.event.Act.{Act}
-use Rattle.rowex_core.specs.declared.event.Act.TheVariants.{Advance, LoadEpoch}
-use Rattle.rowex_core.specs.declared.event.Event.{Event}
-use Rattle.rowex_core.specs.declared.known.Known.{Known}
-use Rattle.rowex_table.specs.Runs.{Does, InTurn}
-use Rattle.rowex_table.specs.Seats.{TableView, SeatView}
-use Rattle.finite_map.specs.Calls.{LegalCalls}
-use Rattle.finite_map.specs.Fronts.{BeginsWith}
-use Rattle.epochs.specs.Rounds.{IsRound, IsSmallRound, LoadsPin, VisitEach, Visits, advance_steps}
-use Rattle.epochs.specs.Runs.{collecting}
-use Rattle.rowex_writing.specs.declared.plan.Full.{Full}
+use Rattle.hot_index_calls.proofs.Common.{◌≡◌, ℕ, zero, suc, inl, inr, refl, ◌+◌, ◌*◌, ◌<◌, ◌≤◌, List, [], ◌∷◌, ◌++◌, length, nat_lt, true, false, Bool, if◌then◌else◌, None, sym, ap, subst, ◌∙◌, arith, length-append, append-nil, EPOCHS, Rec, a_node, a_leaf, Act, Advance, LoadEpoch, Event, Known, Does, InTurn, TableView, SeatView, LegalCalls, BeginsWith, IsRound, IsSmallRound, LoadsPin, VisitEach, Visits, advance_steps, collecting, Full}
 use Rattle.hot_index_calls.specs.Answers.{IsUnnoted}
 use Rattle.hot_index_calls.specs.Asked.{IsIdle}
 use Rattle.hot_index_calls.specs.Counts.{round_steps}

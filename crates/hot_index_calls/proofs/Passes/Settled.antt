@@ -1,43 +1,8 @@
 -- In a table with one pass a refused call has seen no change, so it has made none, and no record is retired after it. A count finds that.
-use Rattle.std.proofs.Common.{◌≡◌, ℕ, suc, ◌+◌, ◌<◌, ◌≤◌, List, [], ◌∷◌, ◌++◌, Bool, true, false, if◌then◌else◌, Option, Some, None, Result, Ok, Err, length, refl, sym, ap, subst, ◌∙◌, arith, length-append}
-use Rattle.std.specs.Prelude.{All, IfErr, count_by}
-use Rattle.std.proofs.lemmas.Bool.{false≢true}
-use Rattle.std.proofs.lemmas.List.Elements.{All-cons, All-nil}
-use Rattle.finite_map.specs.declared.Call.{Call}
-use Rattle.finite_map.specs.declared.Change.{Change}
-use Rattle.finite_map.specs.declared.Note.{Note}
-use Rattle.finite_map.specs.declared.Reply.{Reply}
-use Rattle.finite_map.specs.Calls.{LegalCalls, changes_of, own_changes}
+use Rattle.hot_index_calls.proofs.Common.{◌≡◌, ℕ, suc, ◌+◌, ◌<◌, ◌≤◌, List, [], ◌∷◌, ◌++◌, Bool, true, false, if◌then◌else◌, Option, Some, None, Result, Ok, Err, length, refl, sym, ap, subst, ◌∙◌, arith, length-append, All, IfErr, count_by, false≢true, All-cons, All-nil, Call, Change, Note, Reply, LegalCalls, changes_of, own_changes, state_word, Layout, Rec, a_node, a_leaf, Tag, FreeTag, HeldTag, Live, Locked, Obsolete, Fate, Free, Held, Ready, InTree, Unlinked, Marked, IsOneOf, Act, ClearPin, Load, LoadState, Publish, Event, HeldBy, ReadyBy, Known, knows_all, Core, HasRecord, IsLawful, holder_of, next_change, IsEvent, Knows, fate_of, lock_of, tag_of, Runs, Steps, StepsWith, silent, SeatView, TableView, act_leaves, act_front, runs_split, one_of, TryFault, Busy, FullNodes, FullLeaves, LeavesTree}
 use Rattle.finite_map.proofs.Calls.Alone.{own_changes-all}
-use Rattle.record_words.specs.State.{state_word}
-use Rattle.record_words.specs.declared.layout.Layout.{Layout}
-use Rattle.record_words.specs.declared.records.Rec.{Rec}
-use Rattle.record_words.specs.declared.records.Rec.TheVariants.{Node as a_node, Leaf as a_leaf}
-use Rattle.record_words.specs.declared.state.Tag.{Tag}
-use Rattle.record_words.specs.declared.state.Tag.TheVariants.{Free as FreeTag, Held as HeldTag, Live, Locked, Obsolete}
-use Rattle.versions.specs.Core.{Fate, Free, Held, Ready, InTree, Unlinked, Marked}
-use Rattle.versions.specs.Trades.{IsOneOf}
-use Rattle.rowex_core.specs.declared.event.Act.{Act}
-use Rattle.rowex_core.specs.declared.event.Act.TheVariants.{ClearPin, Load, LoadState, Publish}
-use Rattle.rowex_core.specs.declared.event.Event.{Event}
 use Rattle.rowex_core.specs.declared.event.Spot.{Spot}
 use Rattle.rowex_core.specs.declared.known.Holding.{Holding}
-use Rattle.rowex_core.specs.declared.known.Holding.TheVariants.{Held as HeldBy, Ready as ReadyBy}
-use Rattle.rowex_core.specs.declared.known.Known.{Known}
-use Rattle.rowex_core.proofs.Sharing.Owning.{knows_all}
-use Rattle.rowex_core.specs.Cores.{Core, HasRecord, IsLawful, holder_of}
-use Rattle.rowex_core.specs.Events.{next_change}
-use Rattle.rowex_core.specs.Knowing.{IsEvent, Knows}
-use Rattle.rowex_core.specs.Sharing.{fate_of}
-use Rattle.rowex_core.specs.Words.{lock_of, tag_of}
-use Rattle.rowex_table.specs.Runs.{Runs, Steps, StepsWith, silent}
-use Rattle.rowex_table.specs.Seats.{SeatView, TableView}
-use Rattle.rowex_table.proofs.Made.ActsLeave.{act_leaves}
-use Rattle.rowex_writing.proofs.Cited.{act_front, runs_split}
-use Rattle.publish_laws.proofs.Lone.{one_of}
-use Rattle.rowex_writing.specs.declared.attempts.TryFault.{TryFault}
-use Rattle.rowex_writing.specs.declared.attempts.TryFault.TheVariants.{Busy, FullNodes, FullLeaves}
-use Rattle.publish_laws.specs.Lone.{LeavesTree}
 use Rattle.hot_index_calls.specs.Answers.{IsRefusedFor, IsUnnoted}
 use Rattle.hot_index_calls.specs.Census.{FoundTags, counts_in, counts_of, is_held, is_obsolete, loads_in, loads_of}
 use Rattle.hot_index_calls.proofs.Counted.{count_first}

@@ -1,35 +1,6 @@
 -- Another pass in the way of a call: what an attempt has met, and how the whole call sees it.
-use Rattle.std.proofs.Common.{◌≡◌, ◌≢◌, ◌⊎◌, inl, inr, ⊎_elim, ℕ, ◌<◌, ◌≤◌, List, [], ◌∷◌, length, get_or, take, Option, Some, None, refl, sym, ap, subst, ◌∙◌, arith, le_trans, length-append}
-use Rattle.std.specs.Prelude.{All, Contains, slice_get}
-use Rattle.std.proofs.lemmas.List.{append-nil, take-append-le}
-use Rattle.std.proofs.lemmas.List.Elements.{All-head, All-tail}
-use Rattle.std.proofs.lemmas.Option.{slice_get-get_or}
-use Rattle.finite_map.specs.declared.Call.{Call}
-use Rattle.finite_map.specs.declared.Call.TheVariants.{Add, Exchange, Get, Insert, Remove, RemoveIf, Upsert}
-use Rattle.finite_map.specs.declared.Change.{Change}
-use Rattle.finite_map.specs.declared.Kind.TheVariants.{Added}
-use Rattle.finite_map.specs.Fronts.{BeginsWith, OthersGoOn, map_of}
-use Rattle.finite_map.specs.Maps.{value_at}
-use Rattle.record_words.specs.declared.layout.Layout.{Layout}
-use Rattle.tries.specs.Keys.{Key}
-use Rattle.versions.specs.declared.Pin.{Pin}
-use Rattle.rowex_core.specs.declared.event.Act.{Act}
-use Rattle.rowex_core.specs.declared.event.Act.TheVariants.{Load, LoadRef}
-use Rattle.rowex_core.specs.declared.event.Event.{Event}
-use Rattle.rowex_core.specs.declared.event.Spot.TheVariants.{Root, Slot, Value}
-use Rattle.rowex_core.specs.declared.event.Target.{Target}
-use Rattle.rowex_core.specs.declared.known.Failed.{Failed}
-use Rattle.rowex_core.specs.declared.known.Fresh.{Fresh}
-use Rattle.rowex_core.specs.declared.known.Known.{Known}
-use Rattle.rowex_core.specs.Knowing.{IsEvent, IsPinnedSince, version_of}
-use Rattle.rowex_table.specs.Runs.{Runs, silent}
-use Rattle.rowex_table.specs.Seats.{SeatView, TableView}
-use Rattle.rowex_table.proofs.Made.ActsLeave.{act_fresh, act_leaves}
-use Rattle.epochs.specs.Runs.{Pins}
-use Rattle.rowex_writing.specs.plan.Planned.{HasLoadedRoot}
-use Rattle.rowex_writing.specs.locks.Locks.{HasMadeNoChange, HasMetTaken, HasTried, IsOfAttempt}
-use Rattle.rowex_writing.proofs.Cited.{no_change_from_later, of_attempt_pin}
-use Rattle.rowex_table.specs.Traces.{RunBeginsWith}
+use Rattle.hot_index_calls.proofs.Common.{◌≡◌, ◌≢◌, ◌⊎◌, inl, inr, ⊎_elim, ℕ, ◌<◌, ◌≤◌, List, [], ◌∷◌, length, get_or, take, Option, Some, None, refl, sym, ap, subst, ◌∙◌, arith, le_trans, length-append, All, Contains, slice_get, append-nil, take-append-le, All-head, All-tail, slice_get-get_or, Call, Add, Exchange, Get, Insert, Remove, RemoveIf, Upsert, Change, Added, BeginsWith, OthersGoOn, map_of, value_at, Layout, Key, Pin, Act, Load, LoadRef, Event, Root, Slot, Target, Failed, Fresh, Known, IsEvent, IsPinnedSince, version_of, Runs, silent, SeatView, TableView, act_fresh, act_leaves, Pins, HasLoadedRoot, HasMadeNoChange, HasMetTaken, HasTried, IsOfAttempt, no_change_from_later, of_attempt_pin, RunBeginsWith}
+use Rattle.rowex_core.specs.declared.event.Spot.TheVariants.{Value}
 use Rattle.rowex_table.proofs.Onward.{begins_on}
 use Rattle.hot_index_calls.specs.Alone.{HasBeenHindered}
 use Rattle.hot_index_calls.specs.Answers.{HasConflict, IsOvertaken, MayTake, WasFound}

@@ -1,33 +1,5 @@
 -- An attempt that does nothing, and what the one before it was refused for.
-use Rattle.std.proofs.Common.{◌≡◌, ℕ, ◌+◌, List, [], ◌∷◌, Option, None, Err, true, refl, sym, ap, subst, ◌∙◌, arith}
-use Rattle.std.specs.Prelude.{Contains}
-use Rattle.std.proofs.lemmas.Bool.{false≢true}
-use Rattle.std.proofs.lemmas.List.{append-nil}
-use Rattle.std.proofs.lemmas.List.Elements.{All-nil}
-use Rattle.finite_map.specs.declared.Note.{Note}
-use Rattle.finite_map.specs.Calls.{LegalCalls}
-use Rattle.finite_map.specs.Fronts.{BeginsWith}
-use Rattle.rowex_core.specs.declared.event.Act.TheVariants.{ClearPin}
-use Rattle.rowex_core.specs.declared.event.Event.{Event}
-use Rattle.record_words.specs.declared.layout.Layout.{Layout}
-use Rattle.tries.specs.Keys.{Key}
-use Rattle.record_words.specs.declared.records.Rec.{Rec}
-use Rattle.record_words.specs.declared.records.Rec.TheVariants.{Node as a_node, Leaf as a_leaf}
-use Rattle.rowex_core.specs.declared.known.Failed.{Failed}
-use Rattle.rowex_core.specs.declared.known.Known.{Known}
-use Rattle.rowex_core.specs.Events.{word_of}
-use Rattle.rowex_table.specs.Runs.{StepsWith, silent}
-use Rattle.rowex_table.specs.Seats.{TableView, SeatView}
-use Rattle.rowex_writing.specs.locks.Locks.{IsOfAttempt}
-use Rattle.epochs.specs.Runs.{Pins}
-use Rattle.rowex_records.specs.Claims.{HasMissedSince, IsAnothers}
-use Rattle.rowex_writing.specs.build.Changes.{LacksLeaves, LacksNodes}
-use Rattle.rowex_writing.specs.attempts.Attempts.{AreAttemptSteps, IsOfSearch}
-use Rattle.rowex_writing.specs.declared.attempts.TryFault.{TryFault}
-use Rattle.rowex_writing.specs.declared.attempts.TryFault.TheVariants.{Busy, FullNodes, FullLeaves}
-use Rattle.rowex_writing.specs.declared.plan.Full.{Full}
-use Rattle.rowex_writing.specs.declared.plan.Full.TheVariants.{Nodes, Leaves}
-use Rattle.rowex_writing.proofs.Cited.{lacks_so, run_failed}
+use Rattle.hot_index_calls.proofs.Common.{◌≡◌, ℕ, ◌+◌, List, [], ◌∷◌, Option, None, Err, true, refl, sym, ap, subst, ◌∙◌, arith, Contains, false≢true, append-nil, All-nil, Note, LegalCalls, BeginsWith, ClearPin, Event, Layout, Key, Rec, a_node, a_leaf, Failed, Known, word_of, StepsWith, silent, TableView, SeatView, IsOfAttempt, Pins, HasMissedSince, IsAnothers, LacksLeaves, LacksNodes, AreAttemptSteps, IsOfSearch, TryFault, Busy, FullNodes, FullLeaves, Full, Nodes, Leaves, lacks_so, run_failed}
 use Rattle.hot_index_calls.specs.Answers.{IsCause, IsUnnoted, fault_of}
 use Rattle.hot_index_calls.specs.Passes.{AreByPasses, IsSettled, PassView, pass_of}
 use Rattle.hot_index_calls.specs.Traces.{HasEnded, IsAttempt, is_full}

@@ -1,22 +1,8 @@
 -- What the words give, read of a parse's matches.
-use Rattle.std.proofs.Common.{◌≡◌, ◌⊎◌, inl, inr, ℕ, ◌<◌, ◌≤◌, ◌^◌, length, List, [], ◌∷◌, map, true, false, Bool, Option, Some, None, Result, Ok, Err, refl, sym, ap, ◌∙◌, subst, arith}
-use Rattle.std.specs.Prelude.{find, option_and_then, option_map, slice_get, unwrap_or}
-use Rattle.std.specs.Borrow.{Bor}
-use Rattle.std.proofs.lemmas.List.{length-map}
-use Rattle.std.specs.Str.{bytes_eq}
-use Rattle.std.specs.Str.Parse.{IsNumeral, ParsesUnsigned, digits_value, without_leading_plus}
-use Rattle.clap.specs.Facts.{Entry}
-use Rattle.clap.specs.Matches.{ReadsOne, found_of, matched_of, one_text, raw_values}
-use Rattle.clap.specs.Values.{read_as}
-use Rattle.clap.specs.Walk.{Row, all_of, one_of, row_of, row_text, rows_of, texts}
-use Rattle.clap.specs.declared.builder.value_parser.Reading.{Reading}
-use Rattle.clap.specs.declared.parser.matches.Found.{Found}
-use Rattle.clap.specs.declared.parser.matches.MatchedArg.{MatchedArg}
+use Rattle.hot_scripts.proofs.Common.{◌≡◌, ◌⊎◌, inl, inr, ℕ, ◌<◌, ◌≤◌, ◌^◌, length, List, [], ◌∷◌, map, true, false, Bool, Option, Some, None, Result, Ok, Err, refl, sym, ap, ◌∙◌, subst, arith, find, option_and_then, option_map, slice_get, unwrap_or, Bor, length-map, bytes_eq, IsNumeral, ParsesUnsigned, digits_value, without_leading_plus, Entry, ReadsOne, found_of, matched_of, one_text, raw_values, read_as, Row, all_of, one_of, row_of, row_text, rows_of, texts, Reading, Found, MatchedArg, App, HasKind, HasMatchesOf, IsAmong, Kinds, fault_of, kind_of, is_simple, is_simple_and_free, matches_of, ArgMatches}
 use Rattle.clap.specs.declared.error.Error.{Error}
 use Rattle.clap.specs.declared.error.kind.ErrorKind.{ErrorKind}
 use Rattle.clap.specs.declared.error.kind.ErrorKind.TheVariants as kind
-use Rattle.clap.specs.Words.{App, HasKind, HasMatchesOf, IsAmong, Kinds, fault_of, kind_of, is_simple, is_simple_and_free, matches_of}
-use Rattle.clap.specs.declared.parser.matches.ArgMatches.{ArgMatches}
 use Rattle.clap.proofs.OnLiterals.{clap_on_literals}
 use Rattle.hot_scripts.specs.declared.fault.RunFault.TheVariants.{Memory}
 use Rattle.hot_scripts.specs.declared.ending.Ending.{Ending}

@@ -1,27 +1,11 @@
 -- What a parse promises of an option that takes a number in a range, and may be left out.
-use Rattle.std.proofs.Common.{◌≡◌, ℕ, ◌<◌, ◌≤◌, ◌^◌, List, [], ◌∷◌, length, inl, inr, true, false, Option, Some, None, Result, refl, sym, ap, ◌∙◌, subst, arith}
-use Rattle.std.specs.Prelude.{All, IfSome, codes, pos, slice_get, unwrap_or}
-use Rattle.std.specs.Borrow.{Bor}
-use Rattle.std.specs.Str.{bytes_eq}
-use Rattle.std.specs.Str.Parse.{ParsesUnsigned}
-use Rattle.std.proofs.lemmas.Bool.{cases_lt}
-use Rattle.std.proofs.lemmas.List.Elements.{All-get_or, All-nil, All-push}
+use Rattle.hot_scripts.proofs.Common.{◌≡◌, ℕ, ◌<◌, ◌≤◌, ◌^◌, List, [], ◌∷◌, length, inl, inr, true, false, Option, Some, None, Result, refl, sym, ap, ◌∙◌, subst, arith, All, IfSome, codes, pos, slice_get, unwrap_or, Bor, bytes_eq, ParsesUnsigned, cases_lt, All-get_or, All-nil, All-push, Entry, EntryPasses, HasReading, PassesArg, ValuesPass, args_of, groups_of, parser_of_value, ReadsOne, found_of, matched_of, one_text, Accepts, IsSignedIn, reading_of, Rule, Arg, Command, ArgMatches, Reading, Found, MatchedArg}
 use Rattle.std.proofs.lemmas.Slice.Eq.{bytes_eq-Decides}
 use Rattle.clap.specs.Built.{AddsArg, BuildsTo, IsParsedFrom, IsPlain, IsPlainArg}
-use Rattle.clap.specs.Facts.{Entry, EntryPasses, HasReading, PassesArg, ValuesPass, args_of, groups_of, parser_of_value}
 use Rattle.clap.specs.Lexer.{without_minus}
-use Rattle.clap.specs.Matches.{ReadsOne, found_of, matched_of, one_text}
-use Rattle.clap.specs.Values.{Accepts, IsSignedIn, reading_of}
-use Rattle.clap.specs.Walk.{Rule}
-use Rattle.clap.specs.declared.builder.arg.Arg.{Arg}
-use Rattle.clap.specs.declared.builder.command.Command.{Command}
 use Rattle.clap.specs.declared.builder.command.Command.TheViews.{out-Command}
-use Rattle.clap.specs.declared.parser.matches.ArgMatches.{ArgMatches}
-use Rattle.clap.specs.declared.builder.value_parser.Reading.{Reading}
 use Rattle.clap.specs.declared.builder.value_parser.Reading.TheVariants.{WithoutMinus}
 use Rattle.clap.specs.declared.builder.value_parser.ValueParser.TheVariants.{Signed}
-use Rattle.clap.specs.declared.parser.matches.Found.{Found}
-use Rattle.clap.specs.declared.parser.matches.MatchedArg.{MatchedArg}
 use Rattle.clap.proofs.CallerLemmas.{added_plain, entry_by_id}
 use Rattle.clap.proofs.CallerReads.{signed_reads}
 use Rattle.hot_scripts.specs.Options.{IsArgument}

@@ -1,7 +1,5 @@
 -- The starts of files, one after the other.
-use Rattle.std.proofs.Common.{◌≡◌, ℕ, ◌+◌, ◌<◌, List, [], ◌∷◌, ◌++◌, Option, Vec, map, length, get_or, take}
-use Rattle.std.proofs.lemmas.List.{map-append, take_more}
-use Rattle.std.specs.Borrow.{Bor}
+use Rattle.hot_scripts.proofs.Common.{◌≡◌, ℕ, ◌+◌, ◌<◌, List, [], ◌∷◌, ◌++◌, Option, Vec, map, length, get_or, take, map-append, take_more, Bor}
 use Rattle.std.specs.Global.{Global}
 use Rattle.hot_scripts.specs.Files.{AreFileStarts, IsFileStart}
 

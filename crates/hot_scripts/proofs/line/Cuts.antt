@@ -1,12 +1,8 @@
 -- A text that is cut at its first separator.
-use Rattle.std.proofs.Common.{◌≡◌, ℕ, ◌+◌, ◌-◌, ◌<◌, Bool, List, [], ◌∷◌, length, take, drop, Some, None, inl, inr, arith}
-use Rattle.std.specs.Prelude.{position}
-use Rattle.std.specs.List.{slice_split, position_or_len}
-use Rattle.std.proofs.lemmas.List.{take_all, length-drop}
+use Rattle.hot_scripts.proofs.Common.{◌≡◌, ℕ, ◌+◌, ◌-◌, ◌<◌, Bool, List, [], ◌∷◌, length, take, drop, Some, None, inl, inr, arith, position, slice_split, position_or_len, take_all, length-drop, cases_lt, lt-ltb}
 use Rattle.std.proofs.lemmas.List.Splits.{slice_split_first, slice_split_none, length-slice_split}
 use Rattle.std.proofs.lemmas.List.Sums.{position_or_len_is, fails_before_first}
 use Rattle.std.proofs.lemmas.List.Quantifiers.{position-Some}
-use Rattle.std.proofs.lemmas.Bool.{cases_lt, lt-ltb}
 
 -- at the place of the first separator
 pub slice_split-Some : (p : ℕ → Bool) (text : List ℕ) (i : ℕ) → position p text ≡ Some i

@@ -1,6 +1,5 @@
 -- Texts that are written one after another.
-use Rattle.std.proofs.Common.{ℕ, List, Option, None, Some, ◌∙◌}
-use Rattle.std.specs.Io.KnownBytes.{Appends, Keeps}
+use Rattle.hot_scripts.proofs.Common.{ℕ, List, Option, None, Some, ◌∙◌, Appends, Keeps}
 
 -- a text, and then nothing more
 pub appends_kept : (old mid new : Option (List ℕ)) (text : List ℕ) → Appends old mid text → Keeps mid new → Appends old new text

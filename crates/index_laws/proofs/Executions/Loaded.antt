@@ -1,21 +1,6 @@
 -- A table that was loaded: the load is an event of its pass 0, and its insertions are legal calls.
-use Rattle.std.proofs.Common.{◌≡◌, ◌<◌, ℕ, suc, List, [], ◌∷◌, map, refl, ap, arith}
-use Rattle.finite_map.specs.declared.Call.{Call}
-use Rattle.finite_map.specs.declared.Call.TheVariants.{Insert}
-use Rattle.finite_map.specs.declared.Note.{Note}
-use Rattle.finite_map.specs.Calls.{LegalCalls}
-use Rattle.record_words.specs.declared.layout.Layout.{Layout}
-use Rattle.tries.specs.Content.{Item}
-use Rattle.versions.specs.Told.{added_notes, items_of}
+use Rattle.index_laws.proofs.Common.{◌≡◌, ◌<◌, ℕ, suc, List, [], ◌∷◌, map, refl, ap, arith, Call, Insert, Note, LegalCalls, Layout, Item, added_notes, items_of, Known, IsLoad, loaded_tree, opening, opening_is_lawful, load_of, loader_of, opening_of, IsLoaderSeat, SeatView, TableView, new_knows, others_none}
 use Rattle.versions.proofs.Loads.{load_is_legal}
-use Rattle.rowex_core.specs.declared.known.Known.{Known}
-use Rattle.rowex_core.specs.Events.{IsLoad, loaded_tree}
-use Rattle.rowex_core.specs.Opening.{opening}
-use Rattle.rowex_core.proofs.Statements.Promises.{opening_is_lawful}
-use Rattle.rowex_table.specs.Rule.{load_of, loader_of, opening_of}
-use Rattle.rowex_table.specs.Seats.{IsLoaderSeat, SeatView, TableView}
-use Rattle.rowex_table.proofs.Seats.{new_knows}
-use Rattle.rowex_table.proofs.Onward.{others_none}
 use Rattle.index_laws.specs.Executions.{insertion_notes, insertions}
 use Rattle.index_laws.specs.Traced.{MakesEvent}
 

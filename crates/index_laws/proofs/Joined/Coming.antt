@@ -1,19 +1,6 @@
 -- What is left of the lives of passes, and an execution that has come so far in all of them.
-use Rattle.std.proofs.Common.{◌≡◌, ◌≢◌, ◌⊎◌, inl, inr, ⊎_elim, ℕ, zero, suc, ◌<◌, ◌≤◌, List, [], ◌∷◌, ◌++◌, cond, if◌then◌else◌, nat_eq, Option, Some, None, refl, sym, ap, subst, ◌∙◌, arith, append_assoc}
-use Rattle.std.proofs.lemmas.Bool.{cases_eq, cases_lt, eq-eqb, ne_eqb}
-use Rattle.finite_map.specs.declared.Call.{Call}
-use Rattle.finite_map.specs.declared.Change.{Change}
-use Rattle.finite_map.specs.declared.Note.{Note}
-use Rattle.finite_map.specs.Fronts.{BeginsWith}
-use Rattle.rowex_core.specs.declared.event.Act.{Act}
-use Rattle.rowex_core.specs.declared.event.Event.{Event}
-use Rattle.rowex_core.specs.declared.known.Known.{Known}
-use Rattle.rowex_core.specs.Knowing.{learned}
-use Rattle.rowex_table.specs.Rule.{with_front}
-use Rattle.rowex_table.specs.Seats.{IsShownAll, SeatView, TableView}
-use Rattle.rowex_table.specs.Traces.{OthersStepOn, RunBeginsWith}
-use Rattle.rowex_table.proofs.Onward.{begins_itself, begins_on, next_begins, others_begin}
-use Rattle.linearizability.specs.Configurations.{Happening, invokes, shows, steps}
+use Rattle.index_laws.proofs.Common.{◌≡◌, ◌≢◌, ◌⊎◌, inl, inr, ⊎_elim, ℕ, zero, suc, ◌<◌, ◌≤◌, List, [], ◌∷◌, ◌++◌, cond, if◌then◌else◌, nat_eq, Option, Some, None, refl, sym, ap, subst, ◌∙◌, arith, append_assoc, cases_eq, cases_lt, eq-eqb, ne_eqb, Call, Change, Note, BeginsWith, Act, Event, Known, learned, with_front, IsShownAll, SeatView, TableView, OthersStepOn, RunBeginsWith, begins_on, next_begins, Happening, invokes, shows, steps}
+use Rattle.rowex_table.proofs.Onward.{begins_itself, others_begin}
 use Rattle.index_laws.specs.Joined.{HasEndedAs, happenings_of, pass_in, KeepCallsWhole}
 use Rattle.index_laws.specs.Traced.{ContractsLeadOn, Instant, IsTracedExecution, MakesEvent}
 use Rattle.index_laws.proofs.Traced.Reaching.{before, before-new, before-old, traced_more, upto, upto-new, upto-old}

@@ -1,29 +1,6 @@
 -- The lives of passes whose traces have ended in one run, interleaved as their steps stand in it.
-use Rattle.std.proofs.Common.{◌≡◌, ◌≢◌, inl, inr, ⊎_elim, ℕ, zero, suc, ◌<◌, ◌≤◌, List, [], ◌∷◌, ◌++◌, Option, Some, None, refl, sym, ap, subst, ◌∙◌, arith, le_refl, append_assoc, append-nil}
-use Rattle.std.specs.Prelude.{All}
-use Rattle.std.proofs.lemmas.Bool.{cases_eq, cases_lt}
-use Rattle.std.proofs.lemmas.List.Elements.{All-cons, All-head, All-nil, All-tail, All-weaker}
-use Rattle.finite_map.specs.declared.Call.{Call}
-use Rattle.finite_map.specs.declared.Change.{Change}
-use Rattle.finite_map.specs.declared.Note.{Note}
-use Rattle.record_words.specs.declared.layout.Layout.{Layout}
-use Rattle.rowex_core.specs.declared.event.Act.{Act}
-use Rattle.rowex_core.specs.declared.event.Event.{Event}
-use Rattle.rowex_core.specs.declared.known.Known.{Known}
-use Rattle.rowex_core.specs.Cores.{Core, IsLawful}
-use Rattle.rowex_core.specs.Events.{after}
-use Rattle.rowex_core.specs.Opening.{opening}
-use Rattle.rowex_core.specs.Runs.{EventsLead}
-use Rattle.rowex_core.proofs.Statements.Promises.{opening_is_lawful}
-use Rattle.rowex_core.proofs.Cores.{stays_lawful}
-use Rattle.rowex_table.specs.Rule.{load_of, opening_of}
-use Rattle.rowex_table.specs.Runs.{Ends, Runs, StepsWith, silent}
-use Rattle.rowex_table.specs.Seats.{IsNewSeatOf, SeatView, TableView}
-use Rattle.rowex_table.specs.Traces.{OthersStepOn, RunBeginsWith}
-use Rattle.rowex_table.proofs.Onward.{begins_on, others_begin}
-use Rattle.rowex_table.proofs.Runs.{runs_same}
-use Rattle.hot_index_calls.specs.Traces.{untold}
-use Rattle.linearizability.specs.Configurations.{Happening, invokes, responds, shows, steps}
+use Rattle.index_laws.proofs.Common.{◌≡◌, ◌≢◌, inl, inr, ⊎_elim, ℕ, zero, suc, ◌<◌, ◌≤◌, List, [], ◌∷◌, ◌++◌, Option, Some, None, refl, sym, ap, subst, ◌∙◌, arith, le_refl, append_assoc, append-nil, All, cases_eq, cases_lt, All-cons, All-head, All-nil, All-tail, All-weaker, Call, Change, Note, Layout, Act, Event, Known, Core, IsLawful, after, opening, EventsLead, opening_is_lawful, stays_lawful, load_of, opening_of, Ends, Runs, StepsWith, silent, IsNewSeatOf, SeatView, TableView, OthersStepOn, RunBeginsWith, begins_on, runs_same, untold, Happening, invokes, responds, shows, steps}
+use Rattle.rowex_table.proofs.Onward.{others_begin}
 use Rattle.index_laws.specs.Joined.{HasGoneThrough, HasEndedAs, HaveEndedInOneRun, IsExecutionOf, call_of, called, happenings_of, loaded, loader, new, notes_of_end, shown, stamped, steps_of, KeepCallsWhole}
 use Rattle.index_laws.specs.Traced.{Instant, MakesEvent}
 use Rattle.index_laws.specs.Executions.{insertion_notes, insertions}

@@ -1,18 +1,5 @@
 -- The moves of an execution: a pass is shown something, invokes a call, makes a step, or its call ends.
-use Rattle.std.proofs.Common.{◌≡◌, ◌≢◌, ◌⊎◌, inl, inr, ℕ, suc, ◌<◌, ◌≤◌, List, [], ◌∷◌, ◌++◌, cond, nat_eq, Option, Some, None, refl, sym, ap, subst, ◌∙◌, arith, le_refl}
-use Rattle.std.proofs.lemmas.Bool.{eq-eqb, ne_eqb}
-use Rattle.finite_map.specs.declared.Call.{Call}
-use Rattle.finite_map.specs.declared.Change.{Change}
-use Rattle.finite_map.specs.declared.Note.{Note}
-use Rattle.record_words.specs.declared.layout.Layout.{Layout}
-use Rattle.rowex_core.specs.declared.event.Act.{Act}
-use Rattle.rowex_core.specs.declared.event.Event.{Event}
-use Rattle.rowex_core.specs.declared.known.Known.{Known}
-use Rattle.rowex_core.specs.Knowing.{learned}
-use Rattle.rowex_table.specs.Seats.{SeatView, TableView}
-use Rattle.rowex_table.specs.Traces.{OthersStepOn}
-use Rattle.rowex_table.proofs.Onward.{others_more, others_none}
-use Rattle.linearizability.specs.Configurations.{Happening, Pending, invokes, refuses, responds, shows, steps}
+use Rattle.index_laws.proofs.Common.{◌≡◌, ◌≢◌, ◌⊎◌, inl, inr, ℕ, suc, ◌<◌, ◌≤◌, List, [], ◌∷◌, ◌++◌, cond, nat_eq, Option, Some, None, refl, sym, ap, subst, ◌∙◌, arith, le_refl, eq-eqb, ne_eqb, Call, Change, Note, Layout, Act, Event, Known, learned, SeatView, TableView, OthersStepOn, others_more, others_none, Happening, Pending, invokes, refuses, responds, shows, steps}
 use Rattle.index_laws.specs.Executions.{IsReturning}
 use Rattle.index_laws.specs.Joined.{HasEndedAs, answered, loaded, looked_up, pass_in, quiet, refused, KeepCallsWhole}
 use Rattle.index_laws.specs.Traced.{ContractsLeadOn, Instant, IsSeatShowing, IsSeatStep, IsSeatTurn, IsShownItself, IsShownSteps, MakesEvent, configuration_of}

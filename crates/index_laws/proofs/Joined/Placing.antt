@@ -1,9 +1,5 @@
 -- Where the next step of a pass stands in a run that goes on.
-use Rattle.std.proofs.Common.{◌≡◌, ◌≢◌, ℕ, List, [], ◌∷◌, ◌++◌, refl, sym, ap, subst, ◌∙◌, append_assoc}
-use Rattle.std.specs.Prelude.{All}
-use Rattle.std.proofs.lemmas.List.Elements.{All-cons, All-head, All-nil, All-tail}
-use Rattle.rowex_core.specs.declared.event.Event.{Event}
-use Rattle.rowex_table.specs.Traces.{OthersStepOn, RunBeginsWith}
+use Rattle.index_laws.proofs.Common.{◌≡◌, ◌≢◌, ℕ, List, [], ◌∷◌, ◌++◌, refl, sym, ap, subst, ◌∙◌, append_assoc, All, All-cons, All-head, All-nil, All-tail, Event, OthersStepOn, RunBeginsWith}
 
 -- steps of other passes than q
 abbrev pub Others : ℕ → List Event → Type 0

@@ -1,26 +1,5 @@
 -- Loads of the root in an execution by contracts alone.
-use Rattle.std.proofs.Common.{◌≡◌, ◌≢◌, ◌⊎◌, ◌<◌, ◌≤◌, inl, inr, ⊎_elim, ℕ, zero, suc, List, [], ◌∷◌, ◌++◌, Option, None, refl, sym, ap, subst, ◌∙◌, arith, append_assoc}
-use Rattle.std.specs.Prelude.{All}
-use Rattle.std.proofs.lemmas.Bool.{cases_eq, cases_lt}
-use Rattle.std.proofs.lemmas.List.{append_cancel_left}
-use Rattle.std.proofs.lemmas.List.Elements.{All-head, All-tail}
-use Rattle.finite_map.specs.declared.Change.{Change}
-use Rattle.finite_map.specs.declared.Note.{Note}
-use Rattle.finite_map.specs.Fronts.{BeginsWith}
-use Rattle.finite_map.proofs.Fronts.{others_begin}
-use Rattle.rowex_core.specs.declared.event.Act.{Act}
-use Rattle.rowex_core.specs.declared.event.Event.{Event}
-use Rattle.rowex_core.specs.declared.known.Fresh.{Fresh}
-use Rattle.rowex_core.specs.declared.known.Known.{Known}
-use Rattle.rowex_core.specs.Cores.{Core}
-use Rattle.rowex_core.specs.Knowing.{Knows}
-use Rattle.rowex_core.specs.Opening.{opening}
-use Rattle.rowex_table.specs.Runs.{root_load}
-use Rattle.rowex_table.specs.Seats.{SeatView, TableView}
-use Rattle.rowex_table.specs.Traces.{OthersStepOn, RunBeginsWith}
-use Rattle.rowex_table.proofs.Onward.{begins_on, others_more, others_none}
-use Rattle.linearizability.specs.Configurations.{Happening, IsSoundConfiguration, Pending, invokes, refuses, responds, shows, steps}
-use Rattle.linearizability.proofs.Configurations.{runs_stay_sound}
+use Rattle.index_laws.proofs.Common.{◌≡◌, ◌≢◌, ◌⊎◌, ◌<◌, ◌≤◌, inl, inr, ⊎_elim, ℕ, zero, suc, List, [], ◌∷◌, ◌++◌, Option, None, refl, sym, ap, subst, ◌∙◌, arith, append_assoc, All, cases_eq, cases_lt, append_cancel_left, All-head, All-tail, Change, Note, BeginsWith, others_begin, Act, Event, Fresh, Known, Core, Knows, opening, root_load, SeatView, TableView, OthersStepOn, RunBeginsWith, begins_on, others_more, others_none, Happening, IsSoundConfiguration, Pending, invokes, refuses, responds, shows, steps, runs_stay_sound}
 use Rattle.index_laws.specs.Traced.{ContractsLeadOn, Instant, IsSeatShowing, IsSeatStep, IsSeatTurn, IsShownItself, IsShownSteps, IsTracedExecution, LoadsAreMoments, core_led_to, configuration_of}
 use Rattle.index_laws.proofs.Executions.{executions_are_runs}
 use Rattle.index_laws.proofs.Traced.{core_is, traced_are_executions}

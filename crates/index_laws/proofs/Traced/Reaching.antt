@@ -1,9 +1,5 @@
 -- An execution that is reached by the lives of passes, one happening after the other.
-use Rattle.std.proofs.Common.{◌≡◌, ⊎_elim, ℕ, suc, ◌<◌, ◌≤◌, List, [], cond, nat_le, nat_lt, Some, None, sym, ap, subst, ◌∙◌, arith, le_refl}
-use Rattle.std.proofs.lemmas.Bool.{cases_lt, le-leb, lt-leb, lt-ltb, le-ltb}
-use Rattle.finite_map.specs.declared.Note.{Note}
-use Rattle.rowex_table.specs.Seats.{IsNewSeatOf, SeatView, TableView}
-use Rattle.linearizability.specs.Configurations.{Happening, Configuration, Pending, invokes, refuses, responds, shows, steps}
+use Rattle.index_laws.proofs.Common.{◌≡◌, ⊎_elim, ℕ, suc, ◌<◌, ◌≤◌, List, [], cond, nat_le, nat_lt, Some, None, sym, ap, subst, ◌∙◌, arith, le_refl, cases_lt, le-leb, lt-leb, lt-ltb, le-ltb, Note, IsNewSeatOf, SeatView, TableView, Happening, Configuration, Pending, invokes, refuses, responds, shows, steps}
 use Rattle.index_laws.specs.Executions.{HasReturned, IsReturning}
 use Rattle.index_laws.specs.Traced.{ContractsLeadOn, Instant, IsSeatShowing, IsSeatStep, IsSeatTurn, IsTracedExecution, configuration_of}
 

@@ -1,54 +1,19 @@
 -- Two passes end in one run: one inserts a key, and the other finds it.
-use Rattle.std.proofs.Common.{◌≡◌, ℕ, ◌<◌, ◌≤◌, ◌^◌, List, [], ◌∷◌, ◌++◌, refl, sym, ap, subst, ◌∙◌, arith, le_refl, inl, ◌≢◌, None}
+use Rattle.index_laws.proofs.Common.{◌≡◌, ℕ, ◌<◌, ◌≤◌, ◌^◌, List, [], ◌∷◌, ◌++◌, refl, sym, ap, subst, ◌∙◌, arith, le_refl, inl, ◌≢◌, None, All-nil, All-from_recursion, All-cons, TableId, Note, Layout, Live, leaf_size, state_word, a_leaf, Act, Claim, Fill, LoadEpoch, LoadRef, Lock, SetPin, ClearPin, Publish, Unlock, Event, Root, Known, Pass, Core, IsLawful, IsAtomic, Legal, after, next_change, Knows, learned, opening, EventsLead, learns, opening_is_lawful, stays_lawful, opening_of, StepsWith, Ends, Runs, SeatView, TableView, OthersStepOn, learned_pass, renoted, led_more, others_none, untold, Get, Insert, Inserted, Value, LegalCalls, StandsIn, Item, item, IsNoted, AreByPasses, pass_of, Happening, responds, Change}
 use Rattle.std.proofs.lemmas.Bool.Decides.{nat_tests}
-use Rattle.std.proofs.lemmas.List.Elements.{All-nil, All-from_recursion, All-cons}
-use Rattle.atomic_table.specs.Seated.{TableId}
-use Rattle.finite_map.specs.declared.Note.{Note}
-use Rattle.record_words.specs.declared.layout.Layout.{Layout}
-use Rattle.record_words.specs.declared.state.Tag.TheVariants.{Free, Live}
-use Rattle.record_words.specs.Layout.{leaf_size}
+use Rattle.record_words.specs.declared.state.Tag.TheVariants.{Free}
 use Rattle.record_words.specs.Leaf.{HasLeafWords, key_word, leaf_words, up_to_key}
-use Rattle.record_words.specs.State.{state_word}
-use Rattle.record_words.specs.declared.records.Rec.TheVariants.{Leaf as a_leaf}
-use Rattle.rowex_core.specs.declared.event.Act.{Act}
-use Rattle.rowex_core.specs.declared.event.Act.TheVariants.{Claim, Fill, LoadEpoch, LoadRef, Lock, Ready, SetPin, ClearPin, Publish, Unlock}
-use Rattle.rowex_core.specs.declared.event.Event.{Event}
-use Rattle.rowex_core.specs.declared.event.Spot.TheVariants.{Root}
+use Rattle.rowex_core.specs.declared.event.Act.TheVariants.{Ready}
 use Rattle.rowex_core.specs.declared.event.Target.TheVariants.{Anchor}
-use Rattle.rowex_core.specs.declared.known.Known.{Known}
-use Rattle.rowex_core.specs.declared.known.View.TheVariants.{Pass}
-use Rattle.rowex_core.specs.Cores.{Core, IsLawful}
-use Rattle.rowex_core.specs.Events.{IsAtomic, Legal, after, next_change}
-use Rattle.rowex_core.specs.Knowing.{Knows, learned}
-use Rattle.rowex_core.specs.Opening.{opening}
 use Rattle.rowex_core.specs.Reading.{IsPacked}
-use Rattle.rowex_core.specs.Runs.{EventsLead}
 use Rattle.rowex_core.proofs.Knowing.Keeping.{keeps}
-use Rattle.rowex_core.proofs.Knowing.{learns}
-use Rattle.rowex_core.proofs.Statements.Promises.{opening_is_lawful}
-use Rattle.rowex_core.proofs.Cores.{stays_lawful}
-use Rattle.rowex_table.specs.Rule.{opening_of}
-use Rattle.rowex_table.specs.Runs.{StepsWith, Ends, Runs}
-use Rattle.rowex_table.specs.Seats.{SeatView, TableView}
-use Rattle.rowex_table.specs.Traces.{OthersStepOn}
-use Rattle.rowex_table.proofs.Rule.{learned_pass, renoted}
-use Rattle.rowex_table.proofs.Onward.{led_more, others_none}
-use Rattle.hot_index_calls.specs.Traces.{untold}
 use Rattle.index_laws.proofs.Executions.{opening_is_new}
-use Rattle.finite_map.specs.declared.Call.TheVariants.{Get, Insert}
-use Rattle.finite_map.specs.declared.Reply.TheVariants.{Inserted, Value}
-use Rattle.finite_map.specs.Calls.{LegalCalls, StandsIn}
 use Rattle.record_words.specs.Entry.{entry_word}
-use Rattle.tries.specs.Content.{Item, item}
 use Rattle.version_laws.specs.Writer.{added_change}
 use Rattle.rowex_table.specs.Publishes.{HasPublished, Publishes}
 use Rattle.publish_laws.proofs.Insertions.Inserting.{first_made}
-use Rattle.hot_index_calls.specs.Answers.{IsNoted}
-use Rattle.hot_index_calls.specs.Passes.{AreByPasses, pass_of}
-use Rattle.linearizability.specs.Configurations.{Happening, responds}
 use Rattle.index_laws.specs.Joined.{AnInsertIsFound, HasGoneThrough, HaveEndedInOneRun, answered, call_of, called, new, of_two}
 use Rattle.index_laws.proofs.Joined.{both_done, of_both}
-use Rattle.finite_map.specs.declared.Change.{Change}
 
 -- Two passes and the core between their steps: the one that steps, and the other
 

@@ -1,35 +1,9 @@
 -- An execution in which a call returns.
-use Rattle.std.proofs.Common.{◌≡◌, inl, ℕ, zero, suc, ◌<◌, List, [], ◌∷◌, ◌++◌, cond, nat_eq, Bool, true, false, ◌≤◌, Option, Some, None, refl, sym, ap, subst, ◌∙◌, arith, le_refl}
-use Rattle.std.proofs.lemmas.Bool.{eq-eqb, ne_eqb}
-use Rattle.std.proofs.lemmas.List.Elements.{All-cons, All-nil}
-use Rattle.atomic_table.specs.Seated.{TableId}
-use Rattle.finite_map.specs.declared.Call.TheVariants.{Get}
-use Rattle.finite_map.specs.declared.Change.{Change}
-use Rattle.finite_map.specs.declared.Note.{Note}
-use Rattle.finite_map.specs.declared.Reply.TheVariants.{Absent}
-use Rattle.finite_map.specs.Calls.{StandsIn}
-use Rattle.record_words.specs.declared.layout.Layout.{Layout}
-use Rattle.rowex_core.specs.declared.event.Act.{Act}
-use Rattle.rowex_core.specs.declared.event.Act.TheVariants.{ClearPin, LoadEpoch, LoadRef, SetPin}
-use Rattle.rowex_core.specs.declared.event.Event.{Event}
-use Rattle.rowex_core.specs.declared.event.Spot.TheVariants.{Root}
-use Rattle.rowex_core.specs.declared.known.Known.{Known}
-use Rattle.rowex_core.specs.Events.{Legal, after}
-use Rattle.rowex_core.specs.Knowing.{learned}
-use Rattle.rowex_core.specs.Opening.{opening}
-use Rattle.rowex_core.specs.Runs.{EventsLead}
-use Rattle.rowex_table.specs.Rule.{opening_of}
-use Rattle.rowex_table.specs.Seats.{SeatView, TableView}
-use Rattle.rowex_table.proofs.Rule.{learned_pass}
-use Rattle.rowex_table.proofs.Onward.{others_none}
-use Rattle.hot_index_calls.specs.Answers.{IsNoted}
-use Rattle.hot_index_calls.specs.Passes.{pass_of}
-use Rattle.linearizability.specs.Configurations.{Happening, IsCallTurn, IsConfigurationStep, IsSoundConfiguration, Configuration, Pending, invokes, responds, shows, steps}
+use Rattle.index_laws.proofs.Common.{◌≡◌, inl, ℕ, zero, suc, ◌<◌, List, [], ◌∷◌, ◌++◌, cond, nat_eq, Bool, true, false, ◌≤◌, Option, Some, None, refl, sym, ap, subst, ◌∙◌, arith, le_refl, eq-eqb, ne_eqb, All-cons, All-nil, TableId, Get, Change, Note, Absent, StandsIn, Layout, Act, ClearPin, LoadEpoch, LoadRef, SetPin, Event, Root, Known, Legal, after, learned, opening, EventsLead, opening_of, SeatView, TableView, learned_pass, others_none, IsNoted, pass_of, Happening, IsCallTurn, IsConfigurationStep, IsSoundConfiguration, Configuration, Pending, invokes, responds, shows, steps, runs_stay_sound}
 use Rattle.index_laws.specs.Executions.{LeadsOn, IsExecution}
 use Rattle.index_laws.specs.Statements.{AGetReturns}
 use Rattle.index_laws.specs.Traced.{AGetIsTraced, ContractsLeadOn, Instant, IsSeatStep, IsSeatTurn, IsTracedExecution}
 use Rattle.index_laws.proofs.Executions.{executions_are_runs, opening_is_new}
-use Rattle.linearizability.proofs.Configurations.{runs_stay_sound}
 
 -- the time after a step
 abbrev pub stepped : Configuration → ℕ → Act → List Note → Configuration

@@ -1,15 +1,6 @@
 -- The part of a subtrie that a key's insertion affects, by its places and by the key.
-use Rattle.std.proofs.Common.{◌≡◌, ◌≢◌, ℕ, ◌+◌, ◌-◌, ◌<◌, Bool, true, false, nat_lt, refl, ap, sym, ◌∙◌, subst, arith, ⊎_elim}
-use Rattle.std.proofs.lemmas.Bool.{cases_Bool, lt-ltb, le-ltb}
-use Rattle.compound_node.specs.declared.entries.Entry.{Entry}
+use Rattle.insert_cases.proofs.Common.{◌≡◌, ◌≢◌, ℕ, ◌+◌, ◌-◌, ◌<◌, Bool, true, false, nat_lt, refl, ap, sym, ◌∙◌, subst, arith, ⊎_elim, cases_Bool, lt-ltb, le-ltb, Entry, affected_first, affected_count, IsFresh, forked, grown, Place, Fork, size, subtrie_affected, subtrie_forked, subtrie_grown, Key, bit, spot, Subtrie, spot_below}
 use Rattle.node_tries.proofs.Growth.{affected_fits}
-use Rattle.node_tries.specs.Growth.{affected_first, affected_count, IsFresh, forked, grown}
-use Rattle.node_tries.specs.Piece.{Place, Fork, size}
-use Rattle.tries.specs.Affected.{subtrie_affected, subtrie_forked, subtrie_grown}
-use Rattle.tries.specs.Keys.{Key, bit}
-use Rattle.tries.specs.Place.{spot}
-use Rattle.tries.specs.Tree.{Subtrie}
-use Rattle.tries.proofs.Place.{spot_below}
 
 -- the subtrie's first fork is not at the position
 abbrev pub FirstForkIsNot : ℕ → Subtrie → Type 0

@@ -1,23 +1,5 @@
 -- Responses that complete the pending calls of a run.
-use Rattle.std.proofs.Common.{◌≡◌, ◌⊎◌, inl, inr, ℕ, ◌<◌, ◌≤◌, List, [], ◌∷◌, ◌++◌, length, drop, map, Option, Some, None, refl, sym, ap, subst, ◌∙◌, arith, ⊎_elim, le_refl, append-nil}
-use Rattle.std.specs.List.{cons_option}
-use Rattle.std.specs.Prelude.{All, IsPermutation, option_map}
-use Rattle.std.proofs.Math.Seq.{drop-append_seam}
-use Rattle.std.proofs.lemmas.Bool.{cases_lt}
-use Rattle.std.proofs.lemmas.List.Elements.{All-cons, All-head, All-nil, All-tail}
-use Rattle.std.proofs.lemmas.List.Sorted.{All-permutation}
-use Rattle.finite_map.specs.declared.Call.{Call}
-use Rattle.finite_map.specs.declared.Change.{Change}
-use Rattle.finite_map.specs.declared.Note.{Note}
-use Rattle.finite_map.specs.declared.Call.TheVariants.{Get}
-use Rattle.finite_map.specs.declared.Kind.{Kind}
-use Rattle.finite_map.specs.declared.Reply.{Reply}
-use Rattle.finite_map.specs.Calls.{LegalCalls, change_of, changes_of, effect_of}
-use Rattle.finite_map.specs.Maps.{key_of}
-use Rattle.finite_map.specs.Fronts.{BeginsWith, LegalFrom, OthersGoOn, map_of}
-use Rattle.finite_map.proofs.Fronts.{legal_front_part}
-use Rattle.finite_map.proofs.Calls.{legal_change, legal_longer}
-use Rattle.record_words.specs.declared.layout.Layout.{Layout}
+use Rattle.linearizability.proofs.Common.{◌≡◌, ◌⊎◌, inl, inr, ℕ, ◌<◌, ◌≤◌, List, [], ◌∷◌, ◌++◌, length, drop, map, Option, Some, None, refl, sym, ap, subst, ◌∙◌, arith, ⊎_elim, le_refl, append-nil, cons_option, All, IsPermutation, option_map, drop-append_seam, cases_lt, All-cons, All-head, All-nil, All-tail, All-permutation, Call, Change, Note, Get, Kind, Reply, LegalCalls, change_of, changes_of, effect_of, key_of, BeginsWith, LegalFrom, OthersGoOn, map_of, legal_front_part, legal_change, legal_longer, Layout}
 use Rattle.linearizability.specs.Effects.{completion_of, completions}
 use Rattle.linearizability.specs.Histories.{ChangesAsAsked, HasChangedOnce, IsAppended, AsksOneOrLooksUp, EndsWithin, PendingEndOrChangeAsAsked, replied}
 use Rattle.linearizability.specs.Configurations.{Happening, IsSoundConfiguration, IsWholeRun, Configuration, Pending}

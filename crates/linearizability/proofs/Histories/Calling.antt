@@ -1,19 +1,5 @@
 -- The calls of a run: those of each pass are legal, and all notes are those of calls that have responded.
-use Rattle.std.proofs.Common.{◌≡◌, ◌≢◌, ◌⊎◌, inl, inr, ℕ, zero, suc, ◌<◌, ◌≤◌, List, [], ◌∷◌, ◌++◌, map, Option, Some, None, refl, sym, ap, subst, ◌∙◌, arith, ⊎_elim, append-nil, append_assoc}
-use Rattle.std.specs.Prelude.{All, IsPermutation}
-use Rattle.std.proofs.lemmas.Bool.{cases_eq}
-use Rattle.std.proofs.lemmas.List.Elements.{All-nil, All-cons, All-head, All-tail}
-use Rattle.std.proofs.lemmas.List.Sorted.{IsPermutation-append_left, IsPermutation-refl, IsPermutation-sym, IsPermutation-trans}
-use Rattle.finite_map.specs.declared.Change.{Change}
-use Rattle.finite_map.specs.declared.Note.{Note}
-use Rattle.finite_map.specs.Calls.{LegalCalls}
-use Rattle.finite_map.specs.Fronts.{BeginsWith, OthersGoOn}
-use Rattle.finite_map.specs.Weaves.{notes_of}
-use Rattle.finite_map.proofs.Fronts.{legal_front_part, nothing_before}
-use Rattle.finite_map.proofs.Calls.{legal_at_first, legal_longer}
-use Rattle.plain_index.specs.Times.{noted}
-use Rattle.record_words.specs.declared.layout.Layout.{Layout}
-use Rattle.rowex_core.specs.declared.known.Known.{Known}
+use Rattle.linearizability.proofs.Common.{◌≡◌, ◌≢◌, ◌⊎◌, inl, inr, ℕ, zero, suc, ◌<◌, ◌≤◌, List, [], ◌∷◌, ◌++◌, map, Option, Some, None, refl, sym, ap, subst, ◌∙◌, arith, ⊎_elim, append-nil, append_assoc, All, IsPermutation, cases_eq, All-nil, All-cons, All-head, All-tail, IsPermutation-append_left, IsPermutation-refl, IsPermutation-sym, IsPermutation-trans, Change, Note, LegalCalls, BeginsWith, OthersGoOn, notes_of, legal_front_part, nothing_before, legal_at_first, legal_longer, noted, Layout, Known}
 use Rattle.linearizability.specs.Histories.{answers, complete_calls}
 use Rattle.linearizability.specs.Configurations.{Continues, Happening, IsSoundConfiguration, IsWholeRun, Configuration, Pending, invokes, refuses, responds, shows, steps}
 use Rattle.linearizability.proofs.Configurations.{cancelled, runs_stay_sound}

@@ -1,16 +1,7 @@
 -- Where all calls are noted, each change of a front is one of them: the weave has nothing else.
-use Rattle.std.proofs.Common.{◌≡◌, ◌≢◌, ℕ, zero, suc, ◌+◌, ◌<◌, ◌≤◌, List, [], ◌∷◌, ◌++◌, length, Bool, true, false, cond, ◌&&◌, eqb, Some, refl, sym, ap, subst, ◌∙◌, arith, ⊎_elim, le_refl}
-use Rattle.std.specs.List.{All, filter, slice_get, cons_option}
-use Rattle.std.specs.Prelude.{IsPermutation}
-use Rattle.std.proofs.lemmas.Bool.{cases_eq, cases_lt, cond_both, eq-eqb, ne_eqb}
-use Rattle.std.proofs.lemmas.List.Elements.{All-head, All-tail, filter-append}
-use Rattle.std.proofs.lemmas.List.Sorted.{sum_by-IsPermutation}
+use Rattle.linearizability.proofs.Common.{◌≡◌, ◌≢◌, ℕ, zero, suc, ◌+◌, ◌<◌, ◌≤◌, List, [], ◌∷◌, ◌++◌, length, Bool, true, false, cond, ◌&&◌, eqb, Some, refl, sym, ap, subst, ◌∙◌, arith, ⊎_elim, le_refl, filter, slice_get, cons_option, IsPermutation, cases_eq, cases_lt, cond_both, eq-eqb, ne_eqb, All-head, All-tail, filter-append, sum_by-IsPermutation, Change, Note, LegalCalls, RisesFrom, StandsIn, changes_of, is_change, own_changes, place_after, Event, calls_of, changing_at, made_by, notes_of, quiet_at, weave, weave_from, change_of-change, change_of-quiet, pass-change_of, same_value}
+use Rattle.std.specs.List.{All}
 use Rattle.std.proofs.lemmas.List.Sums.{length-filter}
-use Rattle.finite_map.specs.declared.Change.{Change}
-use Rattle.finite_map.specs.declared.Note.{Note}
-use Rattle.finite_map.specs.Calls.{LegalCalls, RisesFrom, StandsIn, changes_of, is_change, own_changes, place_after}
-use Rattle.finite_map.specs.Weaves.{Event, calls_of, changing_at, made_by, notes_of, quiet_at, weave, weave_from}
-use Rattle.finite_map.proofs.Calls.{change_of-change, change_of-quiet, pass-change_of, same_value}
 use Rattle.plain_index.specs.Orders.{calls_in}
 use Rattle.plain_index.proofs.Orders.{calls_here, calls_in-all}
 use Rattle.linearizability.proofs.Histories.Passes.{passes_below}

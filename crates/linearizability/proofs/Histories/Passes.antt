@@ -1,13 +1,5 @@
 -- The notes of all passes of an index.
-use Rattle.std.proofs.Common.{◌≡◌, ◌≢◌, ℕ, zero, suc, ◌<◌, ◌≤◌, List, [], ◌∷◌, ◌++◌, refl, sym, ap₂, subst, ◌∙◌, arith, ⊎_elim, le_refl, append_assoc}
-use Rattle.std.specs.Prelude.{All, IsPermutation}
-use Rattle.std.proofs.lemmas.Bool.{cases_eq}
-use Rattle.std.proofs.lemmas.List.Elements.{All-cons, All-nil}
-use Rattle.std.proofs.lemmas.List.Sorted.{IsPermutation-append_comm, IsPermutation-append_right}
-use Rattle.finite_map.specs.declared.Change.{Change}
-use Rattle.finite_map.specs.declared.Note.{Note}
-use Rattle.finite_map.specs.Calls.{LegalCalls}
-use Rattle.finite_map.specs.Weaves.{AllLegal, notes_of}
+use Rattle.linearizability.proofs.Common.{◌≡◌, ◌≢◌, ℕ, zero, suc, ◌<◌, ◌≤◌, List, [], ◌∷◌, ◌++◌, refl, sym, ap₂, subst, ◌∙◌, arith, ⊎_elim, le_refl, append_assoc, All, IsPermutation, cases_eq, All-cons, All-nil, IsPermutation-append_comm, IsPermutation-append_right, Change, Note, LegalCalls, AllLegal, notes_of}
 
 -- the passes of numbers below n, with these notes
 abbrev pub passes_below : (ℕ → List Note) → ℕ → List (ℕ × List Note)

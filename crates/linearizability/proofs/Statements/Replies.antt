@@ -1,18 +1,5 @@
 -- Each reply is the map's at a time of its call.
-use Rattle.std.proofs.Common.{◌≡◌, ℕ, ◌<◌, ◌≤◌, Bool, true, false, suc, List, Option, None, Some, get_or, length, nat_eq, take, refl, sym, ap, subst, ◌∙◌, arith, ⊎_elim}
-use Rattle.std.specs.Prelude.{All}
-use Rattle.std.proofs.Math.Seq.{take-append_seam}
-use Rattle.std.proofs.lemmas.List.{take-append-le}
-use Rattle.finite_map.specs.declared.Change.{Change}
-use Rattle.finite_map.specs.declared.Call.{Call}
-use Rattle.finite_map.specs.declared.Call.TheVariants.{Insert, Upsert, Exchange, Add, Get, Remove, RemoveIf}
-use Rattle.finite_map.specs.declared.Note.{Note}
-use Rattle.finite_map.specs.declared.Reply.{Reply}
-use Rattle.finite_map.specs.Calls.{StandsIn}
-use Rattle.finite_map.specs.Fronts.{BeginsWith, map_of}
-use Rattle.finite_map.specs.Maps.{Map, key_of, reply_of, step_if, step_where, value_at}
-use Rattle.record_words.specs.declared.layout.Layout.{Layout}
-use Rattle.rowex_core.proofs.Knowing.Keeping.{seen_by}
+use Rattle.linearizability.proofs.Common.{◌≡◌, ℕ, ◌<◌, ◌≤◌, Bool, true, false, suc, List, Option, None, Some, get_or, length, nat_eq, take, refl, sym, ap, subst, ◌∙◌, arith, ⊎_elim, All, take-append_seam, take-append-le, Change, Call, Insert, Upsert, Exchange, Add, Get, Remove, RemoveIf, Note, Reply, StandsIn, BeginsWith, map_of, Map, key_of, reply_of, step_if, step_where, value_at, Layout, seen_by}
 use Rattle.linearizability.specs.Configurations.{Happening, IsNotedBetween, IsWholeRun, Configuration}
 use Rattle.linearizability.specs.Scanning.{map_at}
 use Rattle.linearizability.specs.Statements.{RepliesInTime}

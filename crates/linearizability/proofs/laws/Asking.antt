@@ -1,21 +1,7 @@
 -- A call that responds has changed the map as it asks, at each time before.
-use Rattle.std.proofs.Common.{◌≡◌, ◌≢◌, ◌⊎◌, inl, inr, ℕ, zero, suc, ◌<◌, ◌≤◌, List, [], ◌∷◌, ◌++◌, length, take, map, cond, eqb, Option, Some, None, refl, sym, ap, subst, ◌∙◌, arith, ⊎_elim, append-nil, append_assoc}
-use Rattle.std.specs.List.{All, slice_get, cons_option}
-use Rattle.std.proofs.Math.Seq.{take-append_seam}
-use Rattle.std.proofs.lemmas.Bool.{cases_eq, eq-eqb, ne_eqb}
+use Rattle.linearizability.proofs.Common.{◌≡◌, ◌≢◌, ◌⊎◌, inl, inr, ℕ, zero, suc, ◌<◌, ◌≤◌, List, [], ◌∷◌, ◌++◌, length, take, map, cond, eqb, Option, Some, None, refl, sym, ap, subst, ◌∙◌, arith, ⊎_elim, append-nil, append_assoc, slice_get, cons_option, take-append_seam, cases_eq, eq-eqb, ne_eqb, All-permutation, length_permutation, All-append, All-cons, All-head, All-nil, All-tail, filter-append, filter_map-append, Call, Change, Note, Reply, LegalCalls, StandsIn, change_of, changes_of, own_changes, BeginsWith, OthersGoOn, map_of, reply_of, legal_longer, pass-change_of, same_value, nothing_before, Layout}
+use Rattle.std.specs.List.{All}
 use Rattle.std.specs.List.Sorted.{IsPermutation}
-use Rattle.std.proofs.lemmas.List.Sorted.{All-permutation, length_permutation}
-use Rattle.std.proofs.lemmas.List.Elements.{All-append, All-cons, All-head, All-nil, All-tail, filter-append, filter_map-append}
-use Rattle.finite_map.specs.declared.Call.{Call}
-use Rattle.finite_map.specs.declared.Change.{Change}
-use Rattle.finite_map.specs.declared.Note.{Note}
-use Rattle.finite_map.specs.declared.Reply.{Reply}
-use Rattle.finite_map.specs.Calls.{LegalCalls, StandsIn, change_of, changes_of, own_changes}
-use Rattle.finite_map.specs.Fronts.{BeginsWith, OthersGoOn, map_of}
-use Rattle.finite_map.specs.Maps.{reply_of}
-use Rattle.finite_map.proofs.Calls.{legal_longer, pass-change_of, same_value}
-use Rattle.finite_map.proofs.Fronts.{nothing_before}
-use Rattle.record_words.specs.declared.layout.Layout.{Layout}
 use Rattle.linearizability.specs.Histories.{ChangesAsAsked, HasChangedOnce, replied}
 use Rattle.linearizability.specs.Configurations.{Happening, IsNotedBetween, IsRefusal, IsResponse, IsSoundConfiguration, IsWholeRun, Configuration, Pending}
 use Rattle.linearizability.specs.Statements.{RefusedChangeNothing, RespondersChangeAsAsked}

@@ -1,16 +1,10 @@
 -- A new entry in rows with a place for each column.
-use Rattle.std.proofs.Common.{Bool, List, [], ap, arith, drop, false, get_or, length, length-append, map, subst, sym, take, true, ℕ, ◌%◌, ◌*◌, ◌++◌, ◌+◌, ◌-◌, ◌<◌, ◌^◌, ◌∙◌, ◌∷◌, ◌≡◌, ◌≤◌}
-use Rattle.std.proofs.lemmas.List.{drop_more, length-take-le, take-append-drop}
-use Rattle.std.proofs.lemmas.Nat.{one_shl}
+use Rattle.partial_keys.proofs.Common.{Bool, List, [], ap, arith, drop, false, get_or, length, length-append, map, subst, sym, take, true, ℕ, ◌%◌, ◌*◌, ◌++◌, ◌+◌, ◌-◌, ◌<◌, ◌^◌, ◌∙◌, ◌∷◌, ◌≡◌, ◌≤◌, drop_more, length-take-le, take-append-drop, one_shl, front_below-place, with_position-split, Ascends-with_position, has-at, IsPlaceOf, affected_count, IsAffected, grown, edited, forked_places, Piece, has, Ascends, front_below, with_position}
 use Rattle.partial_keys.proofs.Spread.{column_bit}
 use Rattle.partial_keys.proofs.Shows.{shown_columns, affected_range, shows-grown, shows-grown_column}
 use Rattle.partial_keys.specs.Rows.{row_of}
 use Rattle.partial_keys.specs.Shows.{ShowsPiece}
 use Rattle.partial_keys.specs.Spread.{spread_row, forked_rows}
-use Rattle.node_tries.proofs.Positions.{front_below-place, with_position-split, Ascends-with_position, has-at, IsPlaceOf}
-use Rattle.node_tries.specs.Growth.{affected_count, IsAffected, grown, edited, forked_places}
-use Rattle.node_tries.specs.Piece.{Piece}
-use Rattle.node_tries.specs.Positions.{has, Ascends, front_below, with_position}
 
 -- the 1 of column j
 abbrev pub weight : ℕ → ℕ

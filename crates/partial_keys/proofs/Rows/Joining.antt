@@ -1,20 +1,11 @@
 -- The rows of two pieces below a fork.
-use Rattle.std.proofs.Common.{Bool, List, [], ap, ap₂, arith, bit_or, drop, eqb, false, length, length-append, map, refl, sym, take, true, ℕ, ◌++◌, ◌+◌, ◌<◌, ◌||◌, ◌∙◌, ◌∷◌, ◌≡◌}
-use Rattle.std.proofs.lemmas.Bool.{and_from, eq-eqb, or_left, or_right}
-use Rattle.std.proofs.lemmas.List.{length-take-le, map-append, take-append-drop}
+use Rattle.partial_keys.proofs.Common.{Bool, List, [], ap, ap₂, arith, bit_or, drop, eqb, false, length, length-append, map, refl, sym, take, true, ℕ, ◌++◌, ◌+◌, ◌<◌, ◌||◌, ◌∙◌, ◌∷◌, ◌≡◌, and_from, eq-eqb, or_left, or_right, length-take-le, map-append, take-append-drop, code, none_has, Ascends-with_position, IsPlaceOf, front_below-place, has-with_position, length-with_position, with_position-split, map_same, UsesOnly-more, Fork, Piece, paths, RisesFrom, uses, all, front_below, has, with_position}
 use Rattle.partial_keys.proofs.Rows.{code-or}
-use Rattle.key_bits.specs.Gather.{code}
 use Rattle.partial_keys.proofs.Rows.Growing.{weight, weight_at}
 use Rattle.partial_keys.proofs.Spread.{rows-new_column}
 use Rattle.partial_keys.specs.Rows.{row_of, rows_of}
 use Rattle.partial_keys.specs.Shows.{Covers, ShowsPiece}
 use Rattle.partial_keys.specs.Spread.{spread_row}
-use Rattle.node_tries.proofs.Piece.{none_has}
-use Rattle.node_tries.proofs.Positions.{Ascends-with_position, IsPlaceOf, front_below-place, has-with_position, length-with_position, with_position-split}
-use Rattle.node_tries.proofs.Positions.Tests.{map_same}
-use Rattle.node_tries.proofs.Piece.Using.{UsesOnly-more}
-use Rattle.node_tries.specs.Piece.{Fork, Piece, paths, RisesFrom, uses}
-use Rattle.node_tries.specs.Positions.{all, front_below, has, with_position}
 
 -- the path through one fork more has its bit, too
 row_of-below : (cs : List ℕ) (p : ℕ) (path : List ℕ) → row_of cs (p ∷ path) ≡ bit_or (row_of cs path) (row_of cs (p ∷ []))

@@ -1,11 +1,6 @@
 -- Lanes that comply with a dense key, and the highest of the first of them.
-use Rattle.std.proofs.Common.{Bool, Fits, List, [], ◌∷◌, ap, ap₂, arith, bit_and, cond, eqb, false, get_or, length, map, refl, replicate, subst, suc, sym, take, true, w32, zero, ℕ, ⊎_elim, ◌%◌, ◌*◌, ◌+◌, ◌-◌, ◌/◌, ◌<◌, ◌^◌, ◌∙◌, ◌≡◌, ◌≤◌}
-use Rattle.std.proofs.Math.Nat.{mul-div-le, mul-div_cancel_left}
+use Rattle.partial_keys.proofs.Common.{Bool, Fits, List, [], ◌∷◌, ap, ap₂, arith, bit_and, cond, eqb, false, get_or, length, map, refl, replicate, subst, suc, sym, take, true, w32, zero, ℕ, ⊎_elim, ◌%◌, ◌*◌, ◌+◌, ◌-◌, ◌/◌, ◌<◌, ◌^◌, ◌∙◌, ◌≡◌, ◌≤◌, mul-div-le, mul-div_cancel_left, cases_lt, eq-eqb, eqb-false, eqb-true, ne_eqb, get_or-map, get_or-take, length-map, length-take-le, and-not, and_comm, and_le_r, and_shr, leading_top, mod-pow-add, pow_pos, shr_high, bit_mask_l, bitmask_splat, map-map, mask_l-lt, zip2_splat_left}
 use Rattle.std.proofs.Math.Pow.{pow_mono}
-use Rattle.std.proofs.lemmas.Bool.{cases_lt, eq-eqb, eqb-false, eqb-true, ne_eqb}
-use Rattle.std.proofs.lemmas.List.{get_or-map, get_or-take, length-map, length-take-le}
-use Rattle.std.proofs.lemmas.Nat.{and-not, and_comm, and_le_r, and_shr, leading_top, mod-pow-add, pow_pos, shr_high}
-use Rattle.std.proofs.lemmas.Simd.{bit_mask_l, bitmask_splat, map-map, mask_l-lt, zip2_splat_left}
 use Rattle.partial_keys.specs.Rows.{complies, IsHighest}
 use mir.Syntax.{Width}
 use mir.Val.{bits, hbits}

@@ -1,24 +1,11 @@
 -- A part of a piece shows itself by the columns that it uses.
-use Rattle.std.proofs.Common.{List, [], ap, arith, cond, drop, length, map, refl, sym, take, true, ℕ, ◌%◌, ◌&&◌, ◌*◌, ◌++◌, ◌+◌, ◌^◌, ◌∙◌, ◌∷◌, ◌≡◌, ◌≤◌}
-use Rattle.std.proofs.lemmas.Bool.{and_parts}
-use Rattle.std.proofs.lemmas.List.{drop_at, length-map, map-append, take_at}
-use Rattle.std.proofs.lemmas.Nat.{mod_low}
-use Rattle.std.proofs.lemmas.Simd.{map-map}
-use Rattle.key_bits.proofs.Gather.{code-lt}
-use Rattle.key_bits.specs.Gather.{code}
+use Rattle.partial_keys.proofs.Common.{List, [], ap, arith, cond, drop, length, map, refl, sym, take, true, ℕ, ◌%◌, ◌&&◌, ◌*◌, ◌++◌, ◌+◌, ◌^◌, ◌∙◌, ◌∷◌, ◌≡◌, ◌≤◌, and_parts, drop_at, length-map, map-append, take_at, mod_low, map-map, code-lt, code, NoneHas, length-places, length-paths, RisesFrom-weaker, none_before, has_after, Ascends-kept, map-kept, length-kept, map_same, uses_after, any-uses, all-used, UsesOnly-used, kept, Piece, Fork, places, size, paths, RisesFrom, UsesOnly, uses, used_columns, has, all, any, Ascends, front_below}
 use Rattle.partial_keys.proofs.Rows.{code-or, code-falses, squeezed-code}
 use Rattle.partial_keys.proofs.Shown.{row, row-skip, row-set, front_part}
 use Rattle.partial_keys.proofs.Squeezed.{kept_coded}
 use Rattle.partial_keys.specs.Rows.{row_of, rows_of}
 use Rattle.partial_keys.specs.Shows.{ShowsPiece, Covers}
 use Rattle.partial_keys.specs.Squeezed.{used_bits, squeezed, or_all}
-use Rattle.node_tries.proofs.Piece.{NoneHas, length-places, length-paths, RisesFrom-weaker, none_before}
-use Rattle.node_tries.proofs.Positions.{has_after, Ascends-kept, map-kept, length-kept}
-use Rattle.node_tries.proofs.Positions.Tests.{map_same}
-use Rattle.node_tries.proofs.Piece.Using.{uses_after, any-uses, all-used, UsesOnly-used}
-use Rattle.node_tries.specs.Kept.{kept}
-use Rattle.node_tries.specs.Piece.{Piece, Fork, places, size, paths, RisesFrom, UsesOnly, uses, used_columns}
-use Rattle.node_tries.specs.Positions.{has, all, any, Ascends, front_below}
 
 pub row_of-used : {A : Type 0} (P : Piece A) (cs path : List ℕ) → length cs ≤ 32 → row_of (used_columns P cs) path ≡ squeezed (code 32 (map (uses P) cs)) (row_of cs path)
 row_of-used P cs path l =

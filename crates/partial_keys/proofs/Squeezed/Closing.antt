@@ -1,23 +1,11 @@
 -- Columns taken out of rows one by one.
-use Rattle.std.proofs.Common.{Bool, List, [], ap, arith, bit_and, drop, false, get_or, length, map, refl, replicate, suc, sym, take, true, ℕ, ◌%◌, ◌*◌, ◌++◌, ◌+◌, ◌-◌, ◌/◌, ◌<◌, ◌^◌, ◌∙◌, ◌∷◌, ◌≡◌, ◌≢◌, ◌≤◌}
-use Rattle.std.proofs.Math.Nat.{pow-suc}
-use Rattle.std.proofs.lemmas.List.{append-nil, append_assoc, drop_at, drop_more, get_or-map, length-drop, length-map, length-take-le, take_at, take_more}
-use Rattle.std.proofs.lemmas.Nat.{mod_low, shr_high}
-use Rattle.std.proofs.lemmas.Simd.{map-map}
-use Rattle.std.specs.List.{All}
-use Rattle.key_bits.proofs.Gather.{code-lt, code-shifted}
-use Rattle.key_bits.specs.Gather.{code}
+use Rattle.partial_keys.proofs.Common.{Bool, List, [], ap, arith, bit_and, drop, false, get_or, length, map, refl, replicate, suc, sym, take, true, ℕ, ◌%◌, ◌*◌, ◌++◌, ◌+◌, ◌-◌, ◌/◌, ◌<◌, ◌^◌, ◌∙◌, ◌∷◌, ◌≡◌, ◌≢◌, ◌≤◌, pow-suc, append-nil, append_assoc, drop_at, drop_more, get_or-map, length-drop, length-map, length-take-le, take_at, take_more, mod_low, shr_high, map-map, All, code-lt, code-shifted, code, kept-pad, length-kept, map_same, kept, Piece, paths, uses, has}
 use Rattle.partial_keys.proofs.Rows.{bits_of-code, code-join, digit, digit_place, get_or-bits_of, length-bits_of}
 use Rattle.partial_keys.proofs.Shown.Cutting.{or_all-piece}
 use Rattle.partial_keys.proofs.Squeezed.{is_one, is_zero}
 use Rattle.partial_keys.specs.Rows.{row_of}
 use Rattle.partial_keys.specs.Shows.{Covers}
 use Rattle.partial_keys.specs.Squeezed.{IsRowOver, bits_of, closed_row, or_all, squeezed}
-use Rattle.node_tries.proofs.Positions.{kept-pad, length-kept}
-use Rattle.node_tries.proofs.Positions.Tests.{map_same}
-use Rattle.node_tries.specs.Kept.{kept}
-use Rattle.node_tries.specs.Piece.{Piece, paths, uses}
-use Rattle.node_tries.specs.Positions.{has}
 
 regroup : (h d p r : ℕ) → h * (p * 2) + (d * p + r) ≡ (h * 2 + d) * p + r
 regroup h d p r = omega arith

@@ -1,16 +1,6 @@
 -- Bits gathered from sixteen bytes of a key after the other.
-use Rattle.std.proofs.Common.{◌≡◌, ℕ, zero, suc, ◌+◌, ◌-◌, ◌*◌, ◌/◌, ◌%◌, ◌^◌, ◌<◌, ◌≤◌, ◌⊎◌, inl, inr, Bool, true, false, cond, ◌&&◌, ◌||◌, eqb, ltb, List, [], ◌∷◌, map, length, get_or, take, replicate, bit_or, refl, sym, ap, ap₂, ◌∙◌, arith, w8, Fits, lit<}
-use Rattle.std.specs.Prelude.{min, nat_le, nat_lt}
-use Rattle.std.specs.Int.{bit_at}
-use Rattle.std.specs.Int.Bits.{or_add_and, or_zero_r}
-use Rattle.std.proofs.lemmas.Bool.{cases_lt, le-leb, lt-leb, le-ltb, lt-ltb, ltb-true, ltb-false, ne_eqb}
-use Rattle.std.proofs.lemmas.Nat.{and_le_l}
-use Rattle.std.proofs.Math.Nat.{min-eq_left, min-eq_right, min-le_right}
-use Rattle.std.proofs.lemmas.List.{get_or-append_right, get_or-replicate, get_or-take, get_or_past, length-replicate, length-take}
-use Rattle.std.proofs.Math.ListN.{get_or-append}
+use Rattle.partial_keys.proofs.Common.{◌≡◌, ℕ, zero, suc, ◌+◌, ◌-◌, ◌*◌, ◌/◌, ◌%◌, ◌^◌, ◌<◌, ◌≤◌, ◌⊎◌, inl, inr, Bool, true, false, cond, ◌&&◌, ◌||◌, eqb, ltb, List, [], ◌∷◌, map, length, get_or, take, replicate, bit_or, refl, sym, ap, ap₂, ◌∙◌, arith, w8, Fits, lit<, min, nat_le, nat_lt, bit_at, or_add_and, or_zero_r, cases_lt, le-leb, lt-leb, le-ltb, lt-ltb, ltb-true, ltb-false, ne_eqb, and_le_l, min-eq_left, min-eq_right, min-le_right, get_or-append_right, get_or-replicate, get_or-take, get_or_past, length-replicate, length-take, get_or-append, bit_of, with_zeros}
 use lib.Lanes.{zip2, sel_l, top, Each1}
-use Rattle.key_bits.specs.Bits.{bit_of}
-use Rattle.key_bits.specs.Key.{with_zeros}
 use Rattle.partial_keys.specs.Columns.{AreColumnLanes}
 use Rattle.partial_keys.specs.Windows.{bit_within, byte_lane, mask_lane, missed_lane}
 use Rattle.partial_keys.proofs.Windows.{below8, free_bit, lane_tells, one_over, over, rise_two}

@@ -1,12 +1,8 @@
 -- A position more is kept, or not.
-use Rattle.std.proofs.Common.{[], ap, arith, drop, get_or, length, refl, replicate, set, sym, take, ◌++◌, ◌+◌, ◌-◌, ◌∙◌, ◌∷◌, ◌≡◌}
-use Rattle.std.proofs.lemmas.List.{drop-set-lt, length_push, take_more_set}
-use Rattle.std.proofs.lemmas.List.Edits.{fill_from_more}
+use Rattle.partial_keys.proofs.Common.{[], ap, arith, drop, get_or, length, refl, replicate, set, sym, take, ◌++◌, ◌+◌, ◌-◌, ◌∙◌, ◌∷◌, ◌≡◌, drop-set-lt, length_push, take_more_set, fill_from_more, kept_nil, kept}
 use Rattle.partial_keys.proofs.Keeping.{filled_behind, more_behind, same_behind}
 use Rattle.partial_keys.proofs.Squeezed.{kept_clear, kept_set}
 use Rattle.partial_keys.specs.Squeezed.{used_bits}
-use Rattle.node_tries.proofs.Positions.{kept_nil}
-use Rattle.node_tries.specs.Kept.{kept}
 use lib.Seq.{paste}
 use Rattle.partial_keys.proofs.keep_used_positions.Goals as goal
 use Rattle.partial_keys.proofs.keep_used_positions.Goals.{then-used-j-eq1, else-used-j-eq1}

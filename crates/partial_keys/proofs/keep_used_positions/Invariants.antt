@@ -1,7 +1,6 @@
 -- The used positions so far stand in front; then unused places follow them.
-use Rattle.std.proofs.Common.{◌≡◌, ◌-◌, ◌≤◌, drop, length, replicate, take}
+use Rattle.partial_keys.proofs.Common.{◌≡◌, ◌-◌, ◌≤◌, drop, length, replicate, take, kept}
 use Rattle.partial_keys.specs.Squeezed.{used_bits}
-use Rattle.node_tries.specs.Kept.{kept}
 use lib.Seq.{paste}
 use Rattle.partial_keys.proofs.keep_used_positions.Given as goal
 

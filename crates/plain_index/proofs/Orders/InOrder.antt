@@ -1,15 +1,6 @@
 -- The weave of one pass's legal calls has each of them once, in the order in which they were made.
-use Rattle.std.proofs.Common.{◌≡◌, ◌≢◌, ℕ, ◌+◌, ◌<◌, ◌≤◌, List, [], ◌∷◌, ◌++◌, length, Bool, true, false, cond, not, ◌&&◌, refl, ap, subst, ◌∙◌, arith, ⊎_elim}
-use Rattle.std.specs.List.{All}
-use Rattle.std.proofs.lemmas.Bool.{eq-eqb, ne_eqb, cases_Bool, cases_eq, cond-true, cond-false}
-use Rattle.std.proofs.lemmas.List.Elements.{All-head, All-tail, All-weaker}
-use Rattle.finite_map.specs.declared.Change.{Change}
-use Rattle.finite_map.specs.declared.Note.{Note}
-use Rattle.finite_map.specs.Calls.{is_change, place_after, StandsIn, RisesFrom, LegalCalls}
-use Rattle.finite_map.specs.Weaves.{answered, quiet_at, changing_at, calls_of, made_by, weave_from, weave}
+use Rattle.plain_index.proofs.Common.{◌≡◌, ◌≢◌, ℕ, ◌+◌, ◌<◌, ◌≤◌, List, [], ◌∷◌, ◌++◌, length, Bool, true, false, cond, not, ◌&&◌, refl, ap, subst, ◌∙◌, arith, ⊎_elim, All, eq-eqb, ne_eqb, cases_Bool, cases_eq, cond-true, cond-false, All-head, All-tail, All-weaker, Change, Note, is_change, place_after, StandsIn, RisesFrom, LegalCalls, answered, quiet_at, changing_at, calls_of, made_by, weave_from, weave, place_after-within, none_below}
 use Rattle.plain_index.specs.Orders.{calls_in}
-use Rattle.finite_map.proofs.Calls.{place_after-within}
-use Rattle.finite_map.proofs.Weaves.{none_below}
 
 place_after-change : (n : Note) → is_change n ≡ true → place_after n ≡ n.place + 1
 place_after-change n h = cond-true (is_change n) (n.place + 1) n.place h

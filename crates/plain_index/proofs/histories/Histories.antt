@@ -1,14 +1,5 @@
 -- What the first changes of a front lead to, change by change.
-use Rattle.std.proofs.Common.{◌≡◌, ◌≢◌, ℕ, zero, suc, ◌+◌, ◌<◌, List, [], ◌∷◌, length, take, get_or, Option, Some, None, sym, ap, subst, ◌∙◌, arith}
-use Rattle.std.specs.List.{fold}
-use Rattle.std.proofs.lemmas.List.{take_more}
-use Rattle.finite_map.specs.declared.Change.{Change}
-use Rattle.finite_map.specs.declared.Kind.{Kind}
-use Rattle.finite_map.specs.declared.Kind.TheVariants.{Added, Replaced, Removed}
-use Rattle.finite_map.specs.Maps.{Map, IsRising, value_at}
-use Rattle.finite_map.specs.Fronts.{changed, changed_by, map_of, Fits, LegalFrom, LegalFront}
-use Rattle.finite_map.proofs.Maps.{value_at-with_value_same, value_at-without_same}
-use Rattle.finite_map.proofs.Fronts.{map_of-push, map_of-rising, legal_front_push, changed_by-other}
+use Rattle.plain_index.proofs.Common.{◌≡◌, ◌≢◌, ℕ, zero, suc, ◌+◌, ◌<◌, List, [], ◌∷◌, length, take, get_or, Option, Some, None, sym, ap, subst, ◌∙◌, arith, fold, take_more, Change, Kind, Added, Replaced, Removed, Map, IsRising, value_at, changed, changed_by, map_of, Fits, LegalFrom, LegalFront, value_at-with_value_same, value_at-without_same, map_of-push, map_of-rising, legal_front_push, changed_by-other}
 
 map_of-take_more : (front : List Change) (i : ℕ) (d : Change) → i < length front → map_of (take (i + 1) front) ≡ changed (map_of (take i front)) (get_or front i d)
 map_of-take_more front i d l = ap map_of (take_more front i d l) ∙ map_of-push (take i front) (get_or front i d)

@@ -1,28 +1,10 @@
 -- A scan of one map is lawful while nothing changes.
-use Rattle.std.proofs.Common.{◌≡◌, ℕ, zero, suc, ◌<◌, ◌≤◌, List, [], ◌∷◌, length, take, get_or, Bool, true, false, cond, Some, refl, sym, ap, subst, ◌∙◌, arith, min, ⊎_elim}
-use Rattle.std.specs.Prelude.{IsTrue, IsSome}
-use Rattle.std.specs.declared.cmp.Ordering.TheVariants.{Less}
-use Rattle.std.specs.Ordering.{ordering_reverse}
-use Rattle.std.specs.Cmp.Lexicographic.{nat_list_cmp_total}
-use Rattle.std.specs.List.{All, Contains, filter}
+use Rattle.plain_index.proofs.Common.{◌≡◌, ℕ, zero, suc, ◌<◌, ◌≤◌, List, [], ◌∷◌, length, take, get_or, Bool, true, false, cond, Some, refl, sym, ap, subst, ◌∙◌, arith, min, ⊎_elim, IsTrue, IsSome, Less, ordering_reverse, nat_list_cmp_total, All, Contains, is_at, cases_lt, eq_by_cmp_equiv, take_all, get_or-take, length-take-le, length-take, length-map, get_or-map, take-map, All-filter, All-take, filter_passes, Contains-append_right, recursion_from_All, All-from_recursion, slice_get-get_or, take-length, Change, Scan, Map, key_order, IsRising, value_at, map_of, is_within, range_of, IsScanOf, IsHeldBetween, IsUpToLast, IsPastLast, IsLawfulScan, same_from_at, map_of-rising, begins_itself}
+use Rattle.std.specs.List.{filter}
 use Rattle.std.specs.List.Sorted.{IsStrictlySortedBy}
 use Rattle.std.specs.Map.{keys_of}
-use Rattle.std.specs.BTreeMap.{is_at}
-use Rattle.std.proofs.lemmas.Bool.{cases_lt}
-use Rattle.std.proofs.lemmas.Cmp.{eq_by_cmp_equiv}
-use Rattle.std.proofs.lemmas.List.{take_all, get_or-take, length-take-le, length-take, length-map, get_or-map, take-map}
-use Rattle.std.proofs.lemmas.List.Elements.{All-filter, All-take, filter_passes, Contains-append_right, recursion_from_All, All-from_recursion}
 use Rattle.std.proofs.lemmas.Map.Entries.{lookup_from_place}
 use Rattle.std.proofs.lemmas.Map.Keys.{IsDistinct-from_sorted, Less-from_sorted}
-use Rattle.std.proofs.lemmas.Option.{slice_get-get_or}
-use Rattle.std.proofs.Math.Seq.{take-length}
-use Rattle.finite_map.specs.declared.Change.{Change}
-use Rattle.finite_map.specs.declared.Scan.{Scan}
-use Rattle.finite_map.specs.Maps.{Map, key_order, IsRising, value_at}
-use Rattle.finite_map.specs.Fronts.{map_of}
-use Rattle.finite_map.specs.Scans.{is_within, range_of, IsScanOf, IsHeldBetween, IsUpToLast, IsPastLast, IsLawfulScan}
-use Rattle.finite_map.proofs.Maps.{same_from_at}
-use Rattle.finite_map.proofs.Fronts.{map_of-rising, begins_itself}
 use Rattle.finite_map.proofs.Scans.Ranges.{range-rising}
 
 take-sorted : (n : ℕ) (ks : List (List ℕ)) → IsStrictlySortedBy key_order ks → IsStrictlySortedBy key_order (take n ks)

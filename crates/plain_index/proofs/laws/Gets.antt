@@ -1,24 +1,6 @@
 -- A lawful scan says of each key of its range what the map said of it at some moment of the scan.
-use Rattle.std.proofs.Common.{◌≡◌, ◌≢◌, ◌⊎◌, ℕ, ◌≤◌, List, [], ◌∷◌, ◌++◌, length, take, drop, true, false, Option, Some, None, refl, sym, ap, subst, ◌∙◌, arith, inl, inr, ⊎_elim, append_assoc, length-append}
-use Rattle.std.specs.Prelude.{IsTrue, IsSome}
-use Rattle.std.specs.Cmp.Lexicographic.{nat_list_cmp_total}
-use Rattle.std.specs.List.{All}
-use Rattle.std.specs.BTreeMap.{is_at}
-use Rattle.std.proofs.lemmas.Bool.{cases_Bool}
-use Rattle.std.proofs.lemmas.Cmp.{eq_by_cmp_equiv}
-use Rattle.std.proofs.lemmas.List.Elements.{All-nil, All-cons}
+use Rattle.plain_index.proofs.Common.{◌≡◌, ◌≢◌, ◌⊎◌, ℕ, ◌≤◌, List, [], ◌∷◌, ◌++◌, length, take, drop, true, false, Option, Some, None, refl, sym, ap, subst, ◌∙◌, arith, inl, inr, ⊎_elim, append_assoc, length-append, IsTrue, IsSome, nat_list_cmp_total, All, is_at, cases_Bool, eq_by_cmp_equiv, All-nil, All-cons, take-append_seam, drop-append_seam, Change, Kind, Added, Replaced, Removed, Scan, Map, key_order, IsRising, value_at, changed_by, map_of, is_within, IsHeldBetween, IsUpToLast, IsLawfulScan, at_itself, same_from_at, value_at-without_same, map_of-push, map_of-rising, at_found}
 use Rattle.std.proofs.lemmas.Map.Views.{IsSome-lookup_from_Contains}
-use Rattle.std.proofs.Math.Seq.{take-append_seam, drop-append_seam}
-use Rattle.finite_map.specs.declared.Change.{Change}
-use Rattle.finite_map.specs.declared.Kind.{Kind}
-use Rattle.finite_map.specs.declared.Kind.TheVariants.{Added, Replaced, Removed}
-use Rattle.finite_map.specs.declared.Scan.{Scan}
-use Rattle.finite_map.specs.Maps.{Map, key_order, IsRising, value_at}
-use Rattle.finite_map.specs.Fronts.{changed_by, map_of}
-use Rattle.finite_map.specs.Scans.{is_within, IsHeldBetween, IsUpToLast, IsLawfulScan}
-use Rattle.finite_map.proofs.Maps.{at_itself, same_from_at, value_at-without_same}
-use Rattle.finite_map.proofs.Fronts.{map_of-push, map_of-rising}
-use Rattle.finite_map.proofs.Scans.{at_found}
 
 -- no change of these removes the key
 abbrev IsKept : List Change → List ℕ → Type 0

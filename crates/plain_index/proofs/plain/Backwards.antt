@@ -1,13 +1,6 @@
 -- A range that runs backwards has no key.
-use Rattle.std.proofs.Common.{◌≡◌, ℕ, List, [], ◌∷◌, true, false, cond, ◌&&◌, not, refl, sym, ap, ◌∙◌, arith}
+use Rattle.plain_index.proofs.Common.{◌≡◌, ℕ, List, [], ◌∷◌, true, false, cond, ◌&&◌, not, refl, sym, ap, ◌∙◌, arith, Less, Equal, Greater, is_gt, is_le, is_lt, ordering_reverse, nat_list_cmp_total, take-nil, Scan, Map, key_order, range_of, IsScanOf}
 use Rattle.std.specs.declared.cmp.Ordering.{Ordering}
-use Rattle.std.specs.declared.cmp.Ordering.TheVariants.{Less, Equal, Greater}
-use Rattle.std.specs.Ordering.{is_gt, is_le, is_lt, ordering_reverse}
-use Rattle.std.specs.Cmp.Lexicographic.{nat_list_cmp_total}
-use Rattle.std.proofs.Math.Seq.{take-nil}
-use Rattle.finite_map.specs.declared.Scan.{Scan}
-use Rattle.finite_map.specs.Maps.{Map, key_order}
-use Rattle.finite_map.specs.Scans.{range_of, IsScanOf}
 
 above : (o : Ordering) → is_gt o ≡ true → o ≡ Greater
 above Less h = cc

@@ -1,9 +1,7 @@
 -- Calls on a map: what one answers, and what some first ones have made.
-use Rattle.std.proofs.Common.{◌≡◌, ℕ, ◌≤◌, List, [], ◌∷◌, ◌++◌, length, take, Option, sym, ap, ◌∙◌, subst, arith, length-append, append_assoc}
-use Rattle.std.proofs.Math.Seq.{take-append_seam}
+use Rattle.plain_index.proofs.Common.{◌≡◌, ℕ, ◌≤◌, List, [], ◌∷◌, ◌++◌, length, take, Option, sym, ap, ◌∙◌, subst, arith, length-append, append_assoc, take-append_seam, Map, value_at, key_of, step_where, reply_of, replies_of, map_after, map_after_all}
 use Rattle.finite_map.specs.declared.Call.{Call}
 use Rattle.finite_map.specs.declared.Reply.{Reply}
-use Rattle.finite_map.specs.Maps.{Map, value_at, key_of, step_where, reply_of, replies_of, map_after, map_after_all}
 use Rattle.finite_map.proofs.Calls.Steps.{map_after_all-push, replies_of-push}
 
 -- the reply, by what the map holds for the key

@@ -1,22 +1,8 @@
 -- Records that show a tree show it with another value in a leaf.
-use Rattle.std.proofs.Common.{◌≡◌, ◌≢◌, inl, inr, ℕ, ◌<◌, List, true, false, refl, ap, sym, ◌∙◌, subst, Some, if◌then◌else◌, set}
-use Rattle.std.specs.Prelude.{slice_get}
-use Rattle.std.proofs.lemmas.Bool.{false≢true}
-use Rattle.std.proofs.lemmas.Option.{slice_get_within}
-use Rattle.node_tries.specs.Piece.{places}
-use Rattle.compound_node.specs.Nodes.{NodeView, greatest_height}
-use Rattle.tries.proofs.Changes.{put}
-use Rattle.tries.specs.Content.{Item}
-use Rattle.tries.specs.Keys.{Key, bit}
-use Rattle.tries.specs.Tree.{Tree, leaf, node, fork, subtrie, Has, IsTrie, IsBuilt, IsFit, IsFork, Within, here, inside, zero_side, one_side}
-use Rattle.tries.proofs.Tree.{has_within}
-use Rattle.tries.proofs.Changes.Puts.{subtrie_put}
+use Rattle.plain_trie_records.proofs.Common.{◌≡◌, ◌≢◌, inl, inr, ℕ, ◌<◌, List, true, false, refl, ap, sym, ◌∙◌, subst, Some, if◌then◌else◌, set, slice_get, false≢true, slice_get_within, places, NodeView, greatest_height, put, Item, Key, bit, Tree, leaf, node, fork, subtrie, Has, IsTrie, IsBuilt, IsFit, IsFork, Within, here, inside, zero_side, one_side, has_within, subtrie_put, lower_by_greatest, greatest_if_lower, some_injective, found}
 use Rattle.plain_trie_records.specs.declared.leaf.LeafRecord.{LeafRecord}
 use Rattle.plain_trie_records.specs.Store.{ShowsTree}
-use Rattle.tries.proofs.Tree.Building.{lower_by_greatest, greatest_if_lower}
-use Rattle.insert_cases.proofs.Ways.{some_injective}
 use Rattle.plain_trie_records.proofs.Risen.{set_same, set_other}
-use Rattle.tries.specs.Search.{found}
 
 -- the leaf at which a search ends
 pub found_place : (k : Key) (t : Tree) → Within (leaf (found k t).number (found k t).key (found k t).value) t

@@ -1,13 +1,6 @@
 -- Reading gives the tree that the records show, and finds one that is well built.
-use Rattle.std.proofs.Common.{◌≡◌, inl, inr, ℕ, suc, zero, List, refl, ap, ap₂, sym, ◌∙◌, subst, Option, Some, None, eqb}
-use Rattle.std.specs.Prelude.{slice_get, option_map}
-use Rattle.std.proofs.lemmas.Bool.{cond-true, cond-false, eq-eqb, eqb-true, cases_Bool}
-use Rattle.node_tries.specs.Piece.{Place}
-use Rattle.compound_node.specs.Nodes.{NodeView, piece, height_of, head_of}
-use Rattle.compound_node.specs.declared.entries.Entry.{Entry}
-use Rattle.compound_node.specs.declared.entries.Entry.TheVariants.{Leaf, Node}
+use Rattle.plain_trie_records.proofs.Common.{◌≡◌, inl, inr, ℕ, suc, zero, List, refl, ap, ap₂, sym, ◌∙◌, subst, Option, Some, None, eqb, slice_get, option_map, cond-true, cond-false, eq-eqb, eqb-true, cases_Bool, Place, NodeView, piece, height_of, head_of, Entry, Leaf, Node, Subtrie, Fixed, Tree, leaf, node, subtrie, IsBuilt}
 use Rattle.tries.specs.Read.{join_node, read_subtrie}
-use Rattle.tries.specs.Tree.{Subtrie, Fixed, Tree, leaf, node, subtrie, IsBuilt}
 use Rattle.plain_trie_records.specs.declared.leaf.LeafRecord.{LeafRecord}
 use Rattle.tries.proofs.Read.{some_injective, IsFound, subtrie_found, node_found, read_exact as exactly_read}
 use Rattle.plain_trie_records.specs.Store.{IsNodeStored, ShowsTree, read_node, entry_tree}

@@ -1,24 +1,7 @@
 -- The way of a search.
-use Rattle.std.proofs.Common.{◌≡◌, ℕ, ◌+◌, ◌<◌, true, false, List, ◌++◌, length, refl, ap, sym, ◌∙◌, subst, arith, Some, if◌then◌else◌, get_or}
-use Rattle.std.specs.Prelude.{slice_get}
-use Rattle.std.proofs.lemmas.Option.{get_or_from_slice_get, slice_get_within}
-use Rattle.std.proofs.lemmas.List.{get_or_append_left, get_or-append-add}
-use Rattle.node_tries.proofs.Piece.{length-places}
-use Rattle.node_tries.specs.Piece.{Place, Fork, places, size, leads_to}
-use Rattle.key_bits.specs.Bits.{bit_of}
-use Rattle.compound_node.specs.Nodes.{NodeView, piece, IsLawfulNode, height_of}
-use Rattle.compound_node.specs.declared.entries.Entry.{Entry}
-use Rattle.compound_node.specs.declared.entries.Entry.TheVariants.{Leaf, Node}
-use Rattle.tries.specs.Content.{Item}
-use Rattle.tries.specs.Keys.{Key, bit}
-use Rattle.tries.specs.Search.{child, seek, found}
-use Rattle.tries.specs.Place.{spot}
-use Rattle.tries.specs.Tree.{Subtrie, Fixed, Tree, leaf, node, fork, subtrie, IsBuilt, IsLower, Within, here, inside, zero_side, one_side}
-use Rattle.tries.proofs.Tree.{subtrie_child, within_child, built_within}
-use Rattle.tries.proofs.Place.{leads_spot, spot_below}
+use Rattle.plain_trie_records.proofs.Common.{◌≡◌, ℕ, ◌+◌, ◌<◌, true, false, List, ◌++◌, length, refl, ap, sym, ◌∙◌, subst, arith, Some, if◌then◌else◌, get_or, slice_get, get_or_from_slice_get, slice_get_within, get_or_append_left, get_or-append-add, length-places, Place, Fork, places, size, leads_to, bit_of, NodeView, piece, IsLawfulNode, height_of, Entry, Leaf, Node, Item, Key, bit, child, seek, found, spot, Subtrie, Fixed, Tree, leaf, node, fork, subtrie, IsBuilt, IsLower, Within, here, inside, zero_side, one_side, subtrie_child, within_child, built_within, leads_spot, spot_below, found_child}
 use Rattle.plain_trie_records.specs.declared.leaf.LeafRecord.{LeafRecord}
 use Rattle.plain_trie_records.specs.Store.{IsNodeStored, ShowsTree, item_record}
-use Rattle.tries.proofs.Content.{found_child}
 
 -- what stands there
 pub spot_entry : (k : Key) (x : Subtrie) (d : Entry) → get_or (places x) (spot k x) d ≡ seek k x

@@ -1,29 +1,8 @@
 -- One entry more at a node of the way, and so in each node above it.
-use Rattle.std.proofs.Common.{◌≡◌, ℕ, suc, ◌+◌, ◌*◌, ◌≤◌, Bool, true, false, List, refl, ap, sym, ◌∙◌, subst, arith, Some}
-use Rattle.std.specs.Prelude.{slice_get}
+use Rattle.plain_trie_records.proofs.Common.{◌≡◌, ℕ, suc, ◌+◌, ◌*◌, ◌≤◌, Bool, true, false, List, refl, ap, sym, ◌∙◌, subst, arith, Some, slice_get, MAX_BYTES, NodeView, piece, Leaf, affected, subtrie_grown, IsAdded, put, IsInOwnSubtrie, Item, Key, bit, spot, child, Subtrie, Fixed, Tree, node, subtrie, Has, IsTrie, IsBuilt, IsLower, first_position, Within, here, inside, zero_side, one_side, added, added_without_marks, added_in_whole, DifferFirstAt, part_place, place_subtrie, lower_positive, lower_in_own_subtrie, built_in_own_subtrie, built_within, grafted, WayBelow, Risen, subtrie_of}
 use Rattle.key_bits.specs.Key.{IsKey}
-use Rattle.key_bits.specs.declared.TheConstants.{MAX_BYTES}
-use Rattle.compound_node.specs.Nodes.{NodeView, piece}
-use Rattle.compound_node.specs.declared.entries.Entry.TheVariants.{Leaf}
-use Rattle.tries.specs.Affected.{affected, subtrie_grown}
-use Rattle.tries.specs.Changes.{IsAdded}
-use Rattle.tries.proofs.Changes.{put, IsInOwnSubtrie}
-use Rattle.tries.specs.Content.{Item}
-use Rattle.tries.specs.Keys.{Key, bit}
-use Rattle.tries.specs.Place.{spot}
-use Rattle.tries.specs.Search.{child}
-use Rattle.tries.specs.Tree.{Subtrie, Fixed, Tree, node, subtrie, Has, IsTrie, IsBuilt, IsLower, first_position, Within, here, inside, zero_side, one_side}
-use Rattle.tries.proofs.Changes.Adding.{added, added_without_marks, added_in_whole}
-use Rattle.tries.proofs.Affected.{DifferFirstAt, part_place, place_subtrie}
-use Rattle.tries.proofs.Tree.Fitting.{lower_positive}
 use Rattle.tries.proofs.Place.{grown}
-use Rattle.tries.proofs.Changes.Puts.{lower_in_own_subtrie, built_in_own_subtrie}
-use Rattle.tries.proofs.Tree.{built_within}
-use Rattle.node_tries.specs.Grafts.{grafted}
-use Rattle.insert_cases.specs.Ways.{WayBelow}
 use Rattle.plain_trie_records.specs.declared.leaf.LeafRecord.{LeafRecord}
-use Rattle.insert_cases.specs.declared.raising.Risen.{Risen}
-use Rattle.insert_cases.specs.Risen.{subtrie_of}
 use Rattle.plain_trie_records.specs.Risen.{RisenShows, OthersStay}
 use Rattle.plain_trie_records.specs.Rising.{NoNode, IsRaised}
 use Rattle.plain_trie_records.specs.Store.{ShowsTree}

@@ -1,28 +1,7 @@
 -- What takes a node's place, as a tree.
-use Rattle.std.proofs.Common.{◌≡◌, ◌⊎◌, inl, inr, ℕ, suc, ◌+◌, ◌*◌, ◌<◌, ◌≤◌, Bool, true, false, List, refl, ap, ap₂, sym, ◌∙◌, arith, if◌then◌else◌, MatchBool}
-use Rattle.std.proofs.lemmas.Bool.{lt-ltb, false≢true}
-use Rattle.key_bits.specs.declared.TheConstants.{MAX_BYTES}
-use Rattle.node_tries.specs.Piece.{Place, Fork, places, size}
-use Rattle.compound_node.specs.Nodes.{NodeView, piece, greatest_height, head_of}
-use Rattle.compound_node.specs.declared.entries.Entry.{Entry}
-use Rattle.tries.specs.Affected.{affected}
-use Rattle.tries.specs.Changes.{IsAdded}
-use Rattle.tries.proofs.Changes.{put, IsInOwnSubtrie, IsPathBelow}
-use Rattle.tries.specs.Content.{Item}
-use Rattle.tries.specs.Keys.{Key, bit}
-use Rattle.tries.specs.Place.{spot}
-use Rattle.tries.proofs.Place.{without_marks}
-use Rattle.tries.specs.Search.{child}
-use Rattle.tries.specs.Tree.{Subtrie, Fixed, Tree, leaf, node, fork, subtrie, IsTrie, IsBuilt, IsLower, first_position, Within, here, inside, zero_side, one_side, IsTip}
+use Rattle.plain_trie_records.proofs.Common.{◌≡◌, ◌⊎◌, inl, inr, ℕ, suc, ◌+◌, ◌*◌, ◌<◌, ◌≤◌, Bool, true, false, List, refl, ap, ap₂, sym, ◌∙◌, arith, if◌then◌else◌, MatchBool, lt-ltb, false≢true, MAX_BYTES, Place, Fork, places, size, NodeView, piece, greatest_height, head_of, Entry, affected, IsAdded, put, IsInOwnSubtrie, IsPathBelow, Item, Key, bit, spot, without_marks, child, Subtrie, Fixed, Tree, leaf, node, fork, subtrie, IsTrie, IsBuilt, IsLower, first_position, Within, here, inside, zero_side, one_side, IsTip, has_within, grafted, IsAbovePath, WayBelow, size-piece, body_bound, greatest_if_lower, node_built, fork_of_two_places, Risen, Whole, Split, subtrie_of}
 use Rattle.tries.proofs.Place.Spots.{path_spot, grafted_spot}
-use Rattle.tries.proofs.Tree.{has_within}
-use Rattle.node_tries.specs.Grafts.{grafted, IsAbovePath}
-use Rattle.insert_cases.specs.Ways.{WayBelow}
-use Rattle.tries.proofs.Tree.Building.{size-piece, body_bound, greatest_if_lower, node_built, fork_of_two_places}
 use Rattle.plain_trie_records.specs.declared.leaf.LeafRecord.{LeafRecord}
-use Rattle.insert_cases.specs.declared.raising.Risen.{Risen}
-use Rattle.insert_cases.specs.declared.raising.Risen.TheVariants.{Whole, Split}
-use Rattle.insert_cases.specs.Risen.{subtrie_of}
 use Rattle.plain_trie_records.specs.Risen.{IsNamed, IsFor, RisenShows}
 use Rattle.plain_trie_records.specs.Store.{ShowsTree}
 use Rattle.plain_trie_records.specs.Rising.{StaysStored}

@@ -1,44 +1,17 @@
 -- The way up of a new leaf: at a leaf, at the affected node, at each node above it, and in a new node.
-use Rattle.std.proofs.Common.{◌≡◌, ◌⊎◌, inl, inr, ℕ, suc, ◌+◌, ◌<◌, ◌≤◌, Bool, true, false, List, refl, ap, sym, ◌∙◌, subst, arith, Some, length, get_or}
-use Rattle.std.proofs.lemmas.Option.{slice_get_within}
-use Rattle.std.specs.Prelude.{slice_get, cond, nat_lt, ◌-◌}
-use Rattle.key_bits.specs.Bits.{IsFirstDifference, bit_of}
-use Rattle.node_tries.specs.Changes.{replaced}
-use Rattle.node_tries.specs.Growth.{affected_first, affected_count, IsAffected, grown as piece_grown}
-use Rattle.node_tries.specs.Piece.{Place, Fork, places, size, leads_to}
-use Rattle.compound_node.specs.Nodes.{NodeView, piece, IsLawfulNode, IsBuiltFrom, StandsBelow, greatest_height, height_of, head_of}
-use Rattle.compound_node.specs.declared.entries.Entry.{Entry}
-use Rattle.compound_node.specs.declared.entries.Entry.TheVariants.{Leaf, Node}
-use Rattle.tries.specs.Affected.{affected, IsPart, subtrie_grown, subtrie_forked}
-use Rattle.tries.proofs.Changes.{put, IsPathBelow}
-use Rattle.tries.specs.Content.{Item, first}
-use Rattle.tries.specs.Keys.{bit}
-use Rattle.tries.specs.Place.{spot}
-use Rattle.tries.specs.Search.{child, seek, found}
-use Rattle.tries.specs.Tree.{Subtrie, Fixed, Tree, leaf, node, fork, subtrie, Has, IsTrie, IsBuilt, IsLower, first_position, Within, here, inside, zero_side, one_side}
-use Rattle.tries.proofs.Changes.Adding.{added_here}
-use Rattle.tries.proofs.Affected.{grown_subtrie, part_place}
-use Rattle.tries.proofs.Tree.Fitting.{lower_positive}
-use Rattle.tries.proofs.Place.{grown, leads_spot, spot_below}
-use Rattle.tries.proofs.Tree.{rises, trie_within, built_within, within_child, subtrie_child}
+use Rattle.plain_trie_records.proofs.Common.{◌≡◌, ◌⊎◌, inl, inr, ℕ, suc, ◌+◌, ◌<◌, ◌≤◌, Bool, true, false, List, refl, ap, sym, ◌∙◌, subst, arith, Some, length, get_or, slice_get_within, slice_get, cond, IsFirstDifference, bit_of, replaced, affected_first, affected_count, IsAffected, piece_grown, Place, Fork, places, size, leads_to, NodeView, piece, IsLawfulNode, IsBuiltFrom, StandsBelow, greatest_height, height_of, head_of, Entry, Leaf, Node, affected, IsPart, subtrie_grown, subtrie_forked, put, IsPathBelow, Item, first, bit, spot, child, seek, found, Subtrie, Fixed, Tree, leaf, node, fork, subtrie, Has, IsTrie, IsBuilt, IsLower, first_position, Within, here, inside, zero_side, one_side, added_here, grown_subtrie, part_place, lower_positive, leads_spot, spot_below, rises, trie_within, built_within, within_child, subtrie_child, Risen, grafted, IsAbovePath, subtrie_of, WayBelow, greatest_if_lower, node_built_from, tip_entry, tip_low, pair_of, IsPairOf, pair_facts, has_found, all_away, affected_range, part_of_two, tip_of_one_place, tip_child, size_affected, found_child}
+use Rattle.std.specs.Prelude.{nat_lt, ◌-◌}
+use Rattle.tries.proofs.Place.{grown}
 use Rattle.plain_trie_records.specs.declared.leaf.LeafRecord.{LeafRecord}
-use Rattle.insert_cases.specs.declared.raising.Risen.{Risen}
-use Rattle.node_tries.specs.Grafts.{grafted, IsAbovePath}
 use Rattle.plain_trie_records.specs.Rising.{IsRaised, IsAddable, IsLifting, IsNew, level, records}
-use Rattle.insert_cases.specs.Risen.{subtrie_of}
 use Rattle.plain_trie_records.specs.Risen.{IsNamed, RisenShows, OthersStay}
 use Rattle.plain_trie_records.specs.Store.{ShowsTree}
-use Rattle.insert_cases.specs.Ways.{WayBelow}
 use Rattle.insert_cases.proofs.Ways.Affecting.{key_part}
-use Rattle.tries.proofs.Tree.Building.{greatest_if_lower, node_built_from}
-use Rattle.insert_cases.proofs.Pairs.{tip_entry, tip_low, pair_of, IsPairOf, pair_facts}
-use Rattle.insert_cases.proofs.Ways.{has_found, all_away, affected_range, part_of_two, tip_of_one_place, tip_child, size_affected}
 use Rattle.plain_trie_records.proofs.Store.{shown_more}
 use Rattle.plain_trie_records.proofs.rising.Lifting.{grow_raised, lower_part, old_stays, body_adds, pulled_raised}
 use Rattle.plain_trie_records.proofs.rising.Replacing.{child_spot}
 use Rattle.plain_trie_records.proofs.Store.Searching.{node_of_subtrie, read_at, shown_within, lower_child, sought_entry}
 use Rattle.plain_trie_records.proofs.Risen.{push_old, push_new}
-use Rattle.tries.proofs.Content.{found_child}
 
 -- ---- a new node for a fork
 pub raised_in_new_node : (ns ms us : List NodeView) (ls : List LeafRecord) (x : Item) (p : ℕ) (s : Tree) (h q : ℕ) (z o e : Entry) →

@@ -1,27 +1,8 @@
 -- What grows out of a node has other forks than the node had.
-use Rattle.std.proofs.Common.{◌≡◌, ◌≢◌, ℕ, ◌+◌, ◌-◌, ◌<◌, ◌≤◌, Bool, true, false, nat_lt, length, get_or, refl, ap, sym, ◌∙◌, subst, arith, ⊎_elim}
-use Rattle.std.specs.Prelude.{◌↔◌, IsTrue}
-use Rattle.std.proofs.lemmas.Bool.{cases_Bool, lt-ltb, ltb-true, ltb-false, false≢true}
-use Rattle.std.proofs.lemmas.List.{length-map}
-use Rattle.node_tries.proofs.Piece.{length-paths}
-use Rattle.node_tries.specs.Changes.{AtRootFork}
-use Rattle.node_tries.specs.Growth.{IsAffected, IsFresh, forked, grown}
-use Rattle.node_tries.specs.Piece.{Piece, Place, Fork, size, paths, RisesFrom}
+use Rattle.plain_trie_records.proofs.Common.{◌≡◌, ◌≢◌, ℕ, ◌+◌, ◌-◌, ◌<◌, ◌≤◌, Bool, true, false, nat_lt, length, get_or, refl, ap, sym, ◌∙◌, subst, arith, ⊎_elim, ◌↔◌, IsTrue, cases_Bool, lt-ltb, ltb-true, ltb-false, false≢true, length-map, length-paths, AtRootFork, IsAffected, IsFresh, forked, grown, Piece, Place, Fork, size, paths, RisesFrom, HalfShows, NodeView, piece, IsLawfulNode, Entry, Cut, Half, One, Many, Same, Subtrie, first_position, grafted, IsAbovePath, GrownShows, SidesShow, is_whole, keeps_node, Grown, Two, size-grown, size-piece}
 use Rattle.partial_keys.specs.Rows.{row_of}
-use Rattle.compound_node.specs.Halves.{HalfShows}
-use Rattle.compound_node.specs.Nodes.{NodeView, piece, IsLawfulNode}
-use Rattle.compound_node.specs.declared.entries.Entry.{Entry}
-use Rattle.compound_node.specs.declared.halves.Cut.{Cut}
-use Rattle.compound_node.specs.declared.halves.Half.{Half}
-use Rattle.compound_node.specs.declared.halves.Half.TheVariants.{One, Many, Same}
-use Rattle.tries.specs.Tree.{Subtrie, first_position}
-use Rattle.node_tries.specs.Grafts.{grafted, IsAbovePath}
-use Rattle.insert_cases.specs.Grown.{GrownShows, SidesShow, is_whole, keeps_node}
 use Rattle.plain_trie_records.specs.Heights.{KeepsHeight, IsHalfSteady, IsGrownSteady}
-use Rattle.insert_cases.specs.declared.growth.Grown.{Grown}
-use Rattle.insert_cases.specs.declared.growth.Grown.TheVariants.{One as Whole, Two}
-use Rattle.node_tries.proofs.Grafts.{size-grown}
-use Rattle.tries.proofs.Tree.Building.{size-piece}
+use Rattle.insert_cases.specs.declared.growth.Grown.TheVariants.{One as Whole}
 use Rattle.compound_node.proofs.Roots.{first_column}
 
 -- ---- root forks

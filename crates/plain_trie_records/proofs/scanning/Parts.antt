@@ -1,11 +1,5 @@
 -- What stands at the places of a body, in order, and its leaves.
-use Rattle.std.proofs.Common.{◌≡◌, ℕ, zero, suc, ◌+◌, ◌<◌, List, [], ◌∷◌, ◌++◌, length, take, get_or, refl, ap, ap₂, sym, ◌∙◌, arith, append_assoc, add-one}
-use Rattle.std.proofs.lemmas.List.{append-nil}
-use Rattle.std.proofs.Math.Seq.{take-suc}
-use Rattle.node_tries.specs.Piece.{Place, places}
-use Rattle.compound_node.specs.declared.entries.Entry.{Entry}
-use Rattle.tries.specs.Content.{Item, items}
-use Rattle.tries.specs.Tree.{Tree, leaf, node, fork, subtrie, Within, here, zero_side, one_side}
+use Rattle.plain_trie_records.proofs.Common.{◌≡◌, ℕ, zero, suc, ◌+◌, ◌<◌, List, [], ◌∷◌, ◌++◌, length, take, get_or, refl, ap, ap₂, sym, ◌∙◌, arith, append_assoc, add-one, append-nil, take-suc, Place, places, Entry, Item, items, Tree, leaf, node, fork, subtrie, Within, here, zero_side, one_side}
 
 abbrev pub parts : Tree → List Tree
 parts (leaf n k v) = leaf n k v ∷ []

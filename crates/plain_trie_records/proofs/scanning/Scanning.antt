@@ -1,9 +1,6 @@
 -- The pairs of further leaves, and of a range of them.
-use Rattle.std.proofs.Common.{◌≡◌, ◌≢◌, ℕ, zero, suc, List, [], ◌∷◌, ◌++◌, take, refl, ap}
+use Rattle.plain_trie_records.proofs.Common.{◌≡◌, ◌≢◌, ℕ, zero, suc, List, [], ◌∷◌, ◌++◌, take, refl, ap, Map, is_within, range_of, Item, pairs}
 use Rattle.std.proofs.lemmas.List.Elements.{filter-append}
-use Rattle.finite_map.specs.Maps.{Map}
-use Rattle.finite_map.specs.Scans.{is_within, range_of}
-use Rattle.tries.specs.Content.{Item, pairs}
 
 pub pairs-append : (xs ys : List Item) → pairs (xs ++ ys) ≡ pairs xs ++ pairs ys
 pairs-append [] ys = refl

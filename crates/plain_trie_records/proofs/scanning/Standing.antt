@@ -1,14 +1,5 @@
 -- A leaf or a node that stands in a trie, with the parts below it.
-use Rattle.std.proofs.Common.{◌≡◌, ℕ, ◌<◌, List, [], ◌∷◌, length, get_or, refl, ap, sym, ◌∙◌, subst, Some}
-use Rattle.std.specs.Prelude.{slice_get}
-use Rattle.std.proofs.lemmas.Option.{get_or_from_slice_get, slice_get_within}
-use Rattle.node_tries.specs.Piece.{Place, places}
-use Rattle.compound_node.specs.Nodes.{NodeView, piece, IsLawfulNode}
-use Rattle.compound_node.specs.declared.entries.Entry.{Entry}
-use Rattle.compound_node.specs.declared.entries.Entry.TheVariants.{Leaf, Node}
-use Rattle.tries.specs.Content.{items, pairs}
-use Rattle.tries.specs.Tree.{Fixed, Tree, leaf, node, fork, subtrie}
-use Rattle.tries.proofs.Tree.{trie_within, built_within}
+use Rattle.plain_trie_records.proofs.Common.{◌≡◌, ℕ, ◌<◌, List, [], ◌∷◌, length, get_or, refl, ap, sym, ◌∙◌, subst, Some, slice_get, get_or_from_slice_get, slice_get_within, Place, places, NodeView, piece, IsLawfulNode, Entry, Leaf, Node, items, pairs, Fixed, Tree, leaf, node, fork, subtrie, trie_within, built_within}
 use Rattle.plain_trie_records.specs.declared.leaf.LeafRecord.{LeafRecord}
 use Rattle.plain_trie_records.specs.Store.{ShowsSound}
 use Rattle.plain_trie_records.proofs.scanning.Parts.{items_of_all, leaves_parts, length-parts, part_of, parts}

@@ -1,46 +1,11 @@
 -- Removals that merge may be published; and what a pass knows of the nodes beside each other.
-use Rattle.std.proofs.Common.{◌≡◌, ◌<◌, ◌+◌, inl, ℕ, Bool, true, false, List, [], ◌∷◌, ◌++◌, Some, refl, sym, ap, ap₂, subst, ◌∙◌, arith, if◌then◌else◌}
-use Rattle.compound_node.specs.Nodes.{NodeView, greatest_height, height_of, piece}
-use Rattle.compound_node.specs.declared.entries.Entry.{Entry}
-use Rattle.compound_node.specs.declared.entries.Entry.TheVariants.{Node}
-use Rattle.finite_map.specs.declared.Change.{Change}
-use Rattle.node_tries.specs.Piece.{Fork, Place, RisesFrom, places}
-use Rattle.record_words.specs.declared.layout.Layout.{Layout}
-use Rattle.tries.specs.Content.{item}
-use Rattle.tries.specs.Keys.{Key, bit}
-use Rattle.tries.specs.Place.{fork_closed, fork_of, subtrie_collapsed, subtrie_sibling, subtrie_without}
-use Rattle.tries.specs.Search.{child, seek}
-use Rattle.tries.specs.Tree.{Subtrie, Tree, subtrie, Within, here, inside, node}
-use Rattle.tries.proofs.Tree.Building.{greatest-append}
-use Rattle.tries.proofs.Tree.{built_within, trie_within, within_trans}
-use Rattle.versions.specs.Heap.{NodeWords, LeafWords}
-use Rattle.record_words.specs.declared.records.Rec.{Rec}
-use Rattle.record_words.specs.declared.records.Rec.TheVariants.{Node as a_node, Leaf as a_leaf}
-use Rattle.versions.specs.Trades.{IsOneOf}
-use Rattle.versions.proofs.Heap.{shown_within}
-use Rattle.versions.proofs.Trades.{all_of, of_left, of_right}
+use Rattle.publish_laws.proofs.Common.{◌≡◌, ◌<◌, ◌+◌, inl, ℕ, Bool, true, false, List, [], ◌∷◌, ◌++◌, Some, refl, sym, ap, ap₂, subst, ◌∙◌, arith, if◌then◌else◌, NodeView, greatest_height, height_of, piece, Entry, Node, Change, Fork, Place, RisesFrom, places, Layout, item, Key, bit, fork_closed, subtrie_collapsed, subtrie_sibling, subtrie_without, child, seek, Subtrie, Tree, subtrie, Within, here, inside, node, greatest-append, built_within, trie_within, within_trans, NodeWords, LeafWords, Rec, a_node, a_leaf, IsOneOf, shown_within, all_of, of_left, of_right, IsBesideNode, IsEntryFor, IsLeafOf, IsNewSubtrie, linked_for_entry, subtrie_merged, IsPublished, removed_change, built_now, shown_now, trie_now, newest_tree_if_node, stands_now, same_entry, Known, Locked, node_words_of, Core, IsLawful, bare, heap_of, IsInTree, stored_words, stored_root, Knows, IsLocked, node_used, knows_all, recalls, Made, recs_of, publishes_made, MayPublish}
+use Rattle.tries.specs.Place.{fork_of}
 use Rattle.versions.proofs.Heap.Stored.{links_of}
-use Rattle.version_laws.specs.Rise.{IsBesideNode, IsEntryFor, IsLeafOf, IsNewSubtrie, linked_for_entry, subtrie_merged}
-use Rattle.version_laws.specs.Statements.{IsPublished}
-use Rattle.version_laws.specs.Writer.{removed_change}
 use Rattle.version_laws.proofs.Beside.{StandBeside, beside_now, first_within, both_low, both_rise, last_fork, second_within, two, two_within}
 use Rattle.version_laws.proofs.Rise.Merging.{collapsed_tree, merge_at_spot, merged_tree}
-use Rattle.version_laws.proofs.Now.{built_now, shown_now, trie_now}
 use Rattle.version_laws.proofs.Replaced.{linked_fate}
 use Rattle.version_laws.proofs.Scan.{node_of}
-use Rattle.version_laws.proofs.Standing.{newest_tree_if_node, stands_now}
-use Rattle.version_laws.proofs.Rise.Taking.{same_entry}
-use Rattle.rowex_core.specs.declared.known.Known.{Known}
-use Rattle.rowex_core.specs.declared.known.Locked.{Locked}
-use Rattle.rowex_core.specs.Reading.{node_words_of}
-use Rattle.rowex_core.specs.Cores.{Core, IsLawful, bare, heap_of}
-use Rattle.rowex_core.specs.Events.{IsInTree, stored_words, stored_root}
-use Rattle.rowex_core.specs.Knowing.{Knows}
-use Rattle.rowex_core.specs.Sharing.{IsLocked}
-use Rattle.rowex_core.proofs.Having.{node_used}
-use Rattle.rowex_core.proofs.Sharing.Owning.{knows_all, recalls}
-use Rattle.rowex_table.specs.Made.{Made, recs_of}
-use Rattle.rowex_table.proofs.Made.ActsAfter.{publishes_made, MayPublish}
 use Rattle.publish_laws.specs.Acts.{BesideMayLock}
 use Rattle.publish_laws.specs.Cases.{MayMerge}
 use Rattle.publish_laws.specs.Rises.{made_of_node, IsBuiltAnew, IsSide}

@@ -1,30 +1,10 @@
 -- A publish that the laws on versions give is one for words.
-use Rattle.std.proofs.Common.{◌≡◌, ◌<◌, ℕ, List, Option, Some, refl, sym, ap, subst, ◌∙◌, arith, le_refl}
-use Rattle.std.proofs.lemmas.List.{take_all}
-use Rattle.compound_node.specs.declared.entries.Entry.{Entry}
-use Rattle.finite_map.specs.declared.Change.{Change}
+use Rattle.publish_laws.proofs.Common.{◌≡◌, ◌<◌, ℕ, List, Option, Some, refl, sym, ap, subst, ◌∙◌, arith, le_refl, take_all, Entry, Change, HasEntryWord, entry_word, Key, Tree, leaf, Within, Rec, content, HasTraded, IsPublished, trie_now, Spot, Root, Slot, Value, entry_of, Core, IsLawful, bare, heap_of, IsLockedAt, IsOfEntry, IsPackedAt, IsWordFor, stored_words, stored_root, entry_of_word, publish_is_legal, IsPublishOf, holds_within}
 use Rattle.finite_map.specs.Maps.{Map, value_at}
 use Rattle.finite_map.specs.Fronts.{map_of, Fits}
-use Rattle.record_words.specs.Entry.{HasEntryWord, entry_word}
-use Rattle.tries.specs.Keys.{Key}
-use Rattle.tries.specs.Tree.{Tree, leaf, Within}
 use Rattle.tries.proofs.Content.Maps.{holds_value}
-use Rattle.record_words.specs.declared.records.Rec.{Rec}
-use Rattle.versions.specs.Told.{content}
-use Rattle.versions.specs.Trades.{HasTraded}
-use Rattle.version_laws.specs.Statements.{IsPublished}
-use Rattle.version_laws.proofs.Now.{trie_now}
-use Rattle.rowex_core.specs.declared.event.Spot.{Spot}
-use Rattle.rowex_core.specs.declared.event.Spot.TheVariants.{Root, Slot, Value}
-use Rattle.record_words.specs.Decoding.{entry_of}
-use Rattle.rowex_core.specs.Cores.{Core, IsLawful, bare, heap_of}
-use Rattle.rowex_core.specs.Events.{IsLockedAt, IsOfEntry, IsPackedAt, IsWordFor, stored_words, stored_root}
-use Rattle.rowex_core.proofs.Reading.{entry_of_word}
 use Rattle.rowex_core.proofs.Statements.Promises.{publish_is_a_step}
-use Rattle.rowex_core.proofs.Writers.{publish_is_legal}
 use Rattle.rowex_core.proofs.Cores.Valuing.{legal_store}
-use Rattle.rowex_table.proofs.Made.ActsAfter.{IsPublishOf}
-use Rattle.version_laws.proofs.Statements.Search.{holds_within}
 
 -- what is stored at the spot of an entry is an entry's word
 is_entry : (spot : Spot) (w : ℕ) → IsOfEntry spot → HasEntryWord (entry_of w) × (entry_word (entry_of w) ≡ w) → IsWordFor spot w

@@ -1,27 +1,10 @@
 -- Insertions may be published.
-use Rattle.std.proofs.Common.{◌≡◌, ◌≢◌, inl, inr, List, [], ◌∷◌, Some, None, refl, sym, ap, subst, ◌∙◌}
-use Rattle.compound_node.specs.declared.entries.Entry.TheVariants.{Leaf, Node}
-use Rattle.tries.specs.Keys.{bit, AgreeBelow}
-use Rattle.record_words.specs.declared.records.Rec.TheVariants.{Node as a_node, Leaf as a_leaf}
-use Rattle.version_laws.specs.Writer.{added_change}
-use Rattle.version_laws.specs.Rise.{IsNewSubtrie, linked_by_rise}
-use Rattle.version_laws.specs.Statements.{IsPublished}
-use Rattle.tries.proofs.Tree.{trie_within}
-use Rattle.version_laws.proofs.Spots.{newest_tree_if_spot_held, leaf_at}
-use Rattle.version_laws.proofs.Now.{trie_now}
-use Rattle.rowex_core.specs.declared.event.Spot.TheVariants.{Root}
-use Rattle.rowex_core.specs.Reading.{leaf_of}
-use Rattle.rowex_core.specs.Cores.{bare, heap_of}
-use Rattle.rowex_core.specs.Events.{stored_words, stored_root}
-use Rattle.rowex_core.proofs.Sharing.Owning.{knows_all}
-use Rattle.rowex_table.specs.Made.{Made, recs_of}
-use Rattle.rowex_table.proofs.Made.ActsAfter.{publishes_made, MayPublish}
+use Rattle.publish_laws.proofs.Common.{◌≡◌, ◌≢◌, inl, inr, List, [], ◌∷◌, Some, None, refl, sym, ap, subst, ◌∙◌, Leaf, Node, bit, AgreeBelow, a_node, a_leaf, added_change, IsNewSubtrie, linked_by_rise, IsPublished, trie_within, newest_tree_if_spot_held, leaf_at, trie_now, Root, leaf_of, bare, heap_of, stored_words, stored_root, knows_all, Made, recs_of, publishes_made, MayPublish, insert_at_spot}
 use Rattle.publish_laws.specs.Rises.{made_of_node, made_of_leaf}
 use Rattle.publish_laws.proofs.Stages.{node_fixed, made_leaf, made_node, stage_of}
 use Rattle.publish_laws.proofs.Spots.{stores_at}
 use Rattle.publish_laws.proofs.Cases.Publishing.{publish_words, publish_root}
 use Rattle.publish_laws.proofs.Rises.Bounding.{bound_of}
-use Rattle.version_laws.proofs.Rise.{insert_at_spot}
 use Rattle.version_laws.proofs.Statements.Leaves.{first_root, pair_tree, pair_at_spot}
 use Rattle.publish_laws.specs.Cases.{MayAddFirstKey, MayPair}
 use Rattle.publish_laws.specs.Insertions.{Insertion}

@@ -1,15 +1,7 @@
 -- What a step makes of the fate of a record, where it is no publish, and what a publish makes of one that was not made ready.
-use Rattle.std.proofs.Common.{◌≡◌, ◌≢◌, ℕ, suc, Bool, true, false, nat_eq, if◌then◌else◌, Option, Some, None, refl, subst}
+use Rattle.publish_laws.proofs.Common.{◌≡◌, ◌≢◌, ℕ, suc, Bool, true, false, nat_eq, if◌then◌else◌, Option, Some, None, refl, subst, Rec, Fate, Shared, Free, Held, Ready, InTree, Unlinked, Marked, with_fate, with_lock, with_epoch, unlocked, next_fate, Act, Claim, Fill, MakeReady, Release, LoadRef, LoadFixed, Lock, Unlock, Publish, Mark, LoadEpoch, Advance, SetPin, ClearPin, LoadPin, LoadState, GiveBack, Load, Anchor, NodeTarget, Core, after, anchored, claimed, given_back, marked}
 use Rattle.record_words.specs.declared.state.Tag.TheVariants.{Live}
 use Rattle.record_words.specs.State.{state_word}
-use Rattle.record_words.specs.declared.records.Rec.{Rec}
-use Rattle.versions.specs.Core.{Fate, Shared, Free, Held, Ready, InTree, Unlinked, Marked}
-use Rattle.versions.specs.Steps.{with_fate, with_lock, with_epoch, unlocked, next_fate}
-use Rattle.rowex_core.specs.declared.event.Act.{Act}
-use Rattle.rowex_core.specs.declared.event.Act.TheVariants.{Claim, Fill, Ready as MakeReady, Release, LoadRef, LoadFixed, Lock, Unlock, Publish, Mark, LoadEpoch, Advance, SetPin, ClearPin, LoadPin, LoadState, GiveBack, Load}
-use Rattle.rowex_core.specs.declared.event.Target.TheVariants.{Anchor, Node as NodeTarget}
-use Rattle.rowex_core.specs.Cores.{Core}
-use Rattle.rowex_core.specs.Events.{after, anchored, claimed, given_back, marked}
 use Rattle.rowex_core.proofs.Sharing.{at_record}
 use Rattle.publish_laws.specs.Lone.{IsOut, LeavesTree, IsUnused}
 

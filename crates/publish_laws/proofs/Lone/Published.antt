@@ -1,22 +1,5 @@
 -- What a publish leaves outside the tree, in a table with one pass.
-use Rattle.std.proofs.Common.{◌≡◌, ◌≢◌, ℕ, refl, sym, ap, subst, ◌∙◌, arith}
-use Rattle.record_words.specs.declared.layout.Layout.{Layout}
-use Rattle.versions.specs.Core.{Free, Ready}
-use Rattle.versions.specs.Steps.{is_linked}
-use Rattle.versions.specs.Trades.{IsOneOf}
-use Rattle.record_words.specs.declared.records.Rec.TheVariants.{Node as a_node}
-use Rattle.versions.proofs.Trades.{all_of}
-use Rattle.rowex_core.specs.declared.event.Act.TheVariants.{Publish}
-use Rattle.rowex_core.specs.declared.event.Event.{Event}
-use Rattle.rowex_core.specs.declared.event.Spot.{Spot}
-use Rattle.rowex_core.specs.declared.known.Holding.TheVariants.{Ready as ReadyBy, Unlinked as UnlinkedBy}
-use Rattle.rowex_core.specs.declared.known.Owned.{Owned}
-use Rattle.rowex_core.specs.Cores.{Core, holder_of}
-use Rattle.rowex_core.specs.Events.{after, next_tree}
-use Rattle.rowex_core.specs.Sharing.{IsOwned, fate_of}
-use Rattle.rowex_core.proofs.Sharing.Owning.{knows_all}
-use Rattle.rowex_table.specs.Runs.{Steps, silent}
-use Rattle.rowex_table.specs.Seats.{TableView, SeatView}
+use Rattle.publish_laws.proofs.Common.{◌≡◌, ◌≢◌, ℕ, refl, sym, ap, subst, ◌∙◌, arith, Layout, Free, Ready, is_linked, IsOneOf, a_node, all_of, Publish, Event, Spot, ReadyBy, UnlinkedBy, Owned, Core, holder_of, after, next_tree, IsOwned, fate_of, knows_all, Steps, silent, TableView, SeatView}
 use Rattle.publish_laws.specs.Lone.{IsFreeAt, IsLone, IsOut, IsOutAt, KeepsSpare}
 use Rattle.publish_laws.proofs.Lone.Fates.{next_out}
 use Rattle.publish_laws.proofs.Lone.{one_of, step_back, step_knows}

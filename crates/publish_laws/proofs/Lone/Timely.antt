@@ -1,17 +1,5 @@
 -- Marks are no later than the epoch, and the epoch is no greater than the number of steps.
-use Rattle.std.proofs.Common.{◌≡◌, Option, Some, None, ℕ, suc, ◌+◌, ◌≤◌, List, [], ◌∷◌, Bool, true, false, nat_eq, if◌then◌else◌, length, refl, sym, subst, arith}
-use Rattle.versions.specs.Core.{Fate, Shared, Free, Held, Ready, InTree, Unlinked, Marked}
-use Rattle.versions.specs.Steps.{next_fate, is_linked, with_epoch}
-use Rattle.record_words.specs.declared.records.Rec.{Rec}
-use Rattle.rowex_core.specs.declared.event.Act.{Act}
-use Rattle.rowex_core.specs.declared.event.Act.TheVariants.{Claim, Fill, Ready as MakeReady, Release, LoadRef, LoadFixed, Lock, Unlock, Publish, Mark, LoadEpoch, Advance, SetPin, ClearPin, LoadPin, LoadState, GiveBack, Load}
-use Rattle.rowex_core.specs.declared.event.Event.{Event}
-use Rattle.rowex_core.specs.declared.event.Target.TheVariants.{Anchor, Node as NodeTarget}
-use Rattle.rowex_core.specs.Cores.{Core, IsLawful}
-use Rattle.rowex_core.specs.Events.{Legal, after, anchored, claimed, given_back, loaded_tree, marked, next_tree}
-use Rattle.versions.specs.Told.{items_of}
-use Rattle.rowex_core.specs.Runs.{EventsLead}
-use Rattle.rowex_core.proofs.Cores.{stays_lawful}
+use Rattle.publish_laws.proofs.Common.{◌≡◌, Option, Some, None, ℕ, suc, ◌+◌, ◌≤◌, List, [], ◌∷◌, Bool, true, false, nat_eq, if◌then◌else◌, length, refl, sym, subst, arith, Fate, Shared, Free, Held, Ready, InTree, Unlinked, Marked, next_fate, is_linked, with_epoch, Rec, Act, Claim, Fill, MakeReady, Release, LoadRef, LoadFixed, Lock, Unlock, Publish, Mark, LoadEpoch, Advance, SetPin, ClearPin, LoadPin, LoadState, GiveBack, Load, Event, Anchor, NodeTarget, Core, IsLawful, Legal, after, anchored, claimed, given_back, loaded_tree, marked, next_tree, items_of, EventsLead, stays_lawful}
 use Rattle.publish_laws.proofs.Lone.Fates.{IsClosed, fate_kept}
 
 -- the mark, where the record is retired, is no later than this epoch

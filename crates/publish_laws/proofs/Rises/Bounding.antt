@@ -1,22 +1,7 @@
 -- The bound on a new node's height: it follows from the tree that has risen, in any core.
-use Rattle.std.proofs.Common.{◌≡◌, ℕ, ◌+◌, ◌*◌, ◌≤◌, List, sym, ap, subst, ◌∙◌, arith}
-use Rattle.compound_node.specs.Nodes.{NodeView, greatest_height, piece}
-use Rattle.key_bits.specs.declared.TheConstants.{MAX_BYTES}
-use Rattle.node_tries.specs.Piece.{size, places}
-use Rattle.tries.proofs.Tree.Building.{fork_of, fork_of_two_places, new_bound, size-piece}
-use Rattle.record_words.specs.declared.layout.Layout.{Layout}
-use Rattle.tries.specs.Tree.{Subtrie, Tree, fork, subtrie, IsTrie, IsBuilt, first_position}
-use Rattle.version_laws.specs.Rise.{IsRise, Side}
-use Rattle.version_laws.proofs.Standing.{stands_now, newest_tree_if_node}
-use Rattle.rowex_core.specs.declared.known.Known.{Known}
-use Rattle.rowex_core.specs.declared.known.Locked.{Locked}
-use Rattle.rowex_core.specs.Cores.{Core, bare}
-use Rattle.versions.specs.Trades.{IsOneOf}
+use Rattle.publish_laws.proofs.Common.{◌≡◌, ℕ, ◌+◌, ◌*◌, ◌≤◌, List, sym, ap, subst, ◌∙◌, arith, NodeView, greatest_height, piece, MAX_BYTES, size, places, fork_of, fork_of_two_places, new_bound, size-piece, Layout, Subtrie, Tree, fork, subtrie, IsTrie, IsBuilt, first_position, IsRise, Side, stands_now, newest_tree_if_node, Known, Locked, Core, bare, IsOneOf, risen, Newcomer, Made}
 pub use Rattle.version_laws.proofs.Rise.{number_of}
-use Rattle.version_laws.proofs.Rise.{risen}
-use Rattle.version_laws.specs.Writer.{Newcomer}
 use Rattle.publish_laws.proofs.Stages.{locked_node, made_leaf}
-use Rattle.rowex_table.specs.Made.{Made}
 use Rattle.publish_laws.specs.Stages.{HasLeaf, IsStage}
 use Rattle.publish_laws.specs.Rises.{IsBuiltAnew}
 

@@ -1,23 +1,7 @@
 -- A value that a pass has loaded is still that of the leaf, where the pass has locked what names the leaf.
-use Rattle.std.proofs.Common.{◌≡◌, ◌⊎◌, inl, inr, ℕ, ap₂, sym, ◌∙◌}
-use Rattle.compound_node.specs.declared.entries.Entry.TheVariants.{Leaf}
-use Rattle.tries.specs.Keys.{Key}
-use Rattle.tries.specs.Place.{spot}
-use Rattle.tries.specs.Search.{seek}
-use Rattle.tries.proofs.Place.{seek_spot, spot_below}
-use Rattle.record_words.specs.declared.records.Rec.TheVariants.{Leaf as a_leaf}
-use Rattle.versions.specs.Core.{Free}
-use Rattle.versions.specs.Heap.{LeafWords}
-use Rattle.versions.specs.Steps.{HasLockedNamer, in_root, in_node}
-use Rattle.versions.proofs.Trades.{all_of}
+use Rattle.publish_laws.proofs.Common.{◌≡◌, ◌⊎◌, inl, inr, ℕ, ap₂, sym, ◌∙◌, Leaf, Key, spot, seek, seek_spot, spot_below, a_leaf, Free, LeafWords, HasLockedNamer, in_root, all_of, HoldsSpot, by_anchor, by_node, IsLockedNode, Value, Known, Core, IsLawful, HasRecord, bare, IsLockedAt, Knows, IsStillLoaded, leaf_of}
+use Rattle.versions.specs.Steps.{in_node}
 use Rattle.versions.proofs.Core.Values.{named_in_tree}
-use Rattle.version_laws.specs.Spots.{HoldsSpot, by_anchor, by_node, IsLockedNode}
-use Rattle.rowex_core.specs.declared.event.Spot.TheVariants.{Value}
-use Rattle.rowex_core.specs.declared.known.Known.{Known}
-use Rattle.rowex_core.specs.Cores.{Core, IsLawful, HasRecord, bare}
-use Rattle.rowex_core.specs.Events.{IsLockedAt}
-use Rattle.rowex_core.specs.Knowing.{Knows, IsStillLoaded}
-use Rattle.rowex_core.specs.Reading.{leaf_of}
 use Rattle.publish_laws.specs.Stages.{HasLoaded}
 
 -- The pass has locked what names the leaf: a node with the leaf's entry on the key's way,

@@ -1,8 +1,5 @@
 -- The parts of a head's words, by its kind.
-use Rattle.std.proofs.Common.{ℕ, zero, suc, ◌≡◌, ◌≢◌, ◌+◌, ◌-◌, ◌*◌, ◌/◌, ◌%◌, ◌^◌, ◌<◌, ◌≤◌, ◌++◌, ⊎_elim, List, ◌∷◌, arith, get_or, length, length-append, drop, take, replicate, refl, sym, ap, ap₂, subst, ◌∙◌}
-use Rattle.std.proofs.lemmas.Bool.{cases_lt, le-ltb, lt-ltb}
-use Rattle.std.proofs.lemmas.List.{append_assoc, drop_at, length-replicate, take_at}
-use Rattle.std.proofs.lemmas.List.FromFn.{length-map-range_with_len}
+use Rattle.record_words.proofs.Common.{ℕ, zero, suc, ◌≡◌, ◌≢◌, ◌+◌, ◌-◌, ◌*◌, ◌/◌, ◌%◌, ◌^◌, ◌<◌, ◌≤◌, ◌++◌, ⊎_elim, List, ◌∷◌, arith, get_or, length, length-append, drop, take, replicate, refl, sym, ap, ap₂, subst, ◌∙◌, cases_lt, le-ltb, lt-ltb, append_assoc, drop_at, length-replicate, take_at, length-map-range_with_len}
 use lib.Lanes.{chunk, digits_l, number_l}
 use Rattle.record_words.specs.Kinds.{first_byte, head_size, index_lanes, kind_in, kind_of, kind_part, lane_words, mask_index, mask_lanes, position_index, rows_a_word, rows_from}
 use Rattle.record_words.specs.Packed.{column_words, fixed_words, kind_words, meta_word, position_word, row_lanes, row_word, row_words}

@@ -1,20 +1,9 @@
 -- The entries that a position affects, by how many positions and rows are below some number.
-use Rattle.std.proofs.Common.{ℕ, suc, ◌≡◌, ◌≢◌, ◌+◌, ◌-◌, ◌*◌, ◌/◌, ◌^◌, ◌<◌, ◌≤◌, ◌++◌, inl, inr, List, [], ◌∷◌, arith, cond, count_by, get_or, leb, length, map, min, nat_lt, refl, replicate, sym, ap, ap₂, Bool, subst, ◌∙◌, ⊎_elim}
-use Rattle.std.proofs.Math.Nat.{div-mul-le_self}
-use Rattle.std.proofs.lemmas.Bool.{cases_lt, eq-eqb, le-leb, le-ltb, leb-true, lt-ltb, ltb-true, ne_eqb}
+use Rattle.record_words.proofs.Common.{ℕ, suc, ◌≡◌, ◌≢◌, ◌+◌, ◌-◌, ◌*◌, ◌/◌, ◌^◌, ◌<◌, ◌≤◌, ◌++◌, inl, inr, List, [], ◌∷◌, arith, cond, count_by, get_or, leb, length, map, min, nat_lt, refl, replicate, sym, ap, ap₂, Bool, subst, ◌∙◌, ⊎_elim, div-mul-le_self, cases_lt, eq-eqb, le-leb, le-ltb, leb-true, lt-ltb, ltb-true, ne_eqb, get_or_append_left, get_or_default, get_or_past, mod_below, pow_pos, shr_high, shr_split, NodeView, IsLawfulNode, piece, rises-ladder, shown-sparse_keys, affected_range_is, same_count, front_below-filled, with_unused, affected_count, affected_first, front_below}
 use Rattle.std.proofs.lemmas.List.Sums.{sum_by-cons}
-use Rattle.std.proofs.lemmas.List.{get_or_append_left, get_or_default, get_or_past}
-use Rattle.std.proofs.lemmas.Nat.{mod_below, pow_pos, shr_high, shr_split}
-use Rattle.compound_node.specs.Nodes.{NodeView, IsLawfulNode, piece}
-use Rattle.compound_node.proofs.Ladders.{rises-ladder, shown-sparse_keys}
-use Rattle.compound_node.proofs.Lawful.{affected_range_is, same_count}
-use Rattle.partial_keys.proofs.Reaching.{front_below-filled}
-use Rattle.partial_keys.specs.Rows.{with_unused}
 use Rattle.partial_keys.specs.Runs.{IsRunEnd, IsRunStart}
 use Rattle.node_tries.proofs.Positions.{front_below-place, IsPlaceOf}
 use Rattle.node_tries.proofs.Positions.Tests.{same_bools}
-use Rattle.node_tries.specs.Growth.{affected_count, affected_first}
-use Rattle.node_tries.specs.Positions.{front_below}
 use Rattle.record_words.proofs.Lawful.{get_or-padded, length-with_unused, row-lt}
 
 -- ---- numbers that rise

@@ -1,9 +1,5 @@
 -- The parts of the fixed words of a wide head, and what does not depend on its kind.
-use Rattle.std.proofs.Common.{ℕ, ◌≡◌, ◌+◌, ◌/◌, ◌^◌, ◌<◌, ◌≤◌, arith, List, get_or, length, map, ap, sym, refl, subst, ◌∙◌}
-use Rattle.std.specs.List.{range_with_len}
-use Rattle.std.proofs.lemmas.List.{ext_get_or}
-use Rattle.std.proofs.lemmas.List.FromFn.{get_or-map-range_with_len, length-map-range_with_len}
-use Rattle.std.proofs.lemmas.Simd.{get_or-chunk}
+use Rattle.record_words.proofs.Common.{ℕ, ◌≡◌, ◌+◌, ◌/◌, ◌^◌, ◌<◌, ◌≤◌, arith, List, get_or, length, map, ap, sym, refl, subst, ◌∙◌, range_with_len, ext_get_or, get_or-map-range_with_len, length-map-range_with_len, get_or-chunk}
 use Rattle.record_words.specs.Kinds.{kind_of, lane_words}
 use Rattle.record_words.specs.Packed.{fixed_words, meta_word, position_word, row_at, row_word, row_words}
 use Rattle.record_words.specs.declared.kind.HeadKind.{HeadKind}

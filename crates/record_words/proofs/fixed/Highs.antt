@@ -1,8 +1,5 @@
 -- The highest bits of rows as lanes, and the words of them.
-use Rattle.std.proofs.Common.{ℕ, zero, suc, ◌≡◌, ◌/◌, ◌^◌, ◌<◌, List, [], ◌∷◌, arith, get_or, length, lit<, map, replicate, sym, ap, ◌∙◌, w8, w16, w32, Fits}
-use Rattle.std.proofs.lemmas.List.{ext_get_or, get_or-map, get_or_default, length-map}
-use Rattle.std.proofs.lemmas.List.FromFn.{get_or-map-range_with_len, length-map-range_with_len}
-use Rattle.std.proofs.lemmas.Simd.{map-map, zip2_splat}
+use Rattle.record_words.proofs.Common.{ℕ, zero, suc, ◌≡◌, ◌/◌, ◌^◌, ◌<◌, List, [], ◌∷◌, arith, get_or, length, lit<, map, replicate, sym, ap, ◌∙◌, w8, w16, w32, Fits, ext_get_or, get_or-map, get_or_default, length-map, get_or-map-range_with_len, length-map-range_with_len, map-map, zip2_splat}
 use lib.Lanes.{Each1, digits_l, number_l, zip2}
 use Rattle.record_words.specs.Kinds.{lane_words}
 use Rattle.record_words.specs.Packed.{row_at, row_lanes}

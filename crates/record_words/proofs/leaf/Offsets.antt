@@ -1,8 +1,5 @@
 -- Lists of words by their offsets, which begin with 1.
-use Rattle.std.proofs.Common.{ℕ, ◌≡◌, ◌+◌, ◌<◌, arith, List, get_or, length, map, sym, ap, ◌∙◌}
-use Rattle.std.specs.List.{range_with_len}
-use Rattle.std.proofs.lemmas.List.{ext_get_or}
-use Rattle.std.proofs.lemmas.List.FromFn.{length-map-range_with_len, get_or-map-range_with_len}
+use Rattle.record_words.proofs.Common.{ℕ, ◌≡◌, ◌+◌, ◌<◌, arith, List, get_or, length, map, sym, ap, ◌∙◌, range_with_len, ext_get_or, length-map-range_with_len, get_or-map-range_with_len}
 
 -- the words are these
 pub words_by_offset : (word_at : ℕ → ℕ) (words : List ℕ) (n : ℕ) → length words ≡ n → ((i : ℕ) → i < n → get_or words i 0 ≡ word_at (1 + i)) → words ≡ map word_at (range_with_len 1 n)

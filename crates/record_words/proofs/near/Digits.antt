@@ -1,6 +1,5 @@
 -- Digits of a number: what is put together of lanes, and taken apart again.
-use Rattle.std.proofs.Common.{ℕ, zero, suc, ◌≡◌, ◌+◌, ◌*◌, ◌/◌, ◌%◌, ◌^◌, ◌<◌, ◌≤◌, List, [], ◌∷◌, arith, length, refl, ap, ap₂, ◌∙◌}
-use Rattle.std.proofs.Math.Nat.{mul-le-mul_left, pow-suc, pow-zero}
+use Rattle.record_words.proofs.Common.{ℕ, zero, suc, ◌≡◌, ◌+◌, ◌*◌, ◌/◌, ◌%◌, ◌^◌, ◌<◌, ◌≤◌, List, [], ◌∷◌, arith, length, refl, ap, ap₂, ◌∙◌, mul-le-mul_left, pow-suc, pow-zero}
 use lib.Lanes.{Each1, digits_l, number_l}
 
 -- what division by a base gives

@@ -1,6 +1,5 @@
 -- Lanes put together to words, and read of them: all, and one by itself.
-use Rattle.std.proofs.Common.{ℕ, zero, suc, ◌≡◌, ◌+◌, ◌*◌, ◌/◌, ◌%◌, ◌^◌, ◌<◌, List, arith, get_or, length, sym, ap, subst, ◌∙◌}
-use Rattle.std.proofs.lemmas.Simd.{get_or_narrower}
+use Rattle.record_words.proofs.Common.{ℕ, zero, suc, ◌≡◌, ◌+◌, ◌*◌, ◌/◌, ◌%◌, ◌^◌, ◌<◌, List, arith, get_or, length, sym, ap, subst, ◌∙◌, get_or_narrower}
 use lib.Lanes.{Each1, digits_l, number_l}
 use Rattle.record_words.specs.Kinds.{lane_words}
 use Rattle.record_words.proofs.near.Digits.{IsBase, base_64, digits_of_number, number-lt, number_of_digits}

@@ -1,21 +1,7 @@
 -- The dense key for near columns: each lane tells its bit of the key, and the lanes are the highest bits of the dense key.
-use Rattle.std.proofs.Common.{ℕ, zero, suc, ◌≡◌, ◌≢◌, ◌+◌, ◌-◌, ◌*◌, ◌/◌, ◌%◌, ◌^◌, ◌<◌, ◌≤◌, ◌++◌, ⊎_elim, Bool, true, false, cond, ◌&&◌, ◌||◌, not, eqb, List, [], ◌∷◌, length, get_or, map, take, replicate, bit_and, refl, sym, ap, ap₂, subst, ◌∙◌, arith, w8}
-use Rattle.std.proofs.Math.Nat.{pow-suc, pow-zero}
-use Rattle.std.proofs.Math.ListN.{get_or-append}
-use Rattle.std.proofs.Math.Seq.{take-suc}
-use Rattle.std.proofs.lemmas.Bool.{cases_lt, eq-eqb, le-ltb, lt-ltb, ne_eqb}
-use Rattle.std.proofs.lemmas.List.{get_or-append_right, get_or-map, get_or-replicate, get_or-take, get_or_default, get_or_past, length-map, length-take-le, take_all}
-use Rattle.std.proofs.lemmas.List.Elements.{All-get_or}
-use Rattle.std.proofs.lemmas.Simd.{Each1-from_get_or, SwzOk, SwzOk-from_below, bitmask_splat, get_or-swz_l_below, get_or-zip2, length-swz_l, length-zip2, swz_l}
+use Rattle.record_words.proofs.Common.{ℕ, zero, suc, ◌≡◌, ◌≢◌, ◌+◌, ◌-◌, ◌*◌, ◌/◌, ◌%◌, ◌^◌, ◌<◌, ◌≤◌, ◌++◌, ⊎_elim, Bool, true, false, cond, ◌&&◌, ◌||◌, not, eqb, List, [], ◌∷◌, length, get_or, map, take, replicate, bit_and, refl, sym, ap, ap₂, subst, ◌∙◌, arith, w8, pow-suc, pow-zero, get_or-append, take-suc, cases_lt, eq-eqb, le-ltb, lt-ltb, ne_eqb, get_or-append_right, get_or-map, get_or-replicate, get_or_default, get_or_past, length-map, length-take-le, take_all, All-get_or, Each1-from_get_or, SwzOk, SwzOk-from_below, bitmask_splat, get_or-swz_l_below, get_or-zip2, length-swz_l, length-zip2, swz_l, bit_at, and_zero_r, bit_of, code, IsKey, with_zeros, code-lt, code-shifted, dense_of, every, every_one, same_bool}
+use Rattle.std.proofs.lemmas.List.{get_or-take}
 use Rattle.std.specs.Bool.{beq}
-use Rattle.std.specs.Int.{bit_at}
-use Rattle.std.specs.Int.Bits.{and_zero_r}
-use Rattle.key_bits.specs.Bits.{bit_of}
-use Rattle.key_bits.specs.Gather.{code}
-use Rattle.key_bits.specs.Key.{IsKey, with_zeros}
-use Rattle.key_bits.proofs.Gather.{code-lt, code-shifted}
-use Rattle.partial_keys.specs.Rows.{dense_of}
-use Rattle.partial_keys.proofs.Windows.{every, every_one, same_bool}
 use Rattle.record_words.specs.Kinds.{AreNearLanes, bit_mask, first_byte, near_position}
 use Rattle.record_words.proofs.near.NearLanes.{first_lowest}
 use Rattle.record_words.proofs.OfKinds.{AreNear, KeepsAllButOneEntry, near_of}

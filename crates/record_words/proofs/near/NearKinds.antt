@@ -1,10 +1,6 @@
 -- What is alike of the two kinds of near heads: the lanes of columns, and of rows, that their words spell.
-use Rattle.std.proofs.Common.{ℕ, zero, suc, ◌≡◌, ◌≢◌, ◌+◌, ◌-◌, ◌*◌, ◌/◌, ◌%◌, ◌^◌, ◌<◌, ◌≤◌, ◌++◌, arith, cond, List, drop, get_or, length, refl, sym, ap, subst, ◌∙◌, get_or-drop, length-drop, ⊎_elim}
-use Rattle.std.proofs.Math.Nat.{div-add-mod, div-lt_iff_lt-mul, mod-lt, pow-suc, pow-zero}
-use Rattle.std.proofs.lemmas.Bool.{cases_lt, le-ltb, lt-ltb}
-use Rattle.std.proofs.lemmas.Nat.{pow-add, pow_pos}
-use Rattle.std.proofs.lemmas.List.FromFn.{get_or-map-range_with_len, length-map-range_with_len}
-use Rattle.std.proofs.lemmas.Simd.{Each1-from_get_or}
+use Rattle.record_words.proofs.Common.{ℕ, zero, suc, ◌≡◌, ◌≢◌, ◌+◌, ◌-◌, ◌*◌, ◌/◌, ◌%◌, ◌^◌, ◌<◌, ◌≤◌, ◌++◌, arith, cond, List, drop, get_or, length, refl, sym, ap, subst, ◌∙◌, ⊎_elim, div-add-mod, div-lt_iff_lt-mul, mod-lt, pow-suc, pow-zero, cases_lt, le-ltb, lt-ltb, pow-add, pow_pos, get_or-map-range_with_len, length-map-range_with_len, Each1-from_get_or}
+use Rattle.std.proofs.Common.{get_or-drop, length-drop}
 use lib.Lanes.{Each1}
 use Rattle.record_words.specs.Kinds.{head_size, index_lanes, kind_of, lane_words, mask_index, mask_lanes, position_index, rows_a_word, rows_from}
 use Rattle.record_words.specs.Packed.{column_words, row_at, row_lanes, row_words}

@@ -1,13 +1,6 @@
 -- Near columns read back of their lanes.
-use Rattle.std.proofs.Common.{ℕ, zero, suc, ◌≡◌, ◌≢◌, ◌+◌, ◌-◌, ◌*◌, ◌/◌, ◌%◌, ◌^◌, ◌<◌, ◌≤◌, ⊎_elim, cond, eqb, List, [], ◌∷◌, map, length, get_or, bit_and, refl, sym, ap, ap₂, ◌∙◌, arith, below_more, lit<}
+use Rattle.record_words.proofs.Common.{ℕ, zero, suc, ◌≡◌, ◌≢◌, ◌+◌, ◌-◌, ◌*◌, ◌/◌, ◌%◌, ◌^◌, ◌<◌, ◌≤◌, ⊎_elim, cond, eqb, List, [], ◌∷◌, map, length, get_or, bit_and, refl, sym, ap, ap₂, ◌∙◌, arith, below_more, lit<, range_with_len, cases_lt, ne_eqb, get_or-map, get_or_default, get_or_past, get_or-range_with_len, Ascends, IsColumns, rise_low}
 use borrow.Author.Count.{below_none}
-use Rattle.std.specs.List.{range_with_len}
-use Rattle.std.proofs.lemmas.Bool.{cases_lt, ne_eqb}
-use Rattle.std.proofs.lemmas.List.{get_or-map, get_or_default, get_or_past}
-use Rattle.std.proofs.lemmas.List.FromFn.{get_or-range_with_len}
-use Rattle.node_tries.specs.Positions.{Ascends}
-use Rattle.partial_keys.specs.Columns.{IsColumns}
-use Rattle.partial_keys.proofs.Windows.{rise_low}
 use Rattle.record_words.specs.Kinds.{bit_mask, first_byte, index_lanes, mask_lanes, near_position}
 use Rattle.record_words.proofs.OfKinds.{AreNear}
 use Rattle.record_words.proofs.Lawful.{small_below}

@@ -1,10 +1,6 @@
 -- The lanes of near columns, computed of their positions, and the positions, computed of the lanes.
-use Rattle.std.proofs.Common.{ℕ, ◌≡◌, ◌+◌, ◌-◌, ◌*◌, ◌/◌, ◌%◌, ◌^◌, ◌<◌, ◌≤◌, ◌++◌, ⊎_elim, Bool, false, cond, eqb, List, [], ◌∷◌, map, length, length-append, get_or, replicate, bit_and, refl, sym, ap, ap₂, subst, ◌∙◌, arith, below_more, lit<, w8, w16, Fits}
+use Rattle.record_words.proofs.Common.{ℕ, ◌≡◌, ◌+◌, ◌-◌, ◌*◌, ◌/◌, ◌%◌, ◌^◌, ◌<◌, ◌≤◌, ◌++◌, ⊎_elim, Bool, false, cond, eqb, List, [], ◌∷◌, map, length, length-append, get_or, replicate, bit_and, refl, sym, ap, ap₂, subst, ◌∙◌, arith, below_more, lit<, w8, w16, Fits, cases_lt, ne_eqb, ext_get_or, get_or-map, get_or-replicate, get_or_default, get_or_past, length-map, length-replicate, map-id, and_le_r, Each1-from_get_or, Each1-get_or, SwzOk, SwzOk-from_below, get_or-sel_l, get_or-swz_l_below, get_or-zip2, length-sel_l, length-swz_l, length-zip2, pick_l_left, swz_l, tops_compared, zip2_splat}
 use borrow.Author.Count.{below_none}
-use Rattle.std.proofs.lemmas.Bool.{cases_lt, ne_eqb}
-use Rattle.std.proofs.lemmas.List.{ext_get_or, get_or-map, get_or-replicate, get_or_default, get_or_past, length-map, length-replicate, map-id}
-use Rattle.std.proofs.lemmas.Nat.{and_le_r}
-use Rattle.std.proofs.lemmas.Simd.{Each1-from_get_or, Each1-get_or, SwzOk, SwzOk-from_below, get_or-sel_l, get_or-swz_l_below, get_or-zip2, length-sel_l, length-swz_l, length-zip2, pick_l_left, swz_l, tops_compared, zip2_splat}
 use lib.Lanes.{Each1, pick_l, sel_l, top, zip2}
 use Rattle.record_words.specs.Kinds.{HasNearLanes, bit_mask, distance_from, first_byte, index_lanes, mask_lanes, near_position, with_free_to_16}
 use Rattle.record_words.specs.declared.near.TheConstants.{BIT_OF_HIGH_MASK, BIT_OF_LOW_MASK, MASKS}

@@ -1,15 +1,7 @@
 -- A node's words with another entry's word at a place.
-use Rattle.std.proofs.Common.{ℕ, zero, suc, ◌≡◌, ◌+◌, ◌-◌, ◌<◌, ◌≤◌, ◌++◌, arith, List, [], ◌∷◌, Option, Some, get_or-set_other, get_or-set_same, length, length-set, refl, set, sym, ap, ⊎_elim, ◌∙◌}
-use Rattle.std.specs.Prelude.{slice_get}
-use Rattle.std.proofs.lemmas.Bool.{cases_eq}
-use Rattle.std.proofs.lemmas.List.{set-append_right}
-use Rattle.compound_node.specs.declared.entries.Entry.{Entry}
-use Rattle.compound_node.specs.Nodes.{NodeView, StandsBelow, head_of, piece}
-use Rattle.compound_node.proofs.Lawful.{piece-replaced, replaced_lawful}
+use Rattle.record_words.proofs.Common.{ℕ, zero, suc, ◌≡◌, ◌+◌, ◌-◌, ◌<◌, ◌≤◌, ◌++◌, arith, List, [], ◌∷◌, Option, Some, get_or-set_other, get_or-set_same, length, length-set, refl, set, sym, ap, ⊎_elim, ◌∙◌, slice_get, cases_eq, set-append_right, Entry, NodeView, StandsBelow, head_of, piece, piece-replaced, replaced_lawful, collapsed, replaced, without, size}
 use Rattle.node_tries.proofs.Changes.Beside.{beside_elsewhere, without-beside}
 use Rattle.node_tries.proofs.Piece.{length-places}
-use Rattle.node_tries.specs.Changes.{collapsed, replaced, without}
-use Rattle.node_tries.specs.Piece.{size}
 use Rattle.record_words.specs.Entry.{HasEntryWord, entry_word}
 use Rattle.record_words.specs.Node.{CanCloseAt, HasNodeWords, entry_words, head_words, node_words}
 use Rattle.record_words.proofs.Entries.{entry_words_at, entry_words_made, length-entry_words}

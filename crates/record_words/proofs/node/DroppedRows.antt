@@ -1,20 +1,7 @@
 -- A head without a row, whose columns all have a fork still.
-use Rattle.std.proofs.Common.{get_or, get_or-take, length-append, ⊎_elim, ℕ, ◌≡◌, ◌+◌, ◌-◌, ◌/◌, ◌^◌, ◌<◌, ◌≤◌, ◌++◌, ◌∷◌, ◌∙◌, List, ap, arith, drop, length, map, refl, replicate, subst, sym, take}
-use Rattle.std.proofs.lemmas.Bool.{cases_lt}
-use Rattle.std.proofs.lemmas.List.{ext_get_or, get_or-append_right, get_or-replicate, get_or_append_left, length-map, length-replicate, length-take-le, take-append-drop, take_at}
-use Rattle.std.specs.List.{All}
-use Rattle.std.specs.Prelude.{remove}
+use Rattle.record_words.proofs.Common.{get_or, get_or-take, length-append, ⊎_elim, ℕ, ◌≡◌, ◌+◌, ◌-◌, ◌/◌, ◌^◌, ◌<◌, ◌≤◌, ◌++◌, ◌∷◌, ◌∙◌, List, ap, arith, drop, length, map, refl, replicate, subst, sym, take, cases_lt, ext_get_or, get_or-append_right, get_or-replicate, get_or_append_left, length-map, length-replicate, length-take-le, take-append-drop, take_at, All, remove, shown-sparse_keys, same_count, with_leaves, fits_after, head_without, is_after, left_in, words_over, words_used, FitsHead, HeadView, IsBuiltFrom, NodeView, greatest_height, head_of, node_of, piece, removed_row, with_unused, IsRowOver, or_all, squeezed, used_bits, without, kept}
 use Rattle.compound_node.proofs.Removal.Full.{columns_stay, rows_stay}
-use Rattle.compound_node.proofs.Ladders.{shown-sparse_keys}
-use Rattle.compound_node.proofs.Lawful.{same_count, with_leaves}
-use Rattle.compound_node.proofs.Removal.Taken.{fits_after, head_without, is_after, left_in, words_over, words_used}
 use Rattle.compound_node.specs.Ladders.{IsLadder}
-use Rattle.compound_node.specs.Nodes.{FitsHead, HeadView, IsBuiltFrom, NodeView, greatest_height, head_of, node_of, piece}
-use Rattle.compound_node.specs.Removal.{removed_row}
-use Rattle.partial_keys.specs.Rows.{with_unused}
-use Rattle.partial_keys.specs.Squeezed.{IsRowOver, or_all, squeezed, used_bits}
-use Rattle.node_tries.specs.Changes.{without}
-use Rattle.node_tries.specs.Kept.{kept}
 use Rattle.record_words.specs.Dropping.{CanDropAt}
 
 module _ {words : List ℕ} {node : NodeView} {at : ℕ} (can : CanDropAt words node at) (count : ℕ) (counted : count ≡ length node.entries) (old : List ℕ) (old_are : old ≡ with_unused node.rows) where

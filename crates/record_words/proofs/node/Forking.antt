@@ -1,21 +1,9 @@
 -- The words of a head with a new fork, at a column that it has or at a new one.
-use Rattle.std.proofs.Common.{ℕ, ◌≡◌, ◌+◌, ◌-◌, ◌*◌, ◌%◌, ◌^◌, ◌<◌, ◌≤◌, ◌++◌, ◌⊎◌, arith, Bool, true, false, cond, List, drop, get_or, get_or-take, length, replicate, take, map, ap, ap₂, refl, subst, sym, lit<, ◌∙◌}
-use Rattle.std.specs.List.{insert}
+use Rattle.record_words.proofs.Common.{ℕ, ◌≡◌, ◌+◌, ◌-◌, ◌*◌, ◌%◌, ◌^◌, ◌<◌, ◌≤◌, ◌++◌, ◌⊎◌, arith, Bool, true, false, cond, List, drop, get_or, get_or-take, length, replicate, take, map, ap, ap₂, refl, subst, sym, lit<, ◌∙◌, insert, IsColumns, drop_at, length-map, take-map, take_at, NewLeaf, new_leaf, same_count, with_leaves, forked_head, FitsHead, HeadView, IsBuiltFrom, NodeView, head_of, node_of, piece, Leaf, front_below-columns, with_unused, edited, grown, front_below, has, with_position}
 use Rattle.compound_node.proofs.Forking.Forked.{new_fits, room_for_column, words_forked}
-use Rattle.partial_keys.specs.Columns.{IsColumns}
-use Rattle.std.proofs.lemmas.List.{drop_at, length-map, take-map, take_at}
 use Rattle.record_words.proofs.Written.{head_put}
 use Rattle.record_words.specs.Packed.{fixed_words}
-use Rattle.compound_node.proofs.Forking.{NewLeaf, new_leaf}
-use Rattle.compound_node.proofs.Lawful.{same_count, with_leaves}
-use Rattle.compound_node.specs.Forking.{forked_head}
-use Rattle.compound_node.specs.Nodes.{FitsHead, HeadView, IsBuiltFrom, NodeView, head_of, node_of, piece}
-use Rattle.compound_node.specs.declared.entries.Entry.TheVariants.{Leaf}
-use Rattle.partial_keys.proofs.Reaching.{front_below-columns}
-use Rattle.partial_keys.specs.Rows.{with_unused}
 use Rattle.partial_keys.specs.Spread.{forked_rows, spread_row}
-use Rattle.node_tries.specs.Growth.{edited, grown}
-use Rattle.node_tries.specs.Positions.{front_below, has, with_position}
 use Rattle.record_words.specs.Kinds.{head_size, kind_in, kind_of, kind_part, rows_from}
 use Rattle.record_words.specs.Node.{CanGrowAt, HasHead, head_words}
 use Rattle.record_words.specs.Packed.{meta_word, row_words}

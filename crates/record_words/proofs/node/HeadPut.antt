@@ -1,11 +1,7 @@
 -- The words of a head, written part by part.
-use Rattle.std.proofs.Common.{ℕ, ◌≡◌, ◌+◌, ◌-◌, ◌^◌, ◌<◌, ◌≤◌, ◌++◌, ◌⊎◌, inl, inr, ⊎_elim, List, [], ◌∷◌, arith, drop, get_or, get_or-set_other, get_or-set_same, length, length-append, replicate, set, take, sym, ap, ap₂, ◌∙◌}
-use Rattle.std.proofs.lemmas.Bool.{cases_lt}
-use Rattle.std.proofs.lemmas.List.{append_assoc, ext_get_or, get_or-append_right, get_or-drop, get_or-replicate, get_or_append_left, length-drop, length-replicate, length-set, replicate-append-replicate, take_at}
-use Rattle.std.proofs.lemmas.List.FromFn.{get_or-map-range_with_len, length-map-range_with_len}
-use Rattle.std.proofs.lemmas.Simd.{chunk-drop, get_or-chunk, length-chunk}
+use Rattle.record_words.proofs.Common.{ℕ, ◌≡◌, ◌+◌, ◌-◌, ◌^◌, ◌<◌, ◌≤◌, ◌++◌, ◌⊎◌, inl, inr, ⊎_elim, List, [], ◌∷◌, arith, drop, get_or, get_or-set_other, get_or-set_same, length, length-append, replicate, set, take, sym, ap, ap₂, ◌∙◌, cases_lt, append_assoc, ext_get_or, get_or-append_right, get_or-drop, get_or-replicate, get_or_append_left, length-drop, length-replicate, replicate-append-replicate, take_at, get_or-map-range_with_len, length-map-range_with_len, chunk-drop, get_or-chunk, length-chunk, with_free}
+use Rattle.std.proofs.lemmas.List.{length-set}
 use lib.Lanes.{chunk}
-use Rattle.partial_keys.specs.Columns.{with_free}
 use Rattle.record_words.specs.Kinds.{head_size, index_lanes, kind_of, kind_part, lane_words, mask_lanes, rows_from, with_free_to_16}
 use Rattle.record_words.specs.Packed.{column_words, fixed_words, kind_words, meta_word, position_word, row_words}
 use Rattle.record_words.specs.declared.kind.HeadKind.{HeadKind}

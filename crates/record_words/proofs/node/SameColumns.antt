@@ -1,10 +1,5 @@
 -- The words of a head whose columns stay, while its rows and numbers are others.
-use Rattle.std.proofs.Common.{ℕ, ◌≡◌, ◌+◌, ◌-◌, ◌<◌, ◌≤◌, ◌⊎◌, ⊎_elim, inl, inr, arith, List, drop, get_or, get_or-take, length, take, ap, refl, subst, sym, ◌∙◌}
-use Rattle.std.proofs.lemmas.Bool.{cases_lt}
-use Rattle.std.proofs.lemmas.List.{ext_get_or, get_or-drop}
-use Rattle.std.proofs.lemmas.Simd.{get_or-chunk}
-use Rattle.compound_node.specs.Nodes.{HeadView}
-use Rattle.partial_keys.specs.Rows.{with_unused}
+use Rattle.record_words.proofs.Common.{ℕ, ◌≡◌, ◌+◌, ◌-◌, ◌<◌, ◌≤◌, ◌⊎◌, ⊎_elim, inl, inr, arith, List, drop, get_or, get_or-take, length, take, ap, refl, subst, sym, ◌∙◌, cases_lt, ext_get_or, get_or-drop, get_or-chunk, HeadView, with_unused}
 use Rattle.record_words.specs.Kinds.{head_size, kind_of, kind_part, rows_from}
 use Rattle.record_words.specs.Node.{HasHead, head_words}
 use Rattle.record_words.specs.Packed.{meta_word, row_at, row_words}

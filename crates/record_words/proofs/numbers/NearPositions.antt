@@ -1,6 +1,5 @@
 -- The position of a near column, read of the index of its byte and of its mask.
-use Rattle.std.proofs.Common.{ℕ, ◌≡◌, ◌≢◌, ◌+◌, ◌-◌, ◌/◌, ◌<◌, List, arith, get_or, length, sym, subst, ◌∙◌}
-use Rattle.compound_node.specs.Nodes.{IsLawfulNode, NodeView}
+use Rattle.record_words.proofs.Common.{ℕ, ◌≡◌, ◌≢◌, ◌+◌, ◌-◌, ◌/◌, ◌<◌, List, arith, get_or, length, sym, subst, ◌∙◌, IsLawfulNode, NodeView}
 use Rattle.record_words.specs.HeadParts.{AreNumbersOf}
 use Rattle.record_words.specs.Kinds.{bit_mask, first_byte, kind_of}
 use Rattle.record_words.specs.declared.kind.HeadKind.TheVariants.{Wide}

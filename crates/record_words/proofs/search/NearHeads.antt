@@ -1,11 +1,7 @@
 -- The lanes of columns, and of rows, that the words of a narrow and of a middle head spell.
-use Rattle.std.proofs.Common.{ℕ, ◌≡◌, ◌+◌, ◌-◌, ◌*◌, ◌/◌, ◌%◌, ◌^◌, ◌<◌, ◌≤◌, ◌++◌, ⊎_elim, arith, cond, List, [], ◌∷◌, drop, get_or, get_or-drop, get_or-take, length, length-drop, refl, replicate, sym, take, ap, ap₂, ◌∙◌}
-use Rattle.std.proofs.lemmas.Bool.{cases_lt, eq-eqb}
-use Rattle.std.proofs.lemmas.List.{ext_get_or, get_or-append_right, get_or-replicate, get_or_append_left, get_or_past, length-replicate}
-use Rattle.std.proofs.lemmas.List.FromFn.{get_or-map-range_with_len}
-use Rattle.std.proofs.Common.{length-append}
+use Rattle.record_words.proofs.Common.{ℕ, ◌≡◌, ◌+◌, ◌-◌, ◌*◌, ◌/◌, ◌%◌, ◌^◌, ◌<◌, ◌≤◌, ◌++◌, ⊎_elim, arith, cond, List, [], ◌∷◌, drop, get_or, get_or-take, length, refl, replicate, sym, take, ap, ap₂, ◌∙◌, cases_lt, eq-eqb, ext_get_or, get_or-append_right, get_or-replicate, get_or_append_left, get_or_past, length-replicate, get_or-map-range_with_len, length-append, IsLawfulNode, NodeView, head_of}
+use Rattle.std.proofs.Common.{get_or-drop, length-drop}
 use lib.Lanes.{digits_l, number_l}
-use Rattle.compound_node.specs.Nodes.{IsLawfulNode, NodeView, head_of}
 use Rattle.record_words.specs.Kinds.{AreNearLanes, bit_mask, first_byte, head_size, index_lanes, kind_of, lane_words, mask_lanes, near_position, rows_a_word, rows_from}
 use Rattle.record_words.specs.Node.{head_words}
 use Rattle.record_words.specs.Packed.{row_lanes}

@@ -1,22 +1,10 @@
 -- The rows of near heads as lanes of fewer bits: where a dense key leads by them, and the rows of 32 bits that they stand for.
-use Rattle.std.proofs.Common.{ℕ, ◌≡◌, ◌-◌, ◌*◌, ◌/◌, ◌%◌, ◌^◌, ◌<◌, ◌≤◌, ⊎_elim, arith, Bool, true, false, bit_and, cond, eqb, List, get_or, length, map, nat_lt, refl, replicate, subst, sym, ap, ap₂, ◌∙◌, w32}
-use Rattle.std.specs.Int.Bits.{and_zero_r}
-use Rattle.std.proofs.Math.Nat.{mul_comm, zero-div}
-use Rattle.std.specs.List.{range_with_len}
-use Rattle.std.proofs.lemmas.Bool.{cases_lt, eq-eqb, le-ltb, lt-ltb}
-use Rattle.std.proofs.lemmas.List.{get_or-map, get_or-replicate, get_or_default, get_or_past, length-map, length-replicate}
-use Rattle.std.proofs.lemmas.List.FromFn.{get_or-map-range_with_len, length-map-range_with_len}
-use Rattle.std.proofs.lemmas.Simd.{bit_mask_l, get_or-sel_l, length-sel_l, tops_compared, zip2_splat}
+use Rattle.record_words.proofs.Common.{ℕ, ◌≡◌, ◌-◌, ◌*◌, ◌/◌, ◌%◌, ◌^◌, ◌<◌, ◌≤◌, ⊎_elim, arith, Bool, true, false, bit_and, cond, eqb, List, get_or, length, map, nat_lt, refl, replicate, subst, sym, ap, ap₂, ◌∙◌, w32, and_zero_r, mul_comm, zero-div, range_with_len, cases_lt, eq-eqb, le-ltb, lt-ltb, get_or-map, get_or-replicate, get_or_default, get_or_past, length-map, length-replicate, get_or-map-range_with_len, length-map-range_with_len, bit_mask_l, get_or-sel_l, length-sel_l, tops_compared, zip2_splat, same_count, IsLawfulNode, NodeView, piece, complies, dense_of, with_unused, leads_to, lacks_none, lacks_none-complies, lanes_lack_none}
 use mir.Syntax.{Width}
 use mir.Val.{bits, hbits}
 use lib.Count.{count_leading_zeros}
 use lib.Lanes.{mask_l, sel_l, top, zip2}
-use Rattle.compound_node.proofs.Lawful.{same_count}
-use Rattle.compound_node.specs.Nodes.{IsLawfulNode, NodeView, piece}
-use Rattle.partial_keys.specs.Rows.{complies, dense_of, with_unused}
-use Rattle.node_tries.specs.Piece.{leads_to}
 use Rattle.record_words.specs.Packed.{row_lanes}
-use Rattle.partial_keys.proofs.Rows.Lanes.{lacks_none, lacks_none-complies, lanes_lack_none}
 use Rattle.record_words.proofs.Lanes.{row_lanes_read, splat_at}
 use Rattle.record_words.proofs.Lawful.{row-lt}
 use Rattle.record_words.proofs.search.Search.{dense-lt, first_row, leads, row_at_place, row_by_high}

@@ -1,17 +1,5 @@
 -- The highest of the first lanes that passes a test, where the test tells of each lane whether the row at its place complies.
-use Rattle.std.proofs.Common.{Bool, true, false, map, ℕ, suc, ◌≡◌, ⊎_elim, ◌+◌, ◌-◌, ◌*◌, ◌/◌, ◌%◌, ◌^◌, ◌<◌, ◌≤◌, List, [], arith, bit_and, get_or, length, replicate, refl, sym, ap, subst, ◌∙◌}
-use Rattle.std.proofs.lemmas.Bool.{cases_lt, eqb-true, ne_eqb}
-use Rattle.std.proofs.lemmas.List.{get_or-append_right, get_or-replicate, get_or_append_left, get_or-map, length-map}
-use Rattle.std.proofs.lemmas.Nat.{and_mask, shl-shr}
-use Rattle.compound_node.proofs.Lawful.{head_leads, same_count}
-use Rattle.compound_node.specs.Nodes.{NodeView, IsLawfulNode, head_of, piece}
-use Rattle.key_bits.proofs.Gather.{code-lt, code-shifted}
-use Rattle.key_bits.specs.Gather.{code}
-use Rattle.partial_keys.proofs.Leads.{code-even, first_is_zero}
-use Rattle.partial_keys.specs.Rows.{IsHighest, complies, dense_of, row_of, with_unused}
-use Rattle.node_tries.specs.Piece.{leads_to, paths}
-use Rattle.node_tries.specs.Positions.{has}
-use Rattle.partial_keys.proofs.Rows.Lanes.{top_of_used}
+use Rattle.record_words.proofs.Common.{Bool, true, false, map, ℕ, suc, ◌≡◌, ⊎_elim, ◌+◌, ◌-◌, ◌*◌, ◌/◌, ◌%◌, ◌^◌, ◌<◌, ◌≤◌, List, [], arith, bit_and, get_or, length, replicate, refl, sym, ap, subst, ◌∙◌, cases_lt, eqb-true, ne_eqb, get_or-append_right, get_or-replicate, get_or_append_left, get_or-map, length-map, and_mask, shl-shr, head_leads, same_count, NodeView, IsLawfulNode, head_of, piece, code-lt, code-shifted, code, code-even, first_is_zero, IsHighest, complies, dense_of, row_of, with_unused, leads_to, paths, has, top_of_used}
 use Rattle.record_words.proofs.Lawful.{length-with_unused}
 use lib.Count.{count_leading_zeros}
 use lib.Lanes.{mask_l}

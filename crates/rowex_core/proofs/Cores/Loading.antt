@@ -1,20 +1,6 @@
 -- What the words of a record in reach say of it in a version since the pin.
-use Rattle.std.proofs.Common.{◌≡◌, ℕ, zero, suc, ◌+◌, ◌-◌, ◌<◌, ◌≤◌, length, get_or, Some, None, nat_lt, if◌then◌else◌, sym, ap, ◌∙◌, arith, le_refl, le_trans}
-use Rattle.compound_node.specs.Nodes.{piece}
-use Rattle.node_tries.specs.Piece.{size}
-use Rattle.record_words.specs.Leaf.{leaf_words}
-use Rattle.record_words.specs.Packed.{fixed_words}
-use Rattle.record_words.proofs.UpToKey.{up_to_key_before}
-use Rattle.tries.specs.Tree.{Tree, leaf, node, fork, subtrie, Subtrie, Fixed}
-use Rattle.tries.specs.Place.{entry_at}
-use Rattle.record_words.specs.declared.records.Rec.{Rec}
-use Rattle.record_words.specs.declared.records.Rec.TheVariants.{Node as a_node, Leaf as a_leaf}
-use Rattle.versions.specs.Heap.{NodeWords, LeafWords, IsCopied}
-use Rattle.versions.specs.State.{Stands, IsReach, last_of, Spans, IsRecord, State}
-use Rattle.versions.specs.Core.{Fate, Free, Held as HeldBy, Ready as ReadyBy, InTree, Unlinked as UnlinkedBy, Marked, life_of, view as versions_of}
-use Rattle.versions.proofs.State.{spans_last, spans_ended, reach_later}
+use Rattle.rowex_core.proofs.Common.{◌≡◌, ℕ, zero, suc, ◌+◌, ◌-◌, ◌<◌, ◌≤◌, length, get_or, Some, None, nat_lt, if◌then◌else◌, sym, ap, ◌∙◌, arith, le_refl, le_trans, piece, size, leaf_words, fixed_words, up_to_key_before, Tree, leaf, node, fork, subtrie, Subtrie, Fixed, entry_at, Rec, a_node, a_leaf, NodeWords, LeafWords, IsCopied, Stands, IsReach, last_of, Spans, IsRecord, State, Fate, Free, HeldBy, ReadyBy, InTree, UnlinkedBy, Marked, life_of, versions_of, spans_last, spans_ended, reach_later, entry_of, node_number, leaf_number}
 use Rattle.rowex_core.specs.declared.known.Fact.TheVariants.{Placed, Fixed as FixedWord, Valued}
-use Rattle.record_words.specs.Decoding.{entry_of}
 use Rattle.rowex_core.specs.Reading.{node_words_of, leaf_of, IsPacked, entry_in, head_value, HasWordAt}
 use Rattle.rowex_core.specs.Cores.{Core, IsLawful, MustSpellValue, heap_of, bare}
 use Rattle.rowex_core.specs.Words.{record_word}
@@ -22,7 +8,6 @@ use Rattle.rowex_core.specs.Events.{IsFixedOffset}
 use Rattle.rowex_core.specs.Knowing.{StoodBetween, IsFact}
 use Rattle.rowex_core.proofs.Reading.Leafing.{leaf_is, leaf_size_is}
 use Rattle.rowex_core.proofs.Reading.{node_is, entry_at_is, fixed_word_is}
-use Rattle.versions.proofs.Heap.{node_number, leaf_number}
 
 -- the core without the words: versions, lives and pins
 abbrev pub view : Core → State

@@ -1,33 +1,17 @@
 -- A legal publish keeps the core lawful.
-use Rattle.std.proofs.Common.{◌≡◌, ◌⊎◌, inl, inr, ℕ, ◌+◌, ◌^◌, ◌<◌, Bool, true, false, Option, Some, None, refl, sym, ap, ◌∙◌, subst, arith}
-use Rattle.std.proofs.lemmas.Bool.{cases_Bool, false≢true}
-use Rattle.std.proofs.lemmas.List.Elements.{All-push}
-use Rattle.finite_map.specs.declared.Change.{Change}
-use Rattle.compound_node.specs.declared.entries.Entry.{Entry}
-use Rattle.compound_node.specs.declared.entries.Entry.TheVariants.{Leaf, Node}
-use Rattle.record_words.specs.Entry.{HasEntryWord, entry_word}
-use Rattle.record_words.specs.declared.records.Rec.{Rec}
-use Rattle.record_words.specs.declared.records.Rec.TheVariants.{Node as a_node, Leaf as a_leaf}
-use Rattle.versions.specs.State.{IsLinked}
-use Rattle.versions.specs.Core.{Fate, Free, Held, Ready as ReadyBy, InTree, Unlinked, Marked}
-use Rattle.versions.specs.Steps.{same_rec, is_linked, next_fate, publishes, IsStore, at_root, at_slot, at_value, IsVersionPublish as IsVersionsPublish}
-use Rattle.versions.proofs.Core.{same_rec_true, linked_cases}
-use Rattle.versions.proofs.Steps.{step_lawful}
+use Rattle.rowex_core.proofs.Common.{◌≡◌, ◌⊎◌, inl, inr, ℕ, ◌+◌, ◌^◌, ◌<◌, Bool, true, false, Option, Some, None, refl, sym, ap, ◌∙◌, subst, arith, cases_Bool, false≢true, All-push, Change, Entry, Leaf, Node, HasEntryWord, entry_word, Rec, a_node, a_leaf, IsLinked, Fate, Free, Held, ReadyBy, InTree, Unlinked, Marked, same_rec, is_linked, next_fate, publishes, IsStore, at_root, at_slot, at_value, IsVersionsPublish, same_rec_true, linked_cases, step_lawful, entry_of, get_or-set_other, node_number}
 use Rattle.rowex_core.specs.declared.event.Act.TheVariants.{Publish}
 use Rattle.rowex_core.specs.declared.event.Spot.{Spot}
 use Rattle.rowex_core.specs.declared.event.Spot.TheVariants.{Root, Slot, Value}
-use Rattle.record_words.specs.Decoding.{entry_of}
 use Rattle.rowex_core.specs.Reading.{node_words_of, leaf_of, IsPacked}
 use Rattle.rowex_core.specs.Cores.{Core, IsLawful, bare, heap_of, HasRecord, IsSized, FitsIn, MustSpellValue, holder_of}
 use Rattle.rowex_core.specs.Events.{after, stored_words, stored_root, next_tree, next_change, IsLegalPublish, IsWordFor, IsPackedAt, IsLockedAt}
 use Rattle.rowex_core.proofs.Frames.{next_change_pass}
-use Rattle.std.proofs.lemmas.List.{get_or-set_other}
 use Rattle.rowex_core.proofs.Events.Records.{sized_after, word_at_record}
 use Rattle.rowex_core.proofs.Cores.Publishing.{other_words, unlinked_words, true_linked}
 use Rattle.rowex_core.proofs.Reading.Storing.{near_store}
 use Rattle.rowex_core.proofs.Cores.Valuing.{value_stored, packed_then}
 use Rattle.versions.proofs.Core.Pace.{next_marked}
-use Rattle.versions.proofs.Heap.{node_number}
 
 whole_before : (now q : ℕ) (b : Bool) (f : Fate) → MustSpellValue (next_fate now q b f) → MustSpellValue f
 whole_before now q b Free h = h

@@ -1,27 +1,7 @@
 -- A legal publish stores to a record that is linked then; and what it makes of what another pass has.
-use Rattle.std.proofs.Common.{◌≡◌, ◌≢◌, ◌⊎◌, inl, inr, ℕ, suc, ◌<◌, ◌&&◌, ◌||◌, List, [], ◌∷◌, ◌++◌, length, Bool, true, false, Option, Some, None, refl, sym, ap, ◌∙◌, subst, arith, le_refl}
-use Rattle.std.specs.Prelude.{filter}
-use Rattle.std.proofs.lemmas.Bool.{eq-eqb, cases_Bool, false≢true}
-use Rattle.std.proofs.lemmas.List.Elements.{filter-append}
-use Rattle.finite_map.specs.declared.Kind.TheVariants.{Removed}
-use Rattle.compound_node.specs.declared.entries.Entry.{Entry}
-use Rattle.compound_node.specs.declared.entries.Entry.TheVariants.{Leaf, Node}
-use Rattle.node_tries.specs.Piece.{Place}
-use Rattle.tries.specs.Tree.{Tree, leaf, node, fork, subtrie, Has, IsTrie, IsBuilt, IsLower}
-use Rattle.tries.specs.Content.{Item, IsMore, added, behind, first}
-use Rattle.tries.proofs.Content.{within_has}
+use Rattle.rowex_core.proofs.Common.{◌≡◌, ◌≢◌, ◌⊎◌, inl, inr, ℕ, suc, ◌<◌, ◌&&◌, ◌||◌, List, [], ◌∷◌, ◌++◌, length, Bool, true, false, Option, Some, None, refl, sym, ap, ◌∙◌, subst, arith, le_refl, filter, eq-eqb, cases_Bool, false≢true, filter-append, Removed, Entry, Leaf, Node, Place, Tree, leaf, node, fork, subtrie, Has, IsTrie, IsBuilt, IsLower, Item, IsMore, added, behind, first, within_has, Rec, a_node, a_leaf, Heap, NodeWords, IsShown, IsRecord, IsLived, IsTop, IsLinked, Links, Spans, Fate, Free, Held, ReadyBy, InTree, UnlinkedBy, Marked, life_of, same_rec, links, is_linked, next_fate, IsLockable, items_of, item_of, IsChanged, IsChange, links_within, within_links, determined, shown_within, node_number, leaf_number, same_rec_true, links_true, linked_cases, some_pass_injective}
 use Rattle.tries.proofs.Tree.{has_first}
-use Rattle.record_words.specs.declared.records.Rec.{Rec}
-use Rattle.record_words.specs.declared.records.Rec.TheVariants.{Node as a_node, Leaf as a_leaf}
-use Rattle.versions.specs.Heap.{Heap, NodeWords, IsShown}
-use Rattle.versions.specs.State.{IsRecord, IsLived, IsTop, IsLinked, Links, Spans}
-use Rattle.versions.specs.Core.{Fate, Free, Held, Ready as ReadyBy, InTree, Unlinked as UnlinkedBy, Marked, life_of}
-use Rattle.versions.specs.Steps.{same_rec, links, is_linked, next_fate, IsLockable}
-use Rattle.versions.specs.Told.{items_of, item_of, IsChanged, IsChange}
-use Rattle.versions.proofs.State.Publish.{links_within, within_links}
-use Rattle.versions.proofs.Heap.{determined, shown_within, node_number, leaf_number}
 use Rattle.versions.proofs.State.Quiet.{slot_linked}
-use Rattle.versions.proofs.Core.{same_rec_true, links_true, linked_cases}
 use Rattle.rowex_core.specs.declared.event.Act.TheVariants.{Publish}
 use Rattle.rowex_core.specs.declared.event.Spot.{Spot}
 use Rattle.rowex_core.specs.declared.event.Spot.TheVariants.{Root, Slot, Value}
@@ -32,7 +12,6 @@ use Rattle.rowex_core.specs.Sharing.{share, holding_of, is_by, is_in_tree, owned
 use Rattle.rowex_core.specs.Knowing.{records_of, records_in}
 use Rattle.rowex_core.proofs.Cores.Valuing.{valued_linked}
 use Rattle.rowex_core.proofs.Sharing.{same_share, by_another, is_by_true, and_false}
-use Rattle.versions.proofs.Steps.{some_pass_injective}
 
 -- From a list of leaves to itself there is no change.
 

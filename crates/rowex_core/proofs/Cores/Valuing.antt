@@ -1,31 +1,8 @@
 -- The value of a leaf is stored: what the words say then, and the versions.
-use Rattle.std.proofs.Common.{◌≡◌, ◌≢◌, ◌⊎◌, inl, inr, ℕ, ◌+◌, ◌<◌, ◌^◌, List, [], ◌∷◌, ◌&&◌, length, set, get_or, Bool, true, false, eqb, refl, sym, ap, ◌∙◌, subst, arith, lit<, le_refl, ◌≤◌, Option, Some, None}
-use Rattle.std.specs.Prelude.{All}
-use Rattle.std.proofs.lemmas.List.Elements.{All-weaker}
-use Rattle.std.proofs.lemmas.Bool.{false≢true, cases_Bool, ne_eqb, eq-eqb, eqb-true}
-use Rattle.std.proofs.lemmas.List.{get_or-set_same, get_or-set_other, drop-set-lt}
-use Rattle.compound_node.specs.declared.entries.Entry.{Entry}
-use Rattle.compound_node.specs.declared.entries.Entry.TheVariants.{Leaf}
-use Rattle.node_tries.specs.Piece.{size}
-use Rattle.tries.specs.Place.{entry_at}
-use Rattle.record_words.specs.declared.layout.Layout.{Layout}
-use Rattle.record_words.specs.Leaf.{up_to_key}
-use Rattle.record_words.proofs.Leaves.{IsLeafOf, leaf_words_parts}
-use Rattle.record_words.proofs.UpToKey.{up_to_key_before, up_to_key_size, spells_up_to_key}
-use Rattle.tries.specs.Tree.{Tree, IsTrie, IsBuilt}
-use Rattle.record_words.specs.declared.records.Rec.{Rec}
-use Rattle.record_words.specs.declared.records.Rec.TheVariants.{Node as a_node, Leaf as a_leaf}
-use Rattle.versions.specs.Core.{Fate, Free, Held, Ready, InTree, Unlinked, Marked, life_of}
-use Rattle.versions.specs.Heap.{NodeWords, Heap}
-use Rattle.versions.specs.State.{IsTop, IsLinked, IsLived, Links, Spans}
-use Rattle.versions.specs.Steps.{is_linked, next_fate, same_rec, in_root, in_node, IsNextVersion, IsVersionPublish}
-use Rattle.versions.proofs.Core.{linked_cases, same_rec_true}
-use Rattle.versions.proofs.State.Publish.{within_links}
+use Rattle.rowex_core.proofs.Common.{◌≡◌, ◌≢◌, ◌⊎◌, inl, inr, ℕ, ◌+◌, ◌<◌, ◌^◌, List, [], ◌∷◌, ◌&&◌, length, set, get_or, Bool, true, false, eqb, refl, sym, ap, ◌∙◌, subst, arith, lit<, le_refl, ◌≤◌, Option, Some, None, All, All-weaker, false≢true, cases_Bool, ne_eqb, eq-eqb, eqb-true, get_or-set_same, get_or-set_other, drop-set-lt, Entry, Leaf, size, entry_at, Layout, up_to_key, IsLeafOf, leaf_words_parts, up_to_key_before, up_to_key_size, spells_up_to_key, Tree, IsTrie, IsBuilt, Rec, a_node, a_leaf, Fate, Free, Held, Ready, InTree, Unlinked, Marked, life_of, NodeWords, Heap, IsTop, IsLinked, IsLived, Links, Spans, is_linked, next_fate, same_rec, in_root, in_node, IsNextVersion, IsVersionPublish, linked_cases, same_rec_true, within_links, HasTraded, NamerNow, namer_now, named_in_tree, in_tree_if_linked, then_, value_publish, value_trade}
 use Rattle.tries.proofs.Read.{some_injective as some_same}
-use Rattle.versions.specs.Trades.{HasTraded}
 use Rattle.versions.proofs.Read.{read_exact}
 use Rattle.versions.proofs.Heap.Revalued.{IsValueStored, revalued, links_before, links_revalued, namer_links}
-use Rattle.versions.proofs.Core.Values.{NamerNow, namer_now, named_in_tree, in_tree_if_linked, then_, value_publish, value_trade}
 use Rattle.rowex_core.specs.declared.event.Spot.{Spot}
 use Rattle.rowex_core.specs.declared.event.Spot.TheVariants.{Root, Slot, Value}
 use Rattle.rowex_core.specs.Reading.{leaf_of, node_words_of, IsPacked}

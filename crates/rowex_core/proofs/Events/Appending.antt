@@ -1,9 +1,5 @@
 -- A publish appends one change and one version, and no other step does anything to either.
-use Rattle.std.proofs.Common.{◌≡◌, ℕ, suc, Bool, true, false, if◌then◌else◌, nat_eq, Option, Some, None, refl, arith}
-use Rattle.record_words.specs.declared.records.Rec.{Rec}
-use Rattle.versions.specs.Core.{Shared, Fate, Free, Unlinked, Marked}
-use Rattle.versions.specs.Steps.{with_fate, with_lock, with_epoch}
-use Rattle.versions.proofs.State.Publish.{version_old}
+use Rattle.rowex_core.proofs.Common.{◌≡◌, ℕ, suc, Bool, true, false, if◌then◌else◌, nat_eq, Option, Some, None, refl, arith, Rec, Shared, Fate, Free, Unlinked, Marked, with_fate, with_lock, with_epoch, version_old}
 use Rattle.rowex_core.specs.declared.event.Act.TheVariants.{Claim, Lock, Unlock, Publish, Mark, Advance, GiveBack, Load}
 use Rattle.rowex_core.specs.declared.event.Target.TheVariants.{Anchor, Node as NodeTarget}
 use Rattle.rowex_core.specs.Events.{claimed, marked, given_back, anchored, locked_where, advanced, next_tree, next_change}

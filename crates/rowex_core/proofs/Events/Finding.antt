@@ -1,18 +1,6 @@
 -- The change that a publish makes is found from its leaves before and after.
-use Rattle.std.proofs.Common.{◌≡◌, ◌≢◌, inl, inr, ℕ, List, [], ◌∷◌, false, eqb, Option, Some, None, refl, sym, ap, ◌∙◌, subst, arith}
-use Rattle.std.proofs.lemmas.Bool.{eq-eqb, eqb-true, cases_Bool}
-use Rattle.compound_node.specs.declared.entries.Entry.{Entry}
-use Rattle.finite_map.specs.declared.Change.{Change}
-use Rattle.finite_map.specs.declared.Kind.{Kind}
-use Rattle.finite_map.specs.declared.Kind.TheVariants.{Added, Replaced, Removed}
-use Rattle.tries.specs.Tree.{Tree, leaf, node, fork, IsTrie, IsBuilt}
-use Rattle.tries.specs.Content.{Item, items, Each, IsIn, IsMore, added, behind, IsExchange, exchanged, past_one}
-use Rattle.tries.specs.Keys.{IsBefore}
-use Rattle.tries.proofs.Content.{content_rises, before_irrefl, each_append, each_in, IsRising}
+use Rattle.rowex_core.proofs.Common.{◌≡◌, ◌≢◌, inl, inr, ℕ, List, [], ◌∷◌, false, eqb, Option, Some, None, refl, sym, ap, ◌∙◌, subst, arith, eq-eqb, eqb-true, cases_Bool, Entry, Change, Kind, Added, Replaced, Removed, Tree, leaf, node, fork, IsTrie, IsBuilt, Item, items, Each, IsIn, IsMore, added, behind, IsExchange, exchanged, past_one, IsBefore, content_rises, before_irrefl, each_append, each_in, IsRising, Heap, LeafWords, IsShown, IsTop, items_of, item_of, IsChanged, added_change, replaced_change, removed_change}
 use Rattle.tries.proofs.Content.Maps.{AreKeys, are_keys, before_less, before_greater, same_order}
-use Rattle.versions.specs.Heap.{Heap, LeafWords, IsShown}
-use Rattle.versions.specs.State.{IsTop}
-use Rattle.versions.specs.Told.{items_of, item_of, IsChanged, added_change, replaced_change, removed_change}
 use Rattle.rowex_core.specs.declared.event.Spot.{Spot}
 use Rattle.rowex_core.specs.declared.event.Spot.TheVariants.{Root, Slot, Value}
 use Rattle.rowex_core.specs.Cores.{Core, heap_of}

@@ -1,11 +1,5 @@
 -- The words of one record changed at one offset.
-use Rattle.std.proofs.Common.{◌≡◌, ◌≢◌, ◌⊎◌, inl, inr, ℕ, ◌-◌, ◌^◌, ◌<◌, List, set, true, false, sym, ◌∙◌, subst}
-use Rattle.std.proofs.lemmas.Bool.{cases_Bool, false≢true}
-use Rattle.std.proofs.lemmas.List.Elements.{All-set}
-use Rattle.std.proofs.Math.ListN.{length-set}
-use Rattle.record_words.specs.declared.records.Rec.{Rec}
-use Rattle.versions.specs.Steps.{same_rec}
-use Rattle.versions.proofs.Core.{same_rec_refl, same_rec_true}
+use Rattle.rowex_core.proofs.Common.{◌≡◌, ◌≢◌, ◌⊎◌, inl, inr, ℕ, ◌-◌, ◌^◌, ◌<◌, List, set, true, false, sym, ◌∙◌, subst, cases_Bool, false≢true, All-set, length-set, Rec, same_rec, same_rec_refl, same_rec_true}
 use Rattle.rowex_core.specs.Cores.{IsSized}
 use Rattle.rowex_core.specs.Events.{with_word}
 

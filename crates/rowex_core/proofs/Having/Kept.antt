@@ -1,14 +1,7 @@
 -- Which of a pass's locks are kept.
-use Rattle.std.proofs.Common.{◌≡◌, inl, inr, ℕ, List, [], ◌∷◌, filter, Bool, true, false, refl, sym, ap, subst, ◌∙◌}
-use Rattle.std.specs.Prelude.{not, if◌then◌else◌}
-use Rattle.std.proofs.lemmas.Bool.{cases_Bool, false≢true}
-use Rattle.record_words.specs.declared.records.Rec.{Rec}
-use Rattle.record_words.specs.declared.records.Rec.TheVariants.{Node as a_node}
-use Rattle.record_words.proofs.OfKinds.{not_true as was_true}
-use Rattle.versions.specs.Steps.{same_rec}
-use Rattle.versions.specs.Trades.{IsOneOf, AreApart}
-use Rattle.versions.proofs.Core.{same_rec_refl, same_rec_true}
-use Rattle.versions.proofs.Trades.{of_filter, filter_of}
+use Rattle.rowex_core.proofs.Common.{◌≡◌, inl, inr, ℕ, List, [], ◌∷◌, Bool, true, false, refl, sym, ap, subst, ◌∙◌, not, cases_Bool, false≢true, Rec, a_node, was_true, same_rec, IsOneOf, AreApart, same_rec_refl, same_rec_true, of_filter, filter_of}
+use Rattle.std.proofs.Common.{filter}
+use Rattle.std.specs.Prelude.{if◌then◌else◌}
 use Rattle.rowex_core.specs.Having.{AreKept, is_among, kept_locks}
 
 among : (r : Rec) (xs : List Rec) → is_among r xs ≡ true → IsOneOf r xs

@@ -1,21 +1,11 @@
 -- What a pass knows stays true while other passes make their steps.
-use Rattle.std.proofs.Common.{◌≡◌, ◌≢◌, inl, inr, ℕ, suc, ◌<◌, ◌≤◌, List, refl, sym, ap, ◌∙◌, subst, le_trans, arith, Some}
-use Rattle.std.proofs.lemmas.List.Elements.{All-append, All-weaker}
-use Rattle.tries.specs.Tree.{Tree}
-use Rattle.record_words.specs.declared.records.Rec.{Rec}
-use Rattle.record_words.specs.declared.records.Rec.TheVariants.{Node as a_node, Leaf as a_leaf}
-use Rattle.versions.specs.State.{Past, Stands}
-use Rattle.versions.specs.Frames.{IsGrown}
-use Rattle.versions.proofs.Core.Growth.{stands_grown}
+use Rattle.rowex_core.proofs.Common.{◌≡◌, ◌≢◌, inl, inr, ℕ, suc, ◌<◌, ◌≤◌, List, refl, sym, ap, ◌∙◌, subst, le_trans, arith, Some, All-append, All-weaker, Tree, Rec, a_node, a_leaf, Past, Stands, IsGrown, stands_grown, Change, BeginsWith, Layout, begins_on, others_begin, others_on}
 use Rattle.rowex_core.specs.declared.event.Act.{Act}
 use Rattle.rowex_core.specs.declared.known.Fact.{Fact}
 use Rattle.rowex_core.specs.declared.known.Fact.TheVariants.{Rooted, Placed, Fixed, Valued}
 use Rattle.rowex_core.specs.declared.known.Known.{Known}
 use Rattle.rowex_core.specs.declared.known.View.{View}
 use Rattle.rowex_core.specs.declared.known.View.TheVariants.{Spent, Dealer, Founder, Pass, Pair, Witness, Follower}
-use Rattle.finite_map.specs.declared.Change.{Change}
-use Rattle.finite_map.specs.Fronts.{BeginsWith}
-use Rattle.record_words.specs.declared.layout.Layout.{Layout}
 use Rattle.rowex_core.specs.Reading.{entry_in, head_value, HasWordAt}
 use Rattle.rowex_core.specs.Cores.{Core, IsLawful}
 use Rattle.rowex_core.specs.Events.{Legal, after}
@@ -24,7 +14,6 @@ use Rattle.rowex_core.specs.Knowing.{StoodBetween, StoodAs, HoldsIfStood, IsFact
 use Rattle.rowex_core.specs.Statements.{RootLoadSeesAll}
 use Rattle.rowex_core.proofs.Frames.{frame}
 use Rattle.rowex_core.proofs.Cores.Valuing.{namer_shared, loaded_kept}
-use Rattle.finite_map.proofs.Fronts.{begins_on, others_begin, others_on}
 
 -- Facts of the past
 

@@ -1,13 +1,7 @@
 -- The words of a leaf are read as that leaf, whatever stands behind its key.
-use Rattle.std.proofs.Common.{◌≡◌, ℕ, ◌+◌, ◌*◌, ◌/◌, ◌%◌, ◌^◌, ◌<◌, ◌≤◌, List, length, take, drop, get_or, sym, ap, ◌∙◌, ⊎_elim, arith, lit<, get_or-take, get_or-drop}
+use Rattle.rowex_core.proofs.Common.{◌≡◌, ℕ, ◌+◌, ◌*◌, ◌/◌, ◌%◌, ◌^◌, ◌<◌, ◌≤◌, List, length, take, drop, get_or, sym, ap, ◌∙◌, ⊎_elim, arith, lit<, get_or-take, get_or-drop, ext_get_or, length-take-le, get_or-map-range_with_len, length-map-range_with_len, HasLeafWords, key_word, leaf_words, up_to_key, IsLeafOf, leaf_words_parts, byte-lt, up_to_key_before, up_to_key_size, up_to_key_value, bytes_in}
 use Rattle.std.specs.Int.{from_be_bytes, to_be_bytes, w64}
-use Rattle.std.proofs.lemmas.List.{ext_get_or, length-take-le}
-use Rattle.std.proofs.lemmas.List.FromFn.{get_or-map-range_with_len, length-map-range_with_len}
-use Rattle.record_words.specs.Leaf.{HasLeafWords, key_word, leaf_words, up_to_key}
 use Rattle.record_words.proofs.Bytes.{key_word-bytes, same_key_bytes, small_byte}
-use Rattle.record_words.proofs.Leaves.{IsLeafOf, leaf_words_parts, byte-lt}
-use Rattle.record_words.proofs.UpToKey.{up_to_key_before, up_to_key_size, up_to_key_value}
-use Rattle.record_words.specs.Decoding.{bytes_in}
 use Rattle.rowex_core.specs.Reading.{leaf_of}
 
 -- ---- a word of a key, and its bytes

@@ -1,23 +1,9 @@
 -- An entry stored to a node leaves its fixed words, and all of its subtrie but one entry.
-use Rattle.std.proofs.Common.{◌≡◌, ◌⊎◌, inl, inr, ⊎_elim, ℕ, zero, suc, ◌+◌, ◌-◌, ◌^◌, ◌%◌, ◌<◌, ◌≤◌, List, [], ◌∷◌, length, set, take, drop, map, get_or, true, false, nat_eq, eqb, if◌then◌else◌, refl, sym, ap, ◌∙◌, arith}
-use Rattle.std.specs.Option.{unwrap_or}
-use Rattle.std.proofs.lemmas.Bool.{cases_Bool, cases_lt}
-use Rattle.std.proofs.lemmas.List.{take-set-le, drop-set-lt, drop-set-add, map-set}
+use Rattle.rowex_core.proofs.Common.{◌≡◌, ◌⊎◌, inl, inr, ⊎_elim, ℕ, zero, suc, ◌+◌, ◌-◌, ◌^◌, ◌%◌, ◌<◌, ◌≤◌, List, [], ◌∷◌, length, set, take, drop, map, get_or, true, false, nat_eq, eqb, if◌then◌else◌, refl, sym, ap, ◌∙◌, arith, unwrap_or, cases_Bool, cases_lt, take-set-le, drop-set-lt, drop-set-add, map-set, Entry, Leaf, shown, Fork, Swap, swap, in_zero, in_one, a_node, KeepsAllButOneEntry, same_rec, near_refl, same_rec_true, entries_of, entry_of}
 use Rattle.std.proofs.Math.Seq.{take-set-lt}
-use Rattle.compound_node.specs.declared.entries.Entry.{Entry}
-use Rattle.compound_node.specs.declared.entries.Entry.TheVariants.{Leaf}
-use Rattle.partial_keys.specs.Shown.{shown}
 use Rattle.node_tries.specs.Positions.{front_below}
-use Rattle.node_tries.specs.Piece.{Fork}
-use Rattle.tries.specs.Place.{Swap, swap, in_zero, in_one}
-use Rattle.record_words.specs.declared.records.Rec.TheVariants.{Node as a_node}
-use Rattle.versions.specs.Heap.{KeepsAllButOneEntry}
-use Rattle.versions.specs.Steps.{same_rec}
-use Rattle.versions.proofs.Heap.{near_refl}
-use Rattle.versions.proofs.Core.{same_rec_true}
 use Rattle.rowex_core.specs.declared.event.Spot.{Spot}
 use Rattle.rowex_core.specs.declared.event.Spot.TheVariants.{Root, Slot, Value}
-use Rattle.record_words.specs.Decoding.{entries_of, entry_of}
 use Rattle.rowex_core.specs.Reading.{node_words_of, fixed_of}
 use Rattle.rowex_core.specs.Cores.{Core, heap_of}
 use Rattle.rowex_core.specs.Events.{stored_words}

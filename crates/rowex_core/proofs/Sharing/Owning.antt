@@ -1,13 +1,5 @@
 -- What a pass knows that it has, it has, and no more.
-use Rattle.std.proofs.Common.{◌≡◌, ℕ, zero, suc, ◌&&◌, [], Bool, true, false, nat_eq, if◌then◌else◌, Option, Some, None, refl, sym, ap, ◌∙◌, subst, arith}
-use Rattle.std.specs.Prelude.{Contains}
-use Rattle.std.proofs.lemmas.Bool.{eqb-true}
-use Rattle.std.proofs.lemmas.List.Elements.{All-weaker, All-contains_itself}
-use Rattle.compound_node.specs.declared.entries.Entry.{Entry}
-use Rattle.record_words.specs.declared.records.Rec.TheVariants.{Node as a_node}
-use Rattle.versions.specs.Core.{Fate, Held as HeldBy, Ready as ReadyBy, InTree, Unlinked as UnlinkedBy}
-use Rattle.versions.specs.Steps.{same_rec}
-use Rattle.versions.proofs.Core.{same_rec_refl}
+use Rattle.rowex_core.proofs.Common.{◌≡◌, ℕ, zero, suc, ◌&&◌, [], Bool, true, false, nat_eq, if◌then◌else◌, Option, Some, None, refl, sym, ap, ◌∙◌, subst, arith, Contains, eqb-true, All-weaker, All-contains_itself, Entry, a_node, Fate, HeldBy, ReadyBy, InTree, UnlinkedBy, same_rec, same_rec_refl}
 use Rattle.rowex_core.specs.declared.known.Holding.{Holding}
 use Rattle.rowex_core.specs.declared.known.Holding.TheVariants.{Held, Ready as IsReady, Unlinked}
 use Rattle.rowex_core.specs.declared.known.Owned.{Owned}

@@ -1,31 +1,7 @@
 -- The laws that follow: the opening core, records in reach, a publish as a step of the map, locks of two passes.
-use Rattle.std.proofs.Common.{◌≡◌, ◌≢◌, inl, ⊎_elim, ℕ, zero, suc, ◌+◌, ◌-◌, ◌^◌, ◌<◌, ◌≤◌, List, [], ◌∷◌, ◌++◌, length, get_or, set, replicate, fold, Option, Some, None, IsSome, refl, sym, ap, subst, ◌∙◌, arith, le_refl, le_trans, lit<}
-use Rattle.std.proofs.lemmas.Bool.{eq-eqb, ne_eqb, false≢true, cases_lt}
-use Rattle.std.proofs.lemmas.List.{length-replicate, length-set, get_or-replicate, get_or-set_same, get_or-set_other, get_or_past, take_all}
-use Rattle.std.proofs.lemmas.List.Elements.{All-replicate, All-from_recursion}
-use Rattle.finite_map.specs.declared.Change.{Change}
-use Rattle.finite_map.specs.declared.Kind.{Kind}
-use Rattle.finite_map.specs.declared.Kind.TheVariants.{Added, Replaced, Removed}
-use Rattle.finite_map.specs.Maps.{Map, map_after, step_where, value_at}
+use Rattle.rowex_core.proofs.Common.{◌≡◌, ◌≢◌, inl, ⊎_elim, ℕ, zero, suc, ◌+◌, ◌-◌, ◌^◌, ◌<◌, ◌≤◌, List, [], ◌∷◌, ◌++◌, length, get_or, set, replicate, fold, Option, Some, None, IsSome, refl, sym, ap, subst, ◌∙◌, arith, le_refl, le_trans, lit<, eq-eqb, ne_eqb, false≢true, cases_lt, length-replicate, get_or-replicate, get_or-set_same, get_or-set_other, get_or_past, take_all, All-replicate, All-from_recursion, Change, Kind, Added, Replaced, Removed, Map, map_after, step_where, value_at, map_of, changed, changed_by, FitsKind, Fits, LegalFrom, ANCHOR_WORD, address, word_count, IsInTable, Layout, Location, Epoch, RootWord, AnchorWord, PinOf, NodeWord, LeafWord, fixed_words, leaf_words, words_for, leaf_words_parts, Key, Fixed, Tree, leaf, node, fork, Rec, a_node, a_leaf, IsRecord, IsSameRecord, Free, Unlinked, Marked, pin_version, content, state_hindsight, state_parting, reach_later, opening_core, core_reach, core_steady, map_of-push}
+use Rattle.std.proofs.lemmas.List.{length-set}
 use Rattle.finite_map.specs.declared.Call.TheVariants.{Upsert, Remove}
-use Rattle.finite_map.specs.Fronts.{map_of, changed, changed_by, FitsKind, Fits, LegalFrom}
-use Rattle.record_words.specs.declared.TheConstants.{ANCHOR_WORD}
-use Rattle.record_words.specs.Layout.{address, word_count, IsInTable}
-use Rattle.record_words.specs.declared.layout.Layout.{Layout}
-use Rattle.record_words.specs.declared.layout.Location.{Location}
-use Rattle.record_words.specs.declared.layout.Location.TheVariants.{Epoch, Root as RootWord, Anchor as AnchorWord, Pin as PinOf, NodeWord, LeafWord}
-use Rattle.record_words.specs.Packed.{fixed_words}
-use Rattle.record_words.specs.Leaf.{leaf_words, words_for}
-use Rattle.record_words.proofs.Leaves.{leaf_words_parts}
-use Rattle.tries.specs.Keys.{Key}
-use Rattle.tries.specs.Tree.{Fixed, Tree, leaf, node, fork}
-use Rattle.record_words.specs.declared.records.Rec.{Rec}
-use Rattle.record_words.specs.declared.records.Rec.TheVariants.{Node as a_node, Leaf as a_leaf}
-use Rattle.versions.specs.State.{IsRecord, IsSameRecord}
-use Rattle.versions.specs.Core.{Free, Unlinked, Marked, pin_version}
-use Rattle.versions.specs.Told.{content}
-use Rattle.versions.proofs.State.{hindsight as state_hindsight, state_parting, reach_later}
-use Rattle.versions.proofs.Steps.{opening_core, core_reach, core_steady}
 use Rattle.rowex_core.specs.declared.event.Act.TheVariants.{Lock, Publish}
 use Rattle.rowex_core.specs.declared.event.Target.TheVariants.{Node as NodeTarget}
 use Rattle.rowex_core.specs.Reading.{HasWordAt}
@@ -37,7 +13,6 @@ use Rattle.rowex_core.specs.Statements.{OpeningIsLawful, Hindsight, KeysPartAtFo
 use Rattle.rowex_core.proofs.Frames.{next_change_pass}
 use Rattle.rowex_core.proofs.Cores.Loading.{LastOf, last, entry_of_last, fixed_fact, view}
 use Rattle.rowex_core.proofs.Cores.{stays_lawful}
-use Rattle.finite_map.proofs.Fronts.{map_of-push}
 
 -- The opening core
 

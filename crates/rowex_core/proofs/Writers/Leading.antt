@@ -1,9 +1,5 @@
 -- A lock of a node to which the pass was led takes one that is in the tree.
-use Rattle.std.proofs.Common.{◌≡◌, ℕ, Option, Some, None, refl, ap, arith}
-use Rattle.record_words.specs.State.{state_word}
-use Rattle.record_words.specs.declared.records.Rec.TheVariants.{Node as a_node}
-use Rattle.versions.specs.State.{Spans}
-use Rattle.versions.specs.Core.{Fate, Free, Held, Ready, InTree, Unlinked, Marked, life_of, pin_version}
+use Rattle.rowex_core.proofs.Common.{◌≡◌, ℕ, Option, Some, None, refl, ap, arith, state_word, a_node, Spans, Fate, Free, Held, Ready, InTree, Unlinked, Marked, life_of, pin_version}
 use Rattle.rowex_core.specs.Words.{tag_of}
 use Rattle.rowex_core.specs.Writers.{LedIsInTree}
 

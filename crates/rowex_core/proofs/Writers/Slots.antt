@@ -1,22 +1,8 @@
 -- An entry word stored to a node: the words spell the node with that entry.
-use Rattle.std.proofs.Common.{◌≡◌, ◌≢◌, inl, inr, ⊎_elim, ℕ, ◌+◌, ◌-◌, ◌<◌, ◌≤◌, ◌^◌, List, ◌++◌, length, get_or, set, Bool, true, false, nat_lt, Some, refl, sym, ap, subst, ◌∙◌, arith}
-use Rattle.std.specs.Prelude.{All, slice_get, if◌then◌else◌}
-use Rattle.std.proofs.lemmas.Bool.{cases_eq, cases_lt}
-use Rattle.std.proofs.lemmas.List.{length-set, get_or-set_same, get_or-set_other, set-append_right}
-use Rattle.std.proofs.lemmas.Option.{slice_get-get_or, slice_get_past}
-use Rattle.std.proofs.lemmas.List.Elements.{All-set}
-use Rattle.compound_node.specs.declared.entries.Entry.{Entry}
-use Rattle.compound_node.specs.Nodes.{NodeView, StandsBelow, head_of, piece}
-use Rattle.compound_node.proofs.Lawful.{replaced_lawful, piece-replaced}
-use Rattle.node_tries.specs.Piece.{Place, Fork, size}
+use Rattle.rowex_core.proofs.Common.{◌≡◌, ◌≢◌, inl, inr, ⊎_elim, ℕ, ◌+◌, ◌-◌, ◌<◌, ◌≤◌, ◌^◌, List, ◌++◌, length, get_or, set, Bool, true, false, nat_lt, Some, refl, sym, ap, subst, ◌∙◌, arith, All, slice_get, cases_eq, cases_lt, get_or-set_same, get_or-set_other, set-append_right, slice_get-get_or, slice_get_past, All-set, Entry, NodeView, StandsBelow, head_of, piece, replaced_lawful, piece-replaced, Place, Fork, size, HasEntryWord, entry_word, HasNodeWords, head_words, entry_words, node_words, length-entry_words, entry_words_at, entry_words_made, whole, Subtrie, with_entry, NodeWords}
+use Rattle.std.specs.Prelude.{if◌then◌else◌}
+use Rattle.std.proofs.lemmas.List.{length-set}
 use Rattle.node_tries.specs.Changes.{replaced}
-use Rattle.record_words.specs.Entry.{HasEntryWord, entry_word}
-use Rattle.record_words.specs.Node.{HasNodeWords, head_words, entry_words, node_words}
-use Rattle.record_words.proofs.Entries.{length-entry_words, entry_words_at, entry_words_made}
-use Rattle.record_words.proofs.HeadParts.{whole}
-use Rattle.tries.specs.Tree.{Subtrie}
-use Rattle.tries.specs.Place.{with_entry}
-use Rattle.versions.specs.Heap.{NodeWords}
 use Rattle.rowex_core.specs.Reading.{node_words_of}
 use Rattle.rowex_core.proofs.Reading.{node_is}
 use Rattle.rowex_core.proofs.Cores.Published.{entry_small}

@@ -1,40 +1,9 @@
 -- What a load of an entry of a node tells.
-use Rattle.std.proofs.Common.{◌≡◌, ℕ, ◌+◌, ◌<◌, ◌≤◌, length, if◌then◌else◌, Option, Some, None, IsSome, refl, ap, sym, ◌∙◌, subst, arith}
-use Rattle.std.proofs.lemmas.Bool.{lt-ltb}
-use Rattle.compound_node.specs.declared.entries.Entry.{Entry}
-use Rattle.compound_node.specs.declared.entries.Entry.TheVariants.{Node}
-use Rattle.compound_node.specs.Nodes.{height_of}
-use Rattle.node_tries.specs.Piece.{Place, size}
-use Rattle.record_words.specs.declared.layout.Layout.{Layout}
-use Rattle.record_words.specs.Entry.{HasEntryWord, entry_word}
-use Rattle.record_words.specs.Reading.{IsSpelling}
-use Rattle.tries.specs.Tree.{Tree, node, subtrie, Subtrie, Fixed, IsBuilt}
-use Rattle.tries.specs.Place.{entry_at, shape}
-use Rattle.tries.proofs.Place.{shape_tips}
-use Rattle.tries.proofs.Tree.{built_within}
-use Rattle.versions.specs.declared.Pin.{Pin}
-use Rattle.record_words.specs.declared.records.Rec.TheVariants.{Node as a_node}
-use Rattle.versions.specs.State.{Past, Stands, KeepsFixedWordsSince}
-use Rattle.rowex_core.specs.declared.event.Act.TheVariants.{LoadRef}
-use Rattle.rowex_core.specs.declared.event.Spot.TheVariants.{Slot}
-use Rattle.rowex_core.specs.declared.known.Fact.TheVariants.{Placed}
-use Rattle.rowex_core.specs.declared.known.Known.{Known}
-use Rattle.rowex_core.specs.Cores.{Core, IsLawful}
-use Rattle.rowex_core.specs.Knowing.{Recalls, IsEvent, StoodAs}
-use Rattle.rowex_core.proofs.Sharing.Owning.{recalls}
-use Rattle.record_words.specs.Decoding.{entry_of}
-use Rattle.rowex_core.specs.Reading.{entry_in}
-use Rattle.rowex_core.specs.Words.{record_word}
-use Rattle.rowex_core.proofs.Reading.{entry_of_word}
-use Rattle.rowex_table.specs.Rule.{HasSpot}
-use Rattle.rowex_table.specs.Runs.{silent}
-use Rattle.version_laws.specs.Scan.{Stood, IsPlaced}
+use Rattle.rowex_reading.proofs.Common.{◌≡◌, ℕ, ◌+◌, ◌<◌, ◌≤◌, length, if◌then◌else◌, Option, Some, None, IsSome, refl, ap, sym, ◌∙◌, subst, arith, lt-ltb, Entry, Node, height_of, Place, size, Layout, HasEntryWord, entry_word, IsSpelling, Tree, node, subtrie, Subtrie, IsBuilt, entry_at, shape, shape_tips, built_within, Pin, a_node, Past, Stands, KeepsFixedWordsSince, LoadRef, Slot, Placed, Known, Core, IsLawful, Recalls, IsEvent, StoodAs, recalls, entry_of, entry_in, record_word, entry_of_word, HasSpot, silent, Stood, IsPlaced, subtrie_at, record_node, shaped, IsLater}
+use Rattle.tries.specs.Tree.{Fixed}
 use Rattle.version_laws.proofs.Scan.Ends.{placed_falls}
-use Rattle.version_laws.proofs.Scan.Loads.{subtrie_at}
-use Rattle.version_laws.proofs.Scan.{record_node, shaped}
 use Rattle.rowex_reading.specs.Possible.{IsPossible}
 use Rattle.rowex_reading.specs.Seen.{seen, Sure, HasMorePlaces, HasPlace, IsLedTo}
-use Rattle.rowex_table.specs.Made.{IsLater}
 use Rattle.rowex_reading.proofs.Seen.{recalls_before, seen_steady, room_stable, seen_stable, sure_later, since_later}
 use Rattle.rowex_reading.proofs.Seen.Later.{event_knows, event_recalls}
 use Rattle.rowex_reading.proofs.Seen.Loading.{IsTaught, slot_taught, taught_now, found_seen}

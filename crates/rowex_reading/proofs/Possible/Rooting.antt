@@ -1,34 +1,6 @@
 -- What a load of the root tells.
-use Rattle.std.proofs.Common.{◌≡◌, ℕ, ◌*◌, ◌≤◌, List, [], ◌∷◌, ◌++◌, length, take, Option, Some, None, refl, ap, sym, ◌∙◌, subst, arith, le_refl}
-use Rattle.std.specs.Prelude.{IfSome}
-use Rattle.compound_node.specs.declared.entries.Entry.{Entry}
-use Rattle.compound_node.specs.declared.entries.Entry.TheVariants.{Leaf, Node}
-use Rattle.compound_node.specs.Nodes.{height_of}
-use Rattle.key_bits.specs.declared.TheConstants.{MAX_BYTES}
-use Rattle.finite_map.specs.declared.Change.{Change}
-use Rattle.finite_map.specs.Fronts.{map_of}
-use Rattle.node_tries.specs.Piece.{Place}
-use Rattle.record_words.specs.declared.layout.Layout.{Layout}
-use Rattle.record_words.specs.Entry.{HasEntryWord, entry_word}
-use Rattle.record_words.specs.Reading.{IsSpelling}
-use Rattle.tries.specs.Tree.{Tree, leaf, node, fork, subtrie, IsBuilt}
+use Rattle.rowex_reading.proofs.Common.{◌≡◌, ℕ, ◌*◌, ◌≤◌, List, [], ◌∷◌, ◌++◌, length, take, Option, Some, None, refl, ap, sym, ◌∙◌, subst, arith, le_refl, IfSome, Entry, Leaf, Node, height_of, MAX_BYTES, Change, map_of, Place, Layout, HasEntryWord, entry_word, IsSpelling, Tree, leaf, node, fork, subtrie, IsBuilt, Pin, Heap, IsTop, content, LoadRef, Root, Rooted, Fresh, Known, Core, IsLawful, heap_of, Recalls, IsEvent, IsPinnedSince, version_of, pin_is, entry_of, root_of, head_entry, entry_of_word, silent}
 use Rattle.tries.specs.Content.{Item, items, pairs}
-use Rattle.versions.specs.declared.Pin.{Pin}
-use Rattle.versions.specs.Heap.{Heap}
-use Rattle.versions.specs.State.{IsTop}
-use Rattle.versions.specs.Told.{content}
-use Rattle.rowex_core.specs.declared.event.Act.TheVariants.{LoadRef}
-use Rattle.rowex_core.specs.declared.event.Spot.TheVariants.{Root}
-use Rattle.rowex_core.specs.declared.known.Fact.TheVariants.{Rooted}
-use Rattle.rowex_core.specs.declared.known.Fresh.{Fresh}
-use Rattle.rowex_core.specs.declared.known.Known.{Known}
-use Rattle.rowex_core.specs.Cores.{Core, IsLawful, heap_of}
-use Rattle.rowex_core.specs.Knowing.{Recalls, IsEvent, IsPinnedSince, version_of}
-use Rattle.rowex_core.proofs.Sharing.Owning.{pin_is}
-use Rattle.record_words.specs.Decoding.{entry_of}
-use Rattle.rowex_core.specs.Reading.{root_of, head_entry}
-use Rattle.rowex_core.proofs.Reading.{entry_of_word}
-use Rattle.rowex_table.specs.Runs.{silent}
 use Rattle.rowex_reading.specs.Seen.{RootIs, since}
 use Rattle.rowex_reading.proofs.Seen.{seen_told}
 use Rattle.rowex_reading.proofs.Seen.Loading.{IsTaught, root_taught, taught_now}

@@ -1,16 +1,5 @@
 -- A node's forks that were read twice, and the places that they have.
-use Rattle.std.proofs.Common.{◌≡◌, ℕ, ◌<◌, length, subst, sym, ◌∙◌}
-use Rattle.compound_node.specs.Nodes.{HeadView, node_of, leaves, IsLawfulNode}
-use Rattle.compound_node.proofs.Lawful.{same_count}
-use Rattle.node_tries.specs.Piece.{size}
-use Rattle.record_words.specs.declared.layout.Layout.{Layout}
-use Rattle.tries.proofs.Tree.Building.{size-piece}
-use Rattle.tries.specs.Tree.{Subtrie}
-use Rattle.rowex_core.specs.declared.known.Known.{Known}
-use Rattle.rowex_core.specs.Knowing.{IsPinnedSince}
-use Rattle.rowex_core.proofs.Sharing.Owning.{recalls}
-use Rattle.version_laws.specs.Scan.{HadShapeSince}
-use Rattle.version_laws.proofs.Scan.{shaped}
+use Rattle.rowex_reading.proofs.Common.{◌≡◌, ℕ, ◌<◌, length, subst, sym, ◌∙◌, HeadView, node_of, leaves, IsLawfulNode, same_count, size, Layout, size-piece, Subtrie, Known, IsPinnedSince, recalls, HadShapeSince, shaped}
 use Rattle.rowex_reading.specs.Possible.{IsPossible}
 use Rattle.rowex_reading.specs.Seen.{HasPlace, HasMorePlaces, Sure, seen, shape_of}
 use Rattle.rowex_reading.proofs.Seen.{seen_steady}

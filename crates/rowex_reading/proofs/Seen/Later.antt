@@ -1,16 +1,8 @@
 -- What a step of the pass leaves of what it is sure of.
-use Rattle.std.proofs.Common.{List, ◌++◌, sym, subst}
-use Rattle.finite_map.specs.declared.Note.{Note}
-use Rattle.record_words.specs.declared.layout.Layout.{Layout}
-use Rattle.rowex_core.specs.declared.event.Act.{Act}
-use Rattle.rowex_core.specs.declared.known.Known.{Known}
-use Rattle.rowex_core.specs.Events.{after}
-use Rattle.rowex_core.specs.Knowing.{Knows, Recalls, IsEvent, learned}
+use Rattle.rowex_reading.proofs.Common.{List, ◌++◌, sym, subst, Note, Layout, Act, Known, after, Knows, Recalls, IsEvent, learned, recalls, IsLater}
 use Rattle.rowex_core.proofs.Knowing.{learns}
-use Rattle.rowex_core.proofs.Sharing.Owning.{recalls}
 use Rattle.rowex_core.proofs.Cores.{stays_lawful}
 use Rattle.rowex_reading.specs.Possible.{IsPossible}
-use Rattle.rowex_table.specs.Made.{IsLater}
 use Rattle.rowex_table.proofs.Rule.{renoted}
 use Rattle.rowex_table.specs.Stays.{KeepsRecall}
 use Rattle.rowex_table.proofs.Made.ActsBefore.{recalls_on}

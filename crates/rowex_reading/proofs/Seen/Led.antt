@@ -1,36 +1,9 @@
 -- Loads one after the other, and what a pass was led to by them.
-use Rattle.std.proofs.Common.{◌≡◌, ℕ, cond, ap₂, ◌+◌, ◌<◌, ◌≤◌, List, [], ◌∷◌, ◌++◌, length, IsSome, refl, sym, ap, ◌∙◌, subst, arith, le_refl, length-append}
-use Rattle.std.specs.Prelude.{All}
-use Rattle.std.proofs.lemmas.List.{append-nil}
-use Rattle.std.proofs.lemmas.List.Sums.{sum_by-append}
-use Rattle.std.proofs.lemmas.List.Elements.{All-append, All-cons, All-head, All-nil, All-tail}
-use Rattle.compound_node.specs.declared.entries.Entry.{Entry}
-use Rattle.compound_node.specs.declared.entries.Entry.TheVariants.{Node}
-use Rattle.finite_map.specs.declared.Change.{Change}
-use Rattle.finite_map.specs.declared.Note.{Note}
-use Rattle.finite_map.specs.Fronts.{BeginsWith}
-use Rattle.node_tries.specs.Piece.{size}
-use Rattle.record_words.specs.declared.layout.Layout.{Layout}
-use Rattle.tries.specs.Tree.{Subtrie}
-use Rattle.record_words.specs.declared.records.Rec.{Rec}
-use Rattle.rowex_core.specs.declared.event.Act.{Act}
-use Rattle.rowex_core.specs.declared.event.Act.TheVariants.{LoadRef, LoadFixed}
-use Rattle.rowex_core.specs.declared.event.Event.{Event}
-use Rattle.rowex_core.specs.declared.event.Spot.TheVariants.{Root, Slot, Value}
-use Rattle.rowex_core.specs.declared.known.Fact.{Fact}
-use Rattle.rowex_core.specs.declared.known.Fresh.{Fresh}
-use Rattle.rowex_core.specs.declared.known.Loaded.{Loaded}
-use Rattle.rowex_core.specs.declared.known.Known.{Known}
-use Rattle.rowex_core.specs.Knowing.{IsEvent, IsPinnedSince, version_of}
-use Rattle.rowex_table.specs.Runs.{Runs, Steps, silent}
-use Rattle.rowex_table.specs.Seats.{TableView, SeatView, MakesNoAside, IsSeatOf}
+use Rattle.rowex_reading.proofs.Common.{◌≡◌, ℕ, cond, ap₂, ◌+◌, ◌<◌, ◌≤◌, List, [], ◌∷◌, ◌++◌, length, IsSome, refl, sym, ap, ◌∙◌, subst, arith, le_refl, length-append, All, append-nil, sum_by-append, All-append, All-cons, All-head, All-nil, All-tail, Entry, Node, Change, Note, BeginsWith, size, Layout, Subtrie, Rec, Act, LoadRef, LoadFixed, Event, Root, Slot, Value, Fact, Fresh, Loaded, Known, IsEvent, IsPinnedSince, version_of, Runs, Steps, silent, TableView, SeatView, MakesNoAside, IsSeatOf, EntryStoodSince, IsPlaced, HadShapeSince, placed_seen, rooted_seen, IsLater}
 use Rattle.rowex_table.proofs.Runs.{runs_append, runs_one, runs_same, same_more}
-use Rattle.version_laws.specs.Scan.{EntryStoodSince, IsPlaced, HadShapeSince}
-use Rattle.version_laws.proofs.Scan.Loads.{placed_seen, rooted_seen}
 use Rattle.rowex_reading.specs.Possible.{IsPossible}
 use Rattle.rowex_reading.specs.Reads.{IsBelowRoot, IsReader, Reads, ReadsRoot, Looks, entries_in, loads_entry}
 use Rattle.rowex_reading.specs.Seen.{seen, Sure, since, IsAtRoot, IsLedTo, HasPlace}
-use Rattle.rowex_table.specs.Made.{IsLater}
 use Rattle.rowex_reading.proofs.Seen.Later.{event_later, event_possible}
 use Rattle.rowex_reading.proofs.Seen.Loading.{pinned_by}
 use Rattle.rowex_reading.proofs.Possible.Rooting.{root_since}

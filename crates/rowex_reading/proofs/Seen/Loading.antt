@@ -1,27 +1,6 @@
 -- What one load teaches a pinned pass.
-use Rattle.std.proofs.Common.{◌≡◌, ℕ, List, ◌+◌, ◌≤◌, [], ◌∷◌, ◌++◌, length, Option, Some, None, IsSome, refl, ap, sym, ◌∙◌, subst, le_trans}
-use Rattle.std.specs.Prelude.{All}
-use Rattle.std.proofs.lemmas.List.Elements.{All-head}
-use Rattle.record_words.specs.declared.layout.Layout.{Layout}
-use Rattle.tries.specs.Tree.{Tree}
-use Rattle.versions.specs.declared.Pin.{Pin}
-use Rattle.record_words.specs.declared.records.Rec.{Rec}
-use Rattle.record_words.specs.declared.records.Rec.TheVariants.{Node as a_node, Leaf as a_leaf}
-use Rattle.rowex_core.specs.declared.event.Act.TheVariants.{LoadRef, LoadFixed}
-use Rattle.rowex_core.specs.declared.event.Spot.TheVariants.{Root, Slot, Value}
-use Rattle.rowex_core.specs.declared.known.Fact.{Fact}
-use Rattle.rowex_core.specs.declared.known.Fact.TheVariants.{Rooted, Placed, Fixed, Valued}
-use Rattle.rowex_core.specs.declared.known.Fresh.{Fresh}
-use Rattle.rowex_core.specs.declared.known.Loaded.{Loaded}
-use Rattle.rowex_core.specs.declared.known.Known.{Known}
-use Rattle.record_words.specs.declared.TheConstants.{VALUE_OFFSET}
-use Rattle.rowex_core.specs.Cores.{Core, IsLawful}
-use Rattle.rowex_core.specs.Knowing.{IsFact, HoldsIfStood, StoodAs, StoodBetween, Recalls, IsEvent, facts_with, version_of}
-use Rattle.record_words.specs.Decoding.{entry_of}
-use Rattle.rowex_core.specs.Words.{record_word}
-use Rattle.rowex_table.specs.Runs.{silent}
+use Rattle.rowex_reading.proofs.Common.{◌≡◌, ℕ, List, ◌+◌, ◌≤◌, [], ◌∷◌, ◌++◌, length, Option, Some, None, IsSome, refl, ap, sym, ◌∙◌, subst, le_trans, All, All-head, Layout, Tree, Pin, Rec, a_node, a_leaf, LoadRef, LoadFixed, Root, Slot, Value, Fact, Rooted, Placed, Fixed, Valued, Fresh, Loaded, Known, VALUE_OFFSET, Core, IsLawful, IsFact, HoldsIfStood, StoodAs, StoodBetween, Recalls, IsEvent, facts_with, version_of, entry_of, record_word, silent, IsLater}
 use Rattle.rowex_reading.specs.Seen.{seen}
-use Rattle.rowex_table.specs.Made.{IsLater}
 use Rattle.rowex_reading.proofs.Seen.{seen_grown, stands_in, stands_seen}
 use Rattle.rowex_reading.proofs.Seen.Later.{event_later}
 

@@ -1,17 +1,5 @@
 -- What is told of the number of a located record is told of the number by which it was located, and the other way round.
-use Rattle.std.proofs.Common.{◌≡◌, ℕ, ◌<◌, List, ap, subst, sym}
-use Rattle.compound_node.specs.Nodes.{HeadView, height_of}
-use Rattle.compound_node.specs.declared.entries.Entry.{Entry}
-use Rattle.compound_node.specs.declared.entries.Entry.TheVariants.{Leaf, Node}
-use Rattle.insert_cases.specs.declared.choice.PathNode.{PathNode}
-use Rattle.tries.specs.Keys.{Key}
-use Rattle.tries.specs.Place.{spot}
-use Rattle.tries.specs.Tree.{Subtrie}
-use Rattle.record_words.specs.declared.records.Rec.{Rec}
-use Rattle.record_words.specs.declared.records.Rec.TheVariants.{Leaf as a_leaf, Node as a_node}
-use Rattle.version_laws.specs.Scan.{IsPlaced, IsRead, HadShapeSince}
-use Rattle.rowex_core.specs.declared.known.Known.{Known}
-use Rattle.rowex_table.specs.Rule.{record_number}
+use Rattle.rowex_reading.proofs.Common.{◌≡◌, ℕ, ◌<◌, List, ap, subst, sym, HeadView, height_of, Entry, Leaf, Node, PathNode, Key, spot, Subtrie, Rec, a_leaf, a_node, IsPlaced, IsRead, HadShapeSince, Known, record_number}
 use Rattle.rowex_reading.specs.Seen.{AreHeadWords, HasPlace, IsHeadSeen, IsLedTo, Sure, shape_of}
 use Rattle.rowex_reading.specs.Ways.{step_at}
 

@@ -1,33 +1,11 @@
 -- What a lawful core says of a record to which a pass was led.
-use Rattle.std.proofs.Common.{◌≡◌, ◌≢◌, inl, inr, ◌⊎◌, ℕ, suc, ◌+◌, ◌-◌, ◌<◌, ◌≤◌, ◌++◌, get_or, Option, refl, ap, sym, ◌∙◌, subst, arith, le_trans}
-use Rattle.std.specs.Prelude.{slice_get}
-use Rattle.std.proofs.lemmas.List.{get_or-append-add}
-use Rattle.compound_node.specs.declared.entries.Entry.{Entry}
-use Rattle.compound_node.specs.Nodes.{head_of}
-use Rattle.record_words.specs.declared.layout.Layout.{Layout}
-use Rattle.record_words.specs.Entry.{HasEntryWord, entry_word}
-use Rattle.record_words.specs.Node.{head_words, entry_words}
+use Rattle.rowex_reading.proofs.Common.{◌≡◌, ◌≢◌, inl, inr, ◌⊎◌, ℕ, suc, ◌+◌, ◌-◌, ◌<◌, ◌≤◌, ◌++◌, get_or, Option, refl, ap, sym, ◌∙◌, subst, arith, le_trans, slice_get, get_or-append-add, Entry, head_of, Layout, HasEntryWord, entry_word, head_words, entry_words, length-head_words, Tree, Rec, a_node, Stands, IsReach, rec_of, Fate, Free, Held, InTree, Unlinked, Marked, pin_version, reach_later, Known, Core, IsLawful, MustSpellValue, HasRecord, FitsIn, IsFixedOffset, Recalls, IsPinnedSince, recalls, IsPacked, HasWordAt, record_word, EntryStoodSince, view}
 use Rattle.record_words.proofs.Entries.{entry_words_at}
-use Rattle.record_words.proofs.Nodes.{length-head_words}
-use Rattle.tries.specs.Tree.{Tree}
-use Rattle.record_words.specs.declared.records.Rec.{Rec}
-use Rattle.record_words.specs.declared.records.Rec.TheVariants.{Node as a_node}
-use Rattle.versions.specs.State.{Stands, IsReach, rec_of}
-use Rattle.versions.specs.Core.{Fate, Free, Held, Ready, InTree, Unlinked, Marked, pin_version}
-use Rattle.versions.proofs.State.{reach_later}
-use Rattle.rowex_core.specs.declared.known.Known.{Known}
-use Rattle.rowex_core.specs.Cores.{Core, IsLawful, MustSpellValue, HasRecord, FitsIn}
-use Rattle.rowex_core.specs.Events.{IsFixedOffset}
-use Rattle.rowex_core.specs.Knowing.{Recalls, IsPinnedSince}
-use Rattle.rowex_core.proofs.Sharing.Owning.{recalls}
-use Rattle.rowex_core.specs.Reading.{IsPacked, HasWordAt}
-use Rattle.rowex_core.specs.Words.{record_word}
+use Rattle.versions.specs.Core.{Ready}
 use Rattle.rowex_core.proofs.Statements.Promises.{in_reach}
-use Rattle.version_laws.specs.Scan.{EntryStoodSince}
 use Rattle.rowex_reading.specs.Possible.{IsPossible}
 use Rattle.rowex_reading.specs.Seen.{seen, IsLedTo}
 use Rattle.rowex_reading.proofs.Seen.{seen_within, stands_in}
-use Rattle.rowex_core.proofs.Cores.Loading.{view}
 
 whole : (f : Fate) → f ≢ Free → ((o : ℕ) → f ≢ Held o) → MustSpellValue f
 whole Free a b = absurd (a refl)

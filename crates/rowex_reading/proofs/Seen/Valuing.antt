@@ -1,25 +1,5 @@
 -- The key and the value of a leaf, which are loaded one after the other while the value may change.
-use Rattle.std.proofs.Common.{◌≡◌, ⊎_elim, ℕ, ◌+◌, ◌-◌, ◌<◌, ◌≤◌, List, length, get_or, Some, refl, ap, sym, ◌∙◌, subst, arith, le_trans}
-use Rattle.std.proofs.lemmas.Bool.{cases_lt}
-use Rattle.compound_node.specs.declared.entries.Entry.TheVariants.{Leaf}
-use Rattle.record_words.specs.declared.layout.Layout.{Layout}
-use Rattle.record_words.specs.declared.TheConstants.{LEAF_FIELDS}
-use Rattle.record_words.specs.Leaf.{key_word, leaf_words}
-use Rattle.record_words.proofs.Leaves.{IsLeafOf, leaf_words_parts}
-use Rattle.tries.specs.Keys.{Key}
-use Rattle.tries.specs.Tree.{leaf}
-use Rattle.record_words.specs.declared.records.Rec.TheVariants.{Leaf as a_leaf}
-use Rattle.versions.specs.State.{Past, KeepsFixedWordsSince, Stands}
-use Rattle.versions.proofs.Core.Growth.{stands_grown}
-use Rattle.rowex_core.specs.declared.event.Act.TheVariants.{LoadRef}
-use Rattle.rowex_core.specs.declared.event.Spot.TheVariants.{Value}
-use Rattle.rowex_core.specs.declared.known.Known.{Known}
-use Rattle.rowex_core.specs.Knowing.{IsEvent, IsPinnedSince, StoodAs}
-use Rattle.rowex_core.specs.Reading.{head_value}
-use Rattle.rowex_table.specs.Made.{IsLater}
-use Rattle.rowex_table.specs.Runs.{silent}
-use Rattle.version_laws.specs.Scan.{IsRead}
-use Rattle.version_laws.proofs.Scan.{record_leaf}
+use Rattle.rowex_reading.proofs.Common.{◌≡◌, ⊎_elim, ℕ, ◌+◌, ◌-◌, ◌<◌, ◌≤◌, List, length, get_or, Some, refl, ap, sym, ◌∙◌, subst, arith, le_trans, cases_lt, Leaf, Layout, LEAF_FIELDS, key_word, leaf_words, IsLeafOf, leaf_words_parts, Key, leaf, a_leaf, Past, KeepsFixedWordsSince, Stands, stands_grown, LoadRef, Value, Known, IsEvent, IsPinnedSince, StoodAs, head_value, IsLater, silent, IsRead, record_leaf}
 use Rattle.rowex_reading.specs.Seen.{seen, Sure, IsLedTo}
 use Rattle.rowex_reading.proofs.Seen.Loading.{value_taught, taught_now, found_seen}
 use Rattle.rowex_reading.proofs.Seen.{IsStable, later_trans, read_stable, recalls_before, seen_steady, since_later}

@@ -1,30 +1,7 @@
 -- The way of a search while it goes down: what is known of its nodes, and of the entry to go to next.
-use Rattle.std.proofs.Common.{◌≡◌, ℕ, zero, suc, ◌+◌, ◌*◌, ◌<◌, ◌≤◌, List, [], ◌∷◌, ◌++◌, length, Option, Some, None, refl, sym, ap, subst, ◌∙◌, arith, length-append}
-use Rattle.std.specs.Prelude.{slice_get, IfSome, IsNone, ◌↔◌}
-use Rattle.std.proofs.lemmas.List.{length-replicate}
-use Rattle.std.proofs.lemmas.Option.{slice_get_within}
-use Rattle.key_bits.specs.Bits.{IsFirstDifference}
-use Rattle.key_bits.specs.Key.{IsKey}
-use Rattle.key_bits.specs.declared.TheConstants.{MAX_BYTES}
+use Rattle.rowex_reading.proofs.Common.{◌≡◌, ℕ, zero, suc, ◌+◌, ◌*◌, ◌<◌, ◌≤◌, List, [], ◌∷◌, ◌++◌, length, Option, Some, None, refl, sym, ap, subst, ◌∙◌, arith, length-append, slice_get, IfSome, length-replicate, slice_get_within, IsFirstDifference, IsKey, MAX_BYTES, Place, Fork, size, HeadView, InEachNode, IsLawfulNode, node_of, leaves, piece, height_of, Entry, LeafEntry, Node, PathNode, agrees, differs, Layout, HEAD_WORDS, LEAF_FIELDS, Key, spot, Subtrie, first_position, size-piece, Event, Known, IsPinnedSince, IsLater, TableView, SeatView, EntryStoodSince, IsRooted, IsPlaced, HadShapeSince, IsRead}
+use Rattle.std.specs.Prelude.{IsNone, ◌↔◌}
 use Rattle.node_tries.specs.Changes.{AtRootFork}
-use Rattle.node_tries.specs.Piece.{Place, Fork, size}
-use Rattle.compound_node.specs.Nodes.{HeadView, InEachNode, IsLawfulNode, node_of, leaves, piece, height_of}
-use Rattle.compound_node.specs.declared.entries.Entry.{Entry}
-use Rattle.compound_node.specs.declared.entries.Entry.TheVariants.{Leaf as LeafEntry, Node}
-use Rattle.insert_cases.specs.declared.choice.PathNode.{PathNode}
-use Rattle.insert_cases.proofs.Ways.{agrees, differs}
-use Rattle.record_words.specs.declared.layout.Layout.{Layout}
-use Rattle.record_words.specs.declared.TheConstants.{HEAD_WORDS, LEAF_FIELDS}
-use Rattle.tries.specs.Keys.{Key}
-use Rattle.tries.specs.Place.{spot}
-use Rattle.tries.specs.Tree.{Subtrie, first_position}
-use Rattle.tries.proofs.Tree.Building.{size-piece}
-use Rattle.rowex_core.specs.declared.event.Event.{Event}
-use Rattle.rowex_core.specs.declared.known.Known.{Known}
-use Rattle.rowex_core.specs.Knowing.{IsPinnedSince}
-use Rattle.rowex_table.specs.Made.{IsLater}
-use Rattle.rowex_table.specs.Seats.{TableView, SeatView}
-use Rattle.version_laws.specs.Scan.{EntryStoodSince, IsRooted, IsPlaced, HadShapeSince, IsRead}
 use Rattle.rowex_reading.specs.Lookups.{HasFound, search_touches}
 use Rattle.rowex_reading.specs.Possible.{IsPossible}
 use Rattle.rowex_reading.specs.Reads.{Reads}

@@ -1,30 +1,10 @@
 -- A search from the root down to a leaf: what it is sure of at each entry that it is led to.
-use Rattle.std.proofs.Common.{◌≡◌, ◌≢◌, ◌⊎◌, inl, inr, ℕ, ◌+◌, ◌*◌, ◌<◌, ◌≤◌, Option, Some, None, IsSome, sym, subst, ◌∙◌, arith}
-use Rattle.key_bits.specs.declared.TheConstants.{MAX_BYTES}
-use Rattle.compound_node.specs.Nodes.{height_of}
-use Rattle.compound_node.specs.declared.entries.Entry.{Entry}
-use Rattle.compound_node.specs.declared.entries.Entry.TheVariants.{Leaf, Node}
-use Rattle.node_tries.specs.Piece.{size}
-use Rattle.tries.specs.Keys.{Key}
-use Rattle.tries.specs.Tree.{Subtrie, Tree, leaf, node, fork, Has, here}
+use Rattle.rowex_reading.proofs.Common.{◌≡◌, ◌≢◌, ◌⊎◌, inl, inr, ℕ, ◌+◌, ◌*◌, ◌<◌, ◌≤◌, Option, Some, None, IsSome, sym, subst, ◌∙◌, arith, MAX_BYTES, height_of, Entry, Leaf, Node, size, Key, Subtrie, Tree, leaf, node, fork, Has, here, spot, spot_below, has?, follows_if_has, Past, KeepsFixedWordsSince, IsLed, WasAbsentSince, IsHeldSince, a_leaf, record_of_subtrie, EntryStoodSince, IsRooted, IsBlank, IsPlaced, HadShapeSince, IsRead, led_placed, read_held, HEAD_WORDS, LEAF_FIELDS, Event, Known, TableView, SeatView, IsPinnedSince}
 use Rattle.tries.specs.Search.{Follows}
-use Rattle.tries.specs.Place.{spot}
-use Rattle.tries.proofs.Place.{spot_below}
-use Rattle.tries.proofs.Tree.{has?, follows_if_has}
-use Rattle.versions.specs.State.{Past, KeepsFixedWordsSince, IsLed, WasAbsentSince, IsHeldSince}
-use Rattle.record_words.specs.declared.records.Rec.TheVariants.{Leaf as a_leaf}
-use Rattle.versions.proofs.State.{record_of_subtrie}
-use Rattle.version_laws.specs.Scan.{EntryStoodSince, IsRooted, IsBlank, IsPlaced, HadShapeSince, IsRead}
-use Rattle.version_laws.proofs.Scan.{led_placed, read_held}
-use Rattle.record_words.specs.declared.TheConstants.{HEAD_WORDS, LEAF_FIELDS}
-use Rattle.rowex_core.specs.declared.event.Event.{Event}
-use Rattle.rowex_core.specs.declared.known.Known.{Known}
-use Rattle.rowex_table.specs.Seats.{TableView, SeatView}
 use Rattle.rowex_reading.specs.Lookups.{HasFound, HasSearched, search_touches}
 use Rattle.rowex_reading.specs.Reads.{Looks, Reads, ReadsRoot}
 use Rattle.rowex_reading.specs.Seen.{seen, Sure, since, IsAtRoot, IsCompared, IsLedTo, HasPlace}
 use Rattle.rowex_reading.specs.Together.{HasComeTo}
-use Rattle.rowex_core.specs.Knowing.{IsPinnedSince}
 use Rattle.rowex_reading.proofs.Seen.Led.{led_shape, looks_first, looks_on, reads_later, reads_trans, root_pinned, same_since, shape_place}
 use Rattle.rowex_reading.proofs.Touching.{reads_still, root_still}
 use Rattle.rowex_reading.proofs.Seen.{sure_later, sure_map, since_later, seen_steady, led_stable, shaped_stable}

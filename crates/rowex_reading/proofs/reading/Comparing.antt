@@ -1,25 +1,6 @@
 -- A leaf's words compared with those of a key, while they are loaded.
-use Rattle.std.proofs.Common.{◌≡◌, ◌≢◌, inl, inr, ◌⊎◌, ℕ, ◌+◌, ◌<◌, ◌≤◌, length, get_or, set, None, refl, ap, sym, ◌∙◌, subst, arith, lit<}
+use Rattle.rowex_reading.proofs.Common.{◌≡◌, ◌≢◌, inl, inr, ◌⊎◌, ℕ, ◌+◌, ◌<◌, ◌≤◌, length, get_or, set, None, refl, ap, sym, ◌∙◌, subst, arith, lit<, cases_eq, cases_lt, get_or-set_same, get_or-set_other, get_or_past, set-get_or, Leaf, Layout, LEAF_FIELDS, IsKey, HasLeafWords, leaf_words, words_for, words_of_key, same_leaf, leaf_word_past, up_to_key_before, Key, a_leaf, LoadRef, LoadFixed, Value, Known, IsEvent, IsPacked, silent, IsRead}
 use Rattle.std.proofs.Math.Dec.{lit≤}
-use Rattle.std.proofs.lemmas.Bool.{cases_eq, cases_lt}
-use Rattle.std.proofs.lemmas.List.{get_or-set_same, get_or-set_other, get_or_past, set-get_or}
-use Rattle.compound_node.specs.declared.entries.Entry.TheVariants.{Leaf}
-use Rattle.record_words.specs.declared.layout.Layout.{Layout}
-use Rattle.record_words.specs.declared.TheConstants.{LEAF_FIELDS}
-use Rattle.key_bits.specs.Key.{IsKey}
-use Rattle.record_words.specs.Leaf.{HasLeafWords, leaf_words, words_for, words_of_key}
-use Rattle.record_words.proofs.Leaves.{same_leaf}
-use Rattle.record_words.proofs.Unused.{leaf_word_past}
-use Rattle.record_words.proofs.UpToKey.{up_to_key_before}
-use Rattle.tries.specs.Keys.{Key}
-use Rattle.record_words.specs.declared.records.Rec.TheVariants.{Leaf as a_leaf}
-use Rattle.rowex_core.specs.declared.event.Act.TheVariants.{LoadRef, LoadFixed}
-use Rattle.rowex_core.specs.declared.event.Spot.TheVariants.{Value}
-use Rattle.rowex_core.specs.declared.known.Known.{Known}
-use Rattle.rowex_core.specs.Knowing.{IsEvent}
-use Rattle.rowex_core.specs.Reading.{IsPacked}
-use Rattle.rowex_table.specs.Runs.{silent}
-use Rattle.version_laws.specs.Scan.{IsRead}
 use Rattle.rowex_reading.specs.Possible.{IsPossible}
 use Rattle.rowex_reading.specs.Seen.{seen, AreLoaded, Sure, IsLedTo, IsCompared}
 use Rattle.rowex_reading.proofs.reading.Leafing.{leaf_packed, leaf_read, leaf_stood}

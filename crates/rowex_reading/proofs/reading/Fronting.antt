@@ -1,13 +1,6 @@
 -- The bytes of the words that were loaded so far, with zeros behind them.
-use Rattle.std.proofs.Common.{◌≡◌, ◌≢◌, ℕ, ◌+◌, ◌-◌, ◌*◌, ◌<◌, ◌≤◌, ◌++◌, List, length, get_or, replicate, take, ⊎_elim, sym, ◌∙◌, subst, arith, lit<, get_or-take, length-append}
-use Rattle.std.proofs.lemmas.Bool.{cases_lt}
-use Rattle.std.proofs.lemmas.List.{get_or_append_left, get_or-append_right, length-replicate, length-take-le, take-append-le, take-take}
-use Rattle.key_bits.specs.declared.TheConstants.{MAX_BYTES}
-use Rattle.key_bits.specs.Key.{HoldsKey, IsKey}
-use Rattle.record_words.specs.Leaf.{key_word, words_of_key}
-use Rattle.record_words.specs.declared.TheConstants.{LEAF_FIELDS}
+use Rattle.rowex_reading.proofs.Common.{◌≡◌, ◌≢◌, ℕ, ◌+◌, ◌-◌, ◌*◌, ◌<◌, ◌≤◌, ◌++◌, List, length, get_or, replicate, take, ⊎_elim, sym, ◌∙◌, subst, arith, lit<, get_or-take, length-append, cases_lt, get_or_append_left, get_or-append_right, length-replicate, length-take-le, take-append-le, take-take, MAX_BYTES, HoldsKey, IsKey, key_word, words_of_key, LEAF_FIELDS, zero_in}
 use Rattle.record_words.proofs.Bytes.{same_key_word}
-use Rattle.record_words.proofs.Unused.{zero_in}
 
 -- the places of the words before this one, of which the first key word is at 2
 abbrev pub front : ℕ → List ℕ → List ℕ

@@ -1,49 +1,17 @@
 -- What the loads of a node's head tell.
-use Rattle.std.proofs.Common.{◌≡◌, ℕ, ◌-◌, ◌^◌, ◌<◌, ◌≤◌, ◌++◌, List, [], ◌∷◌, drop, get_or, get_or-take, length, map, replicate, take, refl, ap, ap₂, sym, ◌∙◌, subst, arith, le_trans}
-use Rattle.std.proofs.lemmas.List.{take-append-drop, take-take}
-use Rattle.compound_node.specs.declared.entries.Entry.{Entry}
-use Rattle.compound_node.specs.declared.entries.Entry.TheVariants.{Leaf, Node}
-use Rattle.compound_node.specs.Nodes.{NodeView, HeadView, IsLawfulNode, head_of, leaves, node_of, piece}
-use Rattle.compound_node.proofs.Lawful.{same_count, with_leaves}
-use Rattle.node_tries.specs.Piece.{Place, Fork, places, uses}
+use Rattle.rowex_reading.proofs.Common.{◌≡◌, ℕ, ◌-◌, ◌^◌, ◌<◌, ◌≤◌, ◌++◌, List, [], ◌∷◌, drop, get_or, get_or-take, length, map, replicate, take, refl, ap, ap₂, sym, ◌∙◌, subst, arith, le_trans, take-append-drop, take-take, Entry, Leaf, Node, NodeView, HeadView, IsLawfulNode, head_of, leaves, node_of, piece, same_count, with_leaves, Place, Fork, places, uses, row_of, Layout, HasHeadWords, head_words, IsSpelling, HEAD_WORDS, head_size, kind_in, kind_of, HeadKind, Middle, Narrow, Wide, same_head, parts, told, Tree, leaf, node, fork, subtrie, Subtrie, shape, a_node, Heap, NodeWords, IsCopied, Stands, IsRecord, IsSameRecord, IsReach, steady, Known, Core, IsLawful, IsSized, heap_of, Recalls, recalls, IsPacked, head_is, node_is, EntryStoodSince, HadShapeSince, loads_shape, same_record_now, node_there, shaped, view}
 use Rattle.node_tries.proofs.Piece.Mapping.{places-map_places, paths-map_places, uses-map_places, UsesOnly-map_places, RisesFrom-map_places, map_places}
 use Rattle.node_tries.proofs.Positions.Tests.{all_weaker}
-use Rattle.partial_keys.specs.Rows.{row_of}
 use Rattle.partial_keys.specs.Shows.{ShowsPiece}
 use Rattle.partial_keys.proofs.Shown.{piece_of_shown}
-use Rattle.record_words.specs.declared.layout.Layout.{Layout}
-use Rattle.record_words.specs.Node.{HasHeadWords, head_words}
-use Rattle.record_words.specs.Reading.{IsSpelling}
-use Rattle.record_words.specs.declared.TheConstants.{HEAD_WORDS}
-use Rattle.record_words.specs.Kinds.{head_size, kind_in, kind_of}
-use Rattle.record_words.specs.declared.kind.HeadKind.{HeadKind}
-use Rattle.record_words.specs.declared.kind.HeadKind.TheVariants.{Middle, Narrow, Wide}
-use Rattle.record_words.proofs.Nodes.{same_head}
-use Rattle.record_words.proofs.HeadParts.{parts, told}
-use Rattle.tries.specs.Tree.{Tree, leaf, node, fork, subtrie, Subtrie, Fixed}
-use Rattle.tries.specs.Place.{shape}
-use Rattle.record_words.specs.declared.records.Rec.TheVariants.{Node as a_node}
-use Rattle.versions.specs.Heap.{Heap, NodeWords, IsCopied}
-use Rattle.versions.specs.State.{Stands, IsRecord, IsSameRecord, IsReach}
+use Rattle.tries.specs.Tree.{Fixed}
 use Rattle.versions.proofs.Heap.{node_number}
-use Rattle.versions.proofs.State.{steady}
-use Rattle.rowex_core.specs.declared.known.Known.{Known}
-use Rattle.rowex_core.specs.Cores.{Core, IsLawful, IsSized, heap_of}
-use Rattle.rowex_core.specs.Knowing.{Recalls}
-use Rattle.rowex_core.proofs.Sharing.Owning.{recalls}
-use Rattle.rowex_core.specs.Reading.{IsPacked}
-use Rattle.rowex_core.proofs.Reading.{head_is, node_is}
-use Rattle.version_laws.specs.Scan.{EntryStoodSince, HadShapeSince}
-use Rattle.version_laws.proofs.Scan.Loads.{loads_shape}
-use Rattle.version_laws.proofs.Statements.Search.{same_record_now}
-use Rattle.version_laws.proofs.Scan.{node_of as node_there, shaped}
 use Rattle.rowex_reading.specs.Possible.{IsPossible}
 use Rattle.rowex_reading.specs.Seen.{seen, AreHeadWords, AreLoaded, IsLedTo, shape_of}
 use Rattle.rowex_reading.proofs.Seen.{recalls_before, seen_within, seen_past, seen_grown, seen_stable, stands_in, stands_seen}
 use Rattle.rowex_reading.proofs.Seen.Standing.{reach, is_packed}
 use Rattle.rowex_reading.proofs.Possible.Placing.{stood_if_stands}
 use Rattle.rowex_reading.proofs.reading.Wording.{led_stood, word_now, words_now}
-use Rattle.rowex_core.proofs.Cores.Loading.{view}
 
 -- The forks of a node are those of one with its head and leaves at its places
 

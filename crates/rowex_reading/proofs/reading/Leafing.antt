@@ -1,50 +1,17 @@
 -- What the loads of a leaf tell.
-use Rattle.std.proofs.Common.{◌≡◌, ◌≢◌, inl, inr, ◌⊎◌, ℕ, ◌+◌, ◌-◌, ◌<◌, ◌≤◌, List, length, get_or, set, replicate, take, drop, ⊎_elim, ap, sym, ◌∙◌, subst, arith, le_trans, lit<}
+use Rattle.rowex_reading.proofs.Common.{◌≡◌, ◌≢◌, inl, inr, ◌⊎◌, ℕ, ◌+◌, ◌-◌, ◌<◌, ◌≤◌, List, length, get_or, set, replicate, take, drop, ⊎_elim, ap, sym, ◌∙◌, subst, arith, le_trans, lit<, cases_eq, cases_lt, ext_get_or, length-set, length-replicate, get_or-set_same, get_or-set_other, get_or-replicate, get_or_past, Leaf, Layout, MAX_BYTES, HoldsKey, HasLeafWords, IsBytesOf, key_word, leaf_words, up_to_key, words_for, words_of_key, key_of_bytes, key_part, leaf_words_parts, places_of_leaf, same_pair, first_long, first_rest, first_size, first_words, zero_word, up_to_key_before, up_to_key_past, IsSpelling, IsSpelledBy, LEAF_FIELDS, leaf, Key, a_leaf, LeafWords, Stands, Known, Core, IsLawful, LoadRef, LoadFixed, Value, Event, IsEvent, Recalls, IsLater, Steps, silent, SeatView, TableView, recalls, IsPacked, EntryStoodSince, IsRead, leaf_now, leaf_of, leaf_size, view}
 use Rattle.std.proofs.Math.Dec.{lit≤}
-use Rattle.std.proofs.lemmas.Bool.{cases_eq, cases_lt}
-use Rattle.std.proofs.lemmas.List.{ext_get_or, length-set, length-replicate, get_or-set_same, get_or-set_other, get_or-replicate, get_or_past}
-use Rattle.compound_node.specs.declared.entries.Entry.TheVariants.{Leaf}
-use Rattle.record_words.specs.declared.layout.Layout.{Layout}
-use Rattle.key_bits.specs.declared.TheConstants.{MAX_BYTES}
-use Rattle.key_bits.specs.Key.{HoldsKey}
-use Rattle.record_words.specs.Leaf.{HasLeafWords, IsBytesOf, key_word, leaf_words, up_to_key, words_for, words_of_key}
-use Rattle.record_words.proofs.Leaves.{key_of_bytes, key_part, leaf_words_parts, places_of_leaf, same_pair}
 use Rattle.record_words.proofs.Reading.{spells_leaf}
-use Rattle.record_words.proofs.Unused.{first_long, first_rest, first_size, first_words, zero_word}
-use Rattle.record_words.proofs.UpToKey.{up_to_key_before, up_to_key_past}
-use Rattle.record_words.specs.Reading.{IsSpelling, IsSpelledBy}
-use Rattle.record_words.specs.declared.TheConstants.{LEAF_FIELDS}
-use Rattle.tries.specs.Tree.{leaf}
-use Rattle.tries.specs.Keys.{Key}
-use Rattle.record_words.specs.declared.records.Rec.TheVariants.{Leaf as a_leaf}
-use Rattle.versions.specs.Heap.{LeafWords}
-use Rattle.versions.specs.State.{Stands}
-use Rattle.rowex_core.specs.declared.known.Known.{Known}
-use Rattle.rowex_core.specs.Cores.{Core, IsLawful}
-use Rattle.rowex_core.specs.declared.event.Act.TheVariants.{LoadRef, LoadFixed}
-use Rattle.rowex_core.specs.declared.event.Spot.TheVariants.{Value}
-use Rattle.rowex_core.specs.declared.event.Event.{Event}
-use Rattle.rowex_core.specs.Knowing.{IsEvent, Recalls}
-use Rattle.rowex_table.specs.Made.{IsLater}
-use Rattle.rowex_table.specs.Runs.{Steps, silent}
-use Rattle.rowex_table.specs.Seats.{SeatView, TableView}
-use Rattle.rowex_core.proofs.Sharing.Owning.{recalls}
-use Rattle.rowex_core.specs.Reading.{IsPacked}
 use Rattle.rowex_core.proofs.Reading.Leafing.{leaf_is, leaf_size_is}
-use Rattle.version_laws.specs.Scan.{EntryStoodSince, IsRead}
-use Rattle.version_laws.proofs.Statements.Search.{leaf_now}
-use Rattle.version_laws.proofs.Scan.{leaf_of}
 use Rattle.rowex_reading.specs.Possible.{IsPossible}
 use Rattle.rowex_reading.specs.Reads.{IsReader, Reads}
 use Rattle.rowex_reading.specs.Seen.{seen, AreLoaded, Sure, IsLedTo}
 use Rattle.rowex_reading.proofs.Seen.Led.{reader_then, reads_later, reads_one, reads_trans}
 use Rattle.rowex_reading.proofs.Seen.Later.{event_later}
 use Rattle.rowex_reading.proofs.Seen.{later_reflexive, recalls_before, seen_within, seen_grown, since_later, stands_in, stands_seen, sure_later}
-use Rattle.record_words.specs.Layout.{leaf_size}
 use Rattle.rowex_reading.proofs.Seen.Standing.{reach, is_packed, fits_in}
 use Rattle.rowex_reading.proofs.Seen.Valuing.{StoodWithKey, StoodWithValue, both_read, first_word, same_words, value_read, valued_stable, words_long, words_with}
 use Rattle.rowex_reading.proofs.reading.Wording.{IsKeyWord, led_stood, next_key_word, no_key_word, word_now}
-use Rattle.rowex_core.proofs.Cores.Loading.{view}
 
 -- the length has been loaded
 first_loaded : (layout : Layout) (k i j : Known) (n size : ℕ) → IsLater k i → IsEvent layout (LoadFixed (a_leaf n) 2 size) silent i j → (m : ℕ) → IsLedTo k m (Leaf n) →

@@ -1,33 +1,9 @@
 -- A head's words, as many as its kind says, loaded in parts one after the other; and the step at their node.
-use Rattle.std.proofs.Common.{◌≡◌, Bool, ℕ, ◌+◌, ◌-◌, ◌^◌, ◌<◌, ◌≤◌, ◌++◌, List, [], ◌∷◌, length, length-append, get_or, get_or-take, replicate, take, drop, refl, ap, subst, sym, ◌∙◌, arith, lit<, lit≤}
-use Rattle.std.proofs.lemmas.List.{append-nil, drop_at, get_or_append_left, length-replicate, take-take, take_all, take_at}
+use Rattle.rowex_reading.proofs.Common.{◌≡◌, Bool, ℕ, ◌+◌, ◌-◌, ◌^◌, ◌<◌, ◌≤◌, ◌++◌, List, [], ◌∷◌, length, length-append, get_or, get_or-take, replicate, take, drop, refl, ap, subst, sym, ◌∙◌, arith, lit<, lit≤, append-nil, drop_at, get_or_append_left, length-replicate, take-take, take_all, take_at, Leaf, Node, HeadView, NodeView, IsLawfulNode, head_of, leaves, node_of, piece, PathNode, bit_of, dense_of, leads_to, Layout, FIRST_ROWS, HEAD_WORDS, ROW_WORDS, head_size, kind_in, kind_of, mask_index, head_words, HeadKind, Middle, Narrow, Wide, IsSpelling, length-head_words, told, recalls, head_is, IsSized, IsPacked, Known, Key, spot, a_node}
 use Rattle.compound_node.proofs.Roots.{root_of_head}
-use Rattle.compound_node.specs.declared.entries.Entry.TheVariants.{Leaf, Node}
-use Rattle.compound_node.specs.Nodes.{HeadView, NodeView, IsLawfulNode, head_of, leaves, node_of, piece}
-use Rattle.insert_cases.specs.declared.choice.PathNode.{PathNode}
-use Rattle.key_bits.specs.Bits.{bit_of}
-use Rattle.partial_keys.specs.Rows.{dense_of}
-use Rattle.node_tries.specs.Piece.{leads_to}
-use Rattle.record_words.specs.declared.layout.Layout.{Layout}
-use Rattle.record_words.specs.declared.TheConstants.{FIRST_ROWS, HEAD_WORDS, ROW_WORDS}
 use Rattle.record_words.specs.HeadParts.{AreNumbersOf, HasHeadOf, InNodesOfKind, InNodesWith, back_words, front_words}
-use Rattle.record_words.specs.Kinds.{head_size, kind_in, kind_of, mask_index}
-use Rattle.record_words.specs.Node.{head_words}
-use Rattle.record_words.specs.declared.kind.HeadKind.{HeadKind}
-use Rattle.record_words.specs.declared.kind.HeadKind.TheVariants.{Middle, Narrow, Wide}
 use Rattle.record_words.specs.declared.numbers.HeadNumbers.{HeadNumbers}
-use Rattle.record_words.specs.Reading.{IsSpelling}
 use Rattle.record_words.proofs.Lanes.{one_of}
-use Rattle.record_words.proofs.Nodes.{length-head_words}
-use Rattle.record_words.proofs.HeadParts.{told}
-use Rattle.rowex_core.proofs.Sharing.Owning.{recalls}
-use Rattle.rowex_core.proofs.Reading.{head_is}
-use Rattle.rowex_core.specs.Cores.{IsSized}
-use Rattle.rowex_core.specs.Reading.{IsPacked}
-use Rattle.rowex_core.specs.declared.known.Known.{Known}
-use Rattle.tries.specs.Keys.{Key}
-use Rattle.tries.specs.Place.{spot}
-use Rattle.record_words.specs.declared.records.Rec.TheVariants.{Node as a_node}
 use Rattle.rowex_reading.specs.Possible.{IsPossible}
 use Rattle.rowex_reading.specs.Seen.{AreHeadWords, AreLoaded, IsHeadSeen, IsLedTo, shape_of}
 use Rattle.rowex_reading.specs.Ways.{step_at}

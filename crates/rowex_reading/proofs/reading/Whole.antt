@@ -1,13 +1,5 @@
 -- All words of a leaf that have bytes of its key have been loaded, and written to their places.
-use Rattle.std.proofs.Common.{◌≡◌, ℕ, ◌+◌, ◌<◌, ◌≤◌, List, length, take, get_or, sym, subst, arith}
-use Rattle.compound_node.specs.declared.entries.Entry.TheVariants.{Leaf}
-use Rattle.key_bits.specs.declared.TheConstants.{MAX_BYTES}
-use Rattle.key_bits.specs.Key.{IsKey}
-use Rattle.record_words.specs.declared.TheConstants.{LEAF_FIELDS}
-use Rattle.record_words.specs.Leaf.{words_of_key}
-use Rattle.rowex_core.specs.declared.event.Event.{Event}
-use Rattle.rowex_table.specs.Seats.{SeatView, TableView}
-use Rattle.version_laws.specs.Scan.{IsRead}
+use Rattle.rowex_reading.proofs.Common.{◌≡◌, ℕ, ◌+◌, ◌<◌, ◌≤◌, List, length, take, get_or, sym, subst, arith, Leaf, MAX_BYTES, IsKey, LEAF_FIELDS, words_of_key, Event, SeatView, TableView, IsRead}
 use Rattle.rowex_reading.specs.Reads.{IsReader, Reads, leaf_loads}
 use Rattle.rowex_reading.specs.Seen.{Sure, IsLedTo}
 use Rattle.rowex_reading.proofs.reading.Leafing.{AreSoFar, all_counted, all_places, all_read}

@@ -1,28 +1,7 @@
 -- The words of a record, loaded one after the other.
-use Rattle.std.proofs.Common.{◌≡◌, ◌≢◌, inl, inr, ◌⊎◌, ⊎_elim, ℕ, ◌+◌, ◌-◌, ◌<◌, ◌≤◌, ◌++◌, List, length, length-append, get_or, set, take, Some, refl, sym, ◌∙◌, subst, arith, le_trans, zero-add}
-use Rattle.std.proofs.lemmas.Bool.{cases_lt}
-use Rattle.std.proofs.lemmas.List.{ext_get_or, get_or_append_left, get_or-append_right, get_or-set_same, get_or-set_other, get_or-take, length-take-le}
-use Rattle.compound_node.specs.declared.entries.Entry.{Entry}
-use Rattle.record_words.specs.declared.layout.Layout.{Layout}
-use Rattle.record_words.specs.Leaf.{leaf_words, words_for}
-use Rattle.record_words.proofs.Leaves.{leaf_words_parts}
-use Rattle.tries.specs.Tree.{Tree, leaf, node, fork}
-use Rattle.versions.specs.declared.Pin.{Pin}
-use Rattle.record_words.specs.declared.records.Rec.{Rec}
-use Rattle.record_words.specs.declared.records.Rec.TheVariants.{Node as a_node, Leaf as a_leaf}
-use Rattle.versions.specs.State.{IsRecord, rec_of}
-use Rattle.versions.proofs.Core.Growth.{stands_grown}
-use Rattle.rowex_core.specs.declared.event.Act.TheVariants.{LoadFixed}
-use Rattle.rowex_core.specs.declared.known.Fact.TheVariants.{Fixed}
-use Rattle.rowex_core.specs.declared.known.Known.{Known}
-use Rattle.rowex_core.specs.Cores.{Core, IsLawful}
-use Rattle.rowex_core.specs.Events.{IsFixedOffset}
-use Rattle.rowex_core.specs.Knowing.{Recalls, IsEvent, StoodBetween, IsPinnedSince}
-use Rattle.rowex_core.specs.Reading.{HasWordAt}
-use Rattle.rowex_core.specs.Words.{record_word}
-use Rattle.rowex_table.specs.Runs.{silent}
+use Rattle.rowex_reading.proofs.Common.{◌≡◌, ◌≢◌, inl, inr, ◌⊎◌, ⊎_elim, ℕ, ◌+◌, ◌-◌, ◌<◌, ◌≤◌, ◌++◌, List, length, length-append, get_or, set, take, Some, refl, sym, ◌∙◌, subst, arith, le_trans, zero-add, cases_lt, ext_get_or, get_or_append_left, get_or-append_right, get_or-set_same, get_or-set_other, length-take-le, Entry, Layout, leaf_words, words_for, leaf_words_parts, Tree, leaf, node, fork, Pin, Rec, a_node, a_leaf, IsRecord, rec_of, stands_grown, LoadFixed, Fixed, Known, Core, IsLawful, IsFixedOffset, Recalls, IsEvent, StoodBetween, IsPinnedSince, HasWordAt, record_word, silent, IsLater}
+use Rattle.std.proofs.lemmas.List.{get_or-take}
 use Rattle.rowex_reading.specs.Seen.{seen, AreLoaded, StoodWithWord, IsStood, Sure, IsLedTo}
-use Rattle.rowex_table.specs.Made.{IsLater}
 use Rattle.rowex_reading.proofs.Seen.{later_reflexive, later_trans, recalls_before, sure_later, since_later, seen_within, stands_in, IsStable}
 use Rattle.rowex_reading.proofs.Seen.Loading.{IsTaught, fixed_taught, taught_now, found_seen}
 use Rattle.rowex_reading.proofs.Seen.Standing.{word_stays, later_word}

@@ -1,22 +1,6 @@
 -- Searches that go down side by side: what stays so while they go on, and what each has found.
-use Rattle.std.proofs.Common.{◌≡◌, ◌⊎◌, inl, inr, ⊎_elim, ℕ, zero, suc, zero-add, ◌+◌, ◌-◌, ◌*◌, ◌<◌, ◌≤◌, List, [], ◌∷◌, ◌++◌, length, get_or, set, take, replicate, Bool, true, false, Option, Some, None, refl, sym, ap, subst, ◌∙◌, arith}
-use Rattle.std.specs.Prelude.{slice_get}
-use Rattle.std.proofs.Math.Nat.{suc-mul}
-use Rattle.std.proofs.lemmas.Bool.{cases_lt}
-use Rattle.std.proofs.lemmas.List.{length-set}
-use Rattle.std.proofs.lemmas.List.Sums.{sum_by-cons, sum_by-set}
-use Rattle.std.proofs.lemmas.Option.{slice_get-get_or}
+use Rattle.rowex_reading.proofs.Common.{◌≡◌, ◌⊎◌, inl, inr, ⊎_elim, ℕ, zero, suc, zero-add, ◌+◌, ◌-◌, ◌*◌, ◌<◌, ◌≤◌, List, [], ◌∷◌, ◌++◌, length, get_or, set, take, replicate, Bool, true, false, Option, Some, None, refl, sym, ap, subst, ◌∙◌, arith, slice_get, suc-mul, cases_lt, length-set, sum_by-cons, sum_by-set, slice_get-get_or, Entry, Leaf, Node, height_of, Key, Event, Known, IsPinnedSince, SeatView, TableView, IsHeldSince, WasAbsentSince, IsRooted}
 use borrow.Rule.Slice.PartMut.{mid_of, put_mid}
-use Rattle.compound_node.specs.declared.entries.Entry.{Entry}
-use Rattle.compound_node.specs.declared.entries.Entry.TheVariants.{Leaf, Node}
-use Rattle.compound_node.specs.Nodes.{height_of}
-use Rattle.tries.specs.Keys.{Key}
-use Rattle.rowex_core.specs.declared.event.Event.{Event}
-use Rattle.rowex_core.specs.declared.known.Known.{Known}
-use Rattle.rowex_core.specs.Knowing.{IsPinnedSince}
-use Rattle.rowex_table.specs.Seats.{SeatView, TableView}
-use Rattle.versions.specs.State.{IsHeldSince, WasAbsentSince}
-use Rattle.version_laws.specs.Scan.{IsRooted}
 use Rattle.rowex_reading.specs.Lookups.{HasFound, HaveFound, HaveSearched}
 use Rattle.rowex_reading.specs.Reads.{IsReader, Reads, ReadsRoot}
 use Rattle.rowex_reading.specs.Seen.{IsAtRoot, Sure, since}

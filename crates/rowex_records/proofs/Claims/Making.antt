@@ -1,19 +1,7 @@
 -- Steps on records of the pass's own: what they leave of what it knows, and how they follow one another.
-use Rattle.std.proofs.Common.{◌≡◌, ℕ, ◌+◌, List, [], ◌∷◌, ◌++◌, Bool, true, false, nat_eq, refl}
+use Rattle.rowex_records.proofs.Common.{◌≡◌, ℕ, ◌+◌, List, [], ◌∷◌, ◌++◌, Bool, true, false, nat_eq, refl, Layout, Rec, Fate, Free, ReadyBy, InTree, Unlinked, Marked, Act, Claim, LoadState, Fill, Ready, Release, Event, a_load, Known, Core, holder_of, word_of, IsEvent, claim_learned, failed_with, learned_by, silent, Steps, Does, TableView, SeatView}
 use Rattle.std.specs.Prelude.{if◌then◌else◌, Option}
-use Rattle.record_words.specs.declared.layout.Layout.{Layout}
-use Rattle.record_words.specs.declared.records.Rec.{Rec}
-use Rattle.versions.specs.Core.{Fate, Free, Held, Ready as ReadyBy, InTree, Unlinked, Marked}
-use Rattle.rowex_core.specs.declared.event.Act.{Act}
-use Rattle.rowex_core.specs.declared.event.Act.TheVariants.{Claim, LoadState, Fill, Ready, Release}
-use Rattle.rowex_core.specs.declared.event.Event.{Event}
-use Rattle.rowex_core.specs.declared.known.FailedAct.TheVariants.{LoadState as a_load}
-use Rattle.rowex_core.specs.declared.known.Known.{Known}
-use Rattle.rowex_core.specs.Cores.{Core, holder_of}
-use Rattle.rowex_core.specs.Events.{word_of}
-use Rattle.rowex_core.specs.Knowing.{IsEvent, claim_learned, failed_with, learned_by}
-use Rattle.rowex_table.specs.Runs.{silent, Steps, Does}
-use Rattle.rowex_table.specs.Seats.{TableView, SeatView}
+use Rattle.versions.specs.Core.{Held}
 use Rattle.rowex_table.proofs.Runs as running
 use Rattle.rowex_records.specs.Claims.{claiming}
 use Rattle.rowex_records.specs.Records.{owning}

@@ -1,25 +1,9 @@
 -- The records that a pass holds, and giving up all of them, one after the other.
-use Rattle.std.proofs.Common.{◌≡◌, ◌≢◌, inl, inr, ℕ, zero, suc, ◌+◌, ◌<◌, List, [], ◌∷◌, ◌++◌, length, map, take, drop, get_or, Bool, true, false, refl, sym, ap, subst, ◌∙◌, arith, add-one}
-use Rattle.std.specs.Prelude.{All, Contains}
-use Rattle.std.proofs.lemmas.List.{drop_all, map-append, take_all, take_more}
+use Rattle.rowex_records.proofs.Common.{◌≡◌, ◌≢◌, inl, inr, ℕ, zero, suc, ◌+◌, ◌<◌, List, [], ◌∷◌, ◌++◌, length, map, take, drop, get_or, Bool, true, false, refl, sym, ap, subst, ◌∙◌, arith, add-one, All, Contains, drop_all, map-append, take_all, take_more, All-nil, All-cons, All-head, All-tail, Rec, same_rec, same_rec_refl, Release, Event, Held, Known, Owned, without_record, IsClaimed, Does, TableView, SeatView, IsOneOf}
 use Rattle.std.proofs.Math.Seq.{drop-cons}
-use Rattle.std.proofs.lemmas.List.Elements.{All-nil, All-cons, All-head, All-tail}
-use Rattle.record_words.specs.declared.records.Rec.{Rec}
-use Rattle.versions.specs.Steps.{same_rec}
-use Rattle.versions.proofs.Core.{same_rec_refl}
-use Rattle.rowex_core.specs.declared.event.Act.TheVariants.{Release}
-use Rattle.rowex_core.specs.declared.event.Event.{Event}
-use Rattle.rowex_core.specs.declared.known.Holding.TheVariants.{Held}
-use Rattle.rowex_core.specs.declared.known.Known.{Known}
-use Rattle.rowex_core.specs.declared.known.Owned.{Owned}
-use Rattle.rowex_core.specs.Knowing.{without_record}
-use Rattle.rowex_table.specs.Rights.{IsClaimed}
-use Rattle.rowex_table.specs.Runs.{Does}
-use Rattle.rowex_table.specs.Seats.{TableView, SeatView}
 use Rattle.rowex_records.specs.Records.{owning, HoldsJust, GivesUp, GivesUpAll}
 use Rattle.rowex_records.proofs.Records.{gives_up_keeps}
 use Rattle.rowex_records.proofs.Claims.Making.{owns_none, owns_append}
-use Rattle.versions.specs.Trades.{IsOneOf}
 
 -- a pass that has just no records has none
 held_none : (k : Known) → HoldsJust k [] → k.own ≡ []

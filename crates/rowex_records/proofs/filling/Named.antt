@@ -1,12 +1,5 @@
 -- What is told of a located record is told of the record by which it was located.
-use Rattle.std.proofs.Common.{◌≡◌, ℕ, List, subst, sym}
-use Rattle.record_words.specs.declared.records.Rec.{Rec}
-use Rattle.rowex_core.specs.declared.event.Act.TheVariants.{Fill}
-use Rattle.rowex_core.specs.declared.event.Event.{Event}
-use Rattle.rowex_core.specs.declared.known.Known.{Known}
-use Rattle.rowex_table.specs.Rights.{IsClaimed}
-use Rattle.rowex_table.specs.Runs.{Steps}
-use Rattle.rowex_table.specs.Seats.{TableView, SeatView}
+use Rattle.rowex_records.proofs.Common.{◌≡◌, ℕ, List, subst, sym, Rec, Fill, Event, Known, IsClaimed, Steps, TableView, SeatView}
 use Rattle.rowex_records.specs.Records.{SetsMore}
 
 module _ {r q : Rec} (is : r ≡ q) where

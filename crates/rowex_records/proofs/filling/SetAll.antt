@@ -1,28 +1,7 @@
 -- A record's words stored one by one.
-use Rattle.std.proofs.Common.{◌≡◌, ℕ, zero, suc, ◌+◌, ◌-◌, ◌<◌, ◌≤◌, List, [], ◌∷◌, ◌++◌, length, map, set, get_or, refl, sym, ap, subst, ◌∙◌, arith, length-append}
-use Rattle.std.specs.Prelude.{Contains}
-use Rattle.std.proofs.lemmas.List.{length-set}
-use Rattle.record_words.specs.declared.records.Rec.{Rec}
-use Rattle.record_words.specs.declared.records.Rec.TheVariants.{Node as a_node, Leaf as a_leaf}
-use Rattle.versions.proofs.Core.{same_rec_refl}
-use Rattle.rowex_core.specs.declared.event.Act.{Act}
-use Rattle.rowex_core.specs.declared.event.Act.TheVariants.{Fill}
-use Rattle.rowex_core.specs.declared.event.Event.{Event}
-use Rattle.rowex_core.specs.declared.known.Holding.TheVariants.{Held}
-use Rattle.rowex_core.specs.declared.known.Owned.{Owned}
-use Rattle.rowex_core.specs.declared.known.Known.{Known}
-use Rattle.record_words.specs.Leaf.{HasLeafWords, key_word, leaf_words, words_for}
-use Rattle.record_words.proofs.Leaves.{leaf_words_parts}
-use Rattle.rowex_core.specs.Cores.{word_count_of}
-use Rattle.rowex_core.specs.Reading.{IsPacked}
-use Rattle.rowex_core.specs.Knowing.{with_filled_word}
-use Rattle.rowex_table.specs.Rights.{OwnsAs, IsClaimed}
-use Rattle.rowex_table.specs.Runs.{silent, Steps, Runs, InTurn}
-use Rattle.rowex_table.specs.Seats.{TableView, SeatView}
+use Rattle.rowex_records.proofs.Common.{◌≡◌, ℕ, zero, suc, ◌+◌, ◌-◌, ◌<◌, ◌≤◌, List, [], ◌∷◌, ◌++◌, length, map, set, get_or, refl, sym, ap, subst, ◌∙◌, arith, length-append, Contains, length-set, Rec, a_node, a_leaf, same_rec_refl, Act, Fill, Event, Held, Owned, Known, HasLeafWords, key_word, leaf_words, words_for, leaf_words_parts, word_count_of, IsPacked, with_filled_word, OwnsAs, IsClaimed, silent, Steps, Runs, InTurn, TableView, SeatView, mapped, in_turn_more}
 use Rattle.rowex_table.proofs.Made.ActsBefore.{later_trans, recalls_on, same_later}
-use Rattle.rowex_table.proofs.Rights.{mapped}
 use Rattle.rowex_table.proofs.Runs as running
-use Rattle.rowex_table.proofs.Runs.{in_turn_more}
 use Rattle.rowex_records.specs.Records.{owning, fill_with, stored, stored_in, IsFilledLeaf, SetsAll, SetsMore, SetsSome, StoresWord}
 use Rattle.rowex_records.proofs.Records.{AreSized, each_mapped, filled_with, leaf_stored, own_sized, stored_more, stored_nothing, twice}
 use Rattle.rowex_records.proofs.Claims.Making.{owns_append, owns_none, owns_one}

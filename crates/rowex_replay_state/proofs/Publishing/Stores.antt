@@ -1,21 +1,5 @@
 -- What a publish stores, and what it puts back.
-use Rattle.std.proofs.Common.{◌≡◌, ◌⊎◌, inl, inr, ◌+◌, ◌-◌, ◌<◌, ℕ, List, set, slice_get, Option, Some, Bool, true, false, if◌then◌else◌, refl, sym, ap, ◌∙◌, subst, arith}
-use Rattle.std.proofs.lemmas.Bool.{cases_Bool}
-use Rattle.std.proofs.lemmas.List.{set-set, set-get_or}
-use Rattle.std.proofs.lemmas.Option.{get_or_from_slice_get}
-use Rattle.compound_node.specs.declared.entries.Entry.{Entry}
-use Rattle.record_words.specs.Entry.{HasEntryWord, entry_word}
-use Rattle.record_words.specs.declared.records.Rec.{Rec}
-use Rattle.record_words.specs.declared.records.Rec.TheVariants.{Node as a_node}
-use Rattle.versions.specs.Steps.{same_rec}
-use Rattle.versions.proofs.Core.{same_rec_refl, same_rec_true}
-use Rattle.rowex_core.specs.declared.event.Act.TheVariants.{Publish}
-use Rattle.rowex_core.specs.declared.event.Spot.TheVariants.{Root, Slot}
-use Rattle.record_words.specs.Decoding.{entry_of}
-use Rattle.rowex_core.specs.Reading.{IsPacked}
-use Rattle.rowex_core.specs.Cores.{Core, IsLawful, MustSpellValue}
-use Rattle.rowex_core.specs.Events.{LegalAct, after, stored_words}
-use Rattle.rowex_core.proofs.Reading.{entry_of_word}
+use Rattle.rowex_replay_state.proofs.Common.{◌≡◌, ◌⊎◌, inl, inr, ◌+◌, ◌-◌, ◌<◌, ℕ, List, set, slice_get, Option, Some, Bool, true, false, if◌then◌else◌, refl, sym, ap, ◌∙◌, subst, arith, cases_Bool, set-set, set-get_or, get_or_from_slice_get, Entry, HasEntryWord, entry_word, Rec, a_node, same_rec, same_rec_refl, same_rec_true, Publish, Root, Slot, entry_of, IsPacked, Core, IsLawful, MustSpellValue, LegalAct, after, stored_words, entry_of_word}
 use Rattle.rowex_replay_state.specs.Records.{RecordsView, AreRecordsOf, lock_in, with_words_in}
 use Rattle.rowex_replay_state.specs.States.{StateView, IsStateOf, IsStepped}
 use Rattle.rowex_replay_state.specs.Publishing.{IsWordStored, AreWordsPacked, MayMakeVersion, IsPublishJudged, published}

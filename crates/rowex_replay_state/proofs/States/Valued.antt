@@ -1,35 +1,8 @@
 -- A value is stored: by whom it may be, and what the state is then.
-use Rattle.std.specs.Prelude.{All, ◌≤◌}
-use Rattle.std.proofs.Common.{◌≡◌, ◌⊎◌, inl, inr, ◌+◌, ◌<◌, ◌^◌, ℕ, suc, List, [], ◌∷◌, ◌++◌, map, set, get_or, Some, None, true, false, if◌then◌else◌, nat_lt, refl, sym, ap, ap₂, ◌∙◌, subst, arith}
-use Rattle.std.proofs.Props.{props}
-use Rattle.std.proofs.Math.Logic.{∥∥₁_elim}
-use Rattle.std.proofs.lemmas.Bool.{cases_lt, lt-ltb, le-ltb, eq-eqb}
-use Rattle.std.proofs.lemmas.List.{map-append}
-use Rattle.std.proofs.lemmas.Option.{same_Some, get_or_from_slice_get}
-use Rattle.compound_node.specs.declared.entries.Entry.TheVariants.{Leaf}
-use Rattle.compound_node.specs.Nodes.{NodeView, piece}
-use Rattle.finite_map.specs.declared.Change.{Change}
-use Rattle.finite_map.specs.declared.Kind.TheVariants.{Replaced}
-use Rattle.node_tries.specs.Piece.{size}
-use Rattle.record_words.specs.Entry.{entry_word}
-use Rattle.record_words.specs.Node.{HasNodeWords, node_words}
+use Rattle.rowex_replay_state.proofs.Common.{All, ◌≡◌, ◌⊎◌, inl, inr, ◌+◌, ◌<◌, ◌^◌, ℕ, suc, List, [], ◌∷◌, ◌++◌, map, set, get_or, Some, None, true, false, if◌then◌else◌, nat_lt, refl, sym, ap, ap₂, ◌∙◌, subst, arith, props, ∥∥₁_elim, cases_lt, lt-ltb, le-ltb, eq-eqb, map-append, same_Some, get_or_from_slice_get, Leaf, NodeView, piece, Change, Replaced, size, entry_word, HasNodeWords, node_words, items, Tree, leaf, node, fork, Rec, a_node, a_leaf, Free, InTree, NodeWords, is_linked, next_fate, HasLockedNamer, in_root, in_node, items_of, Publish, Value, entry_of, leaf_of, node_words_of, IsPacked, Core, IsLawful, MustSpellValue, HasRecord, bare, IsLockedAt, after, next_tree, stored_words, entry_of_word, entry_at_is, entry_word_is, few_entries, node_is}
+use Rattle.std.specs.Prelude.{◌≤◌}
 use Rattle.tries.specs.Place.{entry_at}
-use Rattle.tries.specs.Content.{items}
-use Rattle.tries.specs.Tree.{Tree, leaf, node, fork}
-use Rattle.record_words.specs.declared.records.Rec.{Rec}
-use Rattle.record_words.specs.declared.records.Rec.TheVariants.{Node as a_node, Leaf as a_leaf}
-use Rattle.versions.specs.Core.{Free, InTree}
-use Rattle.versions.specs.Heap.{NodeWords}
-use Rattle.versions.specs.Steps.{is_linked, next_fate, HasLockedNamer, in_root, in_node}
-use Rattle.versions.specs.Told.{items_of}
 use Rattle.versions.proofs.Heap.Revalued.{revalued}
-use Rattle.rowex_core.specs.declared.event.Act.TheVariants.{Publish}
-use Rattle.rowex_core.specs.declared.event.Spot.TheVariants.{Value}
-use Rattle.record_words.specs.Decoding.{entry_of}
-use Rattle.rowex_core.specs.Reading.{leaf_of, node_words_of, IsPacked}
-use Rattle.rowex_core.specs.Cores.{Core, IsLawful, MustSpellValue, HasRecord, bare}
-use Rattle.rowex_core.specs.Events.{IsLockedAt, after, next_tree, stored_words}
-use Rattle.rowex_core.proofs.Reading.{entry_of_word, entry_at_is, entry_word_is, few_entries, node_is}
 use Rattle.rowex_core.proofs.Cores.Valuing.{fate_stays, valued_in_tree, value_tree}
 use Rattle.rowex_replay_state.specs.declared.linked.Item.{Item as ReadItem}
 use Rattle.rowex_replay_state.specs.Versions.{read_item}

@@ -1,8 +1,5 @@
 -- Before and after a publish a number names one leaf.
-use Rattle.versions.specs.Told.{items_of}
-use Rattle.rowex_core.specs.Cores.{heap_of}
-use Rattle.rowex_core.specs.Events.{stored_words, stored_root, next_tree}
-use Rattle.rowex_core.proofs.Events.Finding.{top_items, by_number, same_leaves}
+use Rattle.rowex_replay_state.proofs.Common.{items_of, heap_of, stored_words, stored_root, next_tree, top_items, by_number, same_leaves}
 use Rattle.rowex_replay_state.specs.Statements.{LeavesAreOne}
 
 pub leaves_are_one : LeavesAreOne

@@ -1,11 +1,6 @@
 -- A leaf against its words, some of which may be of no key.
-use Rattle.std.proofs.Common.{ℕ, ◌≡◌, ◌+◌, ◌-◌, ◌*◌, ◌<◌, ◌≤◌, arith, List, get_or, length, take, drop, sym, ap, ◌∙◌, ⊎_elim, refl, length-take, get_or-take, get_or-drop}
-use Rattle.std.specs.Prelude.{EachIndex}
-use Rattle.std.proofs.lemmas.Bool.{cases_lt}
-use Rattle.std.proofs.lemmas.List.{get_or_past, length-take-le}
-use Rattle.record_words.specs.Leaf.{leaf_words, HasLeafWords, IsBytesOf}
+use Rattle.rowex_replay_state.proofs.Common.{ℕ, ◌≡◌, ◌+◌, ◌-◌, ◌*◌, ◌<◌, ◌≤◌, arith, List, get_or, length, take, drop, sym, ap, ◌∙◌, ⊎_elim, refl, length-take, get_or-take, get_or-drop, EachIndex, cases_lt, get_or_past, length-take-le, leaf_words, HasLeafWords, IsBytesOf, bytes_of_leaf, key_part, leaf_words_made, leaf_words_parts}
 use Rattle.record_words.proofs.Bytes.{same_key_word}
-use Rattle.record_words.proofs.Leaves.{bytes_of_leaf, key_part, leaf_words_made, leaf_words_parts}
 
 -- a front followed by zeros has the same elements
 front_or_zero : (xs : List ℕ) (n i : ℕ) → ((k : ℕ) → get_or (drop n xs) k 0 ≡ 0) → get_or (take n xs) i 0 ≡ get_or xs i 0

@@ -1,7 +1,5 @@
 -- What reading words answers.
-use Rattle.std.proofs.Common.{◌≡◌, Result, Ok, Err, ap}
-use Rattle.std.specs.Prelude.{IsErr}
-use Rattle.record_words.specs.Reading.{IsReading}
+use Rattle.rowex_replay_state.proofs.Common.{◌≡◌, Result, Ok, Err, ap, IsErr, IsReading}
 
 -- no value is spelled by the words
 pub reads_none : {A W E : Type 0} {IsValue : A → Type 0} {spelled : A → W} {words : W} (fault : E) → ((x : A) → IsValue x → spelled x ≡ words → ⊥) → IsReading IsValue spelled words (Err fault)

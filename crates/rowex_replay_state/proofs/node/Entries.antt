@@ -1,16 +1,6 @@
 -- Entries against their words, which are read one after another.
-use Rattle.std.proofs.Common.{ℕ, ◌≡◌, ◌+◌, ◌<◌, ◌≤◌, ⊎_elim, arith, List, [], ◌∷◌, ◌++◌, Option, Some, None, Ok, get_or, length, refl, sym, ap, zero, suc, ◌∙◌, ◌≢◌, below_more, length-append}
+use Rattle.rowex_replay_state.proofs.Common.{ℕ, ◌≡◌, ◌+◌, ◌<◌, ◌≤◌, ⊎_elim, arith, List, [], ◌∷◌, ◌++◌, Option, Some, None, Ok, get_or, length, refl, sym, ap, zero, suc, ◌∙◌, ◌≢◌, below_more, length-append, cases_lt, slice_get_past, ArrayVec, Entry, Leaf, Node, HasEntryWord, entry_word, HaveEntryWords, entry_words, IsReading, WordFault, entry_words_at, entry_words_made, same_entries}
 use Rattle.std.specs.Prelude.{slice_get}
-use Rattle.std.proofs.lemmas.Bool.{cases_lt}
-use Rattle.std.proofs.lemmas.Option.{slice_get_past}
-use Rattle.arrayvec.specs.ArrayVec.{ArrayVec}
-use Rattle.compound_node.specs.declared.entries.Entry.{Entry}
-use Rattle.compound_node.specs.declared.entries.Entry.TheVariants.{Leaf, Node}
-use Rattle.record_words.specs.Entry.{HasEntryWord, entry_word}
-use Rattle.record_words.specs.Node.{HaveEntryWords, entry_words}
-use Rattle.record_words.specs.Reading.{IsReading}
-use Rattle.record_words.specs.declared.WordFault.{WordFault}
-use Rattle.record_words.proofs.Entries.{entry_words_at, entry_words_made, same_entries}
 use Rattle.record_words.proofs.Spellings.{same_entry}
 use Rattle.rowex_replay_state.proofs.leaf.Readings.{reads_one}
 

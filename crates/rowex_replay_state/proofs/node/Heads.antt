@@ -1,20 +1,9 @@
 -- What is read of the words of a head, by its kind, is its numbers, its columns and its rows; and those are of a head.
-use Rattle.std.proofs.Common.{ℕ, ◌≡◌, ◌+◌, ◌*◌, ◌/◌, ◌%◌, ◌^◌, ◌<◌, ◌≤◌, ◌++◌, ⊎_elim, arith, cond, List, [], ◌∷◌, Ok, Err, below_more, get_or, get_or-set_other, get_or-set_same, length, length-set, nat_lt, set, suc, take, refl, sym, ap, ◌∙◌}
+use Rattle.rowex_replay_state.proofs.Common.{ℕ, ◌≡◌, ◌+◌, ◌*◌, ◌/◌, ◌%◌, ◌^◌, ◌<◌, ◌≤◌, ◌++◌, ⊎_elim, arith, cond, List, [], ◌∷◌, Ok, Err, below_more, get_or, get_or-set_other, get_or-set_same, length, length-set, nat_lt, set, suc, take, refl, sym, ap, ◌∙◌, ext_get_or, get_or_default, take_all, Entry, HeadView, IsHead, IsLawfulNode, IsNode, NodeView, head_of, node_from, same_count, WordFault, Bad, AreNumbersOf, HasHeadWords, InNodesOf, head_words, position_at, row_at, IsReading, length-with_unused, row_at-with_unused}
 use Rattle.std.proofs.Math.Seq.{take-suc}
-use Rattle.std.proofs.lemmas.List.{ext_get_or, get_or_default, take_all}
 use Rattle.partial_keys.specs.Rows.{with_unused}
-use Rattle.compound_node.specs.declared.entries.Entry.{Entry}
-use Rattle.compound_node.specs.Nodes.{HeadView, IsHead, IsLawfulNode, IsNode, NodeView, head_of, node_from}
-use Rattle.compound_node.proofs.Lawful.{same_count}
-use Rattle.record_words.specs.declared.WordFault.{WordFault}
-use Rattle.record_words.specs.declared.WordFault.TheVariants.{Bad}
 use Rattle.record_words.specs.declared.numbers.HeadNumbers.{HeadNumbers}
-use Rattle.record_words.specs.HeadParts.{AreNumbersOf}
-use Rattle.record_words.specs.Node.{HasHeadWords, InNodesOf, head_words}
-use Rattle.record_words.specs.Packed.{position_at, row_at}
-use Rattle.record_words.specs.Reading.{IsReading}
 use Rattle.record_words.proofs.Heads.{head_used, is_head, is_node, used_rows}
-use Rattle.record_words.proofs.Lawful.{length-with_unused, row_at-with_unused}
 use Rattle.rowex_replay_state.proofs.leaf.Readings.{reads_none, reads_one}
 
 -- ---- the rows so far

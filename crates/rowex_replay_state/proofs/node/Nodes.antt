@@ -1,13 +1,6 @@
 -- A node against its words.
-use Rattle.std.proofs.Common.{ℕ, ◌≡◌, List, Ok, Err, take, drop, sym, ap, ◌∙◌}
-use Rattle.std.specs.Prelude.{Result, IsErr}
-use Rattle.arrayvec.specs.ArrayVec.{ArrayVec}
-use Rattle.compound_node.specs.declared.entries.Entry.{Entry}
-use Rattle.compound_node.specs.Nodes.{NodeView, IsNode, node_from}
-use Rattle.record_words.specs.declared.WordFault.{WordFault}
-use Rattle.record_words.specs.declared.WordFault.TheVariants.{Bad}
-use Rattle.record_words.specs.Node.{HasNodeWords, HaveEntryWords, InNodesOf, entry_words, node_words}
-use Rattle.record_words.specs.Reading.{IsReading}
+use Rattle.rowex_replay_state.proofs.Common.{ℕ, ◌≡◌, List, Ok, Err, take, drop, sym, ap, ◌∙◌, IsErr, ArrayVec, Entry, NodeView, IsNode, node_from, WordFault, Bad, HasNodeWords, HaveEntryWords, InNodesOf, entry_words, node_words, IsReading}
+use Rattle.std.specs.Prelude.{Result}
 use Rattle.record_words.proofs.Nodes.{entry_part, head_part}
 use Rattle.rowex_replay_state.proofs.node.Heads.{AreReadOf, is_node_of, node_is}
 use Rattle.rowex_replay_state.proofs.leaf.Readings.{reads_none, reads_one, reads_fault}

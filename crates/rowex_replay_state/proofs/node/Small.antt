@@ -1,21 +1,13 @@
 -- The words of a node have 64 bits.
-use Rattle.std.proofs.Common.{◌≡◌, ℕ, zero, suc, ◌+◌, ◌-◌, ◌*◌, ◌/◌, ◌^◌, ◌<◌, ◌≤◌, List, [], ◌∷◌, drop, length, get_or, refl, replicate, sym, subst, arith, lit<}
-use Rattle.std.specs.Prelude.{All, slice_get}
-use Rattle.std.proofs.lemmas.List.{get_or-replicate, get_or_past, length-replicate}
+use Rattle.rowex_replay_state.proofs.Common.{◌≡◌, ℕ, zero, suc, ◌+◌, ◌-◌, ◌*◌, ◌/◌, ◌^◌, ◌<◌, ◌≤◌, List, [], ◌∷◌, drop, length, get_or, refl, replicate, sym, subst, arith, lit<, All, get_or-replicate, get_or_past, length-replicate, All-from_get_or, All-append, NodeView, head_of, same_count, HasNodeWords, entry_words, head_words, node_words, column_words, fixed_words, meta_word, position_word, row_lanes, row_word, row_words, length-entry_words, entry_words_at, column-lt, row-lt}
+use Rattle.std.specs.Prelude.{slice_get}
 use Rattle.std.proofs.lemmas.List.FromFn.{get_or-map-range_with_len, length-map-range_with_len}
 use lib.Lanes.{digits_l, number_l}
-use Rattle.std.proofs.lemmas.List.Elements.{All-from_get_or, All-append}
-use Rattle.compound_node.specs.Nodes.{NodeView, head_of}
-use Rattle.compound_node.proofs.Lawful.{same_count}
-use Rattle.record_words.specs.Node.{HasNodeWords, entry_words, head_words, node_words}
 use Rattle.record_words.specs.Kinds.{head_size, index_lanes, kind_of, kind_part, lane_words, mask_lanes}
-use Rattle.record_words.specs.Packed.{column_words, fixed_words, meta_word, position_word, row_lanes, row_word, row_words}
 use Rattle.record_words.specs.declared.kind.HeadKind.{HeadKind}
 use Rattle.record_words.specs.declared.kind.HeadKind.TheVariants.{Middle, Narrow, Wide}
-use Rattle.record_words.proofs.Entries.{length-entry_words, entry_words_at}
 use Rattle.record_words.proofs.OfKinds.{OfKind, is_middle, is_narrow, is_wide, of_kind}
 use Rattle.record_words.proofs.HeadParts.{parts}
-use Rattle.record_words.proofs.Lawful.{column-lt, row-lt}
 use Rattle.rowex_core.proofs.Cores.Published.{entry_small}
 use Rattle.record_words.proofs.Packed.{position_at-lt, row_at-lt}
 

@@ -1,18 +1,9 @@
 -- What is told grows by leaves, nodes and forks.
-use Rattle.std.proofs.Common.{◌≡◌, ◌≢◌, ◌⊎◌, ◌↔◌, inl, inr, ℕ, ◌-◌, ◌<◌, List, [], ◌∷◌, ◌++◌, Bool, true, false, length, get_or, set, map, refl, ap, sym, ◌∙◌, subst, arith, append_assoc, get_or-set_same, get_or-set_other}
-use Rattle.std.proofs.lemmas.Bool.{cases_eq}
-use Rattle.std.proofs.lemmas.List.{get_or-map, get_or-append_right, map-append}
-use Rattle.compound_node.specs.Nodes.{HeadView}
-use Rattle.tries.specs.Keys.{Key}
-use Rattle.tries.specs.Tree.{Tree, leaf, node, fork}
-use Rattle.tries.specs.Content.{Item, items, first}
-use Rattle.record_words.specs.declared.records.Rec.TheVariants.{Node as a_node, Leaf as a_leaf}
-use Rattle.versions.specs.State.{Links}
+use Rattle.rowex_replay_state.proofs.Common.{◌≡◌, ◌≢◌, ◌⊎◌, ◌↔◌, inl, inr, ℕ, ◌-◌, ◌<◌, List, [], ◌∷◌, ◌++◌, Bool, true, false, length, get_or, set, map, refl, ap, sym, ◌∙◌, subst, arith, append_assoc, get_or-set_same, get_or-set_other, cases_eq, get_or-map, get_or-append_right, map-append, HeadView, Key, Tree, leaf, node, fork, Item, items, first, a_node, a_leaf, Links, leaf_number, node_number}
 use Rattle.rowex_replay_state.specs.declared.linked.Item.{Item as ReadItem}
 use Rattle.rowex_replay_state.specs.declared.linked.Linked.{Linked}
 use Rattle.rowex_replay_state.specs.Versions.{read_item}
 use Rattle.rowex_replay_state.specs.Parts.{GrowsBy}
-use Rattle.versions.proofs.Heap.{leaf_number, node_number}
 
 -- a mark set
 marked : (xs : List Bool) (n m : ℕ) → n < length xs → (get_or (set xs n true) m false ≡ true) ↔ ((get_or xs m false ≡ true) ⊎ (m ≡ n))

@@ -1,8 +1,6 @@
 -- Where two keys part, told by their first difference.
-use Rattle.std.proofs.Common.{◌≡◌, ◌≢◌, ◌↔◌, ℕ, ◌<◌, List, Bool, true, false, not, IsTrue, nat_eq, refl, sym, ◌∙◌, subst, arith, ◌⊎◌, inl, inr, ◌≤◌}
-use Rattle.std.proofs.lemmas.Bool.{false≢true, cases_lt, ne_eqb}
+use Rattle.rowex_replay_state.proofs.Common.{◌≡◌, ◌≢◌, ◌↔◌, ℕ, ◌<◌, List, Bool, true, false, not, IsTrue, nat_eq, refl, sym, ◌∙◌, subst, arith, ◌⊎◌, inl, inr, ◌≤◌, false≢true, cases_lt, ne_eqb, bit, IsParted}
 use Rattle.key_bits.specs.Bits.{bit_of, IsFirstDifference}
-use Rattle.tries.specs.Keys.{bit, IsParted}
 
 parted_from : (k l : List ℕ) (p : ℕ) → IsFirstDifference k l p → bit_of k p ≡ false → IsParted p k l
 unfolding bit

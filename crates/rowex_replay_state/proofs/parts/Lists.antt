@@ -1,8 +1,5 @@
 -- Lists put together.
-use Rattle.std.proofs.Common.{List, ◌++◌, length, refl, subst}
-use Rattle.std.specs.Prelude.{All}
-use Rattle.std.proofs.lemmas.List.{take_at, drop_at}
-use Rattle.std.proofs.lemmas.List.Elements.{All-take, All-drop}
+use Rattle.rowex_replay_state.proofs.Common.{List, ◌++◌, length, refl, subst, All, take_at, drop_at, All-take, All-drop}
 
 -- what holds of all elements holds of all in each part
 pub all_parts : {A : Type 0} (P : A → Type 0) (xs ys : List A) → All P (xs ++ ys) → All P xs × All P ys

@@ -1,17 +1,5 @@
 -- What was read of the parts, and what follows of the whole.
-use Rattle.std.proofs.Common.{◌≡◌, ◌↔◌, ◌⊎◌, inl, inr, ℕ, ◌+◌, ◌*◌, ◌<◌, ◌≤◌, List, [], ◌++◌, Bool, true, false, IsTrue, length, get_or, set, map, refl, ap, sym, ◌∙◌, subst, arith, append_assoc, append-nil}
-use Rattle.std.proofs.lemmas.Bool.{false≢true}
-use Rattle.std.proofs.lemmas.List.{length-map}
-use Rattle.key_bits.specs.declared.TheConstants.{MAX_BYTES}
-use Rattle.node_tries.specs.Piece.{Place, Fork}
-use Rattle.compound_node.specs.Nodes.{NodeView, head_of, piece}
-use Rattle.compound_node.specs.Halves.{HalfShows, CutShows}
-use Rattle.compound_node.specs.declared.entries.Entry.TheVariants.{Leaf, Node}
-use Rattle.compound_node.specs.declared.halves.Cut.{Cut}
-use Rattle.tries.specs.Keys.{IsParted}
-use Rattle.tries.specs.Tree.{Subtrie, Tree, leaf, node, fork, subtrie, first_position, IsFork}
-use Rattle.tries.specs.Content.{items, first}
-use Rattle.record_words.specs.declared.records.Rec.{Rec}
+use Rattle.rowex_replay_state.proofs.Common.{◌≡◌, ◌↔◌, ◌⊎◌, inl, inr, ℕ, ◌+◌, ◌*◌, ◌<◌, ◌≤◌, List, [], ◌++◌, Bool, true, false, IsTrue, length, get_or, set, map, refl, ap, sym, ◌∙◌, subst, arith, append_assoc, append-nil, false≢true, length-map, MAX_BYTES, Place, Fork, NodeView, head_of, piece, HalfShows, CutShows, Leaf, Node, Cut, IsParted, Subtrie, Tree, leaf, node, fork, subtrie, first_position, IsFork, items, first, Rec}
 use Rattle.rowex_replay_state.specs.declared.linked.Item.{Item as ReadItem}
 use Rattle.rowex_replay_state.specs.declared.linked.Linked.{Linked}
 use Rattle.rowex_replay_state.specs.Versions.{AreWordsOf, read_item, Table}

@@ -1,27 +1,7 @@
 -- The parts of a lawful tree: of a leaf, of a node, of a fork.
-use Rattle.std.proofs.Common.{◌≡◌, ◌⊎◌, inl, inr, ℕ, ◌+◌, ◌*◌, ◌<◌, ◌≤◌, List, [], length, get_or, refl, ap, sym, ◌∙◌, subst, arith}
-use Rattle.std.specs.Prelude.{All}
-use Rattle.key_bits.specs.declared.TheConstants.{MAX_BYTES}
-use Rattle.node_tries.specs.Piece.{Place, Fork, places}
-use Rattle.node_tries.proofs.Piece.{length-places}
+use Rattle.rowex_replay_state.proofs.Common.{◌≡◌, ◌⊎◌, inl, inr, ℕ, ◌+◌, ◌*◌, ◌<◌, ◌≤◌, List, [], length, get_or, refl, ap, sym, ◌∙◌, subst, arith, All, MAX_BYTES, Place, Fork, places, length-places, NodeView, head_of, piece, height_of, IsLawfulNode, Leaf, Node, up_to_key, HasNodeWords, node_words, IsParted, Subtrie, Tree, leaf, node, fork, subtrie, first_position, IsFork, IsLower, IsFit, IsAbove, first, Rec, a_node, a_leaf, NodeWords, Links, determined, leaf_parts, node_parts, node_words_of, leaf_of, IsPacked, heap_of, node_is, leaf_is}
 use Rattle.partial_keys.specs.Shows.{ShowsPiece}
-use Rattle.compound_node.specs.Nodes.{NodeView, head_of, piece, height_of, IsLawfulNode}
-use Rattle.compound_node.specs.declared.entries.Entry.TheVariants.{Leaf, Node}
-use Rattle.record_words.specs.Leaf.{up_to_key}
-use Rattle.record_words.specs.Node.{HasNodeWords, node_words}
-use Rattle.tries.specs.Keys.{IsParted}
-use Rattle.tries.specs.Tree.{Subtrie, Tree, leaf, node, fork, subtrie, first_position, IsFork, IsLower, IsFit}
-use Rattle.tries.specs.Content.{IsAbove, first}
-use Rattle.record_words.specs.declared.records.Rec.{Rec}
-use Rattle.record_words.specs.declared.records.Rec.TheVariants.{Node as a_node, Leaf as a_leaf}
-use Rattle.versions.specs.Heap.{NodeWords}
-use Rattle.versions.specs.State.{Links}
-use Rattle.versions.proofs.Heap.{determined, leaf_parts, node_parts}
-use Rattle.rowex_core.specs.Reading.{node_words_of, leaf_of, IsPacked}
-use Rattle.rowex_core.specs.Cores.{heap_of}
-use Rattle.rowex_core.proofs.Reading.{node_is}
 use Rattle.rowex_replay_state.proofs.parts.Lists.{all_parts}
-use Rattle.rowex_core.proofs.Reading.Leafing.{leaf_is}
 use Rattle.rowex_replay_state.proofs.node.Small.{node_small}
 use Rattle.rowex_replay_state.specs.Versions.{AreWordsOf, IsSpelled, Table}
 use Rattle.rowex_replay_state.specs.Parts.{IsForkedFrom, ShowsPart, IsLeafAt, SpellsNode}

@@ -1,15 +1,7 @@
 -- How many steps reading a part takes at most: the depth of its forks, and for each entry the depth of the nodes below.
-use Rattle.std.proofs.Common.{◌≡◌, ℕ, ◌+◌, ◌-◌, ◌*◌, ◌<◌, ◌≤◌, length, max, refl, ap, ap₂, sym, ◌∙◌, subst, arith}
-use Rattle.std.specs.Prelude.{All}
-use Rattle.compound_node.specs.Nodes.{NodeView, height_of, piece, IsLawfulNode}
-use Rattle.compound_node.specs.Halves.{HalfShows, CutShows}
-use Rattle.compound_node.specs.declared.entries.Entry.TheVariants.{Leaf, Node}
-use Rattle.compound_node.specs.declared.halves.Cut.{Cut}
+use Rattle.rowex_replay_state.proofs.Common.{◌≡◌, ℕ, ◌+◌, ◌-◌, ◌*◌, ◌<◌, ◌≤◌, length, max, refl, ap, ap₂, sym, ◌∙◌, subst, arith, All, NodeView, height_of, piece, IsLawfulNode, HalfShows, CutShows, Leaf, Node, Cut, Place, Fork, size, places, size_pos, length-places, Subtrie}
 use Rattle.compound_node.specs.declared.halves.Half.{Half}
 use Rattle.compound_node.specs.declared.halves.Half.TheVariants.{One, Many, Same}
-use Rattle.node_tries.specs.Piece.{Place, Fork, size, places}
-use Rattle.node_tries.proofs.Piece.{size_pos, length-places}
-use Rattle.tries.specs.Tree.{Subtrie}
 use Rattle.rowex_replay_state.proofs.parts.Lists.{all_parts}
 
 abbrev pub steps : Subtrie → ℕ

@@ -1,24 +1,5 @@
 -- What a publish asks of the records and makes of them.
-use Rattle.std.proofs.Common.{◌≡◌, ◌≢◌, ◌↔◌, ◌⊎◌, inl, inr, ◌<◌, ℕ, List, [], get_or, Option, Bool, true, false, sym, ap, ◌∙◌, subst}
-use Rattle.std.proofs.Props.{props}
-use Rattle.std.proofs.Math.Logic.{∥∥₁_elim}
-use Rattle.std.proofs.lemmas.Bool.{cases_Bool, false≢true}
-use Rattle.std.proofs.lemmas.Option.{slice_get-get_or}
-use Rattle.compound_node.specs.declared.entries.Entry.{Entry}
-use Rattle.record_words.specs.declared.layout.Layout.{Layout}
-use Rattle.tries.specs.Tree.{Tree}
-use Rattle.tries.specs.Content.{Item}
-use Rattle.record_words.specs.declared.records.Rec.{Rec}
-use Rattle.record_words.specs.declared.records.Rec.TheVariants.{Node as a_node, Leaf as a_leaf}
-use Rattle.versions.specs.State.{IsTop, IsLinked}
-use Rattle.versions.specs.Told.{items_of}
-use Rattle.versions.specs.Core.{Fate, Free, Held, Ready as ReadyBy, InTree as InTreeSince, Unlinked, Marked}
-use Rattle.versions.specs.Steps.{is_linked}
-use Rattle.versions.proofs.Core.{linked_cases}
-use Rattle.rowex_core.specs.Reading.{leaf_of}
-use Rattle.rowex_core.specs.Cores.{Core, HasRecord, MustSpellValue, heap_of}
-use Rattle.rowex_core.specs.Events.{AreSame, tree_of}
-use Rattle.rowex_core.proofs.Events.Finding.{by_number, top_items}
+use Rattle.rowex_replay_state.proofs.Common.{◌≡◌, ◌≢◌, ◌↔◌, ◌⊎◌, inl, inr, ◌<◌, ℕ, List, [], get_or, Option, Bool, true, false, sym, ap, ◌∙◌, subst, props, ∥∥₁_elim, cases_Bool, false≢true, slice_get-get_or, Entry, Layout, Tree, Item, Rec, a_node, a_leaf, IsTop, IsLinked, items_of, Fate, Free, Held, ReadyBy, InTreeSince, Unlinked, Marked, is_linked, linked_cases, leaf_of, Core, HasRecord, MustSpellValue, heap_of, AreSame, tree_of, by_number, top_items}
 use Rattle.rowex_replay_state.specs.Versions.{AreWordsOf, HasRecordIn, IsVersion, Tells, Table}
 use Rattle.rowex_replay_state.specs.declared.linked.Linked.{Linked}
 use Rattle.rowex_replay_state.specs.declared.fate.Fate.{Fate as Stored}

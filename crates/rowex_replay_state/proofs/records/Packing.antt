@@ -1,15 +1,5 @@
 -- Words that spell a value are those that are read.
-use Rattle.std.proofs.Common.{◌≡◌, ◌↔◌, ℕ, List, Some, None, Result, Ok, Err, is_ok, Bool, true, false, refl, sym, subst, ◌∙◌}
-use Rattle.std.proofs.lemmas.Option.{same_Some, none-some}
-use Rattle.record_words.specs.Reading.{IsReading}
-use Rattle.record_words.specs.Node.{HasNodeWords, node_words}
-use Rattle.record_words.specs.Leaf.{HasLeafWords, leaf_words, up_to_key}
-use Rattle.record_words.specs.declared.WordFault.{WordFault}
-use Rattle.compound_node.specs.Nodes.{NodeView}
-use Rattle.record_words.specs.declared.records.Rec.{Rec}
-use Rattle.record_words.specs.declared.records.Rec.TheVariants.{Node as a_node, Leaf as a_leaf}
-use Rattle.rowex_core.specs.Cores.{FitsIn}
-use Rattle.rowex_core.specs.Reading.{IsPacked}
+use Rattle.rowex_replay_state.proofs.Common.{◌≡◌, ◌↔◌, ℕ, List, Some, None, Result, Ok, Err, is_ok, Bool, true, false, refl, sym, subst, ◌∙◌, same_Some, none-some, IsReading, HasNodeWords, node_words, HasLeafWords, leaf_words, up_to_key, WordFault, NodeView, Rec, a_node, a_leaf, FitsIn, IsPacked}
 use Rattle.rowex_replay_state.specs.Records.{RecordsView, IsPackedIn, words_in}
 
 spelled : {A W E : Type 0} (IsValue : A → Type 0) (spell : A → W) (words : W) (answer : Result A E) → IsReading IsValue spell words answer →

@@ -1,10 +1,5 @@
 -- A search that looks at one number after the other; and a leaf's key.
-use Rattle.std.proofs.Common.{◌≡◌, ◌↔◌, ◌⊎◌, inl, inr, ◌+◌, ◌<◌, ℕ, List, Some, Bool, true, false, sym, ap, ◌∙◌, subst, arith}
-use Rattle.std.proofs.lemmas.Bool.{cases_lt, false≢true}
-use Rattle.std.proofs.lemmas.Option.{same_Some}
-use Rattle.record_words.specs.Leaf.{HasLeafWords, leaf_words, up_to_key}
-use Rattle.record_words.specs.declared.records.Rec.TheVariants.{Leaf as a_leaf}
-use Rattle.rowex_core.specs.Reading.{IsPacked}
+use Rattle.rowex_replay_state.proofs.Common.{◌≡◌, ◌↔◌, ◌⊎◌, inl, inr, ◌+◌, ◌<◌, ℕ, List, Some, Bool, true, false, sym, ap, ◌∙◌, subst, arith, cases_lt, false≢true, same_Some, HasLeafWords, leaf_words, up_to_key, a_leaf, IsPacked}
 use Rattle.rowex_replay_state.specs.Records.{RecordsView, IsSpelledIn, words_in}
 
 -- None of those before this one is it, nor is this one.

@@ -1,9 +1,5 @@
 -- A replay of no event yet, and the content of its newest version.
-use Rattle.std.proofs.Common.{◌≡◌, List, [], ◌∷◌, map, replicate, None, refl, sym, ap, ◌∙◌}
-use Rattle.std.proofs.lemmas.List.{length-replicate}
-use Rattle.record_words.specs.declared.layout.Layout.{Layout}
-use Rattle.tries.specs.Content.{pairs}
-use Rattle.rowex_core.specs.Cores.{Core}
+use Rattle.rowex_replay_state.proofs.Common.{◌≡◌, List, [], ◌∷◌, map, replicate, None, refl, sym, ap, ◌∙◌, length-replicate, Layout, pairs, Core}
 use Rattle.rowex_core.specs.Opening.{opening}
 use Rattle.rowex_replay_state.specs.declared.linked.Item.{Item as Stored}
 use Rattle.rowex_replay_state.specs.Passes.{ArePassesOf, fresh_pass}

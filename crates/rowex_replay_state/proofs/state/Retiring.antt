@@ -1,14 +1,6 @@
 -- Marks, and giving back.
-use Rattle.std.proofs.Common.{◌≡◌, ◌<◌, ◌≤◌, ℕ, zero, suc, List, [], ◌∷◌, length, take, slice_get, Some, None, Bool, true, All, refl, sym, ap, ◌∙◌, subst, arith}
-use Rattle.std.proofs.lemmas.Bool.{eq-eqb, ne_eqb}
-use Rattle.std.proofs.lemmas.List.Elements.{All-head, All-tail}
-use Rattle.std.proofs.lemmas.Option.{same_Some, none-some}
-use Rattle.record_words.specs.declared.records.Rec.{Rec}
-use Rattle.record_words.specs.declared.records.Rec.TheVariants.{Node as a_node, Leaf as a_leaf}
-use Rattle.versions.specs.Core.{Fate, Free, Held, Ready as ReadyBy, InTree, Unlinked, Marked, has_seen}
-use Rattle.rowex_core.specs.declared.event.Act.TheVariants.{Mark, GiveBack}
-use Rattle.rowex_core.specs.Cores.{Core, IsLawful}
-use Rattle.rowex_core.specs.Events.{LegalAct, after, marked, given_back}
+use Rattle.rowex_replay_state.proofs.Common.{◌≡◌, ◌<◌, ◌≤◌, ℕ, zero, suc, List, [], ◌∷◌, length, take, slice_get, Some, None, Bool, true, refl, sym, ap, ◌∙◌, subst, arith, eq-eqb, ne_eqb, All-head, All-tail, same_Some, none-some, Rec, a_node, a_leaf, Fate, Free, Held, ReadyBy, InTree, Unlinked, Marked, has_seen, Mark, GiveBack, Core, IsLawful, LegalAct, after, marked, given_back, with_fate, with_lock, unlocked}
+use Rattle.std.proofs.Common.{All}
 use Rattle.rowex_replay_state.specs.declared.fate.Fate.{Fate as Stored}
 use Rattle.rowex_replay_state.specs.declared.fate.Fate.TheVariants.{Free as IsFree, Unlinked as IsUnlinked, Marked as IsMarked}
 use Rattle.rowex_replay_state.specs.declared.passes.PassState.{PassState}
@@ -19,7 +11,6 @@ use Rattle.rowex_replay_state.specs.States.{StateView, IsStateOf}
 use Rattle.rowex_replay_state.proofs.States.{fate_at, fate_from, marked_stored, state_from}
 use Rattle.rowex_replay_state.proofs.RecordSteps.{with_fate_is}
 use Rattle.rowex_replay_state.proofs.LockSteps.{lock_is}
-use Rattle.versions.specs.Steps.{with_fate, with_lock, unlocked}
 
 -- ---- marks
 

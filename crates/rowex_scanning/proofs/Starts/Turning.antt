@@ -1,37 +1,11 @@
 -- Where a scan downwards starts, by where one upwards does.
-use Rattle.std.proofs.Common.{◌≡◌, ◌≢◌, inl, inr, ⊎_elim, ℕ, suc, ◌+◌, ◌-◌, ◌<◌, ◌≤◌, List, [], ◌∷◌, length, take, le_refl, refl, ap, sym, ◌∙◌, subst, arith, Bool, true, false, Option, Some, None}
-use Rattle.std.specs.Prelude.{slice_get}
-use Rattle.std.proofs.lemmas.Bool.{false≢true}
-use Rattle.insert_cases.proofs.Ways.{some_injective}
-use Rattle.insert_cases.specs.declared.choice.PathNode.{PathNode}
-use Rattle.compound_node.specs.declared.entries.Entry.{Entry}
-use Rattle.compound_node.specs.declared.entries.Entry.TheVariants.{Leaf}
-use Rattle.versions.specs.State.{KeepsFixedWordsSince}
-use Rattle.record_words.specs.declared.layout.Layout.{Layout}
-use Rattle.rowex_core.proofs.Sharing.Owning.{recalls}
-use Rattle.rowex_core.specs.Cores.{Core, IsLawful}
-use Rattle.rowex_core.specs.Knowing.{Recalls, IsPinnedSince}
-use Rattle.rowex_core.specs.declared.known.Known.{Known}
-use Rattle.rowex_reading.proofs.Seen.{placed_stable, read_stable, seen_steady, since_later, sure_later}
-use Rattle.rowex_reading.proofs.Ways.{named_end}
-use Rattle.rowex_reading.specs.Possible.{IsPossible}
-use Rattle.rowex_reading.specs.Seen.{seen, Sure}
-use Rattle.rowex_reading.specs.Ways.{IsMismatch, IsWayNode, IsWayOf, named}
-use Rattle.rowex_reading.specs.declared.descent.Found.TheVariants.{Leaf as FoundLeaf}
+use Rattle.rowex_scanning.proofs.Common.{◌≡◌, ◌≢◌, inl, inr, ⊎_elim, ℕ, suc, ◌+◌, ◌-◌, ◌<◌, ◌≤◌, List, [], ◌∷◌, length, take, le_refl, refl, ap, sym, ◌∙◌, subst, arith, Bool, true, false, Option, Some, None, slice_get, false≢true, some_injective, PathNode, Entry, Leaf, KeepsFixedWordsSince, Layout, recalls, Core, IsLawful, Recalls, IsPinnedSince, Known, placed_stable, read_stable, seen_steady, since_later, sure_later, named_end, IsPossible, seen, Sure, IsMismatch, IsWayNode, IsWayOf, named, FoundLeaf, Upwards, Downwards, IsLater, beyond_further, same_past, scan_started, IsWayEarlier, leaf_may_stand, scan_skipped, stack_place, IsPastKey, Range, IsPlaced, IsRead, Stage, Key, bit, AgreeBelow, IsBefore}
 use Rattle.rowex_scanning.proofs.Starts.{read_same}
 use Rattle.rowex_scanning.proofs.Walking.{beyond_parts, walk_before, walk_fits, IsBeforeEntry}
 use Rattle.rowex_scanning.specs.Scanning.{ArePastKey, IsBound, IsWalk, frame, frames_of}
 use Rattle.rowex_scanning.specs.Starts.{IsBegun, IsFirst, IsParting, IsStart, IsWalkFrom}
 use Rattle.rowex_scanning.specs.Tallies.{tally_of_number}
-use Rattle.packed_pairs.specs.declared.direction.Direction.TheVariants.{Upwards, Downwards}
 use Rattle.rowex_scanning.specs.declared.start.Start.{Start}
-use Rattle.rowex_table.specs.Made.{IsLater}
-use Rattle.version_laws.proofs.Directions.Starts.{beyond_further, same_past, scan_started, IsWayEarlier}
-use Rattle.version_laws.proofs.Scan.{leaf_may_stand}
-use Rattle.version_laws.proofs.Directions.{scan_skipped, stack_place}
-use Rattle.version_laws.specs.Directions.{IsPastKey}
-use Rattle.version_laws.specs.Scan.{Range, IsPlaced, IsRead, Frame as Stage}
-use Rattle.tries.specs.Keys.{Key, bit, AgreeBelow, IsBefore}
 
 -- what is past the key upwards, a scan downwards has passed on its way
 above_earlier : {k : Known} (m : ℕ) (key : Key) (fs : List Stage) → IsPinnedSince k m → ArePastKey Upwards k m key (frames_of fs) → Sure k (λ s. IsWayEarlier Downwards s m key fs)

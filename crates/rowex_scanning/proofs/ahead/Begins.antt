@@ -1,16 +1,8 @@
 -- The records to which a walk is led are the table's, and are located by its origins.
-use Rattle.std.proofs.Common.{◌≡◌, ◌<◌, ℕ, subst, sym}
-use Rattle.compound_node.specs.declared.entries.Entry.TheVariants.{Leaf, Node}
-use Rattle.record_words.specs.declared.records.Rec.TheVariants.{Leaf as a_leaf, Node as a_node}
-use Rattle.record_words.specs.declared.layout.Layout.{Layout}
+use Rattle.rowex_scanning.proofs.Common.{◌≡◌, ◌<◌, ℕ, subst, sym, Leaf, Node, a_leaf, a_node, Layout, Known, HasRecord, HasWord, IsLeafRecordAt, IsNodeRecordAt, IsStartOf, IsPossible, HasPlace, IsLedTo}
 use Rattle.record_words.specs.Layout.{leaf_size}
-use Rattle.rowex_core.specs.declared.known.Known.{Known}
-use Rattle.rowex_core.specs.Cores.{HasRecord, HasWord}
 use Rattle.rowex_table.specs.declared.record_steps.RecordAt.{RecordAt}
-use Rattle.rowex_table.specs.Rule.{IsLeafRecordAt, IsNodeRecordAt, IsStartOf}
 use Rattle.rowex_table.proofs.Rule.Located.{leaf_at, node_at}
-use Rattle.rowex_reading.specs.Possible.{IsPossible}
-use Rattle.rowex_reading.specs.Seen.{HasPlace, IsLedTo}
 use Rattle.rowex_reading.proofs.Seen.Standing.{led_in_table}
 
 module _ (layout other : Layout) (same : other ≡ layout) where

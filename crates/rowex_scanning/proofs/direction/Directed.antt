@@ -1,13 +1,7 @@
 -- Gaps and ranges, for both directions.
-use Rattle.std.proofs.Common.{◌≡◌, ◌⊎◌, inl, inr, ℕ, suc, ◌+◌, ◌-◌, ◌%◌, ◌^◌, ◌<◌, ◌≤◌, List, length, refl, arith}
-use Rattle.versions.specs.State.{Past}
-use Rattle.version_laws.specs.Directions.{IsEarlier, IsNoLater, IsScanBy, first_gap, first_key, gap_after, gap_before, gap_behind, last_key, place_ahead, to_come}
-use Rattle.version_laws.specs.Scan.{Pair, Range, IsInRange, Frame as Stage}
-use Rattle.packed_pairs.specs.declared.direction.Direction.{Direction}
-use Rattle.packed_pairs.specs.declared.direction.Direction.TheVariants.{Upwards, Downwards}
+use Rattle.rowex_scanning.proofs.Common.{◌≡◌, ◌⊎◌, inl, inr, ℕ, suc, ◌+◌, ◌-◌, ◌%◌, ◌^◌, ◌<◌, ◌≤◌, List, length, refl, arith, Past, IsEarlier, IsNoLater, IsScanBy, first_gap, first_key, gap_after, gap_before, gap_behind, last_key, place_ahead, to_come, Pair, Range, IsInRange, Stage, Direction, Upwards, Downwards, Key, IsBefore}
 use Rattle.rowex_scanning.specs.Ahead.{slot_step}
 use Rattle.rowex_scanning.specs.Scanning.{limited}
-use Rattle.tries.specs.Keys.{Key, IsBefore}
 
 -- ---- slots
 -- a step leads to the slot behind

@@ -1,16 +1,8 @@
 -- The order of keys by their first words.
-use Rattle.std.proofs.Common.{◌≡◌, ℕ, zero, suc, ◌+◌, ◌*◌, ◌^◌, ◌<◌, List, [], ◌∷◌, length, get_or, refl, ap, sym, ◌∙◌, arith, below_more, inl, inr, lit<}
+use Rattle.rowex_scanning.proofs.Common.{◌≡◌, ℕ, zero, suc, ◌+◌, ◌*◌, ◌^◌, ◌<◌, List, [], ◌∷◌, length, get_or, refl, ap, sym, ◌∙◌, arith, below_more, inl, inr, lit<, cases_lt, slice_cmp, nat_cmp, ordering_then, Ordering, Less, Equal, get_or_past, IsKey, key_word}
 use borrow.Author.Count.{below_none}
-use Rattle.std.proofs.lemmas.Bool.{cases_lt}
 use Rattle.std.specs.Cmp.{nat_cmp_is}
-use Rattle.std.specs.Cmp.Lexicographic.{slice_cmp}
-use Rattle.std.specs.Ordering.{nat_cmp, ordering_then}
-use Rattle.std.specs.declared.cmp.Ordering.{Ordering}
-use Rattle.std.specs.declared.cmp.Ordering.TheVariants.{Less, Equal}
-use Rattle.std.proofs.lemmas.List.{get_or_past}
 use Rattle.std.proofs.lemmas.List.Elements.{All-get_or}
-use Rattle.key_bits.specs.Key.{IsKey}
-use Rattle.record_words.specs.Leaf.{key_word}
 
 -- what stands in a key is a byte, and past it is 0
 pub small_byte : (key : List ℕ) → IsKey key → (i : ℕ) → get_or key i 0 < 256

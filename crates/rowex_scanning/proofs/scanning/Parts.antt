@@ -1,17 +1,8 @@
 -- A scan for which memory was refused, as one that was cut at the number of its pairs.
-use Rattle.std.proofs.Common.{◌≡◌, ◌<◌, ◌≤◌, ◌∷◌, refl, sym, subst, arith, true, ℕ}
-use Rattle.compound_node.specs.declared.entries.Entry.TheVariants.{Leaf}
-use Rattle.insert_cases.specs.declared.choice.PathNode.{PathNode}
+use Rattle.rowex_scanning.proofs.Common.{◌≡◌, ◌<◌, ◌≤◌, ◌∷◌, refl, sym, subst, arith, true, ℕ, Leaf, PathNode, Key, Known, IsLater, before, Range, seen, since, Direction}
 use Rattle.std.specs.Prelude.{List}
-use Rattle.tries.specs.Keys.{Key}
-use Rattle.rowex_core.specs.declared.known.Known.{Known}
-use Rattle.rowex_table.specs.Made.{IsLater}
-use Rattle.version_laws.proofs.Directions.{before}
-use Rattle.version_laws.specs.Scan.{Range}
-use Rattle.rowex_reading.specs.Seen.{seen, since}
 use Rattle.rowex_scanning.specs.Scanning.{HasTaken, HasTakenPart, IsLeafRefused, IsLeafTaken, IsPairRefused, limited}
 use Rattle.rowex_scanning.specs.Tallies.{IsNone, IsKept, Tally}
-use Rattle.packed_pairs.specs.declared.direction.Direction.{Direction}
 use Rattle.rowex_scanning.specs.declared.scan.Verdict.TheVariants.{Full}
 use Rattle.rowex_scanning.proofs.direction.Directed.{scan_limited}
 use Rattle.rowex_scanning.proofs.Walking.{IsAtEntry, IsBeforeEntry, IsRootRead, leaf_full, walk_full}

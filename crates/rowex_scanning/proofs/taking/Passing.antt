@@ -1,25 +1,10 @@
 -- What a walk has seen at the places that come next, and what it comes to behind their leaves.
-use Rattle.std.proofs.Common.{◌≡◌, ℕ, ◌+◌, ◌<◌, ◌≤◌, List, length, Bool, false, get_or, set, take, ap, sym, ◌∙◌, subst, arith, ⊎_elim}
-use Rattle.std.proofs.lemmas.Bool.{cases_lt}
-use Rattle.std.proofs.lemmas.List.{get_or-set_other, get_or-take, length-take-le}
+use Rattle.rowex_scanning.proofs.Common.{◌≡◌, ℕ, ◌+◌, ◌<◌, ◌≤◌, List, length, Bool, false, get_or, set, take, ap, sym, ◌∙◌, subst, arith, ⊎_elim, cases_lt, get_or-set_other, length-take-le, height_of, Entry, Leaf, Node, PathNode, Layout, a_leaf, Known, IsLater, IsStartOf, Range, EntryStoodSince, IsPlaced, HasPlace, HasMorePlaces, IsLedTo, Sure, since, placed_stable, room_stable, seen_stable, since_later, sure_later, first_key, gap_after, gap_before, gap_behind, place_ahead, to_come, Direction}
+use Rattle.std.proofs.lemmas.List.{get_or-take}
 use Rattle.std.proofs.lemmas.Grind.{get_or-set_at}
-use Rattle.compound_node.specs.Nodes.{height_of}
-use Rattle.compound_node.specs.declared.entries.Entry.{Entry}
-use Rattle.compound_node.specs.declared.entries.Entry.TheVariants.{Leaf, Node}
-use Rattle.insert_cases.specs.declared.choice.PathNode.{PathNode}
-use Rattle.record_words.specs.declared.layout.Layout.{Layout}
-use Rattle.record_words.specs.declared.records.Rec.TheVariants.{Leaf as a_leaf}
-use Rattle.rowex_core.specs.declared.known.Known.{Known}
-use Rattle.rowex_table.specs.Made.{IsLater}
-use Rattle.rowex_table.specs.Rule.{IsStartOf}
-use Rattle.version_laws.specs.Scan.{Range, EntryStoodSince, IsPlaced}
-use Rattle.rowex_reading.specs.Seen.{HasPlace, HasMorePlaces, IsLedTo, Sure, since}
-use Rattle.rowex_reading.proofs.Seen.{placed_stable, room_stable, seen_stable, since_later, sure_later}
 use Rattle.rowex_scanning.specs.Ahead.{AreAhead, AreNext, LeavesBeginAt, FirstLeavesBeginAt, AreTaken, HasPlaces, HavePassed, IsNodeAhead}
-use Rattle.version_laws.specs.Directions.{first_key, gap_after, gap_before, gap_behind, place_ahead, to_come}
 use Rattle.rowex_scanning.specs.Scanning.{IsBound, IsLeafTaken, IsReached, IsWalk, Request}
 use Rattle.rowex_scanning.specs.Tallies.{IsKept, Tally}
-use Rattle.packed_pairs.specs.declared.direction.Direction.{Direction}
 use Rattle.rowex_scanning.specs.declared.scan.Verdict.{Verdict}
 use Rattle.rowex_scanning.specs.declared.scan.Verdict.TheVariants.{Further, Past as IsPast}
 use Rattle.rowex_scanning.proofs.direction.Directed.{come_most, gap_before_place, gap_behind_place, gap_none}

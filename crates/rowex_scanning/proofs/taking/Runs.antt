@@ -1,23 +1,5 @@
 -- Leaves that come together in a node: those before one whose key is not past the range belong to the range.
-use Rattle.std.proofs.Common.{◌≡◌, ◌≢◌, inl, inr, ⊎_elim, ℕ, zero, suc, ◌+◌, ◌<◌, ◌≤◌, List, length, refl, sym, subst, arith, true, false, get_or}
-use Rattle.std.proofs.lemmas.Bool.{cases_lt}
-use Rattle.compound_node.specs.declared.entries.Entry.TheVariants.{Leaf}
-use Rattle.insert_cases.specs.declared.choice.PathNode.{PathNode}
-use Rattle.tries.specs.Keys.{Key, IsBefore}
-use Rattle.versions.specs.State.{KeepsFixedWordsSince, Past, Stands}
-use Rattle.record_words.specs.declared.records.Rec.TheVariants.{Leaf as a_leaf}
-use Rattle.rowex_core.specs.declared.known.Known.{Known}
-use Rattle.rowex_table.specs.Made.{IsLater}
-use Rattle.version_laws.proofs.Scan.{before_trans, leaf_may_stand, leaf_of, placed_stands}
-use Rattle.version_laws.proofs.Directions.Starts.{beyond_grown, same_past}
-use Rattle.version_laws.proofs.Directions.{come_before, may_stand_earlier}
-use Rattle.version_laws.specs.Directions.{IsEarlier, IsNoLater, IsPastKey, IsToCome, WasPassed, first_key, gap_before, last_key, place_ahead, to_come}
-use Rattle.version_laws.specs.Scan.{Range, IsInRange, IsPlaced, IsRead}
-use Rattle.packed_pairs.specs.declared.direction.Direction.{Direction}
-use Rattle.packed_pairs.specs.declared.direction.Direction.TheVariants.{Upwards, Downwards}
-use Rattle.rowex_reading.specs.Seen.{Sure, IsLedTo, seen, since}
-use Rattle.rowex_reading.proofs.Seen.Led.{placed_led}
-use Rattle.rowex_reading.proofs.Seen.{later_reflexive, read_stable, recalls_before, seen_grown, seen_steady, since_later, sure_later}
+use Rattle.rowex_scanning.proofs.Common.{◌≡◌, ◌≢◌, inl, inr, ⊎_elim, ℕ, zero, suc, ◌+◌, ◌<◌, ◌≤◌, List, length, refl, sym, subst, arith, true, false, get_or, cases_lt, Leaf, PathNode, Key, IsBefore, KeepsFixedWordsSince, Past, Stands, a_leaf, Known, IsLater, before_trans, leaf_may_stand, leaf_of, placed_stands, beyond_grown, same_past, come_before, may_stand_earlier, IsEarlier, IsNoLater, IsPastKey, IsToCome, WasPassed, first_key, gap_before, last_key, place_ahead, to_come, Range, IsInRange, IsPlaced, IsRead, Direction, Upwards, Downwards, Sure, IsLedTo, seen, since, placed_led, later_reflexive, read_stable, recalls_before, seen_grown, seen_steady, since_later, sure_later}
 use Rattle.rowex_scanning.specs.Ahead.{AreBehindGap, AreNext, AreWithin, HavePassed, IsLeafNotPast, IsLeafPast}
 use Rattle.rowex_scanning.specs.Scanning.{HasTaken, HasTakenPart, Request}
 use Rattle.rowex_scanning.specs.Tallies.{IsKept, IsOneMore, Tally, tally_of_number}

@@ -1,39 +1,16 @@
 -- What a publish and the acts after it leave a pass, on the whole lists of what it has, and which of them it may make.
-use Rattle.std.proofs.Common.{◌≡◌, ℕ, ◌<◌, List, [], ◌∷◌, ◌++◌, map, Option, Some, None, IsSome, refl, sym, ap, subst, ◌∙◌}
-use Rattle.compound_node.specs.declared.entries.Entry.{Entry}
-use Rattle.finite_map.specs.declared.Change.{Change}
-use Rattle.finite_map.specs.declared.Note.{Note}
-use Rattle.finite_map.specs.Fronts.{map_of, Fits}
-use Rattle.record_words.specs.declared.layout.Layout.{Layout}
-use Rattle.record_words.specs.declared.records.Rec.{Rec}
-use Rattle.record_words.specs.declared.records.Rec.TheVariants.{Node as a_node}
+use Rattle.rowex_table.proofs.Common.{◌≡◌, ℕ, ◌<◌, List, [], ◌∷◌, ◌++◌, map, Option, None, IsSome, refl, sym, ap, subst, ◌∙◌, Entry, Change, Note, map_of, Fits, Layout, Rec, a_node, IsLived, InTree, life_of, Unlock, Publish, Mark, LoadEpoch, Root, Slot, Value, Anchor, NodeTarget, Known, Locked, Owned, Core, HasRecord, IsLawful, Knows, IsEvent, IsOwned, IsLocked, fate_of, knows_all, round_is, publish_is_a_step, IsOneOf, AreApart, HasTraded, all_of, of_map, has_mapped, owned_used, node_used, owned_after_publish, mark_owns, unlock_locks, IsLegalPublish, next_tree, next_change}
+use Rattle.std.proofs.Common.{Some}
 use Rattle.versions.specs.declared.Round.{Round}
-use Rattle.versions.specs.State.{IsLived}
-use Rattle.versions.specs.Core.{InTree, life_of}
-use Rattle.rowex_core.specs.declared.event.Act.TheVariants.{Unlock, Publish, Mark, LoadEpoch}
 use Rattle.rowex_core.specs.declared.event.Spot.{Spot}
-use Rattle.rowex_core.specs.declared.event.Spot.TheVariants.{Root, Slot, Value}
-use Rattle.rowex_core.specs.declared.event.Target.TheVariants.{Anchor, Node as NodeTarget}
-use Rattle.rowex_core.specs.declared.known.Known.{Known}
-use Rattle.rowex_core.specs.declared.known.Locked.{Locked}
-use Rattle.rowex_core.specs.declared.known.Owned.{Owned}
-use Rattle.rowex_core.specs.Cores.{Core, HasRecord, IsLawful}
-use Rattle.rowex_core.specs.Knowing.{Knows, IsEvent}
-use Rattle.rowex_core.specs.Sharing.{IsOwned, IsLocked, fate_of}
-use Rattle.rowex_core.proofs.Sharing.Owning.{knows_all, round_is}
-use Rattle.rowex_core.proofs.Statements.Promises.{publish_is_a_step}
 use Rattle.rowex_table.specs.Rule.{MayStep}
-use Rattle.versions.specs.Trades.{IsOneOf, AreApart, HasTraded}
 use Rattle.rowex_core.specs.Having.{OwnsJust, LocksJust, AreKept, InAnyWay, IsUnlinked, IsUnlinkedBefore}
 use Rattle.rowex_table.specs.Publishes.{HasPublished, Publishes}
 use Rattle.rowex_table.specs.Runs.{silent}
 use Rattle.rowex_table.specs.Made.{Made, held_as, recs_of, nodes_of}
 use Rattle.rowex_core.specs.declared.known.Holding.TheVariants.{Ready}
-use Rattle.versions.proofs.Trades.{all_of, of_map, map_of as has_mapped}
 use Rattle.rowex_core.proofs.Cores.Valuing.{legal_store}
-use Rattle.rowex_core.proofs.Having.{owned_used, node_used, owned_after_publish, mark_owns, unlock_locks}
 use Rattle.finite_map.specs.Maps.{value_at}
-use Rattle.rowex_core.specs.Events.{IsLegalPublish, next_tree, next_change}
 
 -- In this core the store of the word at the spot is a legal publish by pass q of the change x: `was` is what the key's value was
 -- before; just the records `new` are linked anew, and just the records `gone` are linked no more.

@@ -1,49 +1,20 @@
 -- What the acts before a publish leave a pass, on the whole lists of what it has: locks, claims, fills, readies, releases, loads.
-use Rattle.std.proofs.Common.{◌≡◌, inl, inr, ℕ, suc, ◌+◌, List, [], ◌∷◌, ◌++◌, length, get_or, map, nat_eq, Bool, true, false, Option, Some, None, refl, sym, ap, ap₂, subst, ◌∙◌, arith, append_assoc}
-use Rattle.std.specs.Prelude.{All}
-use Rattle.std.proofs.lemmas.Bool.{eqb-true}
-use Rattle.std.proofs.lemmas.List.{map-append, append-nil}
-use Rattle.std.proofs.lemmas.List.Elements.{All-tail}
-use Rattle.compound_node.specs.declared.entries.Entry.{Entry}
-use Rattle.finite_map.specs.declared.Note.{Note}
-use Rattle.finite_map.specs.Fronts.{OthersGoOn}
-use Rattle.record_words.specs.declared.layout.Layout.{Layout}
-use Rattle.record_words.specs.State.{state_word}
-use Rattle.record_words.specs.declared.records.Rec.{Rec}
-use Rattle.record_words.specs.declared.records.Rec.TheVariants.{Node as a_node}
+use Rattle.rowex_table.proofs.Common.{◌≡◌, inl, inr, ℕ, suc, ◌+◌, List, [], ◌∷◌, ◌++◌, length, get_or, map, nat_eq, Bool, true, false, Option, None, refl, sym, ap, ap₂, subst, ◌∙◌, arith, append_assoc, All, eqb-true, map-append, All-tail, Entry, Note, OthersGoOn, Layout, state_word, Rec, a_node, Past, Fate, InTree, Act, Claim, Fill, Ready, Release, LoadRef, LoadFixed, Lock, Unlock, Publish, Mark, LoadEpoch, Advance, SetPin, ClearPin, LoadPin, LoadState, GiveBack, Load, Root, Slot, Value, Anchor, NodeTarget, Holding, Held, IsReady, Known, Locked, Owned, Core, lock_tag, tag_of, record_word, target_word, Location, Knows, failed_with, IsFact, IsEvent, facts_with, with_holding, without_record, anchor_learned, node_learned, learned_by, learned, blocking_pass_at, Recalls, IsLocked, knows_all, IsOneOf, other_rec, of_map, all_of}
+use Rattle.std.proofs.Common.{Some}
+use Rattle.std.proofs.lemmas.List.{append-nil}
 use Rattle.versions.specs.declared.Pin.{Pin}
-use Rattle.versions.specs.State.{Past}
-use Rattle.versions.specs.Core.{Fate, InTree}
 use Rattle.versions.proofs.Core.{same_rec_refl}
-use Rattle.rowex_core.specs.declared.event.Act.{Act}
-use Rattle.rowex_core.specs.declared.event.Act.TheVariants.{Claim, Fill, Ready, Release, LoadRef, LoadFixed, Lock, Unlock, Publish, Mark, LoadEpoch, Advance, SetPin, ClearPin, LoadPin, LoadState, GiveBack, Load}
-use Rattle.rowex_core.specs.declared.event.Spot.TheVariants.{Root, Slot, Value}
-use Rattle.rowex_core.specs.declared.event.Target.TheVariants.{Anchor, Node as NodeTarget}
 use Rattle.rowex_core.specs.declared.known.Fact.{Fact}
-use Rattle.rowex_core.specs.declared.known.Holding.{Holding}
-use Rattle.rowex_core.specs.declared.known.Holding.TheVariants.{Held, Ready as IsReady}
 use Rattle.rowex_core.specs.declared.known.FailedAct.{FailedAct}
 use Rattle.rowex_core.specs.declared.known.FailedAct.TheVariants.{Lock as a_lock}
-use Rattle.rowex_core.specs.declared.known.Known.{Known}
 use Rattle.rowex_core.specs.declared.known.Loaded.{Loaded}
-use Rattle.rowex_core.specs.declared.known.Locked.{Locked}
-use Rattle.rowex_core.specs.declared.known.Owned.{Owned}
-use Rattle.rowex_core.specs.Cores.{Core}
-use Rattle.rowex_core.specs.Words.{lock_tag, tag_of, record_word}
-use Rattle.rowex_core.specs.Events.{target_word}
 use Rattle.rowex_core.specs.declared.event.Target.{Target}
-use Rattle.record_words.specs.declared.layout.Location.{Location}
-use Rattle.rowex_core.specs.Knowing.{Knows, failed_with, IsFact, IsEvent, facts_with, with_holding, without_record, anchor_learned, node_learned, learned_by, learned, blocking_pass_at, Recalls}
-use Rattle.rowex_core.specs.Sharing.{IsLocked}
-use Rattle.rowex_core.proofs.Sharing.Owning.{knows_all}
 use Rattle.rowex_table.proofs.Made.ActsLeave.{as_before}
 use Rattle.rowex_table.proofs.Rights.{anchor_free}
 use Rattle.rowex_table.specs.Runs.{silent}
 use Rattle.rowex_table.specs.Stays.{KeepsRecall, LeavesFront, LeavesPin}
-use Rattle.versions.specs.Trades.{IsOneOf}
-use Rattle.rowex_core.proofs.Having.{other_rec}
 use Rattle.rowex_table.specs.Made.{Made, held_as, recs_of, nodes_of, IsLater}
-use Rattle.versions.proofs.Trades.{of_map, map_of, all_of}
+use Rattle.versions.proofs.Trades.{map_of}
 use Rattle.finite_map.proofs.Fronts.{others_on, others_none}
 
 -- the front, the facts and the pin are as before

@@ -1,18 +1,8 @@
 -- What each act leaves its pass of what it knew.
-use Rattle.std.proofs.Common.{◌≡◌, ◌+◌, ℕ, List, Bool, true, false, nat_eq, Option, Some, None, refl, sym, ap, subst, ◌∙◌}
+use Rattle.rowex_table.proofs.Common.{◌≡◌, ◌+◌, ℕ, List, Bool, true, false, nat_eq, Option, None, refl, sym, ap, subst, ◌∙◌, Note, Layout, Rec, Fate, Free, HeldBy, ReadyBy, InTree, UnlinkedBy, Marked, Act, Claim, Fill, Ready, Release, LoadRef, LoadFixed, Lock, Unlock, Publish, Mark, LoadEpoch, Advance, SetPin, ClearPin, LoadPin, LoadState, GiveBack, Load, Root, Slot, Value, Anchor, NodeTarget, Known, Core, IsEvent, claim_learned, anchor_learned, learned}
+use Rattle.std.proofs.Common.{Some}
 use Rattle.std.specs.Prelude.{if◌then◌else◌}
 use Rattle.std.proofs.lemmas.List.{append-nil}
-use Rattle.finite_map.specs.declared.Note.{Note}
-use Rattle.record_words.specs.declared.layout.Layout.{Layout}
-use Rattle.record_words.specs.declared.records.Rec.{Rec}
-use Rattle.versions.specs.Core.{Fate, Free, Held as HeldBy, Ready as ReadyBy, InTree, Unlinked as UnlinkedBy, Marked}
-use Rattle.rowex_core.specs.declared.event.Act.{Act}
-use Rattle.rowex_core.specs.declared.event.Act.TheVariants.{Claim, Fill, Ready, Release, LoadRef, LoadFixed, Lock, Unlock, Publish, Mark, LoadEpoch, Advance, SetPin, ClearPin, LoadPin, LoadState, GiveBack, Load}
-use Rattle.rowex_core.specs.declared.event.Spot.TheVariants.{Root, Slot, Value}
-use Rattle.rowex_core.specs.declared.event.Target.TheVariants.{Anchor, Node as NodeTarget}
-use Rattle.rowex_core.specs.declared.known.Known.{Known}
-use Rattle.rowex_core.specs.Cores.{Core}
-use Rattle.rowex_core.specs.Knowing.{IsEvent, claim_learned, anchor_learned, learned}
 use Rattle.rowex_table.specs.Runs.{silent}
 use Rattle.rowex_table.specs.Stays.{LeavesFresh, IsNext}
 

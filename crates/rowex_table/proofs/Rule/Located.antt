@@ -1,7 +1,5 @@
 -- A record that was located, as a node's or a leaf's.
-use Rattle.std.proofs.Common.{◌≡◌, ◌∙◌, ℕ, ap, subst, sym}
-use Rattle.record_words.specs.declared.layout.Layout.{Layout}
-use Rattle.record_words.specs.declared.records.Rec.TheVariants.{Node as a_node, Leaf as a_leaf}
+use Rattle.rowex_table.proofs.Common.{◌≡◌, ◌∙◌, ℕ, ap, subst, sym, Layout, a_node, a_leaf}
 use Rattle.rowex_table.specs.declared.record_steps.RecordAt.{RecordAt}
 use Rattle.rowex_table.specs.Rule.{IsLeafRecordAt, IsNodeRecordAt, IsStartOf, record_number}
 

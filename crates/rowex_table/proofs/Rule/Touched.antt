@@ -1,15 +1,9 @@
 -- A word of a record is one of the table's words, and a touch of it keeps the rule.
-use Rattle.std.proofs.Common.{◌≡◌, ℕ, [], ◌+◌, ◌<◌, Option, Some, arith, refl}
+use Rattle.rowex_table.proofs.Common.{◌≡◌, ℕ, [], ◌+◌, ◌<◌, Option, arith, refl, Allows, Me, word_count, Layout, HasWord, Rec, a_node, a_leaf, Known}
+use Rattle.std.proofs.Common.{Some}
 use mathlib.Core.Option.{none}
-use Rattle.atomic_table.specs.Table.{Allows, Me}
 use Rattle.atomic_table.specs.Table as table
-use Rattle.record_words.specs.Layout.{word_count}
-use Rattle.record_words.specs.declared.layout.Layout.{Layout}
 use Rattle.record_words.specs.declared.layout.Location.TheVariants.{NodeWord, LeafWord}
-use Rattle.rowex_core.specs.Cores.{HasWord}
-use Rattle.record_words.specs.declared.records.Rec.{Rec}
-use Rattle.record_words.specs.declared.records.Rec.TheVariants.{Node as a_node, Leaf as a_leaf}
-use Rattle.rowex_core.specs.declared.known.Known.{Known}
 use Rattle.rowex_table.specs.declared.traces.Trace.{Trace}
 use Rattle.rowex_table.specs.declared.traces.TracedView.{TracedView}
 use Rattle.rowex_table.specs.declared.traces.TracedView.TheVariants.{Pass}

@@ -1,15 +1,8 @@
 -- Stamps: how one is split from a pass, and how it is joined to another.
-use Rattle.std.proofs.Common.{◌≡◌, ℕ, ◌<◌, [], List, Option, Some, refl, sym, subst, ◌∙◌, inl, ⊎_elim}
-use Rattle.std.specs.Prelude.{All}
+use Rattle.rowex_table.proofs.Common.{◌≡◌, ℕ, ◌<◌, [], List, Option, refl, sym, subst, ◌∙◌, inl, ⊎_elim, All, Me, Allows, Splits, Joins, Change, Layout, Event, Known, Core, seen_by}
+use Rattle.std.proofs.Common.{Some}
 use mathlib.Core.Option.{none}
-use Rattle.atomic_table.specs.Table.{Me, Allows, Splits, Joins}
 use Rattle.atomic_table.specs.Table as table
-use Rattle.finite_map.specs.declared.Change.{Change}
-use Rattle.record_words.specs.declared.layout.Layout.{Layout}
-use Rattle.rowex_core.specs.declared.event.Event.{Event}
-use Rattle.rowex_core.specs.declared.known.Known.{Known}
-use Rattle.rowex_core.specs.Cores.{Core}
-use Rattle.rowex_core.proofs.Knowing.Keeping.{seen_by}
 use Rattle.rowex_table.specs.declared.traces.Trace.{Trace}
 use Rattle.rowex_table.specs.declared.traces.TracedView.{TracedView}
 use Rattle.rowex_table.specs.declared.traces.TracedView.TheVariants.{Spent, Pass, Witness, Follower}

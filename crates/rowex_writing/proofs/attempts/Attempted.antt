@@ -1,20 +1,7 @@
 -- The steps of an attempt: a search, and what comes after it.
-use Rattle.std.proofs.Common.{◌≡◌, inl, inr, Bool, true, ℕ, zero, suc, ◌+◌, ◌-◌, ◌*◌, ◌<◌, ◌≤◌, List, [], ◌∷◌, ◌++◌, length, refl, sym, ap, subst, ◌∙◌, arith, ◌≢◌}
-use Rattle.std.specs.Prelude.{All, IfErr, Result, Ok, Err, ⊤}
-use Rattle.std.proofs.lemmas.List.Elements.{All-append, All-cons, All-head, All-tail, All-weaker}
-use Rattle.record_words.specs.declared.layout.Layout.{Layout}
-use Rattle.rowex_core.specs.declared.event.Act.{Act}
-use Rattle.rowex_core.specs.declared.event.Act.TheVariants.{LoadFixed, LoadRef, Lock}
-use Rattle.rowex_core.specs.declared.event.Event.{Event}
-use Rattle.rowex_core.specs.declared.event.Spot.TheVariants.{Root, Slot, Value}
-use Rattle.rowex_table.specs.Runs.{Runs}
-use Rattle.rowex_table.specs.Seats.{TableView, SeatView}
-use Rattle.rowex_table.proofs.Runs.{runs_append}
-use Rattle.rowex_reading.specs.Lookups.{HasSearched}
-use Rattle.rowex_reading.specs.Reads.{IsBelowRoot, Reads, entries_in}
-use Rattle.rowex_reading.proofs.Counting.{looks_count, runs_count}
+use Rattle.rowex_writing.proofs.Common.{◌≡◌, inl, inr, Bool, true, ℕ, zero, suc, ◌+◌, ◌-◌, ◌*◌, ◌<◌, ◌≤◌, List, [], ◌∷◌, ◌++◌, length, refl, sym, ap, subst, ◌∙◌, arith, ◌≢◌, All, ⊤, All-append, All-cons, All-head, All-tail, All-weaker, Layout, Act, LoadFixed, LoadRef, Lock, Event, Root, Slot, Value, Runs, TableView, SeatView, runs_append, HasSearched, IsBelowRoot, Reads, entries_in, looks_count, runs_count, HEAD_WORDS, Known, IsLater, later_trans, Rec}
+use Rattle.std.specs.Prelude.{IfErr, Result, Ok, Err}
 use Rattle.rowex_writing.specs.attempts.Attempts.{AreAttemptSteps, HasAttempted, IsOfSearch, HasFailed, refusal_of}
-use Rattle.record_words.specs.declared.TheConstants.{HEAD_WORDS}
 use Rattle.rowex_writing.proofs.locks.Onward.{reads_run}
 use Rattle.rowex_writing.proofs.locks.Runs.{once_run, run_once, goes_run, runs_trans}
 use Rattle.rowex_writing.specs.plan.Counts.{attempt_steps, change_steps, most_locks, most_nodes, most_steps, rest_steps, search_steps, span_steps}
@@ -24,12 +11,8 @@ use Rattle.rowex_writing.specs.declared.plan.job.Job.{Job}
 use Rattle.rowex_writing.proofs.locks.Spans.{numbers_few}
 use Rattle.rowex_writing.proofs.locks.Tried.{once_after, targets_append, nodes_then}
 use Rattle.rowex_writing.proofs.store.Values.{job_later}
-use Rattle.rowex_core.specs.declared.known.Known.{Known}
-use Rattle.rowex_table.specs.Made.{IsLater}
-use Rattle.rowex_reading.proofs.Seen.{later_trans}
 use Rattle.rowex_writing.specs.declared.attempts.TryFault.{TryFault}
 use Rattle.rowex_writing.specs.declared.attempts.TryFault.TheVariants.{Busy, FullNodes, FullLeaves}
-use Rattle.record_words.specs.declared.records.Rec.{Rec}
 use Rattle.rowex_writing.specs.locks.Going.{ReadsOn}
 use Rattle.rowex_writing.specs.build.Changes.{HasNoRoom}
 use Rattle.rowex_writing.specs.declared.plan.Full.{Full}

@@ -2,39 +2,12 @@
 use Rattle.rowex_writing.specs.build.Spare.{IsRemoval}
 use Rattle.std.specs.Prelude.{if◌then◌else◌, nat_eq, IsSome}
 use Rattle.std.specs.Option.{option_map}
-use Rattle.std.proofs.lemmas.Bool.{eqb-true}
-use Rattle.std.proofs.Common.{◌≡◌, ◌≢◌, ◌⊎◌, inl, inr, ℕ, ◌+◌, ◌≤◌, ◌<◌, List, [], ◌∷◌, length, refl, sym, ap, subst, ◌∙◌, arith, Option, Some, None, Bool, true, false, Ok, Err, ◌*◌}
-use Rattle.finite_map.specs.declared.Call.{Call}
+use Rattle.rowex_writing.proofs.Common.{eqb-true, ◌≡◌, ◌≢◌, ◌⊎◌, inl, inr, ℕ, ◌+◌, ◌≤◌, ◌<◌, List, [], ◌∷◌, length, refl, sym, ap, subst, ◌∙◌, arith, Option, Some, None, Bool, true, false, Ok, Err, ◌*◌, Call, Change, Added, Replaced, TakenAway, Reply, OthersGoOn, Map, key_of, step_if, with_value, wrapped_sum, others_on, Case, LeafPushdown, NormalInsert, Overflow, PathNode, Key, IsHeldSince, WasAbsentSince, Layout, Rec, Event, Known, TableView, SeatView, IsSeatOf, IsPossible, Looks, Reads, looked_at, looks_same, reads_later, reads_same, reads_sees, IsAtRest, HadShapeSince, IsLater, HasFound, HasSearched, IsPinnedSince, Sure, since, later_trans, held_stable, missed_stable, shaped_stable, sure_later, since_later, IsWayOf, value_of, Found, Nothing, Leaf, HEAD_WORDS}
 use Rattle.finite_map.specs.declared.Call.TheVariants.{Insert, Upsert, Exchange, Add, Get, Remove, RemoveIf}
-use Rattle.finite_map.specs.declared.Change.{Change}
 use Rattle.finite_map.specs.declared.Kind.{Kind}
-use Rattle.finite_map.specs.declared.Kind.TheVariants.{Added, Replaced, Removed as TakenAway}
-use Rattle.finite_map.specs.declared.Reply.{Reply}
 use Rattle.finite_map.specs.declared.Reply.TheVariants.{Exchanged, Exists, Absent, Removed}
 use Rattle.finite_map.specs.Calls.{effect_of}
-use Rattle.finite_map.specs.Fronts.{OthersGoOn}
-use Rattle.finite_map.specs.Maps.{Map, key_of, step_if, with_value, without, wrapped_sum}
-use Rattle.finite_map.proofs.Fronts.{others_on}
-use Rattle.insert_cases.specs.declared.choice.Case.{Case}
-use Rattle.insert_cases.specs.declared.choice.Case.TheVariants.{LeafPushdown, NormalInsert, Overflow}
-use Rattle.insert_cases.specs.declared.choice.PathNode.{PathNode}
-use Rattle.tries.specs.Keys.{Key}
-use Rattle.versions.specs.State.{IsHeldSince, WasAbsentSince}
-use Rattle.record_words.specs.declared.layout.Layout.{Layout}
-use Rattle.record_words.specs.declared.records.Rec.{Rec}
-use Rattle.rowex_core.specs.declared.event.Event.{Event}
-use Rattle.rowex_core.specs.declared.known.Known.{Known}
-use Rattle.rowex_table.specs.Seats.{TableView, SeatView, IsSeatOf}
-use Rattle.rowex_reading.specs.Possible.{IsPossible}
-use Rattle.rowex_reading.specs.Reads.{Looks, Reads}
-use Rattle.rowex_reading.proofs.Seen.Led.{looked_at, looks_same, reads_later, reads_same, reads_sees}
-use Rattle.publish_laws.specs.Ending.{IsAtRest}
-use Rattle.version_laws.specs.Scan.{HadShapeSince}
-use Rattle.rowex_table.specs.Made.{IsLater}
-use Rattle.rowex_reading.specs.Lookups.{HasFound, HasSearched}
-use Rattle.rowex_core.specs.Knowing.{IsPinnedSince}
-use Rattle.rowex_reading.specs.Seen.{Sure, since}
-use Rattle.rowex_reading.proofs.Seen.{later_trans, held_stable, missed_stable, shaped_stable, sure_later, since_later}
+use Rattle.finite_map.specs.Maps.{without}
 use Rattle.rowex_writing.specs.plan.Asking.{aim_of, aim_where, reply_to, value_in}
 use Rattle.rowex_writing.specs.attempts.Attempts.{HasAnswered, HasLooked, HasRefused, IsAttemptCause, IsChangeOf, LacksNoLeaf, refusal_of, HasFailed, HasSeenKeyHeld, HasSeenKeyAbsent, IsFullFault, IsFullOnlyIfWanting, WantsRecord}
 use Rattle.rowex_writing.specs.store.Values.{HasDoneDeed, revalued}
@@ -43,17 +16,14 @@ use Rattle.rowex_writing.specs.plan.Planned.{AreAffected, IsPlanned, HasLoadedRo
 use Rattle.rowex_writing.specs.locks.Locks.{HasMetLock, locks_of, HasRun}
 use Rattle.rowex_writing.proofs.plan.Plans.{taking_takes, deed_in, no_answer, value_found}
 use Rattle.rowex_writing.specs.plan.Plans.{change, IsCase, IsNewLeafPlan, TakesLeaf, removal_deed}
-use Rattle.rowex_reading.specs.Ways.{IsWayOf, value_of}
 use Rattle.rowex_writing.specs.declared.plan.Aim.{Aim}
 use Rattle.rowex_writing.specs.declared.plan.Aim.TheVariants.{Insert as ToInsert, Upsert as ToUpsert, Remove as ToRemove}
 use Rattle.rowex_writing.specs.declared.plan.Deed.{Deed}
 use Rattle.rowex_writing.specs.declared.plan.Deed.TheVariants.{Put, PushDown, Grow, Take, Value as ValueDeed}
 use Rattle.rowex_writing.specs.declared.attempts.TryFault.{TryFault}
 use Rattle.rowex_writing.specs.declared.attempts.TryFault.TheVariants.{Busy, FullLeaves, FullNodes}
-use Rattle.rowex_reading.specs.declared.descent.Found.{Found}
 use Rattle.rowex_writing.specs.declared.plan.Full.{Full}
 use Rattle.rowex_writing.specs.declared.plan.Full.TheVariants.{Nodes, Leaves}
-use Rattle.rowex_reading.specs.declared.descent.Found.TheVariants.{Nothing, Leaf}
 use Rattle.rowex_writing.specs.declared.plan.Plan.{Plan}
 use Rattle.rowex_writing.specs.declared.plan.Plan.TheVariants.{Answer, Change as a_change}
 use Rattle.rowex_writing.specs.declared.plan.Span.{Span}
@@ -61,7 +31,6 @@ use Rattle.rowex_writing.proofs.build.Growths.{full_since}
 use Rattle.rowex_writing.proofs.locks.Onward.{looks_run, reads_run}
 use Rattle.rowex_writing.proofs.locks.Runs.{run_loaded, runs_trans}
 use Rattle.rowex_writing.proofs.locks.Spans.{met_since}
-use Rattle.record_words.specs.declared.TheConstants.{HEAD_WORDS}
 use Rattle.rowex_writing.specs.plan.Counts.{held_loads, most_nodes, most_steps, most_steps_of, search_steps, spare_steps, value_steps}
 use Rattle.rowex_writing.specs.locks.Jobs.{IsJobFrom}
 use Rattle.rowex_writing.specs.declared.plan.job.Job.{Job}

@@ -1,27 +1,9 @@
 -- A leaf that is named under the pass's locks, and whose value it loads: the key has this value after all changes that it has seen then.
-use Rattle.std.proofs.Common.{◌≡◌, ℕ, ◌-◌, ◌≤◌, length, Option, Some, None, refl, sym, ap, subst, ◌∙◌, arith, le_refl, IsSome}
-use Rattle.std.proofs.lemmas.List.{length-append, take_all}
-use Rattle.finite_map.specs.declared.Call.{Call}
+use Rattle.rowex_writing.proofs.Common.{◌≡◌, ℕ, ◌-◌, ◌≤◌, length, Option, Some, None, refl, sym, ap, subst, ◌∙◌, arith, le_refl, IsSome, length-append, take_all, Call, Map, value_at, Layout, Key, Tree, Holds, value_holds, content, Known, IsLater, HasFound, IsPossible, since, value_of, Found, Nothing, Leaf, later_trans, seen_told, KeepsLoaded}
 use Rattle.finite_map.specs.Fronts.{map_of}
-use Rattle.finite_map.specs.Maps.{Map, value_at}
-use Rattle.record_words.specs.declared.layout.Layout.{Layout}
-use Rattle.tries.specs.Keys.{Key}
-use Rattle.tries.specs.Tree.{Tree, Holds}
-use Rattle.tries.proofs.Content.Maps.{value_holds}
-use Rattle.versions.specs.Told.{content}
-use Rattle.rowex_core.specs.declared.known.Known.{Known}
-use Rattle.rowex_table.specs.Made.{IsLater}
-use Rattle.rowex_reading.specs.Lookups.{HasFound}
-use Rattle.rowex_reading.specs.Possible.{IsPossible}
-use Rattle.rowex_reading.specs.Seen.{since}
-use Rattle.rowex_reading.specs.Ways.{value_of}
-use Rattle.rowex_reading.specs.declared.descent.Found.{Found}
-use Rattle.rowex_reading.specs.declared.descent.Found.TheVariants.{Nothing, Leaf}
-use Rattle.rowex_reading.proofs.Seen.{later_trans, seen_told}
 use Rattle.rowex_writing.specs.plan.Asking.{aim_of}
 use Rattle.rowex_writing.specs.store.Values.{HasFoundOther, HasLoadedFound, HoldsFound, IsFoundAgain, revalued}
 use Rattle.rowex_writing.specs.declared.plan.Aim.{Aim}
-use Rattle.publish_laws.specs.Loops.{KeepsLoaded}
 use Rattle.rowex_writing.proofs.attempts.Attempts.{aims_again, found_later, no_aim}
 
 -- ---- the key's value after the changes that the pass has seen was found since its last load of the root

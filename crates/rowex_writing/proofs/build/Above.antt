@@ -1,29 +1,6 @@
 -- The spot above a span of the way, of which the pass holds the lock: what the search found stands there.
-use Rattle.std.proofs.Common.{◌≡◌, inl, inr, ℕ, zero, suc, ◌+◌, ◌-◌, ◌<◌, ◌≤◌, List, [], ◌∷◌, take, drop, Some, None, sym, ap, subst, ◌∙◌, arith}
-use Rattle.std.specs.Prelude.{slice_get}
-use Rattle.compound_node.specs.Nodes.{height_of}
-use Rattle.compound_node.specs.declared.entries.Entry.{Entry}
-use Rattle.compound_node.specs.declared.entries.Entry.TheVariants.{Leaf as LeafEntry, Node}
-use Rattle.insert_cases.specs.declared.choice.PathNode.{PathNode}
-use Rattle.insert_cases.proofs.Ways.{some_injective}
-use Rattle.node_tries.specs.Piece.{Place}
-use Rattle.record_words.specs.declared.layout.Layout.{Layout}
-use Rattle.tries.specs.Affected.{IsLowerSubtrie}
-use Rattle.tries.specs.Keys.{Key}
-use Rattle.tries.specs.Search.{seek}
-use Rattle.tries.specs.Tree.{Subtrie}
-use Rattle.versions.specs.Trades.{IsOneOf}
-use Rattle.versions.proofs.Trades.{map_of}
+use Rattle.rowex_writing.proofs.Common.{◌≡◌, inl, inr, ℕ, zero, suc, ◌+◌, ◌-◌, ◌<◌, ◌≤◌, List, [], ◌∷◌, take, drop, Some, None, sym, ap, subst, ◌∙◌, arith, slice_get, height_of, Entry, LeafEntry, Node, PathNode, some_injective, Place, Layout, IsLowerSubtrie, Key, seek, Subtrie, IsOneOf, map_of, Spot, Root, Slot, Value, Known, Locked, node_words_of, IsPossible, IsWayNode, IsWayOf, named, Found, HoldsAt, at_root, in_node, FitsAt, AffectsSpotAlone, IsSubtrieBelow}
 use Rattle.version_laws.specs.Spots.{AffectsOne}
-use Rattle.rowex_core.specs.declared.event.Spot.{Spot}
-use Rattle.rowex_core.specs.declared.event.Spot.TheVariants.{Root, Slot, Value}
-use Rattle.rowex_core.specs.declared.known.Known.{Known}
-use Rattle.rowex_core.specs.declared.known.Locked.{Locked}
-use Rattle.rowex_core.specs.Reading.{node_words_of}
-use Rattle.rowex_reading.specs.Possible.{IsPossible}
-use Rattle.rowex_reading.specs.Ways.{IsWayNode, IsWayOf, named}
-use Rattle.rowex_reading.specs.declared.descent.Found.{Found}
-use Rattle.publish_laws.specs.Spots.{HoldsAt, at_root, in_node, FitsAt, AffectsSpotAlone, IsSubtrieBelow}
 use Rattle.rowex_writing.specs.locks.Going.{HasLocked}
 use Rattle.rowex_writing.specs.locks.Checks.{IsChecked}
 use Rattle.rowex_writing.specs.locks.Locks.{HasLockedSpan}

@@ -1,54 +1,11 @@
 -- One record more for a change, or none.
-use Rattle.std.proofs.Common.{◌≡◌, ◌≢◌, inl, inr, ℕ, zero, suc, ◌+◌, ◌-◌, ◌≤◌, List, [], ◌∷◌, ◌++◌, length, get_or, map, refl, sym, ap, ap₂, subst, ◌∙◌, arith, Bool, true, false, nat_eq, if◌then◌else◌, Option, Some, None}
-use Rattle.std.specs.Prelude.{All, MatchOption}
-use Rattle.std.proofs.lemmas.Grind.{reverse_onto}
-use Rattle.std.proofs.lemmas.List.Elements.{All-append, All-cons}
-use Rattle.compound_node.specs.Nodes.{IsBuiltFrom, NodeView}
-use Rattle.compound_node.specs.declared.entries.Entry.{Entry}
-use Rattle.compound_node.specs.declared.entries.Entry.TheVariants.{Node}
-use Rattle.compound_node.specs.declared.halves.Half.{Half}
-use Rattle.compound_node.specs.declared.halves.Half.TheVariants.{Many}
-use Rattle.rowex_table.proofs.Made.ActsLeave.{act_leaves}
-use Rattle.record_words.specs.Layout.{leaf_size}
-use Rattle.record_words.specs.Leaf.{HasLeafWords, leaf_words, words_for}
-use Rattle.record_words.specs.Node.{HasNodeWords}
-use Rattle.tries.specs.Content.{Item}
-use Rattle.tries.specs.Tree.{Subtrie}
-use Rattle.versions.specs.Trades.{IsOneOf}
-use Rattle.record_words.specs.declared.records.Rec.{Rec}
-use Rattle.record_words.specs.declared.records.Rec.TheVariants.{Node as a_node, Leaf as a_leaf}
-use Rattle.versions.specs.Steps.{same_rec}
-use Rattle.versions.proofs.Core.{same_rec_refl}
-use Rattle.versions.proofs.Trades.{all_of, of_map, map_of}
-use Rattle.rowex_core.specs.declared.event.Act.{Act}
-use Rattle.rowex_core.specs.declared.event.Act.TheVariants.{Claim, Fill, LoadState}
-use Rattle.rowex_core.specs.declared.event.Event.{Event}
-use Rattle.rowex_core.specs.declared.known.Holding.TheVariants.{Held}
-use Rattle.rowex_core.specs.declared.known.Known.{Known}
-use Rattle.rowex_core.specs.declared.known.Owned.{Owned}
-use Rattle.rowex_core.specs.Cores.{FitsIn, holder_of, word_count_of}
-use Rattle.rowex_core.specs.Events.{word_of}
-use Rattle.rowex_core.specs.Knowing.{failed_with}
-use Rattle.rowex_core.specs.declared.known.FailedAct.TheVariants.{LoadState as a_load}
-use Rattle.rowex_core.specs.Reading.{IsPacked}
+use Rattle.rowex_writing.proofs.Common.{◌≡◌, ◌≢◌, inl, inr, ℕ, zero, suc, ◌+◌, ◌-◌, ◌≤◌, List, [], ◌∷◌, ◌++◌, length, get_or, map, refl, sym, ap, ap₂, subst, ◌∙◌, arith, Bool, true, false, nat_eq, if◌then◌else◌, Option, Some, None, All, MatchOption, reverse_onto, All-append, All-cons, IsBuiltFrom, NodeView, Entry, Node, Half, Many, act_leaves, leaf_size, HasLeafWords, leaf_words, words_for, HasNodeWords, Item, Subtrie, IsOneOf, Rec, a_node, a_leaf, same_rec, same_rec_refl, all_of, of_map, map_of, Act, Claim, Fill, LoadState, Event, Held, Known, Owned, FitsIn, holder_of, word_count_of, word_of, failed_with, a_load, IsPacked, IsLater, Made, held_as, recs_of, Runs, Does, InTurn, Steps, TableView, SeatView, IsSeatOf, runs_same, claiming, wrapped, Misses, MissesOne, MissesNumber, HoldsOneMore, ClaimsOne, FindsFree, FindsNone, Claims, fill_with, owning, stored, stored_in, SetsAll, SetsSome, StoresWord, counted, looks_one, StaysLocked, made_of_node, IsPossible, same_later, HasLoaded}
 use Rattle.rowex_core.proofs.Reading.Leafing.{leaf_size_is}
-use Rattle.rowex_table.specs.Made.{IsLater, Made, held_as, recs_of}
-use Rattle.rowex_table.specs.Runs.{Runs, Does, InTurn, Steps}
-use Rattle.rowex_table.specs.Seats.{TableView, SeatView, IsSeatOf}
-use Rattle.rowex_table.proofs.Runs.{runs_same}
-use Rattle.rowex_records.specs.Claims.{claiming, wrapped, Misses, MissesOne, MissesNumber, HoldsOneMore, ClaimsOne, FindsFree, FindsNone, Claims}
-use Rattle.rowex_records.specs.Records.{fill_with, owning, stored, stored_in, SetsAll, SetsSome, StoresWord}
 use Rattle.rowex_records.proofs.Records.{leaf_stored, left_beside}
-use Rattle.rowex_records.proofs.Claims.Making.{counted, looks_one}
-use Rattle.publish_laws.specs.Loops.{StaysLocked}
-use Rattle.publish_laws.specs.Rises.{made_of_node}
-use Rattle.rowex_reading.specs.Possible.{IsPossible}
 use Rattle.rowex_writing.proofs.locks.Onward.{runs_possible}
 use Rattle.rowex_writing.specs.build.Building.{IsBuilding, IsHalfMade, HasLeafMade, HasNotMade}
 use Rattle.rowex_writing.specs.locks.Going.{WorksOn, TriesNoLock}
 use Rattle.rowex_writing.proofs.locks.Going.{goes_none, goes_more}
-use Rattle.rowex_table.proofs.Made.ActsBefore.{same_later}
-use Rattle.publish_laws.specs.Stages.{HasLoaded}
 
 -- ---- steps that change what the pass owns
 -- steps in turn, each part of which is plain

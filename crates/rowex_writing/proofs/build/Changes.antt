@@ -1,50 +1,11 @@
 -- What each change under the locks of a span needs: failed steps that are remembered, records that are given up, nodes that are unlocked.
-use Rattle.std.proofs.Common.{◌≡◌, inl, inr, ℕ, suc, List, [], ◌∷◌, ◌++◌, length, get_or, Bool, true, false, nat_eq, Option, Some, None, refl, sym, ap, subst, ◌∙◌, arith}
-use Rattle.std.specs.Prelude.{if◌then◌else◌, All, Contains, reverse}
-use Rattle.std.proofs.lemmas.Grind.{reverse_onto}
-use Rattle.std.proofs.lemmas.List.Elements.{All-cons, All-head, All-nil, All-push, All-tail, Contains-push, Contains-append_left}
-use Rattle.std.proofs.lemmas.Option.{slice_get-get_or}
-use Rattle.finite_map.specs.declared.Change.{Change}
-use Rattle.finite_map.specs.Fronts.{OthersGoOn}
-use Rattle.insert_cases.specs.declared.choice.PathNode.{PathNode}
-use Rattle.record_words.specs.declared.layout.Layout.{Layout}
-use Rattle.tries.specs.Keys.{Key}
-use Rattle.record_words.specs.declared.records.Rec.{Rec}
-use Rattle.record_words.specs.declared.records.Rec.TheVariants.{Node as a_node, Leaf as a_leaf}
-use Rattle.versions.specs.Core.{Fate, Free}
-use Rattle.versions.specs.Trades.{IsOneOf, AreApart}
-use Rattle.versions.proofs.Trades.{all_of, map_of, of_map, of_append, apart_push}
-use Rattle.rowex_core.specs.declared.event.Act.{Act}
-use Rattle.rowex_core.specs.declared.event.Act.TheVariants.{Claim, Lock, LoadState}
-use Rattle.rowex_core.specs.declared.event.Event.{Event}
-use Rattle.rowex_core.specs.declared.event.Target.TheVariants.{Anchor, Node as NodeTarget}
-use Rattle.rowex_core.specs.declared.known.Failed.{Failed}
-use Rattle.rowex_core.specs.declared.known.FailedAct.TheVariants.{Lock as a_lock, LoadState as a_load}
-use Rattle.rowex_core.specs.declared.known.Holding.TheVariants.{Held}
-use Rattle.rowex_core.specs.declared.known.Known.{Known}
-use Rattle.rowex_core.specs.declared.known.Owned.{Owned}
-use Rattle.rowex_core.specs.Cores.{Core, HasRecord, holder_of}
-use Rattle.rowex_core.specs.Events.{target_word, word_of}
-use Rattle.rowex_core.specs.Knowing.{IsEvent, failed_with, claim_learned, anchor_learned, node_learned, state_learned, blocking_pass_at}
-use Rattle.rowex_core.specs.Sharing.{IsOwned}
-use Rattle.rowex_core.proofs.Having.{owned_used}
-use Rattle.rowex_core.proofs.Sharing.Owning.{knows_all}
-use Rattle.rowex_table.specs.Made.{Made, held_as, recs_of, IsLater}
-use Rattle.rowex_table.specs.Rights.{IsClaimed}
-use Rattle.rowex_table.specs.Runs.{Runs, silent}
-use Rattle.rowex_table.specs.Seats.{TableView, SeatView}
-use Rattle.rowex_table.proofs.Made.ActsLeave.{act_leaves}
-use Rattle.rowex_records.specs.Claims.{AllMissedFrom, HasMissedSince, IsAnothers}
-use Rattle.rowex_records.proofs.Claims.{among_held}
+use Rattle.rowex_writing.proofs.Common.{◌≡◌, inl, inr, ℕ, suc, List, [], ◌∷◌, ◌++◌, length, get_or, Bool, true, false, nat_eq, Option, Some, None, refl, sym, ap, subst, ◌∙◌, arith, All, Contains, reverse_onto, All-cons, All-head, All-nil, All-push, All-tail, Contains-push, Contains-append_left, slice_get-get_or, Change, OthersGoOn, PathNode, Layout, Key, Rec, a_node, a_leaf, Fate, Free, IsOneOf, AreApart, all_of, map_of, of_map, of_append, apart_push, Act, Claim, Lock, LoadState, Event, Anchor, NodeTarget, Failed, a_lock, a_load, Held, Known, Owned, Core, HasRecord, holder_of, target_word, word_of, IsEvent, failed_with, claim_learned, anchor_learned, node_learned, state_learned, blocking_pass_at, IsOwned, owned_used, knows_all, Made, held_as, recs_of, IsLater, IsClaimed, Runs, silent, TableView, SeatView, act_leaves, AllMissedFrom, HasMissedSince, IsAnothers, among_held, HoldsJust, IsWayOf, Found, others_on}
+use Rattle.std.specs.Prelude.{if◌then◌else◌, reverse}
 use Rattle.rowex_writing.specs.build.Walks.{HasNoOther, IsOwnOf}
-use Rattle.rowex_records.specs.Records.{HoldsJust}
 use Rattle.rowex_writing.specs.build.Building.{IsBuilding}
 use Rattle.rowex_writing.specs.build.Changes.{HasChanged, LacksNodes}
 use Rattle.rowex_writing.specs.locks.Locks.{AreNodes, HasRun}
 use Rattle.rowex_writing.specs.build.Putting.{AreInTable}
-use Rattle.rowex_reading.specs.Ways.{IsWayOf}
-use Rattle.rowex_reading.specs.declared.descent.Found.{Found}
-use Rattle.finite_map.proofs.Fronts.{others_on}
 
 -- ---- steps that failed are remembered
 one_more : {X : Type 0} (xs : List X) (y x : X) → Contains xs x → Contains (y ∷ xs) x

@@ -1,21 +1,6 @@
 -- Claims of leaf records of one class after the other.
-use Rattle.std.proofs.Common.{◌≡◌, Option, ℕ, ◌+◌, ◌-◌, ◌<◌, ◌≤◌, List, [], map, length, ⊎_elim, sym, subst, arith, le_trans}
-use Rattle.std.proofs.lemmas.Bool.{cases_lt}
-use Rattle.record_words.specs.Layout.{leaf_size}
-use Rattle.record_words.specs.Leaf.{words_for}
-use Rattle.record_words.specs.declared.layout.Layout.{Layout}
-use Rattle.record_words.specs.declared.records.Rec.{Rec}
-use Rattle.record_words.specs.declared.records.Rec.TheVariants.{Leaf as a_leaf}
-use Rattle.tries.specs.Keys.{Key}
-use Rattle.rowex_core.specs.declared.event.Event.{Event}
-use Rattle.rowex_core.specs.declared.known.Failed.{Failed}
-use Rattle.rowex_core.specs.declared.known.Known.{Known}
-use Rattle.rowex_core.specs.declared.known.Owned.{Owned}
-use Rattle.rowex_table.specs.Made.{nodes_of}
-use Rattle.rowex_table.specs.Seats.{TableView, SeatView}
+use Rattle.rowex_writing.proofs.Common.{◌≡◌, Option, ℕ, ◌+◌, ◌-◌, ◌<◌, ◌≤◌, List, [], map, length, ⊎_elim, sym, subst, arith, le_trans, cases_lt, leaf_size, words_for, Layout, Rec, a_leaf, Key, Event, Failed, Known, Owned, nodes_of, TableView, SeatView, AllMissed, AllMissedFrom, HasMissedSince, IsAnothers, IsAnothersBut, IsAnothersTo, record_of, anothers_among, missed_so}
 use Rattle.rowex_records.specs.declared.claiming.RecordKind.TheVariants.{Leaf}
-use Rattle.rowex_records.specs.Claims.{AllMissed, AllMissedFrom, HasMissedSince, IsAnothers, IsAnothersBut, IsAnothersTo, record_of}
-use Rattle.rowex_records.proofs.Claims.{anothers_among, missed_so}
 use Rattle.rowex_writing.specs.build.Changes.{LacksLeaves}
 use Rattle.rowex_writing.specs.build.Classes.{AllMissedBetween}
 use Rattle.rowex_writing.specs.locks.Going.{WorksOn}

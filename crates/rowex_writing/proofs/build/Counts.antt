@@ -1,18 +1,5 @@
 -- How long parts of a list are, how many steps claims make, and how many node records are made.
-use Rattle.std.proofs.Common.{◌≡◌, inl, inr, ℕ, zero, suc, ◌+◌, ◌*◌, ◌≤◌, List, [], ◌∷◌, ◌++◌, length, Err, Ok, Result, refl, ap, arith}
-use Rattle.std.specs.Prelude.{All, Contains}
-use Rattle.std.proofs.lemmas.List.Elements.{All-cons, All-head, All-nil, All-tail}
-use Rattle.record_words.specs.declared.records.Rec.{Rec}
-use Rattle.record_words.specs.declared.records.Rec.TheVariants.{Node as a_node, Leaf as a_leaf}
-use Rattle.record_words.specs.declared.layout.Layout.{Layout}
-use Rattle.versions.specs.Trades.{AreApart, IsOneOf}
-use Rattle.tries.specs.Content.{Item}
-use Rattle.rowex_core.specs.declared.event.Act.TheVariants.{Claim, LoadState}
-use Rattle.rowex_core.specs.declared.event.Event.{Event}
-use Rattle.rowex_table.specs.Made.{Made}
-use Rattle.rowex_table.specs.Seats.{TableView, SeatView}
-use Rattle.rowex_records.specs.Claims.{Claims, FindsFree, FindsNone}
-use Rattle.rowex_reading.proofs.Counting.{runs_count}
+use Rattle.rowex_writing.proofs.Common.{◌≡◌, inl, inr, ℕ, zero, suc, ◌+◌, ◌*◌, ◌≤◌, List, [], ◌∷◌, ◌++◌, length, Err, Ok, Result, refl, ap, arith, All, Contains, All-cons, All-head, All-nil, All-tail, Rec, a_node, a_leaf, Layout, AreApart, IsOneOf, Item, Claim, LoadState, Event, Made, TableView, SeatView, Claims, FindsFree, FindsNone, runs_count}
 use Rattle.rowex_writing.specs.build.Building.{HasLeafMade, IsBuilding}
 use Rattle.rowex_writing.specs.plan.Counts.{deed_steps, leaf_steps, all_levels_steps}
 use Rattle.rowex_writing.specs.build.Walks.{nodes_among}

@@ -1,60 +1,12 @@
 -- What rises is put at its spot; what goes for it, and what is kept of the locked nodes.
 use Rattle.rowex_writing.proofs.build.Spared.{range_split}
-use Rattle.std.proofs.Common.{◌≡◌, inl, inr, ◌⊎◌, ℕ, ◌+◌, ◌-◌, ◌*◌, ◌<◌, ◌≤◌, Bool, true, false, List, [], ◌∷◌, ◌++◌, length, map, take, drop, refl, sym, ap, ap₂, subst, ◌∙◌, arith, if◌then◌else◌, Some, None, IsSome, get_or, le_trans}
-use Rattle.std.specs.Prelude.{All, slice_get, slice_range}
-use Rattle.std.proofs.lemmas.List.{append-nil, drop-take, map-append}
-use Rattle.std.proofs.lemmas.List.Elements.{All-append, All-cons, All-drop, All-head, All-map, All-tail, All-take}
-use Rattle.std.proofs.lemmas.Option.{slice_get-get_or}
-use Rattle.compound_node.specs.Nodes.{IsEntry}
-use Rattle.compound_node.specs.declared.entries.Entry.{Entry}
-use Rattle.compound_node.specs.declared.entries.Entry.TheVariants.{Leaf as LeafEntry, Node}
-use Rattle.insert_cases.specs.declared.choice.PathNode.{PathNode}
-use Rattle.versions.specs.Trades.{IsOneOf, AreApart}
-use Rattle.record_words.specs.declared.records.Rec.{Rec}
-use Rattle.record_words.specs.declared.records.Rec.TheVariants.{Node as a_node}
-use Rattle.versions.proofs.Trades.{map_of, of_append, of_left, of_map, of_right}
-use Rattle.node_tries.specs.Piece.{Place}
-use Rattle.record_words.specs.Entry.{HasEntryWord, entry_word}
-use Rattle.record_words.specs.declared.layout.Layout.{Layout}
-use Rattle.tries.specs.Content.{Item, item}
-use Rattle.tries.specs.Keys.{Key}
-use Rattle.rowex_core.specs.Cores.{HasRecord}
-use Rattle.rowex_core.specs.Having.{AreKept, LocksJust}
-use Rattle.rowex_core.specs.declared.event.Spot.{Spot}
-use Rattle.rowex_core.specs.declared.event.Spot.TheVariants.{Root, Slot, Value}
-use Rattle.rowex_core.specs.declared.known.Known.{Known}
-use Rattle.rowex_core.specs.declared.known.Locked.{Locked}
-use Rattle.publish_laws.specs.Spots.{IsSpotOf}
-use Rattle.publish_laws.specs.Rises.{HasFoundBelow}
-use Rattle.publish_laws.specs.Stages.{HasRisen}
-use Rattle.publish_laws.proofs.Spots.{spot_stays}
-use Rattle.publish_laws.proofs.Insertions.Inserting.{insertion}
-use Rattle.publish_laws.proofs.Rises.{risen_stays}
-use Rattle.rowex_table.specs.Made.{IsLater, nodes_of}
-use Rattle.rowex_table.specs.Publishes.{Publishes}
-use Rattle.rowex_table.specs.Rule.{HasSpot}
-use Rattle.record_words.specs.Leaf.{words_for}
-use Rattle.insert_cases.proofs.Ways.{some_at}
-use Rattle.insert_cases.proofs.Pairs.{tip_entry}
-use Rattle.publish_laws.specs.Loops.{StaysLocked}
-use Rattle.publish_laws.proofs.Sure.{found_stays}
-use Rattle.tries.proofs.Place.{spot_below}
+use Rattle.rowex_writing.proofs.Common.{◌≡◌, inl, inr, ◌⊎◌, ℕ, ◌+◌, ◌-◌, ◌*◌, ◌<◌, ◌≤◌, Bool, true, false, List, [], ◌∷◌, ◌++◌, length, map, take, drop, refl, sym, ap, ap₂, subst, ◌∙◌, arith, if◌then◌else◌, Some, None, IsSome, get_or, le_trans, All, slice_get, slice_range, append-nil, drop-take, map-append, All-append, All-cons, All-drop, All-head, All-map, All-tail, All-take, slice_get-get_or, IsEntry, Entry, LeafEntry, Node, PathNode, IsOneOf, AreApart, Rec, a_node, map_of, of_append, of_left, of_map, of_right, Place, HasEntryWord, entry_word, Layout, Item, item, Key, HasRecord, AreKept, LocksJust, Spot, Root, Slot, Value, Known, Locked, IsSpotOf, HasFoundBelow, HasRisen, spot_stays, insertion, risen_stays, IsLater, nodes_of, Publishes, HasSpot, words_for, some_at, tip_entry, StaysLocked, found_stays, spot_below, IsWayOf, Found, TableView, SeatView, entry, added_change, Event, IsAtRest, later_transitive, HasMissedSince, IsAnothers, IsAnothersBut, anothers_among, missed_so}
 use Rattle.rowex_writing.specs.plan.Plans.{change}
-use Rattle.rowex_reading.specs.Ways.{IsWayOf}
 use Rattle.rowex_writing.specs.declared.plan.Aim.{Aim}
 use Rattle.rowex_writing.specs.declared.plan.Deed.TheVariants.{Grow}
-use Rattle.rowex_reading.specs.declared.descent.Found.{Found}
 use Rattle.rowex_writing.specs.declared.plan.Full.{Full}
-use Rattle.rowex_table.specs.Seats.{TableView, SeatView}
-use Rattle.version_laws.specs.Rise.{entry}
-use Rattle.version_laws.specs.Writer.{added_change}
-use Rattle.rowex_core.specs.declared.event.Event.{Event}
-use Rattle.publish_laws.specs.Ending.{IsAtRest}
-use Rattle.publish_laws.proofs.Loops.{later_transitive}
 use Rattle.rowex_writing.specs.declared.plan.Full.TheVariants.{Nodes, Leaves}
 use Rattle.rowex_writing.specs.build.Building.{FitsAbove, HasLeafMade, IsLockedSpan, HasRisenTo, gone_unless_whole, gone_with_way, newcomer_of}
-use Rattle.rowex_records.specs.Claims.{HasMissedSince, IsAnothers, IsAnothersBut}
-use Rattle.rowex_records.proofs.Claims.{anothers_among, missed_so}
 use Rattle.rowex_writing.specs.build.Changes.{HasNoRoom, IsFull, IsPutChange, LacksLeaves, LacksNodes, MayPublishOnceReady}
 use Rattle.rowex_writing.specs.locks.Checks.{HasTakenSpan, IsChecked}
 use Rattle.rowex_writing.specs.plan.Planned.{IsPlanned}

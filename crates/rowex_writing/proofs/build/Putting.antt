@@ -1,52 +1,8 @@
 -- A new leaf in the place of what stands there, or in a node with it: what the plan says, and that the store may be made.
-use Rattle.std.proofs.Common.{◌≡◌, inl, inr, ⊎_elim, ℕ, ◌+◌, ◌-◌, ◌*◌, ◌<◌, ◌≤◌, List, [], ◌∷◌, ◌++◌, length, get_or, Bool, true, false, nat_lt, Option, Some, None, refl, sym, ap, subst, ◌∙◌, arith, le_trans, ◌^◌, ◌⊎◌}
-use Rattle.std.specs.Prelude.{if◌then◌else◌, slice_get}
-use Rattle.std.proofs.lemmas.Bool.{cases_lt, ltb-true}
-use Rattle.std.proofs.lemmas.Option.{slice_get-get_or}
-use Rattle.compound_node.specs.Nodes.{NodeView, piece, greatest_height}
-use Rattle.compound_node.specs.declared.entries.Entry.{Entry}
-use Rattle.compound_node.specs.declared.entries.Entry.TheVariants.{Leaf as LeafEntry, Node as NodeEntry}
-use Rattle.insert_cases.specs.declared.choice.Case.{Case}
-use Rattle.insert_cases.specs.declared.choice.Case.TheVariants.{LeafPushdown, NormalInsert, Overflow}
-use Rattle.insert_cases.specs.declared.choice.Choice.{Choice}
-use Rattle.insert_cases.specs.declared.choice.PathNode.{PathNode}
-use Rattle.insert_cases.specs.Levels.{IsLevel, IsChosen}
-use Rattle.insert_cases.specs.Ways.{case_of}
-use Rattle.insert_cases.proofs.Ways.Affecting.{key_part}
+use Rattle.rowex_writing.proofs.Common.{◌≡◌, inl, inr, ⊎_elim, ℕ, ◌+◌, ◌-◌, ◌*◌, ◌<◌, ◌≤◌, List, [], ◌∷◌, ◌++◌, length, get_or, Bool, true, false, nat_lt, Option, Some, None, refl, sym, ap, subst, ◌∙◌, arith, le_trans, ◌^◌, ◌⊎◌, slice_get, cases_lt, ltb-true, slice_get-get_or, NodeView, piece, greatest_height, Entry, LeafEntry, NodeEntry, Case, LeafPushdown, NormalInsert, Overflow, Choice, PathNode, IsLevel, IsChosen, case_of, key_part, Place, Fork, size, places, size_pos, entry_word, subtrie_affected, subtrie_forked, IsTipSubtrie, Item, item, Key, bit, shape, seek, Subtrie, leaf, trie_within, Rec, IsOneOf, IsRead, added_change, replaced_change, Spot, Root, Slot, Value, Known, Locked, node_words_of, recalls, Made, IsLater, Publishes, TableView, SeatView, Sure, read_stable, seen_within, since_later, stands_in, led_in_table, made_of_leaf, made_of_node, IsBuiltAnew, IsSide, one, anew, IsLeafThere, IsSure, SpellsLeaf, HasLoaded, first_made, pair, later_transitive, later_if_same, leaf_stays, store_value, seen_is_sure, sure_stays, IsFoundAt, IsMismatch, IsWayNode, IsWayOf, end_of, named, named_end, Found, Nothing, Leaf}
+use Rattle.std.specs.Prelude.{if◌then◌else◌}
 use Rattle.key_bits.specs.Key.{IsKey}
-use Rattle.node_tries.specs.Piece.{Place, Fork, size, places}
-use Rattle.node_tries.proofs.Piece.{size_pos}
-use Rattle.record_words.specs.Entry.{entry_word}
-use Rattle.tries.specs.Affected.{subtrie_affected, subtrie_forked, IsTipSubtrie}
-use Rattle.tries.specs.Content.{Item, item}
-use Rattle.tries.specs.Keys.{Key, bit}
-use Rattle.tries.specs.Place.{shape}
-use Rattle.tries.specs.Search.{seek}
-use Rattle.tries.specs.Tree.{Subtrie, leaf}
-use Rattle.tries.proofs.Tree.{trie_within}
-use Rattle.record_words.specs.declared.records.Rec.{Rec}
-use Rattle.versions.specs.Trades.{IsOneOf}
-use Rattle.version_laws.specs.Scan.{IsRead}
-use Rattle.version_laws.specs.Writer.{added_change, replaced_change}
-use Rattle.rowex_core.specs.declared.event.Spot.{Spot}
-use Rattle.rowex_core.specs.declared.event.Spot.TheVariants.{Root, Slot, Value}
-use Rattle.rowex_core.specs.declared.known.Known.{Known}
-use Rattle.rowex_core.specs.declared.known.Locked.{Locked}
-use Rattle.rowex_core.specs.Reading.{node_words_of}
-use Rattle.rowex_core.proofs.Sharing.Owning.{recalls}
-use Rattle.rowex_table.specs.Made.{Made, IsLater}
-use Rattle.rowex_table.specs.Publishes.{Publishes}
-use Rattle.rowex_table.specs.Seats.{TableView, SeatView}
-use Rattle.rowex_reading.specs.Seen.{Sure}
-use Rattle.rowex_reading.proofs.Seen.{read_stable, seen_within, since_later, stands_in}
-use Rattle.rowex_reading.proofs.Seen.Standing.{led_in_table}
 use Rattle.publish_laws.specs.Cases.{IsWord}
-use Rattle.publish_laws.specs.Rises.{made_of_leaf, made_of_node, IsBuiltAnew, IsSide, one, anew}
-use Rattle.publish_laws.specs.Stages.{IsLeafThere, IsSure, SpellsLeaf, HasLoaded}
-use Rattle.publish_laws.proofs.Insertions.Inserting.{first_made, pair}
-use Rattle.publish_laws.proofs.Loops.{later_transitive, later_if_same}
-use Rattle.publish_laws.proofs.Cases.{leaf_stays, store_value}
-use Rattle.publish_laws.proofs.Sure.{seen_is_sure, sure_stays}
 use Rattle.rowex_writing.specs.build.Building.{HasLeafMade, IsBuilding}
 use Rattle.rowex_writing.specs.build.Changes.{IsPutChange, MayPublishOnceReady}
 use Rattle.rowex_writing.specs.locks.Checks.{HasTakenSpan}
@@ -55,14 +11,10 @@ use Rattle.rowex_writing.specs.locks.Going.{HasLocked}
 use Rattle.rowex_writing.proofs.plan.Plans.{takes_too}
 use Rattle.rowex_writing.specs.plan.Plans.{change, IsCase, IsNewLeafPlan, IsPlan}
 use Rattle.rowex_writing.specs.build.Putting.{IsSpotAbove}
-use Rattle.rowex_reading.specs.Ways.{IsFoundAt, IsMismatch, IsWayNode, IsWayOf, end_of, named}
-use Rattle.rowex_reading.proofs.Ways.{named_end}
 use Rattle.rowex_writing.specs.declared.plan.Aim.{Aim}
 use Rattle.rowex_writing.specs.declared.plan.Aim.TheVariants.{Insert, Upsert, Remove}
 use Rattle.rowex_writing.specs.declared.plan.Deed.{Deed}
 use Rattle.rowex_writing.specs.declared.plan.Deed.TheVariants.{Put, PushDown}
-use Rattle.rowex_reading.specs.declared.descent.Found.{Found}
-use Rattle.rowex_reading.specs.declared.descent.Found.TheVariants.{Nothing, Leaf}
 use Rattle.rowex_writing.specs.declared.plan.Plan.{Plan}
 use Rattle.rowex_writing.specs.declared.plan.Plan.TheVariants.{Answer, Change as ChangePlan}
 use Rattle.rowex_writing.specs.declared.plan.Span.{Span}

@@ -1,41 +1,10 @@
 -- In a table with one pass: steps of a change leave a spare node record, and what is free, and a walk finds what is free.
-use Rattle.std.proofs.Common.{◌≡◌, ◌≢◌, ℕ, zero, suc, ◌<◌, ◌≤◌, List, [], ◌∷◌, ◌++◌, Option, Some, inl, inr, ⊎_elim, refl, sym, ap, subst, ◌∙◌, arith, map, ◌-◌, drop, get_or, length, Result, Ok, Err}
-use Rattle.std.specs.Prelude.{All, Contains, slice_get, slice_range, IfOk}
-use Rattle.std.proofs.lemmas.Bool.{cases_lt}
-use Rattle.std.proofs.lemmas.List.Elements.{All-cons, All-weaker}
-use Rattle.std.proofs.lemmas.Option.{slice_get-get_or}
-use Rattle.insert_cases.specs.declared.choice.PathNode.{PathNode}
-use Rattle.record_words.specs.declared.layout.Layout.{Layout}
-use Rattle.versions.specs.Core.{Fate, Free, Held, Ready, InTree, Unlinked, Marked}
-use Rattle.versions.specs.Trades.{IsOneOf}
-use Rattle.record_words.specs.declared.records.Rec.{Rec}
-use Rattle.record_words.specs.declared.records.Rec.TheVariants.{Node as a_node, Leaf as a_leaf}
-use Rattle.versions.proofs.Trades.{all_of, map_of, of_left, of_map}
-use Rattle.rowex_core.specs.declared.event.Act.{Act}
-use Rattle.rowex_core.specs.declared.event.Act.TheVariants.{Claim, LoadRef, LoadState, Publish, Load}
-use Rattle.rowex_core.specs.declared.event.Event.{Event}
-use Rattle.rowex_core.specs.declared.event.Spot.{Spot}
-use Rattle.rowex_core.specs.declared.event.Spot.TheVariants.{Root}
-use Rattle.rowex_core.specs.declared.event.Target.{Target}
-use Rattle.rowex_core.specs.declared.known.Holding.TheVariants.{Held as HeldBy, Ready as ReadyBy}
-use Rattle.rowex_core.specs.declared.known.Owned.{Owned}
-use Rattle.rowex_core.specs.Cores.{Core, HasRecord}
-use Rattle.rowex_core.specs.Events.{after, claimed}
-use Rattle.rowex_core.specs.Having.{IsUnlinked, OwnsJust}
+use Rattle.rowex_writing.proofs.Common.{◌≡◌, ◌≢◌, ℕ, zero, suc, ◌<◌, ◌≤◌, List, [], ◌∷◌, ◌++◌, Option, Some, inl, inr, ⊎_elim, refl, sym, ap, subst, ◌∙◌, arith, map, ◌-◌, drop, get_or, length, Result, Ok, Err, All, Contains, slice_get, slice_range, cases_lt, All-cons, All-weaker, slice_get-get_or, PathNode, Layout, Fate, Free, InTree, Unlinked, Marked, IsOneOf, Rec, a_node, a_leaf, all_of, map_of, of_left, of_map, Act, Claim, LoadRef, LoadState, Publish, Load, Event, Spot, Root, Target, HeldBy, ReadyBy, Owned, Core, HasRecord, after, claimed, IsUnlinked, OwnsJust, lock_of, tag_of, state_word, Made, held_as, recs_of, InTurn, Runs, Steps, silent, SeatView, TableView, KeepsRecall, led_more, IsBelowRoot, Looks, Reads, FindsFree, FindsNone, Misses, begin_of, wrapped, begins_low, turned_to, look_free, one_of, runs_free, runs_out, runs_spare, step_back}
+use Rattle.std.specs.Prelude.{IfOk}
+use Rattle.versions.specs.Core.{Held, Ready}
 use Rattle.rowex_core.specs.Opening.{opening}
 use Rattle.rowex_core.specs.Runs.{EventsLead}
-use Rattle.rowex_core.specs.Words.{lock_of, tag_of}
-use Rattle.record_words.specs.State.{state_word}
-use Rattle.rowex_table.specs.Made.{Made, held_as, recs_of}
-use Rattle.rowex_table.specs.Runs.{InTurn, Runs, Steps, silent}
-use Rattle.rowex_table.specs.Seats.{SeatView, TableView}
-use Rattle.rowex_table.specs.Stays.{KeepsRecall}
-use Rattle.rowex_table.proofs.Onward.{led_more}
-use Rattle.rowex_reading.specs.Reads.{IsBelowRoot, Looks, Reads}
-use Rattle.rowex_records.specs.Claims.{FindsFree, FindsNone, Misses, begin_of, wrapped}
-use Rattle.rowex_records.proofs.Claims.{begins_low, turned_to}
 use Rattle.publish_laws.specs.Lone.{HasFree, HasRoom, HasSpare, IsLone, LeavesTree, KeepsSpare}
-use Rattle.publish_laws.proofs.Lone.{look_free, one_of, runs_free, runs_out, runs_spare, step_back}
 use Rattle.publish_laws.proofs.Lone.Published.{gone_out, publish_free, publish_spare}
 use Rattle.rowex_writing.specs.build.Building.{IsBuilding}
 use Rattle.rowex_writing.specs.build.Deeds.{gone_of_span, leaf_gone}

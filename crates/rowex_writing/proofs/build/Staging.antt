@@ -1,25 +1,6 @@
 -- The records that a pass holds, as if it had made them ready: then what has risen is the subtrie of a lawful tree.
-use Rattle.std.proofs.Common.{ℕ, List, [], ◌∷◌, ◌++◌, refl}
-use Rattle.record_words.specs.declared.layout.Layout.{Layout}
-use Rattle.tries.specs.Tree.{Subtrie}
-use Rattle.versions.specs.Trades.{IsOneOf}
-use Rattle.version_laws.specs.Rise.{Side}
-use Rattle.version_laws.specs.Writer.{Newcomer}
-use Rattle.rowex_core.specs.declared.event.Act.TheVariants.{Ready}
-use Rattle.rowex_core.specs.declared.known.Known.{Known}
-use Rattle.rowex_core.specs.Cores.{Core}
-use Rattle.rowex_core.specs.Knowing.{IsEvent, learned}
-use Rattle.record_words.specs.declared.records.Rec.{Rec}
-use Rattle.rowex_table.specs.Made.{Made, HoldsMade, HasReadied}
-use Rattle.rowex_table.specs.Runs.{silent}
-use Rattle.publish_laws.specs.Loops.{ReadiesEach}
-use Rattle.publish_laws.specs.Stages.{IsStage, HasLeaf, HasRisen}
+use Rattle.rowex_writing.proofs.Common.{ℕ, List, [], ◌∷◌, ◌++◌, refl, Layout, Subtrie, IsOneOf, Side, Newcomer, Ready, Known, Core, IsEvent, learned, Rec, Made, HoldsMade, HasReadied, silent, ReadiesEach, IsStage, HasLeaf, HasRisen, holds_rights, ready_next, readies_all, stage_earlier, stage_of, IsPossible, event_possible}
 use Rattle.publish_laws.proofs.Rises.Bounding.{number_of, tree_risen}
-use Rattle.publish_laws.proofs.Loops.{holds_rights, ready_next, readies_all}
-use Rattle.publish_laws.proofs.Rises.{stage_earlier}
-use Rattle.publish_laws.proofs.Stages.{stage_of}
-use Rattle.rowex_reading.specs.Possible.{IsPossible}
-use Rattle.rowex_reading.proofs.Seen.Later.{event_possible}
 use Rattle.rowex_writing.specs.build.Building.{AreMadePacked}
 use Rattle.rowex_writing.specs.build.Remaking.{IsSubtrieOfTree}
 

@@ -1,37 +1,7 @@
 -- The walk of a change over the records of a kind: how it begins, goes on and ends.
-use Rattle.std.proofs.Common.{◌≡◌, ◌⊎◌, inl, inr, ℕ, suc, ◌+◌, ◌-◌, ◌<◌, ◌≤◌, List, [], ◌∷◌, ◌++◌, Bool, true, false, nat_eq, nat_lt, Option, length, get_or, if◌then◌else◌, refl, sym, ap, subst, ◌∙◌, arith, le_refl, Some, None}
-use Rattle.std.specs.Prelude.{All, Contains, map}
-use Rattle.std.proofs.lemmas.Bool.{eqb-false, eqb-true, ltb-true, ltb-false, lt-ltb, le-ltb}
-use Rattle.std.proofs.lemmas.List.{get_or_default}
-use Rattle.std.proofs.lemmas.List.Elements.{All-contains, Contains-append_left, Contains-push}
-use Rattle.record_words.specs.declared.layout.Layout.{Layout}
-use Rattle.record_words.specs.State.{state_word}
-use Rattle.record_words.specs.declared.records.Rec.{Rec}
-use Rattle.record_words.specs.declared.records.Rec.TheVariants.{Node as a_node}
-use Rattle.rowex_core.specs.declared.event.Act.TheVariants.{LoadState}
-use Rattle.rowex_core.specs.declared.event.Event.{Event}
-use Rattle.rowex_core.specs.declared.known.Failed.{Failed}
-use Rattle.rowex_core.specs.declared.known.Known.{Known}
-use Rattle.rowex_core.specs.declared.known.Locked.{Locked}
-use Rattle.rowex_core.specs.declared.known.Owned.{Owned}
-use Rattle.rowex_core.specs.declared.known.Holding.TheVariants.{Held}
-use Rattle.versions.specs.Core.{Fate, Held as HeldBy}
-use Rattle.versions.specs.Trades.{AreApart}
-use Rattle.rowex_core.specs.Cores.{Core, HasRecord, holder_of}
-use Rattle.rowex_core.specs.Events.{word_of}
-use Rattle.rowex_core.specs.Knowing.{failed_with}
-use Rattle.rowex_core.specs.Sharing.{IsOwned}
-use Rattle.rowex_core.specs.Words.{lock_of, tag_of}
-use Rattle.rowex_core.specs.declared.known.FailedAct.TheVariants.{LoadState as a_load}
-use Rattle.rowex_core.proofs.Sharing.Owning.{knows_all}
-use Rattle.rowex_table.specs.Made.{Made, nodes_of}
-use Rattle.rowex_table.specs.Rights.{IsClaimed, OwnsAs}
-use Rattle.rowex_table.specs.Runs.{Steps}
-use Rattle.rowex_table.specs.Seats.{TableView, SeatView}
-use Rattle.rowex_table.proofs.Runs.{does_count}
-use Rattle.rowex_records.specs.Claims.{AllMissed, Claims, FindsNone, HasMissedSince, IsAnothers, IsAnothersBut, IsAnothersTo, MissesOne, begin_of, claiming, records_had, wrapped}
-use Rattle.rowex_records.proofs.Claims.{anothers_among, anothers_before, held_misses, missed_among, missed_earlier, missed_so, turned_to}
-use Rattle.rowex_records.proofs.Claims.Making.{counted, looks_one}
+use Rattle.rowex_writing.proofs.Common.{◌≡◌, ◌⊎◌, inl, inr, ℕ, suc, ◌+◌, ◌-◌, ◌<◌, ◌≤◌, List, [], ◌∷◌, ◌++◌, Bool, true, false, nat_eq, nat_lt, Option, length, get_or, if◌then◌else◌, refl, sym, ap, subst, ◌∙◌, arith, le_refl, Some, None, All, Contains, eqb-false, eqb-true, ltb-true, ltb-false, lt-ltb, le-ltb, get_or_default, All-contains, Contains-append_left, Contains-push, Layout, state_word, Rec, a_node, LoadState, Event, Failed, Known, Locked, Owned, Held, Fate, AreApart, Core, HasRecord, holder_of, word_of, failed_with, IsOwned, lock_of, tag_of, a_load, knows_all, Made, nodes_of, IsClaimed, OwnsAs, Steps, TableView, SeatView, does_count, AllMissed, Claims, FindsNone, HasMissedSince, IsAnothers, IsAnothersBut, IsAnothersTo, MissesOne, begin_of, claiming, records_had, wrapped, anothers_among, anothers_before, held_misses, missed_among, missed_earlier, missed_so, turned_to, counted, looks_one}
+use Rattle.std.specs.Prelude.{map}
+use Rattle.versions.specs.Core.{Held as HeldBy}
 use Rattle.rowex_writing.specs.declared.build.kept.Build.{Build}
 use Rattle.rowex_writing.specs.build.Building.{IsBuilding}
 use Rattle.rowex_writing.specs.locks.Going.{WorksOn}

@@ -1,57 +1,10 @@
 -- What a load under a lock tells of what a search has found.
-use Rattle.std.proofs.Common.{◌≡◌, ◌≢◌, inl, inr, ◌⊎◌, ℕ, zero, suc, ◌+◌, ◌-◌, ◌<◌, ◌≤◌, ◌^◌, List, [], ◌∷◌, length, take, drop, nat_lt, if◌then◌else◌, true, false, Option, Some, None, IsSome, refl, sym, ap, subst, ◌∙◌, arith, ltb}
-use Rattle.std.specs.Prelude.{All, slice_get, slice_range}
-use Rattle.std.proofs.lemmas.Bool.{cases_lt}
-use Rattle.compound_node.specs.declared.entries.Entry.{Entry}
-use Rattle.compound_node.specs.declared.entries.Entry.TheVariants.{Node}
-use Rattle.insert_cases.specs.declared.choice.PathNode.{PathNode}
-use Rattle.node_tries.specs.Piece.{Place, size}
-use Rattle.record_words.specs.declared.layout.Layout.{Layout}
-use Rattle.record_words.specs.Entry.{HasEntryWord, entry_word}
-use Rattle.tries.specs.Keys.{Key}
-use Rattle.tries.specs.Place.{entry_at}
-use Rattle.tries.specs.Search.{seek}
-use Rattle.tries.specs.Tree.{Subtrie, Tree, subtrie}
-use Rattle.tries.proofs.Place.{seek_spot, spot_below}
-use Rattle.versions.specs.Heap.{Heap, NodeWords}
-use Rattle.versions.specs.State.{IsTop}
+use Rattle.rowex_writing.proofs.Common.{◌≡◌, ◌≢◌, inl, inr, ◌⊎◌, ℕ, zero, suc, ◌+◌, ◌-◌, ◌<◌, ◌≤◌, ◌^◌, List, [], ◌∷◌, length, take, drop, nat_lt, if◌then◌else◌, true, false, Option, Some, None, IsSome, refl, sym, ap, subst, ◌∙◌, arith, ltb, All, slice_get, slice_range, cases_lt, Entry, Node, PathNode, Place, size, Layout, HasEntryWord, entry_word, Key, entry_at, seek, Subtrie, Tree, subtrie, seek_spot, spot_below, Heap, NodeWords, IsTop, a_node, IsOneOf, all_of, map_of, LoadRef, Slot, Root, Event, Fresh, Known, heap_of, IsEvent, IsPinnedSince, Recalls, entry_of, node_words_of, IsLocked, knows_all, recalls, entry_of_word, entry_at_is, IsLater, silent, TableView, SeatView, entry_of_locked, runs_one, IsPlaced, IsRooted, IsBlank, placed_same, rooted_same, IsPossible, ReadsRoot, seen, since, HasPlace, RootIs, Sure, event_knows, event_later, slot_later, slot_some, slot_placed, seen_steady, since_later, sure_later, blank_stable, placed_stable, rooted_stable, seen_stable, shaped_stable, All-cons, All-nil, still_locked, IsWayOf, RootWas, named, Found}
 use Rattle.versions.specs.declared.Pin.{Pin}
-use Rattle.record_words.specs.declared.records.Rec.TheVariants.{Node as a_node}
-use Rattle.versions.specs.Trades.{IsOneOf}
-use Rattle.versions.proofs.Trades.{all_of, map_of}
-use Rattle.rowex_core.specs.declared.event.Act.TheVariants.{LoadRef}
-use Rattle.rowex_core.specs.declared.event.Spot.TheVariants.{Slot, Root}
-use Rattle.rowex_core.specs.declared.event.Event.{Event}
-use Rattle.rowex_core.specs.declared.known.Fresh.{Fresh}
-use Rattle.rowex_core.specs.declared.known.Known.{Known}
-use Rattle.rowex_core.specs.Cores.{heap_of}
-use Rattle.rowex_core.specs.Knowing.{IsEvent, IsPinnedSince, Recalls}
-use Rattle.record_words.specs.Decoding.{entry_of}
-use Rattle.rowex_core.specs.Reading.{node_words_of}
-use Rattle.rowex_core.specs.Sharing.{IsLocked}
-use Rattle.rowex_core.proofs.Sharing.Owning.{knows_all, recalls}
-use Rattle.rowex_core.proofs.Reading.{entry_of_word, entry_at_is}
-use Rattle.rowex_table.specs.Made.{IsLater}
-use Rattle.rowex_table.specs.Runs.{silent}
-use Rattle.rowex_table.specs.Seats.{TableView, SeatView}
-use Rattle.rowex_table.proofs.Made.ActsBefore.{entry_of_locked}
-use Rattle.rowex_table.proofs.Runs.{runs_one}
-use Rattle.version_laws.specs.Scan.{IsPlaced, IsRooted, IsBlank}
-use Rattle.version_laws.proofs.Ways.{placed_same, rooted_same}
-use Rattle.rowex_reading.specs.Possible.{IsPossible}
-use Rattle.rowex_reading.specs.Reads.{ReadsRoot}
-use Rattle.rowex_reading.specs.Seen.{seen, since, HasPlace, RootIs, Sure}
-use Rattle.rowex_reading.proofs.Seen.Later.{event_knows, event_later}
-use Rattle.rowex_reading.proofs.Possible.Placing.{slot_later, slot_some, slot_placed}
 use Rattle.rowex_reading.proofs.Possible.Rooting.{root_fresh}
-use Rattle.rowex_reading.proofs.Seen.{seen_steady, since_later, sure_later, blank_stable, placed_stable, rooted_stable, seen_stable, shaped_stable}
-use Rattle.std.proofs.lemmas.List.Elements.{All-cons, All-nil}
-use Rattle.publish_laws.proofs.Loops.{still_locked}
 use Rattle.rowex_writing.specs.locks.Checks.{EntriesStand}
 use Rattle.rowex_writing.specs.locks.Going.{HasLocked, IsLockedBy, ReadsOn, TriesNoLock}
 use Rattle.rowex_writing.specs.locks.Locks.{HasLockedSpan, span_numbers}
-use Rattle.rowex_reading.specs.Ways.{IsWayOf, RootWas, named}
-use Rattle.rowex_reading.specs.declared.descent.Found.{Found}
 use Rattle.rowex_writing.specs.declared.plan.Span.{Span}
 use Rattle.rowex_writing.proofs.locks.Going.{locked_spells}
 use Rattle.rowex_writing.proofs.locks.Shapes.{way_node_locked}

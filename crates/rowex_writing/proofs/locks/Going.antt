@@ -1,39 +1,11 @@
 -- Loads under a lock, and steps one after the other.
-use Rattle.std.proofs.Common.{◌≡◌, ℕ, ◌+◌, ◌-◌, ◌^◌, ◌<◌, ◌≤◌, List, [], ◌∷◌, ◌++◌, length, get_or, set, replicate, refl, sym, ap, subst, ◌∙◌, arith, add-one, inl, inr, ◌⊎◌, ⊎_elim}
-use Rattle.std.proofs.lemmas.Bool.{cases_lt}
-use Rattle.std.proofs.lemmas.List.Elements.{All-append, All-cons}
-use Rattle.std.proofs.lemmas.List.{ext_get_or, get_or-set_same, get_or-set_other, length-replicate, length-set}
-use Rattle.record_words.specs.declared.layout.Layout.{Layout}
-use Rattle.compound_node.specs.Nodes.{NodeView, head_of}
-use Rattle.record_words.specs.Kinds.{head_size, kind_in, kind_of}
-use Rattle.record_words.specs.Node.{head_words}
+use Rattle.rowex_writing.proofs.Common.{◌≡◌, ℕ, ◌+◌, ◌-◌, ◌^◌, ◌<◌, ◌≤◌, List, [], ◌∷◌, ◌++◌, length, get_or, set, replicate, refl, sym, ap, subst, ◌∙◌, arith, add-one, inl, inr, ◌⊎◌, ⊎_elim, cases_lt, All-append, All-cons, ext_get_or, get_or-set_same, get_or-set_other, length-replicate, length-set, Layout, NodeView, head_of, head_size, kind_in, kind_of, head_words, node_is, length-node_words, a_node, Act, LoadRef, LoadFixed, Event, Slot, Known, MustSpellValue, IsEvent, IsPacked, node_words_of, IsLocked, knows_all, Steps, silent, TableView, SeatView, IsSeatOf, runs_one, runs_append, runs_same, IsOneOf, entry_of_locked, fixed_of_locked, still_locked, stays_on, locked_same, all_of, IsPossible}
 use Rattle.record_words.proofs.HeadParts.{past_kind, told}
-use Rattle.rowex_core.proofs.Reading.{node_is}
-use Rattle.record_words.proofs.Nodes.{length-node_words}
 use Rattle.record_words.proofs.Unused.{zero_in}
 use Rattle.record_words.proofs.Written.{no_entry_word}
-use Rattle.record_words.specs.declared.records.Rec.TheVariants.{Node as a_node}
-use Rattle.rowex_core.specs.declared.event.Act.{Act}
-use Rattle.rowex_core.specs.declared.event.Act.TheVariants.{LoadRef, LoadFixed}
-use Rattle.rowex_core.specs.declared.event.Event.{Event}
-use Rattle.rowex_core.specs.declared.event.Spot.TheVariants.{Slot}
-use Rattle.rowex_core.specs.declared.known.Known.{Known}
-use Rattle.rowex_core.specs.Cores.{MustSpellValue}
-use Rattle.rowex_core.specs.Knowing.{IsEvent}
-use Rattle.rowex_core.specs.Reading.{IsPacked, node_words_of}
-use Rattle.rowex_core.specs.Sharing.{IsLocked}
-use Rattle.rowex_core.proofs.Sharing.Owning.{knows_all}
-use Rattle.rowex_table.specs.Runs.{Steps, silent}
-use Rattle.rowex_table.specs.Seats.{TableView, SeatView, IsSeatOf}
-use Rattle.rowex_table.proofs.Runs.{runs_one, runs_append, runs_same}
-use Rattle.versions.specs.Trades.{IsOneOf}
-use Rattle.rowex_table.proofs.Made.ActsBefore.{entry_of_locked, fixed_of_locked}
-use Rattle.publish_laws.proofs.Loops.{still_locked, locked_on as stays_on, locked_same}
-use Rattle.versions.proofs.Trades.{all_of}
 use Rattle.rowex_writing.specs.locks.Going.{WorksOn, ReadsOn, HasLocked, IsNodeOf, TriesNoLock}
 use Rattle.rowex_writing.specs.locks.Loads.{AreRead, AreThose}
 use Rattle.rowex_writing.proofs.locks.Loads.{head_word}
-use Rattle.rowex_reading.specs.Possible.{IsPossible}
 
 -- ---- one after the other
 module _ {G : Type 0} (table : TableView) (becomes : G → Event → G → Type 0) where

@@ -1,54 +1,12 @@
 -- Steps after which a pass recalls what it did, one after the other; locks that are taken and refused.
-use Rattle.std.proofs.Common.{◌≡◌, ◌≢◌, inl, inr, ℕ, ◌-◌, ◌<◌, ◌≤◌, List, [], ◌∷◌, ◌++◌, length, get_or, true, false, nat_eq, Option, Some, None, IsSome, refl, sym, ap, subst, ◌∙◌, arith}
-use Rattle.std.specs.Prelude.{All, Contains, slice_get}
-use Rattle.std.proofs.lemmas.Bool.{cases_lt, eqb-true, false≢true}
-use Rattle.std.proofs.lemmas.Option.{slice_get-get_or}
+use Rattle.rowex_writing.proofs.Common.{◌≡◌, ◌≢◌, inl, inr, ℕ, ◌-◌, ◌<◌, ◌≤◌, List, [], ◌∷◌, ◌++◌, length, get_or, true, false, nat_eq, Option, Some, None, IsSome, refl, sym, ap, subst, ◌∙◌, arith, All, Contains, slice_get, cases_lt, eqb-true, false≢true, slice_get-get_or, length-append, Change, Added, OthersGoOn, IsLived, IsLockable, IsOneOf, map_of, Locked, Owned, Core, IsLawful, fate_of, All-head, All-tail, All-weaker, state_word, Layout, a_node, Spans, Fate, Free, InTree, Unlinked, Marked, life_of, pin_version, Node, EntryStoodSince, Act, Lock, Event, Target, Anchor, NodeTarget, Failed, a_lock, Known, target_word, IsEvent, IsPinnedSince, Knows, maker_of, blocking_pass_at, blocking_pass_of, tag_of, lock_tag, knows_all, recalls, pin_is, IsLater, nodes_of, KeepsRecall, Runs, Steps, silent, TableView, SeatView, IsSeatOf, runs_same, IsSure, later_if_same, later_transitive, one_of}
 use Rattle.std.proofs.Math.ListN.{get_or-append}
 use Rattle.std.proofs.Math.Seq.{get_or-append_right}
-use Rattle.std.proofs.lemmas.List.{length-append}
-use Rattle.finite_map.specs.declared.Change.{Change}
-use Rattle.finite_map.specs.declared.Kind.TheVariants.{Added}
-use Rattle.finite_map.specs.Fronts.{OthersGoOn}
-use Rattle.versions.specs.State.{IsLived}
-use Rattle.versions.specs.Steps.{IsLockable}
-use Rattle.versions.specs.Trades.{IsOneOf}
-use Rattle.versions.proofs.Trades.{map_of}
 use Rattle.rowex_core.specs.declared.known.Holding.TheVariants.{Unlinked as IsUnlinked}
-use Rattle.rowex_core.specs.declared.known.Locked.{Locked}
-use Rattle.rowex_core.specs.declared.known.Owned.{Owned}
-use Rattle.rowex_core.specs.Cores.{Core, IsLawful}
-use Rattle.rowex_core.specs.Sharing.{fate_of}
-use Rattle.std.proofs.lemmas.List.Elements.{All-head, All-tail, All-weaker}
 use Rattle.record_words.specs.declared.state.Tag.TheVariants.{Live}
-use Rattle.record_words.specs.State.{state_word}
-use Rattle.record_words.specs.declared.layout.Layout.{Layout}
-use Rattle.record_words.specs.declared.records.Rec.TheVariants.{Node as a_node}
-use Rattle.versions.specs.State.{Spans}
-use Rattle.versions.specs.Core.{Fate, Free, Held, Ready, InTree, Unlinked, Marked, life_of, pin_version}
-use Rattle.compound_node.specs.declared.entries.Entry.TheVariants.{Node}
-use Rattle.version_laws.specs.Scan.{EntryStoodSince}
-use Rattle.rowex_core.specs.declared.event.Act.{Act}
-use Rattle.rowex_core.specs.declared.event.Act.TheVariants.{Lock}
-use Rattle.rowex_core.specs.declared.event.Event.{Event}
-use Rattle.rowex_core.specs.declared.event.Target.{Target}
-use Rattle.rowex_core.specs.declared.event.Target.TheVariants.{Anchor, Node as NodeTarget}
-use Rattle.rowex_core.specs.declared.known.Failed.{Failed}
-use Rattle.rowex_core.specs.declared.known.FailedAct.TheVariants.{Lock as a_lock}
-use Rattle.rowex_core.specs.declared.known.Known.{Known}
-use Rattle.rowex_core.specs.Events.{target_word}
-use Rattle.rowex_core.specs.Knowing.{IsEvent, IsPinnedSince, Knows, maker_of, blocking_pass_at, blocking_pass_of}
-use Rattle.rowex_core.specs.Words.{tag_of, lock_tag}
-use Rattle.rowex_core.proofs.Sharing.Owning.{knows_all, recalls, pin_is}
-use Rattle.rowex_table.specs.Made.{IsLater, nodes_of}
-use Rattle.rowex_table.specs.Stays.{KeepsRecall}
-use Rattle.rowex_table.specs.Runs.{Runs, Steps, silent}
-use Rattle.rowex_table.specs.Seats.{TableView, SeatView, IsSeatOf}
+use Rattle.versions.specs.Core.{Held, Ready}
 use Rattle.rowex_table.proofs.Made.ActsBefore as before
 use Rattle.rowex_table.proofs.Made.ActsLeave as leave
-use Rattle.rowex_table.proofs.Runs.{runs_same}
-use Rattle.publish_laws.specs.Stages.{IsSure}
-use Rattle.publish_laws.proofs.Loops.{later_if_same, later_transitive}
-use Rattle.publish_laws.proofs.Lone.{one_of}
 use Rattle.rowex_writing.proofs.locks.Runs.{plain_recalls, runs_count}
 use Rattle.rowex_writing.proofs.locks.Tried.{tries_none, tries_one, tries_more}
 use Rattle.rowex_writing.specs.locks.Locks.{Tries, Works, KeepsLocksAndRecords, LoadsNoRoot, IsTakenWord, LocksOne, LocksAnchor, IsRefusedLock, NoChangeFrom, HasMadeNoChange, targets_of}

@@ -1,27 +1,11 @@
 -- What steps of a pass leave of what it knew: reads as parts of a run, and that it may read on.
-use Rattle.std.proofs.Common.{ℕ, ◌≤◌, List, [], ◌∷◌, sym, ap, subst, ◌∙◌, arith}
+use Rattle.rowex_writing.proofs.Common.{ℕ, ◌≤◌, List, [], ◌∷◌, sym, ap, subst, ◌∙◌, arith, length-append, All-cons, All-weaker, Act, LoadRef, LoadFixed, Event, Root, Slot, Value, Target, Known, IsPossible, IsBelowRoot, Looks, Reads, event_possible, later_trans, Runs, TableView, SeatView, IsSeatOf, runs_same, IsLater}
 use Rattle.std.specs.Prelude.{length}
-use Rattle.std.proofs.lemmas.List.{length-append}
-use Rattle.std.proofs.lemmas.List.Elements.{All-cons, All-weaker}
-use Rattle.rowex_core.specs.declared.event.Act.{Act}
-use Rattle.rowex_core.specs.declared.event.Act.TheVariants.{LoadRef, LoadFixed}
-use Rattle.rowex_core.specs.declared.event.Event.{Event}
-use Rattle.rowex_core.specs.declared.event.Spot.TheVariants.{Root, Slot, Value}
-use Rattle.rowex_core.specs.declared.event.Target.{Target}
-use Rattle.rowex_core.specs.declared.known.Known.{Known}
-use Rattle.rowex_reading.specs.Possible.{IsPossible}
-use Rattle.rowex_reading.specs.Reads.{IsBelowRoot, Looks, Reads}
-use Rattle.rowex_reading.proofs.Seen.Later.{event_possible}
-use Rattle.rowex_reading.proofs.Seen.{later_trans}
-use Rattle.rowex_table.specs.Runs.{Runs}
-use Rattle.rowex_table.specs.Seats.{TableView, SeatView, IsSeatOf}
-use Rattle.rowex_table.proofs.Runs.{runs_same}
 use Rattle.rowex_writing.specs.locks.Going.{TriesNoLock, WorksOn}
 use Rattle.rowex_writing.specs.locks.Locks.{IsOfAttempt, Tries, Works, HasRun, HasTried}
 use Rattle.rowex_writing.proofs.locks.Runs.{goes_run, works_run}
 use Rattle.rowex_writing.proofs.locks.Tried.{no_lock_is_tried, tries_more}
 use Rattle.rowex_writing.proofs.locks.Locks.{works_later, works_seat}
-use Rattle.rowex_table.specs.Made.{IsLater}
 
 -- a load below the root leaves the pin, and gives no record back
 below_pin : (act : Act) → IsBelowRoot act → IsOfAttempt act

@@ -1,29 +1,8 @@
 -- Another pass that stands in the way of a lock, by the run of the table.
-use Rattle.std.proofs.Common.{◌≡◌, ◌≢◌, ◌⊎◌, inl, inr, ℕ, ◌<◌, ◌≤◌, List, [], ◌∷◌, length, Option, Some, None, refl, sym, ap, subst, ◌∙◌, arith}
-use Rattle.std.specs.Prelude.{slice_get}
-use Rattle.finite_map.specs.declared.Change.{Change}
-use Rattle.record_words.specs.declared.layout.Layout.{Layout}
-use Rattle.versions.specs.State.{Spans}
-use Rattle.versions.specs.Core.{Fate, Free, Held, Ready, InTree, Unlinked, Marked, life_of, pin_version}
-use Rattle.versions.specs.Trades.{IsOneOf}
-use Rattle.compound_node.specs.declared.entries.Entry.TheVariants.{Node}
-use Rattle.version_laws.specs.Scan.{EntryStoodSince}
-use Rattle.rowex_core.specs.declared.event.Act.{Act}
-use Rattle.rowex_core.specs.declared.event.Act.TheVariants.{Lock}
-use Rattle.rowex_core.specs.declared.event.Event.{Event}
-use Rattle.rowex_core.specs.declared.event.Target.{Target}
-use Rattle.rowex_core.specs.declared.event.Target.TheVariants.{Anchor, Node as NodeTarget}
-use Rattle.rowex_core.specs.declared.known.Known.{Known}
-use Rattle.record_words.specs.declared.records.Rec.TheVariants.{Node as a_node}
-use Rattle.rowex_core.specs.Cores.{Core}
-use Rattle.rowex_core.specs.Knowing.{IsPinnedSince, blocking_pass_of, maker_of, version_of}
-use Rattle.rowex_core.proofs.Sharing.Owning.{recalls, pin_is}
-use Rattle.rowex_table.specs.Made.{IsLater, nodes_of}
-use Rattle.rowex_table.specs.Runs.{Runs, Steps, silent}
-use Rattle.rowex_table.specs.Seats.{TableView, SeatView}
+use Rattle.rowex_writing.proofs.Common.{◌≡◌, ◌≢◌, ◌⊎◌, inl, inr, ℕ, ◌<◌, ◌≤◌, List, [], ◌∷◌, length, Option, Some, None, refl, sym, ap, subst, ◌∙◌, arith, slice_get, Change, Layout, Spans, Fate, Free, InTree, Unlinked, Marked, life_of, pin_version, IsOneOf, Node, EntryStoodSince, Act, Lock, Event, Target, Anchor, NodeTarget, Known, a_node, Core, IsPinnedSince, blocking_pass_of, maker_of, version_of, recalls, pin_is, IsLater, nodes_of, Runs, Steps, silent, TableView, SeatView, next_begins, others_begin, IsSure}
+use Rattle.versions.specs.Core.{Held, Ready}
 use Rattle.rowex_table.specs.Traces.{RunBeginsWith}
-use Rattle.rowex_table.proofs.Onward.{begins_itself, begins_on, next_begins, others_begin}
-use Rattle.publish_laws.specs.Stages.{IsSure}
+use Rattle.rowex_table.proofs.Onward.{begins_itself, begins_on}
 use Rattle.rowex_writing.specs.locks.Locks.{HasMadeNoChange, HasMetLock, TriesBy}
 use Rattle.rowex_writing.specs.locks.Others.{HoldsLock, HasMadeSince, HasMetOther, IsBlocked, IsHindered}
 use Rattle.rowex_writing.proofs.locks.Locks.{anchor_taker, node_taker}

@@ -1,25 +1,6 @@
 -- Steps of a pass, one after the other: what they leave as it was, and what only grows.
-use Rattle.std.proofs.Common.{◌≡◌, ◌≤◌, ℕ, List, [], ◌∷◌, ◌++◌, map, refl, sym, ap, subst, ◌∙◌, arith, ◌<◌, ◌+◌}
-use Rattle.std.specs.Prelude.{All}
-use Rattle.std.proofs.lemmas.List.Elements.{All-head, All-tail, All-weaker}
-use Rattle.finite_map.specs.Fronts.{BeginsWith}
-use Rattle.finite_map.proofs.Fronts.{begins_itself, begins_on, begins_push}
-use Rattle.record_words.specs.declared.layout.Layout.{Layout}
-use Rattle.versions.specs.Trades.{AreApart}
-use Rattle.rowex_core.specs.declared.event.Act.{Act}
-use Rattle.rowex_core.specs.declared.event.Act.TheVariants.{Claim, Fill, Ready, Release, LoadRef, LoadFixed, Lock, Unlock, Publish, Mark, LoadEpoch, Advance, SetPin, ClearPin, LoadPin, LoadState, GiveBack, Load}
-use Rattle.rowex_core.specs.declared.event.Event.{Event}
-use Rattle.rowex_core.specs.declared.event.Spot.TheVariants.{Root, Slot, Value}
-use Rattle.rowex_core.specs.declared.event.Target.{Target}
-use Rattle.rowex_core.specs.declared.known.Fresh.{Fresh}
-use Rattle.rowex_core.specs.declared.known.Known.{Known}
-use Rattle.versions.specs.Told.{added_change, items_of}
-use Rattle.rowex_core.specs.Events.{loaded_tree, next_change}
-use Rattle.rowex_core.specs.Knowing.{IsEvent, version_of}
-use Rattle.rowex_table.specs.Runs.{Runs, Steps, silent}
-use Rattle.rowex_table.specs.Seats.{TableView, SeatView}
-use Rattle.rowex_table.specs.Stays.{KeepsRecall, LeavesFresh, LeavesFront, LeavesPin}
-use Rattle.rowex_table.proofs.Made.ActsLeave.{act_leaves}
+use Rattle.rowex_writing.proofs.Common.{◌≡◌, ◌≤◌, ℕ, List, [], ◌∷◌, ◌++◌, map, refl, sym, ap, subst, ◌∙◌, arith, ◌<◌, ◌+◌, All, All-head, All-tail, All-weaker, BeginsWith, begins_itself, begins_on, begins_push, Layout, AreApart, Act, Claim, Fill, Ready, Release, LoadRef, LoadFixed, Lock, Unlock, Publish, Mark, LoadEpoch, Advance, SetPin, ClearPin, LoadPin, LoadState, GiveBack, Load, Event, Root, Slot, Value, Target, Fresh, Known, items_of, loaded_tree, next_change, IsEvent, version_of, Runs, Steps, silent, TableView, SeatView, KeepsRecall, LeavesFresh, LeavesFront, LeavesPin, act_leaves}
+use Rattle.versions.specs.Told.{added_change}
 use Rattle.rowex_writing.specs.plan.Planned.{HasLoadedRoot}
 use Rattle.rowex_writing.specs.locks.Going.{TriesNoLock, WorksOn}
 use Rattle.rowex_writing.specs.locks.Locks.{IsOfAttempt, LoadsNoRoot, Tries, TriesNodes, TriesNodesBy, TriesOnce, Works, targets_of, HasRun, HasTried, HasTriedOnce}

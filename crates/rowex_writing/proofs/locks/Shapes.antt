@@ -1,37 +1,8 @@
 -- What a pass has read of a node's forks is what the words under its lock show.
-use Rattle.std.proofs.Common.{◌≡◌, ℕ, ◌+◌, ◌-◌, ◌≤◌, List, refl, ap, sym, ◌∙◌, subst, le_refl, le_trans}
-use Rattle.compound_node.specs.declared.entries.Entry.{Entry}
-use Rattle.compound_node.specs.declared.entries.Entry.TheVariants.{Node}
-use Rattle.insert_cases.specs.declared.choice.PathNode.{PathNode}
-use Rattle.node_tries.specs.Piece.{Place, Fork, size}
-use Rattle.node_tries.specs.Growth.{affected_first, affected_count}
-use Rattle.record_words.specs.declared.layout.Layout.{Layout}
-use Rattle.tries.specs.Keys.{Key}
-use Rattle.tries.specs.Place.{shape, spot}
-use Rattle.tries.specs.Tree.{Subtrie, Tree, Fixed, node, subtrie, first_position}
-use Rattle.tries.proofs.Place.{shape_tips, spot_shape}
-use Rattle.record_words.specs.declared.records.Rec.TheVariants.{Node as a_node}
-use Rattle.versions.specs.Heap.{NodeWords}
-use Rattle.versions.specs.State.{Past, Stands, KeepsFixedWordsSince}
+use Rattle.rowex_writing.proofs.Common.{◌≡◌, ℕ, ◌+◌, ◌-◌, ◌≤◌, List, refl, ap, sym, ◌∙◌, subst, le_refl, le_trans, Entry, Node, PathNode, Place, Fork, size, affected_first, affected_count, Layout, Key, shape, spot, Subtrie, Tree, Fixed, node, subtrie, first_position, shape_tips, spot_shape, a_node, NodeWords, Past, Stands, KeepsFixedWordsSince, all_of, Known, bare, IsPinnedSince, node_words_of, IsLocked, knows_all, recalls, EntryStoodSince, HadShapeSince, shaped, node_named, first_shape, IsPossible, seen, Sure, seen_past, seen_stable, shaped_stable, reach_since, steady, IsWayNode, view}
 use Rattle.versions.proofs.Core.Growth.{in_tree_now}
-use Rattle.versions.proofs.Trades.{all_of}
-use Rattle.rowex_core.specs.declared.known.Known.{Known}
-use Rattle.rowex_core.specs.Cores.{bare}
-use Rattle.rowex_core.specs.Knowing.{IsPinnedSince}
-use Rattle.rowex_core.specs.Reading.{node_words_of}
-use Rattle.rowex_core.specs.Sharing.{IsLocked}
-use Rattle.rowex_core.proofs.Sharing.Owning.{knows_all, recalls}
-use Rattle.version_laws.specs.Scan.{EntryStoodSince, HadShapeSince}
-use Rattle.version_laws.proofs.Scan.{shaped, node_of as node_named, first_shape}
-use Rattle.rowex_reading.specs.Possible.{IsPossible}
-use Rattle.rowex_reading.specs.Seen.{seen, Sure}
-use Rattle.rowex_reading.proofs.Seen.{seen_past, seen_stable, shaped_stable}
-use Rattle.publish_laws.proofs.Sure.{reach_since}
-use Rattle.versions.proofs.State.{steady}
 use Rattle.rowex_writing.specs.locks.Going.{HasLocked}
 use Rattle.rowex_writing.specs.plan.Planned.{AffectsJust}
-use Rattle.rowex_reading.specs.Ways.{IsWayNode}
-use Rattle.rowex_core.proofs.Cores.Loading.{view}
 
 -- A node that stands now has the forks and the height of before.
 now_shaped : (s : Past) (m n h : ℕ) (x : Subtrie) (w : NodeWords) (b : Tree) → KeepsFixedWordsSince s m → m ≤ s.now → EntryStoodSince s m (Node n h) → HadShapeSince s m n x →

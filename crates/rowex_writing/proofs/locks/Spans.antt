@@ -1,19 +1,5 @@
 -- Parts of a way, and the locks of their nodes, one more and one less.
-use Rattle.std.proofs.Common.{◌≡◌, ◌≢◌, inl, inr, ℕ, ◌+◌, ◌-◌, ◌<◌, ◌≤◌, List, [], ◌∷◌, length, get_or, take, drop, refl, sym, ap, subst, ◌∙◌, arith, suc, zero}
-use Rattle.std.specs.Prelude.{Contains, slice_range}
-use Rattle.std.proofs.lemmas.List.{drop_more, drop_all, length-drop, length-take-le, length-map}
-use Rattle.std.proofs.lemmas.List.Elements.{All-drop, All-take, All-weaker}
-use Rattle.record_words.specs.declared.layout.Layout.{Layout}
-use Rattle.insert_cases.specs.declared.choice.PathNode.{PathNode}
-use Rattle.compound_node.specs.declared.entries.Entry.TheVariants.{Node}
-use Rattle.version_laws.specs.Scan.{EntryStoodSince}
-use Rattle.versions.specs.Trades.{IsOneOf}
-use Rattle.versions.proofs.Trades.{map_of, none_of, of_map}
-use Rattle.rowex_core.specs.declared.known.Known.{Known}
-use Rattle.rowex_core.specs.declared.known.Locked.{Locked}
-use Rattle.rowex_core.specs.Having.{LocksJust}
-use Rattle.rowex_table.specs.Made.{IsLater, nodes_of}
-use Rattle.publish_laws.proofs.Sure.{sure_stays}
+use Rattle.rowex_writing.proofs.Common.{◌≡◌, ◌≢◌, inl, inr, ℕ, ◌+◌, ◌-◌, ◌<◌, ◌≤◌, List, [], ◌∷◌, length, get_or, take, drop, refl, sym, ap, subst, ◌∙◌, arith, suc, zero, Contains, slice_range, drop_more, drop_all, length-drop, length-take-le, length-map, All-drop, All-take, All-weaker, Layout, PathNode, Node, EntryStoodSince, IsOneOf, map_of, none_of, of_map, Known, Locked, LocksJust, IsLater, nodes_of, sure_stays}
 use Rattle.rowex_writing.specs.locks.Locks.{AreLed, AreNodes, HasJustLocked, HasMetLock, IsLedStep, LocksOne, numbers_of}
 
 -- ---- parts of a list

@@ -1,19 +1,5 @@
 -- The locks that steps try: each once at most.
-use Rattle.std.proofs.Common.{◌≡◌, inl, inr, ℕ, zero, suc, ◌+◌, ◌-◌, ◌<◌, ◌≤◌, List, [], ◌∷◌, ◌++◌, length, get_or, take, drop, map, refl, sym, ap, subst, ◌∙◌, arith}
-use Rattle.std.specs.Prelude.{All, slice_range}
-use Rattle.std.proofs.lemmas.List.{append-nil, length-append}
-use Rattle.std.proofs.lemmas.List.Elements.{All-append, All-cons, All-head, All-nil, All-tail}
-use Rattle.insert_cases.specs.declared.choice.PathNode.{PathNode}
-use Rattle.versions.specs.Trades.{AreApart, IsOneOf}
-use Rattle.versions.proofs.Trades.{of_append, of_map}
-use Rattle.rowex_core.specs.declared.event.Act.{Act}
-use Rattle.rowex_core.specs.declared.event.Act.TheVariants.{Lock}
-use Rattle.rowex_core.specs.declared.event.Event.{Event}
-use Rattle.rowex_core.specs.declared.event.Target.{Target}
-use Rattle.rowex_core.specs.declared.event.Target.TheVariants.{Anchor, Node as NodeTarget}
-use Rattle.rowex_table.specs.Runs.{Steps}
-use Rattle.rowex_table.specs.Seats.{TableView, SeatView}
-use Rattle.rowex_table.proofs.Runs.{runs_append, runs_one}
+use Rattle.rowex_writing.proofs.Common.{◌≡◌, inl, inr, ℕ, zero, suc, ◌+◌, ◌-◌, ◌<◌, ◌≤◌, List, [], ◌∷◌, ◌++◌, length, get_or, take, drop, map, refl, sym, ap, subst, ◌∙◌, arith, All, slice_range, append-nil, length-append, All-append, All-cons, All-head, All-nil, All-tail, PathNode, AreApart, IsOneOf, of_append, of_map, Act, Lock, Event, Target, Anchor, NodeTarget, Steps, TableView, SeatView, runs_append, runs_one}
 use Rattle.rowex_writing.specs.locks.Going.{TriesNoLock}
 use Rattle.rowex_writing.specs.locks.Locks.{TriesBy, TriesNodesBy, TriesOnceBy, TriesLocksOnce, numbers_of, targets_of}
 use Rattle.rowex_writing.proofs.locks.Spans.{slice_more}

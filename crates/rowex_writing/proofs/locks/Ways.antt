@@ -1,33 +1,6 @@
 -- The nodes on the way of a search are different ones, and the pass was led to each.
-use Rattle.std.proofs.Common.{◌≡◌, inl, inr, ℕ, suc, ◌+◌, ◌≤◌, List, [], ◌∷◌, get_or, Some, refl, sym, ap, subst, ◌∙◌, arith}
-use Rattle.std.specs.Prelude.{slice_get}
-use Rattle.std.proofs.lemmas.Option.{slice_get-get_or}
-use Rattle.insert_cases.specs.declared.choice.PathNode.{PathNode}
-use Rattle.compound_node.specs.Nodes.{height_of}
-use Rattle.compound_node.specs.declared.entries.Entry.{Entry}
-use Rattle.compound_node.specs.declared.entries.Entry.TheVariants.{Node}
-use Rattle.record_words.specs.declared.layout.Layout.{Layout}
-use Rattle.tries.specs.Keys.{Key}
-use Rattle.tries.specs.Tree.{Fixed, node as node_tree}
-use Rattle.record_words.specs.declared.records.Rec.TheVariants.{Node as a_node}
-use Rattle.versions.specs.State.{Stands}
-use Rattle.versions.specs.Trades.{AreApart, IsOneOf}
-use Rattle.versions.proofs.Trades.{of_map}
-use Rattle.versions.proofs.State.{steady}
-use Rattle.rowex_core.proofs.Cores.Loading.{view}
-use Rattle.rowex_core.specs.Knowing.{IsPinnedSince}
-use Rattle.rowex_core.proofs.Sharing.Owning.{recalls}
-use Rattle.rowex_core.specs.declared.known.Known.{Known}
-use Rattle.version_laws.specs.Scan.{EntryStoodSince}
-use Rattle.version_laws.proofs.Scan.{node_of as node_named}
-use Rattle.rowex_reading.specs.Possible.{IsPossible}
-use Rattle.rowex_reading.specs.Seen.{Sure, seen}
-use Rattle.rowex_reading.proofs.Seen.{seen_past, seen_stable}
-use Rattle.publish_laws.specs.Stages.{IsSure}
-use Rattle.publish_laws.proofs.Sure.{reach_since, seen_is_sure}
+use Rattle.rowex_writing.proofs.Common.{◌≡◌, inl, inr, ℕ, suc, ◌+◌, ◌≤◌, List, [], ◌∷◌, get_or, Some, refl, sym, ap, subst, ◌∙◌, arith, slice_get, slice_get-get_or, PathNode, height_of, Entry, Node, Layout, Key, Fixed, node_tree, a_node, Stands, AreApart, IsOneOf, of_map, steady, view, IsPinnedSince, recalls, Known, EntryStoodSince, node_named, IsPossible, Sure, seen, seen_past, seen_stable, IsSure, reach_since, seen_is_sure, IsWayOf, IsWayNode, named, Found}
 use Rattle.rowex_writing.specs.locks.Locks.{AreLed, numbers_of}
-use Rattle.rowex_reading.specs.Ways.{IsWayOf, IsWayNode, named}
-use Rattle.rowex_reading.specs.declared.descent.Found.{Found}
 
 -- a record to which the pass was led since its pin has one height
 one_height : (layout : Layout) (k : Known) (m n g h : ℕ) → IsPossible layout k → IsPinnedSince k m → Sure k (λ past. EntryStoodSince past m (Node n g)) → Sure k (λ past. EntryStoodSince past m (Node n h)) → g ≡ h

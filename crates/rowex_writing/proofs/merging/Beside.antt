@@ -1,32 +1,9 @@
 -- What a pass knows of the two nodes that become one.
-use Rattle.std.proofs.Common.{Bor, ◌≡◌, ℕ, ◌-◌, ◌<◌, Bool, List, length, get_or, if◌then◌else◌, Some, None, sym, ap, subst, ◌∙◌, arith}
-use Rattle.std.specs.Prelude.{slice_get}
-use Rattle.std.proofs.lemmas.Bool.{lt-ltb}
-use Rattle.std.proofs.lemmas.List.{get_or_default}
-use Rattle.std.proofs.lemmas.Option.{slice_get-get_or}
+use Rattle.rowex_writing.proofs.Common.{Bor, ◌≡◌, ℕ, ◌-◌, ◌<◌, Bool, List, length, get_or, if◌then◌else◌, Some, None, sym, ap, subst, ◌∙◌, arith, slice_get, lt-ltb, get_or_default, slice_get-get_or, NodeView, piece, Node, beside, Place, size, entry_at, spot, subtrie_sibling, Subtrie, size-piece, spot_below, sibling_spot, NodeWords, node_words_of, Event, place_is, TableView, SeatView, IsPossible, HasPlace, IsWayOf, Leaf, beside_in_table, stays_on}
 use Rattle.compound_node.specs.Beside.{IsBesideIn}
-use Rattle.compound_node.specs.Nodes.{NodeView, piece}
-use Rattle.compound_node.specs.declared.entries.Entry.TheVariants.{Node}
-use Rattle.node_tries.specs.Changes.{beside}
-use Rattle.node_tries.specs.Piece.{Place, size}
 use Rattle.node_tries.proofs.Changes.Beside.{beside_elsewhere, sibling_beside}
 use Rattle.record_words.specs.Packed.{position_at}
-use Rattle.tries.specs.Place.{entry_at, spot, subtrie_sibling}
-use Rattle.tries.specs.Tree.{Subtrie}
-use Rattle.tries.proofs.Tree.Building.{size-piece}
-use Rattle.tries.proofs.Place.{spot_below}
-use Rattle.tries.proofs.Place.Spots.{sibling_spot}
-use Rattle.versions.specs.Heap.{NodeWords}
-use Rattle.rowex_core.specs.Reading.{node_words_of}
-use Rattle.rowex_core.specs.declared.event.Event.{Event}
-use Rattle.rowex_core.proofs.Reading.{place_is}
-use Rattle.rowex_table.specs.Seats.{TableView, SeatView}
-use Rattle.rowex_reading.specs.Possible.{IsPossible}
-use Rattle.rowex_reading.specs.Seen.{HasPlace}
-use Rattle.rowex_reading.specs.Ways.{IsWayOf}
-use Rattle.rowex_reading.specs.declared.descent.Found.TheVariants.{Leaf}
 use Rattle.rowex_writing.specs.locks.Going.{HasLocked, IsLockedBy, IsNodeOf, WorksOn}
-use Rattle.publish_laws.proofs.Cases.Merging.{beside_in_table}
 use Rattle.rowex_writing.specs.merging.Merging.{IsNeighbour}
 use Rattle.rowex_writing.specs.build.Taking.{IsTaking, TakesOn, lower, no_step, upper}
 use Rattle.rowex_writing.specs.declared.plan.job.Job.{Job}
@@ -36,7 +13,6 @@ use Rattle.rowex_writing.proofs.build.Above.{locked_at}
 use Rattle.rowex_writing.proofs.locks.Going.{locked_on, seat_of}
 use Rattle.rowex_writing.proofs.build.Building.{goes_possible}
 use Rattle.rowex_writing.proofs.locks.Shapes.{shape_size, way_node_locked}
-use Rattle.publish_laws.proofs.Loops.{locked_on as stays_on}
 use Rattle.rowex_writing.proofs.build.taking.Taking.{way_on}
 
 -- the pass goes on

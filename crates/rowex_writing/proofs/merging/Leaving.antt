@@ -1,24 +1,10 @@
 -- What a removal leaves of the lower node, and the record that is claimed for it.
-use Rattle.std.proofs.Common.{◌≡◌, ℕ, List, sym, ap, subst, ◌∙◌}
-use Rattle.compound_node.specs.Nodes.{NodeView, IsBuiltFrom, piece}
-use Rattle.node_tries.specs.Changes.{without}
-use Rattle.tries.specs.Place.{spot, subtrie_without}
-use Rattle.tries.proofs.Place.Spots.{without_spot}
-use Rattle.versions.specs.Heap.{NodeWords}
-use Rattle.rowex_core.specs.Reading.{node_words_of}
-use Rattle.rowex_core.specs.declared.event.Event.{Event}
-use Rattle.rowex_core.specs.declared.known.Known.{Known}
-use Rattle.rowex_reading.specs.Possible.{IsPossible}
-use Rattle.rowex_table.specs.Made.{IsLater}
-use Rattle.rowex_table.specs.Seats.{TableView, SeatView, IsSeatOf}
-use Rattle.publish_laws.proofs.Loops.{later_transitive}
+use Rattle.rowex_writing.proofs.Common.{◌≡◌, ℕ, List, sym, ap, subst, ◌∙◌, NodeView, IsBuiltFrom, piece, without, spot, subtrie_without, without_spot, NodeWords, node_words_of, Event, Known, IsPossible, IsLater, TableView, SeatView, IsSeatOf, later_transitive, IsWayOf, way_later}
 use Rattle.rowex_writing.specs.locks.Going.{HasLocked, IsNodeOf, WorksOn}
 use Rattle.rowex_writing.specs.locks.Jobs.{HoldsSpan}
 use Rattle.rowex_writing.specs.merging.Merging.{HasWiderLocks}
 use Rattle.rowex_writing.specs.build.Taking.{HasClaimed, IsLeftOfNode, TakesOn, TakesStill, lower}
 use Rattle.rowex_writing.specs.declared.plan.job.Job.{Job}
-use Rattle.rowex_reading.specs.Ways.{IsWayOf}
-use Rattle.rowex_reading.proofs.Ways.{way_later}
 use Rattle.rowex_writing.proofs.merging.Beside.{lower_at, lower_locked}
 use Rattle.rowex_writing.proofs.locks.Checks.{span_later}
 use Rattle.rowex_writing.proofs.locks.Going.{locked_on, seat_of, locked_node}

@@ -1,31 +1,11 @@
 -- The entries that a new leaf's position affects, by the forks that were read.
-use Rattle.std.proofs.Common.{◌≡◌, ℕ, zero, suc, ◌+◌, ◌-◌, ◌<◌, ◌≤◌, List, length, Some, None, refl, sym, ap, subst, ◌∙◌, arith, ⊎_elim}
-use Rattle.std.proofs.lemmas.Bool.{cases_lt}
-use Rattle.std.proofs.lemmas.Option.{slice_get_within}
-use Rattle.std.specs.Prelude.{slice_get}
-use Rattle.insert_cases.specs.declared.choice.PathNode.{PathNode}
-use Rattle.insert_cases.specs.Levels.{IsLevel}
-use Rattle.insert_cases.proofs.Ways.{some_at}
-use Rattle.node_tries.specs.Growth.{affected_first, affected_count}
+use Rattle.rowex_writing.proofs.Common.{◌≡◌, ℕ, zero, suc, ◌+◌, ◌-◌, ◌<◌, ◌≤◌, List, length, Some, None, refl, sym, ap, subst, ◌∙◌, arith, ⊎_elim, cases_lt, slice_get_within, slice_get, PathNode, IsLevel, some_at, affected_first, affected_count, Layout, Key, spot, Subtrie, Known, HadShapeSince, IsLater, IsPossible, Sure, shaped_stable, since_later, sure_later, IsWayOf, Found, Nothing, Leaf}
 use Rattle.node_tries.proofs.Growth.{affected_fits}
-use Rattle.record_words.specs.declared.layout.Layout.{Layout}
-use Rattle.tries.specs.Keys.{Key}
-use Rattle.tries.specs.Place.{spot}
-use Rattle.tries.specs.Tree.{Subtrie}
-use Rattle.rowex_core.specs.declared.known.Known.{Known}
-use Rattle.version_laws.specs.Scan.{HadShapeSince}
-use Rattle.rowex_table.specs.Made.{IsLater}
-use Rattle.rowex_reading.specs.Possible.{IsPossible}
-use Rattle.rowex_reading.specs.Seen.{Sure}
 use Rattle.rowex_reading.proofs.Possible.Shapes.{same_shape}
-use Rattle.rowex_reading.proofs.Seen.{shaped_stable, since_later, sure_later}
 use Rattle.rowex_writing.specs.plan.Plans.{DiffersAt, IsPlan}
 use Rattle.rowex_writing.specs.declared.plan.Aim.{Aim}
 use Rattle.rowex_writing.specs.declared.plan.Plan.{Plan}
 use Rattle.rowex_writing.specs.plan.Planned.{AffectsJust, AreAffected, IsPlanned}
-use Rattle.rowex_reading.specs.Ways.{IsWayOf}
-use Rattle.rowex_reading.specs.declared.descent.Found.{Found}
-use Rattle.rowex_reading.specs.declared.descent.Found.TheVariants.{Nothing, Leaf}
 
 -- ---- levels of a way
 same_step : (way : List PathNode) (i : ℕ) (s t : PathNode) → slice_get way i ≡ Some s → slice_get way i ≡ Some t → t ≡ s

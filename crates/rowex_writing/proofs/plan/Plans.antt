@@ -1,28 +1,13 @@
 -- The span of a plan lies on the way.
-use Rattle.std.proofs.Common.{◌≡◌, ℕ, ◌+◌, ◌<◌, ◌≤◌, ◌∙◌, Bool, true, false, List, [], ◌∷◌, length, nat_lt, refl, ap, sym, subst, arith, Some, None, ⊎_elim, Option}
-use Rattle.std.proofs.lemmas.Bool.{cases_lt, le-ltb, lt-ltb}
-use Rattle.std.proofs.lemmas.Option.{slice_get_within}
-use Rattle.std.specs.Prelude.{slice_get}
-use Rattle.insert_cases.specs.declared.choice.Case.{Case}
-use Rattle.insert_cases.specs.declared.choice.Case.TheVariants.{LeafPushdown, NormalInsert, Overflow}
-use Rattle.insert_cases.specs.declared.choice.Choice.{Choice}
-use Rattle.insert_cases.specs.declared.choice.PathNode.{PathNode}
-use Rattle.insert_cases.specs.Levels.{IsChainEnd, IsChosen, IsLevel}
-use Rattle.insert_cases.specs.Ways.{case_of}
-use Rattle.insert_cases.proofs.Ways.{some_at, some_injective}
+use Rattle.rowex_writing.proofs.Common.{◌≡◌, ℕ, ◌+◌, ◌<◌, ◌≤◌, ◌∙◌, Bool, true, false, List, [], ◌∷◌, length, nat_lt, refl, ap, sym, subst, arith, Some, None, ⊎_elim, Option, cases_lt, le-ltb, lt-ltb, slice_get_within, slice_get, Case, LeafPushdown, NormalInsert, Overflow, Choice, PathNode, IsChainEnd, IsChosen, IsLevel, case_of, some_at, some_injective, Found, Nothing, Leaf, Reply, Key, Known}
 use Rattle.rowex_writing.specs.plan.Plans.{change, LiesOnWay, IsCase, IsBeside, IsNewLeafPlan, IsPlan, TakesLeaf, removal_deed}
 use Rattle.rowex_writing.specs.declared.plan.Aim.{Aim}
 use Rattle.rowex_writing.specs.declared.plan.Aim.TheVariants.{Insert, Upsert, Remove, Insert as ToInsert, Upsert as ToUpsert, Remove as ToRemove}
 use Rattle.rowex_writing.specs.declared.plan.Deed.{Deed}
 use Rattle.rowex_writing.specs.declared.plan.Deed.TheVariants.{Empty, Grow, Put, Take, TakeTop, Value as ValueDeed}
-use Rattle.rowex_reading.specs.declared.descent.Found.{Found}
-use Rattle.rowex_reading.specs.declared.descent.Found.TheVariants.{Nothing, Leaf}
 use Rattle.rowex_writing.specs.declared.plan.Plan.{Plan}
 use Rattle.rowex_writing.specs.declared.plan.Plan.TheVariants.{Answer, Change, Change as a_change}
-use Rattle.finite_map.specs.declared.Reply.{Reply}
 use Rattle.rowex_writing.specs.declared.plan.Span.{Span}
-use Rattle.tries.specs.Keys.{Key}
-use Rattle.rowex_core.specs.declared.known.Known.{Known}
 use Rattle.rowex_writing.specs.plan.Planned.{IsPlanned}
 
 -- the chosen node is one of the way

@@ -1,46 +1,12 @@
 -- A leaf that is named under the pass's locks, and whose value it loads: the key has this value after all changes that it has seen.
-use Rattle.std.proofs.Common.{◌≡◌, ◌⊎◌, inl, inr, ℕ, ◌+◌, ◌-◌, ◌<◌, ◌≤◌, List, length, Some, None, refl, sym, ap, ◌∙◌, arith, get_or, [], ap₂, subst}
-use Rattle.std.specs.Prelude.{slice_get}
-use Rattle.std.proofs.lemmas.Bool.{cases_lt}
-use Rattle.std.proofs.lemmas.Option.{slice_get-get_or}
-use Rattle.compound_node.specs.declared.entries.Entry.TheVariants.{Leaf as LeafEntry}
-use Rattle.insert_cases.specs.declared.choice.PathNode.{PathNode}
-use Rattle.insert_cases.proofs.Ways.{some_injective}
-use Rattle.tries.specs.Keys.{Key}
-use Rattle.tries.specs.Place.{spot}
-use Rattle.rowex_core.specs.declared.event.Spot.{Spot}
-use Rattle.rowex_core.specs.declared.event.Spot.TheVariants.{Root, Slot, Value}
-use Rattle.rowex_core.specs.Reading.{node_words_of, leaf_of}
-use Rattle.rowex_table.specs.Seats.{SeatView, TableView}
-use Rattle.rowex_reading.specs.Ways.{end_of, named}
-use Rattle.rowex_reading.specs.declared.descent.Found.{Found}
-use Rattle.rowex_reading.specs.declared.descent.Found.TheVariants.{Leaf}
-use Rattle.rowex_reading.proofs.Ways.{named_end}
-use Rattle.publish_laws.specs.Spots.{HoldsAt, at_root, in_node}
+use Rattle.rowex_writing.proofs.Common.{◌≡◌, ◌⊎◌, inl, inr, ℕ, ◌+◌, ◌-◌, ◌<◌, ◌≤◌, List, length, Some, None, refl, sym, ap, ◌∙◌, arith, get_or, [], ap₂, subst, slice_get, cases_lt, slice_get-get_or, LeafEntry, PathNode, some_injective, Key, spot, Spot, Root, Slot, Value, node_words_of, leaf_of, SeatView, TableView, end_of, named, Found, Leaf, named_end, HoldsAt, at_root, in_node, a_leaf, VALUE_OFFSET, Core, bare, record_word, Change, value_at, Layout, Within, leaf, LeafWords, LoadRef, Known, IsEvent, silent, HasReady, IsLeafThere, spot_in, stage_of, later_if_same}
 use Rattle.rowex_writing.specs.locks.Checks.{HasTakenSpan, HasTakenPlan}
 use Rattle.rowex_writing.specs.build.Taking.{no_step}
 use Rattle.rowex_writing.specs.declared.plan.Span.{Span}
 use Rattle.rowex_writing.proofs.build.Above.{locked_at}
-use Rattle.record_words.specs.declared.records.Rec.TheVariants.{Leaf as a_leaf}
-use Rattle.record_words.specs.declared.TheConstants.{VALUE_OFFSET}
-use Rattle.rowex_core.specs.Cores.{Core, bare}
-use Rattle.rowex_core.specs.Words.{record_word}
-use Rattle.finite_map.specs.declared.Change.{Change}
 use Rattle.finite_map.specs.Fronts.{map_of}
-use Rattle.finite_map.specs.Maps.{value_at}
-use Rattle.record_words.specs.declared.layout.Layout.{Layout}
-use Rattle.tries.specs.Tree.{Within, leaf}
-use Rattle.versions.specs.Heap.{LeafWords}
 use Rattle.version_laws.proofs.Spots.{newest_tree_if_spot_held, leaf_at}
-use Rattle.rowex_core.specs.declared.event.Act.TheVariants.{LoadRef}
-use Rattle.rowex_core.specs.declared.known.Known.{Known}
-use Rattle.rowex_core.specs.Knowing.{IsEvent}
-use Rattle.rowex_table.specs.Runs.{silent}
-use Rattle.publish_laws.specs.Stages.{HasReady, IsLeafThere}
-use Rattle.publish_laws.proofs.Spots.{spot_in}
 use Rattle.publish_laws.proofs.Cases.Publishing.{leaf_held}
-use Rattle.publish_laws.proofs.Stages.{stage_of}
-use Rattle.publish_laws.proofs.Loops.{later_if_same}
 use Rattle.rowex_writing.specs.store.Values.{HoldsFound}
 use Rattle.rowex_writing.specs.declared.plan.job.Job.{Job}
 use Rattle.rowex_writing.specs.declared.plan.Deed.{Deed}

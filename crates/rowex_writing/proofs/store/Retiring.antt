@@ -1,23 +1,6 @@
 -- Records to mark, one less and none; from a publish to the first of them.
-use Rattle.std.proofs.Common.{◌≡◌, ℕ, ◌+◌, ◌<◌, ◌≤◌, List, [], ◌∷◌, length, get_or, drop, map, refl, sym, ap, subst, ◌∙◌, arith}
-use Rattle.std.specs.Prelude.{All}
-use Rattle.std.proofs.lemmas.List.{drop_more, drop_all, length-map}
-use Rattle.std.proofs.lemmas.List.Elements.{All-cons}
-use Rattle.record_words.specs.declared.layout.Layout.{Layout}
-use Rattle.record_words.specs.declared.records.Rec.{Rec}
+use Rattle.rowex_writing.proofs.Common.{◌≡◌, ℕ, ◌+◌, ◌<◌, ◌≤◌, List, [], ◌∷◌, length, get_or, drop, map, refl, sym, ap, subst, ◌∙◌, arith, All, drop_more, drop_all, length-map, All-cons, Layout, Rec, IsOneOf, none_of, LoadEpoch, Mark, Release, Event, Known, OwnsJust, IsUnlinkedBefore, LocksJust, IsEvent, silent, TableView, SeatView, epoch_owns, mark_gives, act_leaves, GivesUpAll}
 use Rattle.versions.specs.declared.Round.{Round}
-use Rattle.versions.specs.Trades.{IsOneOf}
-use Rattle.versions.proofs.Trades.{none_of}
-use Rattle.rowex_core.specs.declared.event.Act.TheVariants.{LoadEpoch, Mark, Release}
-use Rattle.rowex_core.specs.declared.event.Event.{Event}
-use Rattle.rowex_core.specs.declared.known.Known.{Known}
-use Rattle.rowex_core.specs.Having.{OwnsJust, IsUnlinkedBefore, LocksJust}
-use Rattle.rowex_core.specs.Knowing.{IsEvent}
-use Rattle.rowex_table.specs.Runs.{silent}
-use Rattle.rowex_table.specs.Seats.{TableView, SeatView}
-use Rattle.rowex_table.proofs.Made.ActsAfter.{epoch_owns, mark_gives}
-use Rattle.rowex_table.proofs.Made.ActsLeave.{act_leaves}
-use Rattle.rowex_records.specs.Records.{GivesUpAll}
 use Rattle.rowex_writing.proofs.locks.Spans.{locked_same}
 use Rattle.rowex_writing.specs.locks.Locks.{HasJustLocked, LoadsNoRoot, Works, targets_of}
 use Rattle.rowex_writing.specs.store.Retiring.{HasJustPublished, HasToMark}

@@ -1,20 +1,5 @@
 -- What may be stored for a change, and for a removal that merges.
-use Rattle.std.proofs.Common.{◌≡◌, ℕ, ◌-◌, List, Option, Some, nat_eq, sym, subst, arith, inl, inr, [], ◌∷◌, None, map, refl}
-use Rattle.std.specs.Prelude.{slice_range}
-use Rattle.std.proofs.lemmas.Bool.{eq-eqb, ne_eqb}
-use Rattle.compound_node.specs.declared.entries.Entry.{Entry}
-use Rattle.finite_map.specs.declared.Change.{Change}
-use Rattle.insert_cases.specs.declared.choice.PathNode.{PathNode}
-use Rattle.record_words.specs.Entry.{entry_word}
-use Rattle.versions.specs.Trades.{AreApart, IsOneOf}
-use Rattle.record_words.specs.declared.records.Rec.{Rec}
-use Rattle.rowex_table.specs.Rule.{HasSpot}
-use Rattle.rowex_core.specs.Having.{AreKept}
-use Rattle.rowex_core.specs.declared.event.Spot.{Spot}
-use Rattle.rowex_core.specs.declared.event.Spot.TheVariants.{Root, Slot, Value}
-use Rattle.rowex_core.specs.declared.known.Known.{Known}
-use Rattle.rowex_table.specs.Made.{nodes_of}
-use Rattle.rowex_table.specs.Seats.{TableView, SeatView}
+use Rattle.rowex_writing.proofs.Common.{◌≡◌, ℕ, ◌-◌, List, Option, Some, nat_eq, sym, subst, arith, inl, inr, [], ◌∷◌, None, map, refl, slice_range, eq-eqb, ne_eqb, Entry, Change, PathNode, entry_word, AreApart, IsOneOf, Rec, HasSpot, AreKept, Spot, Root, Slot, Value, Known, nodes_of, TableView, SeatView, IsOfEntry, HasLoaded, a_node, a_leaf, of_append, Key, Found, FoundLeaf}
 use Rattle.rowex_writing.specs.build.Changes.{MayPublishOnceReady, IsTakeChange, KnowsWas}
 use Rattle.rowex_writing.specs.build.Deeds.{MayReplace, gone_of_span, kept_of_span, leaf_gone}
 use Rattle.rowex_writing.specs.locks.Jobs.{HoldsSpan}
@@ -26,14 +11,7 @@ use Rattle.rowex_writing.specs.declared.plan.job.Job.{Job}
 use Rattle.rowex_writing.specs.declared.plan.job.Raised.{Raised}
 use Rattle.rowex_writing.proofs.build.Changes.{step_nodes}
 use Rattle.rowex_writing.proofs.build.deeds.Deeds.{gone_records, kept_nodes, kept_raised, span_anchor, spot_there}
-use Rattle.rowex_core.specs.Events.{IsOfEntry}
 use Rattle.rowex_writing.specs.store.Values.{HasLoadedFound}
-use Rattle.publish_laws.specs.Stages.{HasLoaded}
-use Rattle.record_words.specs.declared.records.Rec.TheVariants.{Node as a_node, Leaf as a_leaf}
-use Rattle.versions.proofs.Trades.{of_append}
-use Rattle.tries.specs.Keys.{Key}
-use Rattle.rowex_reading.specs.declared.descent.Found.{Found}
-use Rattle.rowex_reading.specs.declared.descent.Found.TheVariants.{Leaf as FoundLeaf}
 
 -- the spot above the first nodes of a way is the root if there are none
 root_anchor : (k : Known) (way : List PathNode) (end : ℕ) (spot : Spot) → IsSpotAbove way end spot → IsAnchored (nat_eq end 0) k → IsAnchored (is_root spot) k

@@ -1,51 +1,7 @@
 -- The value of a leaf that a search has found: loaded again under the lock of what names it, and stored.
-use Rattle.std.proofs.Common.{◌≡◌, ◌≢◌, ◌⊎◌, inl, inr, ℕ, ◌+◌, ◌<◌, ◌≤◌, List, [], ◌∷◌, length, Option, Some, None, refl, sym, ap, subst, ◌∙◌, arith, zero, suc, ◌-◌, Bool, true, false, IsSome}
-use Rattle.std.proofs.lemmas.Bool.{cases_lt}
-use Rattle.std.proofs.lemmas.List.{length-append}
-use Rattle.std.proofs.lemmas.List.Elements.{All-cons}
-use Rattle.compound_node.specs.declared.entries.Entry.TheVariants.{Leaf as LeafEntry}
-use Rattle.finite_map.specs.declared.Change.{Change}
-use Rattle.finite_map.specs.Fronts.{BeginsWith}
-use Rattle.finite_map.proofs.Fronts.{begins_on}
-use Rattle.insert_cases.specs.declared.choice.PathNode.{PathNode}
-use Rattle.record_words.specs.declared.layout.Layout.{Layout}
-use Rattle.tries.specs.Keys.{Key}
-use Rattle.tries.specs.Tree.{leaf, Holds}
-use Rattle.tries.proofs.Content.Maps.{holds_value}
-use Rattle.version_laws.specs.Scan.{IsRead}
+use Rattle.rowex_writing.proofs.Common.{◌≡◌, ◌≢◌, ◌⊎◌, inl, inr, ℕ, ◌+◌, ◌<◌, ◌≤◌, List, [], ◌∷◌, length, Option, Some, None, refl, sym, ap, subst, ◌∙◌, arith, zero, suc, ◌-◌, Bool, true, false, IsSome, cases_lt, length-append, All-cons, LeafEntry, Change, BeginsWith, begins_on, PathNode, Layout, Key, leaf, Holds, holds_value, IsRead, KeepsFixedWordsSince, Past, Stands, IsOneOf, a_leaf, LoadRef, Publish, Event, Spot, Value, Fresh, Known, Locked, IsEvent, IsPinnedSince, recalls, IsLater, Made, nodes_of, HasPublished, record_number, Steps, silent, SeatView, TableView, value_loaded, act_leaves, runs_one, IsPossible, seen, IsLedTo, Sure, IsFoundAt, IsWayOf, end_of, named, RootWas, Found, Nothing, Leaf, event_later, event_possible, later_reflexive, read_stable, seen_steady, since_later, sure_later, way_later, IsAtRest, HasLoaded, still_locked, Rec, AreKept, LocksJust, map_of, led_in_table}
 use Rattle.version_laws.proofs.Statements.Search.{holds_within}
-use Rattle.versions.specs.State.{KeepsFixedWordsSince, Past, Stands}
-use Rattle.versions.specs.Trades.{IsOneOf}
-use Rattle.record_words.specs.declared.records.Rec.TheVariants.{Leaf as a_leaf}
-use Rattle.rowex_core.specs.declared.event.Act.TheVariants.{LoadRef, Publish}
-use Rattle.rowex_core.specs.declared.event.Event.{Event}
-use Rattle.rowex_core.specs.declared.event.Spot.{Spot}
-use Rattle.rowex_core.specs.declared.event.Spot.TheVariants.{Value}
-use Rattle.rowex_core.specs.declared.known.Fresh.{Fresh}
-use Rattle.rowex_core.specs.declared.known.Known.{Known}
-use Rattle.rowex_core.specs.declared.known.Locked.{Locked}
-use Rattle.rowex_core.specs.Knowing.{IsEvent, IsPinnedSince}
-use Rattle.rowex_core.proofs.Sharing.Owning.{recalls}
-use Rattle.rowex_table.specs.Made.{IsLater, Made, nodes_of}
-use Rattle.rowex_table.specs.Publishes.{HasPublished}
-use Rattle.rowex_table.specs.Rule.{record_number}
-use Rattle.rowex_table.specs.Runs.{Steps, silent}
-use Rattle.rowex_table.specs.Seats.{SeatView, TableView}
-use Rattle.rowex_table.proofs.Made.ActsBefore.{value_loaded}
-use Rattle.rowex_table.proofs.Made.ActsLeave.{act_leaves}
-use Rattle.rowex_table.proofs.Runs.{runs_one}
-use Rattle.rowex_reading.specs.Possible.{IsPossible}
-use Rattle.rowex_reading.specs.Seen.{seen, IsLedTo, Sure}
-use Rattle.rowex_reading.specs.Ways.{IsFoundAt, IsWayOf, end_of, named, RootWas}
-use Rattle.rowex_reading.specs.declared.descent.Found.{Found}
-use Rattle.rowex_reading.specs.declared.descent.Found.TheVariants.{Nothing, Leaf}
-use Rattle.rowex_reading.proofs.Seen.Later.{event_later, event_possible}
-use Rattle.rowex_reading.proofs.Seen.{later_reflexive, read_stable, seen_steady, since_later, sure_later}
 use Rattle.rowex_reading.proofs.Seen.Valuing.{both_read, value_read}
-use Rattle.rowex_reading.proofs.Ways.{way_later}
-use Rattle.publish_laws.specs.Ending.{IsAtRest}
-use Rattle.publish_laws.specs.Stages.{HasLoaded}
-use Rattle.publish_laws.proofs.Loops.{still_locked}
 use Rattle.rowex_writing.specs.store.Values.{HasLoadedFound, revalued}
 use Rattle.rowex_writing.specs.build.Changes.{HasChanged}
 use Rattle.rowex_writing.specs.locks.Checks.{HasTakenSpan}
@@ -61,10 +17,6 @@ use Rattle.rowex_writing.specs.build.Putting.{IsAnchored}
 use Rattle.rowex_writing.specs.build.Deeds.{MayReplace}
 use Rattle.rowex_writing.specs.build.Building.{IsBuilding}
 use Rattle.rowex_writing.specs.declared.plan.job.Raised.{Raised}
-use Rattle.record_words.specs.declared.records.Rec.{Rec}
-use Rattle.rowex_core.specs.Having.{AreKept, LocksJust}
-use Rattle.versions.proofs.Trades.{map_of}
-use Rattle.rowex_reading.proofs.Seen.Standing.{led_in_table}
 use Rattle.rowex_writing.proofs.build.Putting.{some_spot}
 
 -- ---- in one version a leaf has one value

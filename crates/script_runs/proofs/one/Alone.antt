@@ -1,26 +1,8 @@
 -- What the only pass of an index knows: the map of its front is the one that its calls lead to.
-use Rattle.std.proofs.Common.{◌≡◌, ℕ, ◌<◌, List, [], ◌∷◌, ◌++◌, map, flat_map, refl, sym, ap, ap₂, subst, ◌∙◌, arith}
-use Rattle.std.specs.List.{All}
-use Rattle.std.proofs.lemmas.List.{map-append, append_cancel_left}
-use Rattle.std.proofs.lemmas.List.Concat.{flat_map-cons}
-use Rattle.std.proofs.lemmas.List.Elements.{All-nil}
-use Rattle.finite_map.specs.declared.Note.{Note}
-use Rattle.finite_map.specs.declared.Reply.{Reply as Replied}
-use Rattle.finite_map.specs.declared.Scan.{Scan}
-use Rattle.finite_map.specs.Calls.{LegalCalls, changes_of, IsRun}
-use Rattle.finite_map.specs.Fronts.{map_of, BeginsWith}
-use Rattle.finite_map.specs.Maps.{reply_of, replies_of, map_after, map_after_all}
-use Rattle.finite_map.specs.Scans.{IsScanOf, IsLawfulScan}
+use Rattle.script_runs.proofs.Common.{◌≡◌, ℕ, ◌<◌, List, [], ◌∷◌, ◌++◌, map, flat_map, refl, sym, ap, ap₂, subst, ◌∙◌, arith, All, map-append, append_cancel_left, flat_map-cons, All-nil, Note, Replied, Scan, LegalCalls, changes_of, IsRun, map_of, BeginsWith, reply_of, replies_of, map_after, map_after_all, IsScanOf, IsLawfulScan, begins_same, legal_at_first, Event, TableView, line, reply_text, IsScanned, IsUnnoted, range_from, PassView, AreByPasses, IsNewPass}
 use Rattle.finite_map.proofs.Calls.Alone.{alone-run, own_changes-all}
 use Rattle.finite_map.proofs.Scans.{lawful-scan_of}
-use Rattle.finite_map.proofs.Fronts.{begins_same}
-use Rattle.finite_map.proofs.Calls.{legal_at_first}
 use Rattle.finite_map.proofs.Calls.Steps.{map_after_all-push, replies_of-push}
-use Rattle.rowex_core.specs.declared.event.Event.{Event}
-use Rattle.rowex_table.specs.Seats.{TableView}
-use Rattle.hot_scripts.specs.Meaning.{line, reply_text}
-use Rattle.hot_index_calls.specs.Answers.{IsScanned, IsUnnoted, range_from}
-use Rattle.hot_index_calls.specs.Passes.{PassView, AreByPasses, IsNewPass}
 use Rattle.script_runs.specs.Answers.{Answered, called, refused, listed, full_text, lines_of_answer}
 use Rattle.script_runs.specs.Runs.{text_told}
 use Rattle.script_runs.specs.Told.{AreTold, IsCalled}

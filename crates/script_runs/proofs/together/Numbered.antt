@@ -1,12 +1,5 @@
 -- Lists whose items are numbered, and three lists side by side.
-use Rattle.std.proofs.Common.{◌≡◌, ℕ, suc, ◌+◌, List, [], ◌∷◌, ◌++◌, length, map, Some, refl, sym, ap, subst, ◌∙◌, arith}
-use Rattle.std.specs.List.{All, AllZip, slice_get, zip}
-use Rattle.std.proofs.lemmas.List.Elements.{All-nil, All-cons, All-head, All-tail}
-use Rattle.hot_index.specs.Handles.{HandleView, handle_at}
-use Rattle.hot_index_calls.specs.Passes.{PassView, Owns}
-use Rattle.rowex_core.specs.declared.event.Event.{Event}
-use Rattle.rowex_table.specs.Seats.{TableView}
-use Rattle.hot_scripts.specs.declared.command.Command.{Command}
+use Rattle.script_runs.proofs.Common.{◌≡◌, ℕ, suc, ◌+◌, List, [], ◌∷◌, ◌++◌, length, map, Some, refl, sym, ap, subst, ◌∙◌, arith, All, AllZip, slice_get, zip, All-nil, All-cons, All-head, All-tail, HandleView, handle_at, PassView, Owns, Event, TableView, Command}
 use Rattle.script_runs.specs.declared.answer.Done.{Done}
 use Rattle.script_runs.specs.declared.together.Order.{Order}
 use Rattle.script_runs.specs.Progress.{AllThree, AreAt, HasKept, IsDone, IsNewPassOf, IsOrderOf}

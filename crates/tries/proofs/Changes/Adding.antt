@@ -1,6 +1,5 @@
 -- One leaf more, or one in another's place: at one place of a bit trie, and so in the whole.
-use Rattle.key_bits.specs.Key.{IsKey}
-use Rattle.std.proofs.Common.{◌≡◌, ◌⊎◌, inl, inr, ℕ, suc, ◌+◌, ◌≤◌, Bool, true, false, refl, ap, sym, ◌∙◌, subst, arith, if◌then◌else◌}
+use Rattle.tries.proofs.Common.{IsKey, ◌≡◌, ◌⊎◌, inl, inr, ℕ, suc, ◌+◌, ◌≤◌, Bool, true, false, refl, ap, sym, ◌∙◌, subst, arith, if◌then◌else◌}
 use Rattle.tries.specs.Keys.{Key, bit, AgreeBelow}
 use Rattle.tries.specs.Tree.{Tree, leaf, Has, IsTrie, Within, here, inside, zero_side, one_side}
 use Rattle.tries.specs.Content.{Item, items, IsMore, exchanged, first}

@@ -1,6 +1,5 @@
 -- What a tree keeps when another one is put in the place of one that stands in it.
-use Rattle.std.proofs.Common.{◌≡◌, ℕ, refl, ap}
-use Rattle.node_tries.specs.Piece.{Fork}
+use Rattle.tries.proofs.Common.{◌≡◌, ℕ, refl, ap, Fork}
 use Rattle.tries.specs.Tree.{Tree, subtrie, IsLower, IsBuilt, Within, here, inside, zero_side, one_side}
 use Rattle.tries.proofs.Changes.{put, IsInOwnSubtrie}
 

@@ -1,18 +1,7 @@
 -- The content of a bit trie as a finite map: a list of pairs in the byte order of the keys.
-use Rattle.std.proofs.Common.{◌≡◌, inl, inr, ℕ, List, [], ◌∷◌, refl, ap, sym, ◌∙◌, subst, Some, None}
-use Rattle.std.proofs.lemmas.Bool.{false≢true}
-use Rattle.std.proofs.lemmas.Cmp.{tied_itself}
-use Rattle.std.proofs.lemmas.Map.Lookups.{exact_bytes}
-use Rattle.std.specs.Cmp.Lexicographic.{slice_cmp, nat_list_cmp_total}
-use Rattle.std.specs.Ordering.{nat_cmp}
-use Rattle.std.specs.declared.cmp.Ordering.{Ordering}
-use Rattle.std.specs.declared.cmp.Ordering.TheVariants.{Less, Equal, Greater}
+use Rattle.tries.proofs.Common.{◌≡◌, inl, inr, ℕ, List, [], ◌∷◌, refl, ap, sym, ◌∙◌, subst, Some, None, false≢true, tied_itself, exact_bytes, slice_cmp, nat_list_cmp_total, nat_cmp, Ordering, Less, Equal, Greater, keys_of, lookup, remove_entry, insert_entry, is_at, IsKey, less_by_first, greater_by_first}
 use Rattle.std.specs.List.{AllByRecursion}
 use Rattle.std.specs.List.Sorted.{IsStrictlySortedBy}
-use Rattle.std.specs.Map.{keys_of, lookup, remove_entry}
-use Rattle.std.specs.BTreeMap.{insert_entry, is_at}
-use Rattle.key_bits.specs.Key.{IsKey}
-use Rattle.key_bits.proofs.Bits.Order.{less_by_first, greater_by_first}
 use Rattle.tries.specs.Keys.{Key, bit, IsBefore}
 use Rattle.tries.specs.Tree.{Tree, leaf, node, fork, Holds, IsTrie}
 use Rattle.tries.specs.Content.{Item, items, pairs, Each, IsIn, IsMore, added, behind, IsExchange, exchanged, past_one}

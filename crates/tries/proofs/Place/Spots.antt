@@ -1,10 +1,7 @@
 -- The place to which a key's search leads, in a tree and in a subtrie.
-use Rattle.std.proofs.Common.{◌≡◌, ℕ, ◌+◌, ◌-◌, ◌<◌, Bool, true, false, Option, Some, refl, ap, sym, ◌∙◌, subst, arith, if◌then◌else◌, ltb, cond, MatchBool}
-use Rattle.std.proofs.lemmas.Bool.{cond-true, cond-false, lt-ltb, le-ltb, ltb-true}
-use Rattle.compound_node.specs.declared.entries.Entry.{Entry}
+use Rattle.tries.proofs.Common.{◌≡◌, ℕ, ◌+◌, ◌-◌, ◌<◌, Bool, true, false, Option, Some, refl, ap, sym, ◌∙◌, subst, arith, if◌then◌else◌, ltb, cond, MatchBool, cond-true, cond-false, lt-ltb, le-ltb, ltb-true, Entry, Place, Fork, size}
 use Rattle.node_tries.specs.Changes.{collapsed, is_place, sibling, without}
 use Rattle.node_tries.specs.Grafts.{grafted, IsAbovePath}
-use Rattle.node_tries.specs.Piece.{Place, Fork, size}
 use Rattle.tries.specs.Keys.{Key, bit}
 use Rattle.tries.specs.Tree.{Subtrie, Tree, leaf, node, fork, subtrie, IsTip, Within, here, zero_side, one_side}
 use Rattle.tries.specs.Search.{child}

@@ -1,12 +1,6 @@
 -- A node around a body: heights, and the bound on them.
-use Rattle.std.proofs.Common.{◌≡◌, inl, inr, ℕ, ◌+◌, ◌*◌, ◌/◌, ◌<◌, ◌≤◌, ◌++◌, if◌then◌else◌, Bool, true, false, List, [], ◌∷◌, length, max, ap, sym, ◌∙◌, subst, arith, nat_lt, refl}
-use Rattle.std.proofs.lemmas.Bool.{and_parts, ltb-true}
-use Rattle.key_bits.specs.Key.{IsKey}
-use Rattle.key_bits.specs.declared.TheConstants.{MAX_BYTES}
-use Rattle.compound_node.specs.Nodes.{NodeView, piece, head_of, IsLawfulNode, IsBuiltFrom, height_of, greatest_height}
-use Rattle.compound_node.specs.declared.entries.Entry.{Entry}
+use Rattle.tries.proofs.Common.{◌≡◌, inl, inr, ℕ, ◌+◌, ◌*◌, ◌/◌, ◌<◌, ◌≤◌, ◌++◌, if◌then◌else◌, Bool, true, false, List, [], ◌∷◌, length, max, ap, sym, ◌∙◌, subst, arith, nat_lt, refl, and_parts, ltb-true, IsKey, MAX_BYTES, NodeView, piece, head_of, IsLawfulNode, IsBuiltFrom, height_of, greatest_height, Entry, Fork, Place, places, size}
 use Rattle.partial_keys.specs.Shows.{ShowsPiece}
-use Rattle.node_tries.specs.Piece.{Fork, Place, places, size}
 use Rattle.node_tries.proofs.Piece.{length-places}
 use Rattle.tries.specs.Keys.{Key, bit, AgreeBelow}
 use Rattle.tries.specs.Tree.{Subtrie, Tree, leaf, node, fork, subtrie, Has, IsTrie, IsBuilt, IsFork, IsLower, first_position, Within, here, inside}

@@ -1,15 +1,8 @@
 -- A node's fixed part fits its subtrie whatever entries stand at the places, and the nodes of a tree are lawful nodes.
-use Rattle.std.proofs.Common.{◌≡◌, ℕ, ◌+◌, ◌*◌, ◌<◌, ◌≤◌, arith, true, List, ◌∷◌, ◌++◌, Bool, refl, ap, ◌∙◌, subst, []}
-use Rattle.std.specs.Prelude.{map, ◌||◌, eqb}
-use Rattle.key_bits.specs.declared.TheConstants.{MAX_BYTES}
-use Rattle.node_tries.specs.Piece.{size, paths, uses, UsesOnly, RisesFrom}
+use Rattle.tries.proofs.Common.{◌≡◌, ℕ, ◌+◌, ◌*◌, ◌<◌, ◌≤◌, arith, true, List, ◌∷◌, ◌++◌, Bool, refl, ap, ◌∙◌, subst, [], map, ◌||◌, eqb, MAX_BYTES, size, paths, uses, UsesOnly, RisesFrom, All, IsEntry, height_of, Leaf, Node, places}
 use Rattle.node_tries.specs.Positions.{all}
 use Rattle.partial_keys.specs.Rows.{row_of}
-use Rattle.std.specs.Prelude.{All}
 use Rattle.std.proofs.lemmas.List.Elements.{All-append, All-from_recursion}
-use Rattle.compound_node.specs.Nodes.{IsEntry, height_of}
-use Rattle.compound_node.specs.declared.entries.Entry.TheVariants.{Leaf, Node}
-use Rattle.node_tries.specs.Piece.{places}
 use Rattle.tries.specs.Tree.{Subtrie, Fixed, first_position, IsFit, Tree, leaf, node, fork, subtrie, IsLower, IsBuilt}
 use Rattle.tries.specs.Place.{Swap, swap, in_zero, in_one}
 

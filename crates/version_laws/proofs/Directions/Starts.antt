@@ -1,23 +1,7 @@
 -- Where a scan starts: a fork parts its first key from those that stand beside the key that was found.
-use Rattle.std.proofs.Common.{◌≡◌, ◌⊎◌, inl, inr, ℕ, suc, ◌+◌, ◌-◌, ◌<◌, ◌≤◌, List, [], ◌∷◌, Bool, true, false, refl, ap, sym, ◌∙◌, subst, arith, if◌then◌else◌, ltb, le_refl, ⊎_elim}
-use Rattle.std.proofs.lemmas.Bool.{cases_lt, ltb-true, ltb-false}
-use Rattle.node_tries.proofs.Piece.{size_pos}
-use Rattle.node_tries.specs.Piece.{Place, Fork, size}
-use Rattle.compound_node.specs.declared.entries.Entry.TheVariants.{Node}
-use Rattle.tries.specs.Affected.{subtrie_affected}
-use Rattle.tries.specs.Keys.{Key, bit, AgreeBelow, IsParted, IsBefore}
-use Rattle.tries.specs.Place.{spot, shape}
-use Rattle.tries.specs.Search.{Kin, tips, forks, IsUnder}
-use Rattle.tries.specs.Tree.{Subtrie, Tree, leaf, node, fork, subtrie, IsTrie, IsTip}
-use Rattle.tries.proofs.Place.{spot_below, spot_shape, shape_tips}
-use Rattle.tries.proofs.Tree.{has_under, under_below, kin_tips}
-use Rattle.versions.specs.Frames.{IsGrown}
-use Rattle.versions.specs.State.{Past, IsKeptSince, KeepsFixedWordsSince}
-use Rattle.record_words.specs.declared.records.Rec.TheVariants.{Node as a_node}
+use Rattle.version_laws.proofs.Common.{◌≡◌, ◌⊎◌, inl, inr, ℕ, suc, ◌+◌, ◌-◌, ◌<◌, ◌≤◌, List, [], ◌∷◌, Bool, true, false, refl, ap, sym, ◌∙◌, subst, arith, if◌then◌else◌, ltb, le_refl, ⊎_elim, cases_lt, ltb-true, ltb-false, size_pos, Place, Fork, size, Node, subtrie_affected, Key, bit, AgreeBelow, IsParted, IsBefore, spot, shape, Kin, tips, forks, IsUnder, Subtrie, Tree, leaf, node, fork, subtrie, IsTrie, IsTip, spot_below, spot_shape, shape_tips, has_under, under_below, kin_tips, IsGrown, Past, IsKeptSince, KeepsFixedWordsSince, a_node, Direction, Upwards, Downwards}
 use Rattle.version_laws.specs.Scan.{AgreeUpToPlace, IsPlaced, HadShapeSince, MayStandAt, HadKeyBelow, Frame, IsStack, Range, IsInRange}
 use Rattle.version_laws.specs.Directions.{gap_before, gap_behind, first_gap, first_key, IsEarlier, IsNoLater, IsToCome, WasPassed, ComesOnWay, IsScanBy, IsPastKey}
-use Rattle.packed_pairs.specs.declared.direction.Direction.{Direction}
-use Rattle.packed_pairs.specs.declared.direction.Direction.TheVariants.{Upwards, Downwards}
 use Rattle.version_laws.proofs.Scan.Persist.{may_stand_grown, placed_grown, shaped_grown}
 use Rattle.version_laws.proofs.Scan.{may_stand_at_child_place, had_key_may_stand, child_had_key, root_had_key, shaped, stood_kin, stood_trie}
 use Rattle.version_laws.proofs.Directions.{come_before, come_earlier, come_further, from_first, may_stand_earlier, never_earlier, passed_behind, passed_or_comes, stack_shape}

@@ -1,20 +1,6 @@
 -- Each insertion is a chain of a few steps, from the lowest locked node up to the entry that is stored.
-use Rattle.std.proofs.Common.{◌≡◌, ◌⊎◌, inl, inr, ℕ, refl, ap, ap₂, ◌∙◌, Some}
-use Rattle.tries.specs.Keys.{Key, bit}
-use Rattle.tries.specs.Tree.{Fixed, Tree, node, fork, Has, IsTrie, IsBuilt, Within, here, inside}
-use Rattle.versions.specs.Heap.{IsShown}
-use Rattle.versions.specs.State.{Links, IsLawfulState}
-use Rattle.record_words.specs.declared.records.Rec.{Rec}
-use Rattle.record_words.specs.declared.records.Rec.TheVariants.{Node as a_node}
-use Rattle.versions.specs.Core.{Ready, BareCore, view}
-use Rattle.tries.specs.Content.{Item}
-use Rattle.tries.proofs.Changes.{put, IsPathBelow, IsInOwnSubtrie}
+use Rattle.version_laws.proofs.Common.{◌≡◌, ◌⊎◌, inl, inr, ℕ, refl, ap, ap₂, ◌∙◌, Some, Key, bit, Fixed, Tree, node, fork, Has, IsTrie, IsBuilt, Within, here, inside, IsShown, Links, IsLawfulState, Rec, a_node, Ready, BareCore, view, Item, put, IsPathBelow, IsInOwnSubtrie, affected, IsPart, trie_within, built_within, within_trans, shown_within, grown, without_marks, added_in_whole, added_without_marks, added_here}
 use Rattle.version_laws.specs.Writer.{IsNewLeaf, IsFoundBelow, Newcomer}
-use Rattle.tries.specs.Affected.{affected, IsPart}
-use Rattle.tries.proofs.Tree.{trie_within, built_within, within_trans}
-use Rattle.versions.proofs.Heap.{shown_within}
-use Rattle.tries.proofs.Place.{grown, without_marks}
-use Rattle.tries.proofs.Changes.Adding.{added_in_whole, added_without_marks, added_here}
 use Rattle.version_laws.proofs.Now.{built_now, shown_now, trie_now}
 use Rattle.version_laws.proofs.Writer.Hands.{hand_stay, hand_around, hand_open, hand_put, hand_grown, added_around, added_open}
 use Rattle.version_laws.proofs.Rise.Insertions.{found_added, found_away, hand_leaf_in, with_leaf}

@@ -1,31 +1,11 @@
 -- The insertion cases.
-use Rattle.std.proofs.Common.{◌≡◌, inr, ℕ, refl, ap, sym, ◌∙◌, subst, Some, None}
-use Rattle.tries.specs.Keys.{Key, bit}
-use Rattle.tries.specs.Tree.{Fixed, Tree, leaf, node, fork, Has, IsTrie, IsFork, IsBuilt, Within, here, inside}
-use Rattle.compound_node.specs.declared.entries.Entry.TheVariants.{Leaf}
-use Rattle.tries.specs.Search.{Follows, child}
-use Rattle.versions.specs.State.{IsLawfulState}
-use Rattle.versions.specs.Core.{BareCore, view}
-use Rattle.versions.specs.Steps.{IsVersionPublish}
-use Rattle.tries.specs.Content.{Item, added}
-use Rattle.tries.specs.Changes.{IsAdded}
-use Rattle.tries.proofs.Changes.{put}
-use Rattle.versions.specs.Told.{IsChange}
+use Rattle.version_laws.proofs.Common.{◌≡◌, inr, ℕ, refl, ap, sym, ◌∙◌, subst, Some, None, Key, bit, Fixed, Tree, leaf, node, fork, Has, IsTrie, IsFork, IsBuilt, Within, here, inside, Leaf, Follows, child, IsLawfulState, BareCore, view, IsVersionPublish, Item, added, IsAdded, put, IsChange, affected, IsPart, trie_within, built_within, within_trans, shown_within, grown, without_marks, in_tree_now, added_at, DifferFirstAt, part_differs_first, part_place, some_same, none-some}
 use Rattle.version_laws.specs.Writer.{added_change, IsNewLeaf, IsFoundBelow, Newcomer}
-use Rattle.tries.specs.Affected.{affected, IsPart}
-use Rattle.tries.proofs.Tree.{trie_within, built_within, within_trans}
-use Rattle.versions.proofs.Heap.{shown_within}
-use Rattle.tries.proofs.Place.{grown, without_marks}
-use Rattle.versions.proofs.Core.Growth.{in_tree_now}
-use Rattle.tries.proofs.Changes.Adding.{added as added_at}
-use Rattle.tries.proofs.Affected.{DifferFirstAt, part_differs_first, part_place}
 use Rattle.version_laws.proofs.Now.{built_now, shown_now, trie_now}
 use Rattle.version_laws.proofs.Ways.Descent.{way_follows}
 use Rattle.version_laws.proofs.Writer.Hands.{hand_stay, hand_put, hand_grown}
 use Rattle.version_laws.proofs.Writer.AtHand.{IsAtHand}
-use Rattle.tries.proofs.Read.{some_injective as some_same}
 use Rattle.version_laws.proofs.Replaced.{root_publish}
-use Rattle.std.proofs.lemmas.Option.{none-some}
 
 -- The body with the new leaf at the affected part.
 abbrev pub with_leaf : Item → ℕ → Tree → Tree

@@ -1,26 +1,8 @@
 -- What a writer has in words makes its publish legal: removals that merge.
-use Rattle.std.proofs.Common.{◌≡◌, inl, inr, ℕ, List, [], ◌∷◌, ◌++◌, Bool, true, false, refl, ap, ap₂, sym, ◌∙◌, subst, Some, ◌⊎◌}
-use Rattle.tries.specs.Keys.{Key, bit}
-use Rattle.compound_node.specs.declared.entries.Entry.{Entry}
-use Rattle.compound_node.specs.declared.entries.Entry.TheVariants.{Node}
-use Rattle.node_tries.specs.Piece.{Place}
-use Rattle.tries.specs.Tree.{Fixed, Tree, leaf, node, fork, subtrie, IsTrie, IsBuilt, Subtrie, Within, here, inside, zero_side, one_side}
-use Rattle.tries.specs.Search.{child}
-use Rattle.tries.proofs.Changes.{put, IsInOwnSubtrie, IsRemoved}
-use Rattle.tries.specs.Content.{Item, item}
-use Rattle.tries.specs.Place.{fork_of, subtrie_collapsed, subtrie_without}
-use Rattle.versions.specs.Heap.{NodeWords, Heap, IsShown}
-use Rattle.versions.specs.State.{IsLawfulState, Links}
-use Rattle.versions.specs.Core.{BareCore, Ready, view}
-use Rattle.record_words.specs.declared.records.Rec.{Rec}
-use Rattle.record_words.specs.declared.records.Rec.TheVariants.{Node as a_node, Leaf as a_leaf}
-use Rattle.versions.specs.Trades.{IsOneOf, AreApart}
+use Rattle.version_laws.proofs.Common.{◌≡◌, inl, inr, ℕ, List, [], ◌∷◌, ◌++◌, Bool, true, false, refl, ap, ap₂, sym, ◌∙◌, subst, Some, ◌⊎◌, Key, bit, Entry, Node, Place, Fixed, Tree, leaf, node, fork, subtrie, IsTrie, IsBuilt, Subtrie, Within, here, inside, zero_side, one_side, child, put, IsInOwnSubtrie, IsRemoved, Item, item, fork_of, subtrie_collapsed, subtrie_without, NodeWords, Heap, IsShown, IsLawfulState, Links, BareCore, Ready, view, Rec, a_node, a_leaf, IsOneOf, AreApart, trie_within, built_within, within_trans, shown_within, node_number, not_above, not_beside}
 use Rattle.version_laws.specs.Writer.{removed_change}
 use Rattle.version_laws.specs.Rise.{IsNewSubtrie, IsEntryFor, alone, in_node, IsLeafOf, IsBesideNode, subtrie_merged, linked_for_entry}
 use Rattle.version_laws.specs.Statements.{MergeAtSpot}
-use Rattle.tries.proofs.Tree.{trie_within, built_within, within_trans}
-use Rattle.versions.proofs.Heap.{shown_within, node_number}
-use Rattle.versions.proofs.Heap.Stored.{not_above, not_beside}
 use Rattle.version_laws.proofs.Now.{built_now, shown_now, trie_now}
 use Rattle.version_laws.proofs.Writer.AtHand.{IsAtHand, IsNewNode}
 use Rattle.version_laws.proofs.Writer.Hands.{hand_around, hand_open, hand_put}

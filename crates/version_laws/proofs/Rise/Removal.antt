@@ -1,23 +1,8 @@
 -- Removal of one entry.
-use Rattle.versions.specs.Told.{IsChange}
-use Rattle.std.proofs.Common.{◌≡◌, inl, inr, ℕ, [], refl, sym, subst, Some, None}
-use Rattle.tries.specs.Keys.{Key}
-use Rattle.tries.specs.Tree.{Fixed, Tree, leaf, node, fork, IsTrie, IsBuilt, Within, here, inside, zero_side, one_side}
-use Rattle.versions.specs.Heap.{IsShown}
-use Rattle.versions.specs.State.{Links, IsLawfulState}
-use Rattle.record_words.specs.declared.records.Rec.TheVariants.{Node as a_node}
-use Rattle.versions.specs.Core.{BareCore, view}
-use Rattle.versions.specs.Steps.{IsVersionPublish}
-use Rattle.tries.specs.Content.{Item, items, IsMore, added, item}
-use Rattle.tries.proofs.Changes.{put, IsRemoved}
+use Rattle.version_laws.proofs.Common.{IsChange, ◌≡◌, inl, inr, ℕ, [], refl, sym, subst, Some, None, Key, Fixed, Tree, leaf, node, fork, IsTrie, IsBuilt, Within, here, inside, zero_side, one_side, IsShown, Links, IsLawfulState, a_node, BareCore, view, IsVersionPublish, Item, items, IsMore, added, item, put, IsRemoved, leaf_node, more_left, more_right, put_less, has_less, more_after, none-some}
 use Rattle.version_laws.specs.Writer.{removed_change}
-use Rattle.versions.proofs.Heap.{node_leaf as leaf_node}
-use Rattle.tries.proofs.Content.{more_left, more_right}
-use Rattle.tries.proofs.Changes.Adding.{put_less, has_less}
 use Rattle.version_laws.proofs.Replaced.{fate_linked, root_publish}
 use Rattle.version_laws.proofs.Writer.AtHand.{IsAtHand}
-use Rattle.tries.proofs.Place.{more_after}
-use Rattle.std.proofs.lemmas.Option.{none-some}
 
 -- A fork loses the leaf on one of its sides, and the other side is left.
 pub removed_zero : (p n : ℕ) (k : Key) (v : ℕ) (b : Tree) → IsTrie b → IsRemoved (item n k v) (fork p (leaf n k v) b) b

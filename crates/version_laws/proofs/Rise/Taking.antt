@@ -1,35 +1,17 @@
 -- What a writer has in words makes its publish legal: removals.
-use Rattle.std.proofs.Common.{◌≡◌, inl, inr, ℕ, List, [], ◌∷◌, Bool, true, false, refl, ap, sym, ◌∙◌, subst, Some, None, if◌then◌else◌}
-use Rattle.tries.specs.Keys.{Key, bit}
-use Rattle.compound_node.specs.declared.entries.Entry.{Entry}
-use Rattle.compound_node.specs.declared.entries.Entry.TheVariants.{Leaf, Node}
-use Rattle.node_tries.specs.Piece.{Place, Fork}
-use Rattle.tries.specs.Tree.{Fixed, Tree, leaf, node, fork, subtrie, IsTrie, IsFork, IsBuilt, Subtrie, Within, here, inside, zero_side, one_side}
-use Rattle.tries.specs.Search.{child}
-use Rattle.tries.proofs.Changes.{IsRemoved}
-use Rattle.tries.specs.Place.{subtrie_without}
-use Rattle.versions.specs.Heap.{NodeWords, Heap, IsShown}
-use Rattle.versions.specs.State.{IsLawfulState, Links}
-use Rattle.versions.specs.Core.{BareCore, Ready, InTree, view}
-use Rattle.record_words.specs.declared.records.Rec.{Rec}
-use Rattle.record_words.specs.declared.records.Rec.TheVariants.{Node as a_node, Leaf as a_leaf}
+use Rattle.version_laws.proofs.Common.{◌≡◌, inl, inr, ℕ, List, [], ◌∷◌, Bool, true, false, refl, ap, sym, ◌∙◌, subst, Some, None, if◌then◌else◌, Key, bit, Entry, Leaf, Node, Place, Fork, Fixed, Tree, leaf, node, fork, subtrie, IsTrie, IsFork, IsBuilt, Subtrie, Within, here, inside, zero_side, one_side, child, IsRemoved, subtrie_without, NodeWords, Heap, IsShown, IsLawfulState, Links, BareCore, Ready, InTree, view, Rec, a_node, a_leaf, trie_within, built_within, within_trans, shown_within, node_leaf, HasTraded, item, not_beside}
 use Rattle.version_laws.specs.Writer.{removed_change}
 use Rattle.version_laws.specs.Rise.{IsNewSubtrie, IsEntryFor, alone, in_node, IsLeafOf, linked_for_entry}
-use Rattle.tries.proofs.Tree.{trie_within, built_within, within_trans}
-use Rattle.versions.proofs.Heap.{shown_within, node_leaf}
 use Rattle.version_laws.proofs.Now.{built_now, shown_now, trie_now}
 use Rattle.version_laws.proofs.Writer.Hands.{hand_around, hand_open, hand_put}
 use Rattle.version_laws.proofs.Rise.Removal.{removed_zero, removed_one, removed_in_whole, removed_marks, removed_open, hand_zero, hand_one, remove_last}
 use Rattle.version_laws.proofs.Standing.{stands_now, entry_leaf, root_leaf, newest_tree_if_rooted}
-use Rattle.versions.specs.Trades.{HasTraded}
 use Rattle.version_laws.proofs.Trading.{IsTrade, old_now, traded_in_whole, traded_around, traded_open, IsTraded}
 use Rattle.version_laws.proofs.Rise.{new_node}
 use Rattle.version_laws.proofs.Spots.{newest_tree_if_spot_held, node_at, published_at}
 use Rattle.version_laws.proofs.Differing.{trade_differs}
 use Rattle.version_laws.specs.Statements.{RemoveAtSpot, RemoveLast}
 use Rattle.version_laws.proofs.Writer.AtHand.{IsAtHand}
-use Rattle.tries.specs.Content.{item}
-use Rattle.versions.proofs.Heap.Stored.{not_beside}
 
 -- A body without one of its leaves: what is left, its subtrie, that the pass has it at hand, and that the leaf alone goes.
 abbrev pub IsWithout : BareCore → ℕ → Key → ℕ → ℕ → Tree → Type 0

@@ -1,23 +1,10 @@
 -- A scan of an empty map, or of one leaf; the depth of the way.
-use Rattle.std.proofs.Common.{◌≡◌, ◌⊎◌, inl, inr, ℕ, ◌+◌, ◌*◌, ◌<◌, ◌≤◌, List, [], ◌∷◌, length, sym, ◌∙◌, subst, arith}
+use Rattle.version_laws.proofs.Common.{◌≡◌, ◌⊎◌, inl, inr, ℕ, ◌+◌, ◌*◌, ◌<◌, ◌≤◌, List, [], ◌∷◌, length, sym, ◌∙◌, subst, arith, IsAtMost, Key, IsBefore, node, subtrie, IsBuilt, Entry, Leaf, Node, Place, Past, IsKeptSince, IsSameRecord, KeepsFixedWordsSince, a_node, height_of, entry_at, Direction, built_within, some_height, none-some}
 use Rattle.key_bits.specs.declared.TheConstants.{MAX_BYTES}
-use Rattle.tries.specs.Keys.{IsAtMost, Key, IsBefore}
-use Rattle.tries.specs.Tree.{node, subtrie, IsBuilt}
-use Rattle.compound_node.specs.declared.entries.Entry.{Entry}
-use Rattle.compound_node.specs.declared.entries.Entry.TheVariants.{Leaf, Node}
-use Rattle.node_tries.specs.Piece.{Place}
-use Rattle.versions.specs.State.{Past, IsKeptSince, IsSameRecord, KeepsFixedWordsSince}
-use Rattle.record_words.specs.declared.records.Rec.TheVariants.{Node as a_node}
-use Rattle.compound_node.specs.Nodes.{height_of}
-use Rattle.tries.specs.Place.{entry_at}
 use Rattle.version_laws.specs.Scan.{IsRooted, IsPlaced, IsRead, EntryStoodSince, IsBlank, Frame, IsStack, Range, IsInRange}
 use Rattle.version_laws.specs.Directions.{IsComplete, IsCut}
-use Rattle.packed_pairs.specs.declared.direction.Direction.{Direction}
-use Rattle.tries.proofs.Tree.{built_within}
 use Rattle.version_laws.proofs.Scan.{node_of, root_had_key, leaf_had_key, read_held, before_most, never_before, place_same}
 use Rattle.version_laws.proofs.Scan.Loads.{lower_at, subtrie_at, rooted_seen, placed_seen, fixed_height}
-use Rattle.tries.proofs.Tree.Fitting.{lower_positive as some_height}
-use Rattle.std.proofs.lemmas.Option.{none-some}
 
 -- The height of the lowest frame: that of the root's node.
 abbrev pub top_height : ℕ → List Frame → ℕ

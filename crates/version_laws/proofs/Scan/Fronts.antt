@@ -1,7 +1,6 @@
 -- From versions to fronts: what a scan took is a lawful scan.
-use Rattle.std.proofs.Common.{◌≡◌, ◌≢◌, inl, inr, ℕ, suc, zero, ◌+◌, ◌-◌, ◌≤◌, List, [], ◌∷◌, ◌++◌, length, take, drop, fold, refl, ap, sym, ◌∙◌, subst, arith, Some, None, Option, Bool, true, false, not, le_refl}
+use Rattle.version_laws.proofs.Common.{◌≡◌, ◌≢◌, inl, inr, ℕ, suc, zero, ◌+◌, ◌-◌, ◌≤◌, List, [], ◌∷◌, ◌++◌, length, take, drop, fold, refl, ap, sym, ◌∙◌, subst, arith, Some, None, Option, Bool, true, false, not, le_refl, false≢true, and_parts, not-true, IsKey, Change, Key, IsBefore, IsAtMost, Tree, Has, holds_has, Past, IsHeldSince, IsKeptSince, KeepsFixedWordsSince, content, TellChanges, Direction, Upwards, Downwards}
 use Rattle.std.specs.Prelude.{All, Contains, IsTrue, is_some}
-use Rattle.std.proofs.lemmas.Bool.{false≢true, and_parts, not-true}
 use Rattle.std.proofs.lemmas.List.{length-append}
 use Rattle.std.proofs.lemmas.List.Elements.{All-append, All-from_recursion, recursion_from_All, All-contains, Contains-push, Contains-append_left}
 use Rattle.std.proofs.lemmas.List.Sums.{fold-append}
@@ -11,8 +10,6 @@ use Rattle.std.specs.Ordering.{is_le, is_lt}
 use Rattle.std.specs.declared.cmp.Ordering.{Ordering}
 use Rattle.std.specs.declared.cmp.Ordering.TheVariants.{Less, Equal, Greater}
 use Rattle.std.specs.Map.{keys_of}
-use Rattle.key_bits.specs.Key.{IsKey}
-use Rattle.finite_map.specs.declared.Change.{Change}
 use Rattle.finite_map.specs.declared.Kind.{Kind}
 use Rattle.finite_map.specs.declared.Kind.TheVariants.{Added, Replaced, Removed}
 use Rattle.finite_map.specs.declared.Scan.{Scan}
@@ -20,18 +17,11 @@ use Rattle.finite_map.specs.Maps.{Map, key_order, value_at}
 use Rattle.finite_map.specs.Fronts.{map_of, changed, changed_by}
 use Rattle.finite_map.specs.Scans.{is_within, IsHeldBetween, IsHeldThroughout as IsKeptBetween, IsUpToLast, IsLawfulScanWith}
 use Rattle.finite_map.specs.Reverse.{falling_order, IsDownToLast}
-use Rattle.tries.specs.Keys.{Key, IsBefore, IsAtMost}
-use Rattle.tries.specs.Tree.{Tree, Has}
-use Rattle.tries.proofs.Content.{holds_has}
 use Rattle.tries.proofs.Content.Maps.{before_less, holds_value, value_holds}
 use Rattle.tries.proofs.Keys.{has_key, at_most_le, at_most_not_lt, le_at_most, not_lt_at_most, HoldsKey, held_inserted, held_removed}
 use Rattle.version_laws.proofs.Scan.{before_trans}
-use Rattle.versions.specs.State.{Past, IsHeldSince, IsKeptSince, KeepsFixedWordsSince}
-use Rattle.versions.specs.Told.{content, TellChanges}
 use Rattle.version_laws.specs.Scan.{Pair, Every, IsKeyListed, Range, IsInRange, in_order_taken}
 use Rattle.version_laws.specs.Directions.{IsAnswer, IsEarlier, IsNoLater, IsLawfulBy, AreOrdered, IsComplete, IsReachedBy, IsCut}
-use Rattle.packed_pairs.specs.declared.direction.Direction.{Direction}
-use Rattle.packed_pairs.specs.declared.direction.Direction.TheVariants.{Upwards, Downwards}
 use Rattle.version_laws.proofs.Directions.{every_map}
 
 -- The range by bits is the range by bytes.

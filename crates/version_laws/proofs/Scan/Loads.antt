@@ -1,19 +1,7 @@
 -- What a scan's loads leave it.
-use Rattle.std.proofs.Common.{◌≡◌, inl, inr, ℕ, ◌-◌, ◌<◌, true, false, refl, ap, sym, ◌∙◌, subst, arith, Some, None, Option, le_refl, le_trans, if◌then◌else◌, ltb}
-use Rattle.std.proofs.lemmas.Bool.{cases_lt, cond-true, cond-false, lt-ltb, le-ltb}
-use Rattle.tries.specs.Tree.{Fixed, Tree, leaf, node, fork, subtrie, IsLower, IsBuilt, here}
-use Rattle.compound_node.specs.declared.entries.Entry.{Entry}
-use Rattle.compound_node.specs.declared.entries.Entry.TheVariants.{Node}
-use Rattle.node_tries.specs.Piece.{Place, size}
-use Rattle.versions.specs.Heap.{NodeWords, IsCopied}
-use Rattle.versions.specs.State.{Past, State, Stands, IsSameRecord, IsTop, IsReach, IsLawfulState, last_of}
-use Rattle.record_words.specs.declared.records.Rec.TheVariants.{Node as a_node, Leaf as a_leaf}
-use Rattle.tries.specs.Place.{entry_at, shape}
-use Rattle.compound_node.specs.Nodes.{height_of}
+use Rattle.version_laws.proofs.Common.{◌≡◌, inl, inr, ℕ, ◌-◌, ◌<◌, true, false, refl, ap, sym, ◌∙◌, subst, arith, Some, None, Option, le_refl, le_trans, if◌then◌else◌, ltb, cases_lt, cond-true, cond-false, lt-ltb, le-ltb, Fixed, Tree, leaf, node, fork, subtrie, IsLower, IsBuilt, here, Entry, Node, Place, size, NodeWords, IsCopied, Past, State, Stands, IsSameRecord, IsTop, IsReach, IsLawfulState, last_of, a_node, a_leaf, entry_at, shape, height_of, built_within, record_of_subtrie, spans_ended}
 use Rattle.version_laws.specs.Scan.{at_place, Stood, IsRooted, IsPlaced, EntryStoodSince}
 use Rattle.version_laws.specs.Statements.{LoadsRoot, LoadsPlace, LoadsShape, LoadsLeaf}
-use Rattle.tries.proofs.Tree.{built_within}
-use Rattle.versions.proofs.State.{record_of_subtrie, spans_ended}
 use Rattle.version_laws.proofs.Statements.Search.{same_record_now, leaf_now}
 use Rattle.version_laws.proofs.Scan.{node_of, leaf_of, record_node, placed_stands}
 

@@ -1,18 +1,8 @@
 -- What a scan knows stays true while the past grows.
-use Rattle.std.proofs.Common.{◌⊎◌, inl, inr, ℕ, List, [], ◌∷◌, sym, ◌∙◌, le_trans, ⊎_elim}
-use Rattle.tries.specs.Keys.{Key}
-use Rattle.compound_node.specs.declared.entries.Entry.{Entry}
-use Rattle.compound_node.specs.declared.entries.Entry.TheVariants.{Node}
-use Rattle.tries.specs.Tree.{Subtrie, Tree}
-use Rattle.versions.specs.State.{Past, IsHeldSince, IsKeptSince}
-use Rattle.record_words.specs.declared.records.Rec.{Rec}
-use Rattle.record_words.specs.declared.records.Rec.TheVariants.{Node as a_node, Leaf as a_leaf}
-use Rattle.versions.specs.Frames.{IsGrown}
+use Rattle.version_laws.proofs.Common.{◌⊎◌, inl, inr, ℕ, List, [], ◌∷◌, sym, ◌∙◌, le_trans, ⊎_elim, Key, Entry, Node, Subtrie, Tree, Past, IsHeldSince, IsKeptSince, Rec, a_node, a_leaf, IsGrown, Direction, stands_grown}
 use Rattle.version_laws.specs.Scan.{Stood, IsRooted, IsPlaced, HadShapeSince, IsRead, MayStandAt, HadKeyBelow, Frame, IsStack, Pair, Range}
 use Rattle.version_laws.specs.Directions.{MayStandBeforeFrames, HasPassed, ComesOnWay, Comes, IsScanBy}
-use Rattle.packed_pairs.specs.declared.direction.Direction.{Direction}
 use Rattle.version_laws.proofs.Directions.{every_map}
-use Rattle.versions.proofs.Core.Growth.{stands_grown}
 
 stood_on : (a b : Past) → IsGrown a b → (m r : ℕ) (t : Tree) → Stood a m r t → Stood b m r t
 stood_on a b g m r t st = record {

@@ -1,26 +1,11 @@
 -- What a writer has in words makes its publish legal: a pair of leaves, an upsert, and the first key.
-use Rattle.std.proofs.Common.{◌≡◌, ◌≢◌, inl, inr, ℕ, [], ◌∷◌, Bool, true, false, refl, ap, sym, subst, Some, None}
-use Rattle.key_bits.specs.Key.{IsKey}
-use Rattle.tries.specs.Keys.{Key, bit, AgreeBelow}
-use Rattle.compound_node.specs.declared.entries.Entry.TheVariants.{Leaf, Node}
-use Rattle.node_tries.specs.Piece.{Place}
-use Rattle.tries.specs.Tree.{Tree, leaf, node, subtrie, IsTrie, IsBuilt}
-use Rattle.tries.specs.Content.{Item, item}
-use Rattle.tries.specs.Changes.{IsAdded}
-use Rattle.tries.specs.Affected.{subtrie_forked}
-use Rattle.record_words.specs.declared.records.Rec.TheVariants.{Node as a_node, Leaf as a_leaf}
+use Rattle.version_laws.proofs.Common.{◌≡◌, ◌≢◌, inl, inr, ℕ, [], ◌∷◌, Bool, true, false, refl, ap, sym, subst, Some, None, IsKey, Key, bit, AgreeBelow, Leaf, Node, Place, Tree, leaf, node, subtrie, IsTrie, IsBuilt, Item, item, IsAdded, subtrie_forked, a_node, a_leaf, trie_within, grown_subtrie, differ_first_through, grown, added_here, added_in_whole, exchanged_leaf, exchanged_in_whole, shown_within, HasTraded}
 use Rattle.version_laws.specs.Writer.{added_change, replaced_change}
-use Rattle.tries.proofs.Tree.{trie_within}
-use Rattle.tries.proofs.Affected.{grown_subtrie, differ_first_through}
-use Rattle.tries.proofs.Place.{grown}
-use Rattle.tries.proofs.Changes.Adding.{added_here, added_in_whole, exchanged_leaf, exchanged_in_whole}
-use Rattle.versions.proofs.Heap.{shown_within}
 use Rattle.version_laws.proofs.Now.{shown_now, trie_now}
 use Rattle.version_laws.proofs.Writer.Hands.{hand_around, hand_grown, hand_leaf, hand_stay, added_around}
 use Rattle.version_laws.proofs.Spots.{StandsAt, newest_tree_if_spot_held, leaf_at, leaf_low, published_at}
 use Rattle.version_laws.proofs.Rise.Insertions.{first_key}
 use Rattle.version_laws.proofs.Standing.{now_empty}
-use Rattle.versions.specs.Trades.{HasTraded}
 use Rattle.version_laws.proofs.Trading.{grown_trade, around_trade, leaf_trade}
 use Rattle.version_laws.proofs.Differing.{trade_differs}
 use Rattle.version_laws.proofs.Rise.{new_node}

@@ -1,17 +1,5 @@
 -- The search of a key, from the root to a leaf.
-use Rattle.std.proofs.Common.{◌≡◌, ◌≢◌, ◌⊎◌, inl, inr, ℕ, ◌≤◌, refl, ap, sym, ◌∙◌, subst, Option, Some, None, le_refl, le_trans}
-use Rattle.tries.specs.Keys.{Key}
-use Rattle.tries.specs.Tree.{Tree, leaf, node, fork, Has, Holds, Within, here, inside, zero_side, one_side}
-use Rattle.compound_node.specs.declared.entries.Entry.{Entry}
-use Rattle.compound_node.specs.declared.entries.Entry.TheVariants.{Leaf}
-use Rattle.tries.specs.Search.{Follows}
-use Rattle.versions.specs.Heap.{LeafWords, IsCopied}
-use Rattle.versions.specs.State.{Spans, last_of, State, Stands, IsSameRecord, IsTop, IsReach, IsLawfulState, WasAbsentSince, IsLed, IsHeldSince}
-use Rattle.record_words.specs.declared.records.Rec.{Rec}
-use Rattle.record_words.specs.declared.records.Rec.TheVariants.{Leaf as a_leaf}
-use Rattle.tries.proofs.Tree.{same_key}
-use Rattle.versions.proofs.State.{spans_last, spans_ended}
-use Rattle.versions.proofs.Heap.{leaf_number}
+use Rattle.version_laws.proofs.Common.{◌≡◌, ◌≢◌, ◌⊎◌, inl, inr, ℕ, ◌≤◌, refl, ap, sym, ◌∙◌, subst, Option, Some, None, le_refl, le_trans, Key, Tree, leaf, node, fork, Has, Holds, Within, here, inside, zero_side, one_side, Entry, Leaf, Follows, LeafWords, IsCopied, Spans, last_of, State, Stands, IsSameRecord, IsTop, IsReach, IsLawfulState, WasAbsentSince, IsLed, IsHeldSince, Rec, a_leaf, same_key, spans_last, spans_ended, leaf_number}
 
 -- What a record that stood in a version of its life says of the words as they are now.
 pub same_record_now : (s : State) → IsLawfulState s → (r : Rec) (n : ℕ) (u : Tree) → Spans s.now (s.life r) n → Stands s.past n r u →

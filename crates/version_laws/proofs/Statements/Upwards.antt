@@ -1,20 +1,7 @@
 -- A locked node above another one: what an insertion affects there is so upwards.
-use Rattle.std.proofs.Common.{◌≡◌, inl, inr, ℕ, ◌<◌, ◌≤◌, ap, sym, subst, arith, Some}
-use Rattle.std.proofs.lemmas.Bool.{cases_lt, le-ltb}
-use Rattle.tries.specs.Keys.{Key}
-use Rattle.compound_node.specs.declared.entries.Entry.TheVariants.{Node}
-use Rattle.node_tries.specs.Piece.{Fork}
-use Rattle.tries.specs.Tree.{Fixed, Subtrie, Tree, leaf, node, fork, subtrie, IsTrie, IsFork, Within, here, inside, zero_side, one_side}
-use Rattle.tries.specs.Search.{seek}
-use Rattle.tries.proofs.Changes.{IsPathBelow}
-use Rattle.tries.specs.Affected.{subtrie_affected, FirstForkIsBefore, IsTipSubtrie}
-use Rattle.versions.specs.Heap.{NodeWords}
-use Rattle.versions.specs.State.{IsLawfulState}
-use Rattle.versions.specs.Core.{BareCore, view}
+use Rattle.version_laws.proofs.Common.{◌≡◌, inl, inr, ℕ, ◌<◌, ◌≤◌, ap, sym, subst, arith, Some, cases_lt, le-ltb, Key, Node, Fork, Fixed, Subtrie, Tree, leaf, node, fork, subtrie, IsTrie, IsFork, Within, here, inside, zero_side, one_side, seek, IsPathBelow, subtrie_affected, FirstForkIsBefore, IsTipSubtrie, NodeWords, IsLawfulState, BareCore, view, trie_within, built_within, within_trans, IsSpot, subtrie_spot}
 use Rattle.version_laws.specs.Spots.{IsLockedNode}
 use Rattle.version_laws.specs.Statements.{UpperGoesOn}
-use Rattle.tries.proofs.Tree.{trie_within, built_within, within_trans}
-use Rattle.tries.proofs.Place.Spots.{IsSpot, subtrie_spot}
 use Rattle.version_laws.proofs.Now.{built_now, trie_now}
 use Rattle.version_laws.proofs.Paths.{path_rises_node}
 use Rattle.version_laws.proofs.Standing.{stands_now, entry_node, newest_tree_if_node}

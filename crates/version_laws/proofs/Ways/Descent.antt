@@ -1,19 +1,8 @@
 -- The descent below the lowest locked node.
-use Rattle.std.proofs.Common.{◌≡◌, ℕ, ◌<◌, refl, ap, sym, ◌∙◌, subst, arith, le_refl, Some}
-use Rattle.tries.specs.Keys.{Key, AgreeBelow}
-use Rattle.tries.specs.Tree.{Fixed, Subtrie, Tree, leaf, node, fork, subtrie, Has, Within, here, inside}
-use Rattle.compound_node.specs.declared.entries.Entry.TheVariants.{Leaf, Node}
-use Rattle.node_tries.specs.Piece.{Place}
-use Rattle.tries.specs.Search.{seek, Follows, child, Kin, tips, forks}
-use Rattle.versions.specs.Heap.{NodeWords, LeafWords}
-use Rattle.versions.specs.State.{Life, Out, Linked, Retired, Spans, last_of, IsLived, Stands, IsReach, IsLawfulState, StoodWithKeys}
-use Rattle.record_words.specs.declared.records.Rec.TheVariants.{Node as a_node}
-use Rattle.versions.specs.Core.{BareCore, view}
+use Rattle.version_laws.proofs.Common.{◌≡◌, ℕ, ◌<◌, refl, ap, sym, ◌∙◌, subst, arith, le_refl, Some, Key, AgreeBelow, Fixed, Subtrie, Tree, leaf, node, fork, subtrie, Has, Within, here, inside, Leaf, Node, Place, seek, Follows, child, Kin, tips, forks, NodeWords, LeafWords, Life, Out, Linked, Retired, Spans, last_of, IsLived, Stands, IsReach, IsLawfulState, StoodWithKeys, a_node, BareCore, view, built_within, within_trans, subtrie_child, within_child, shown_within, leaf_parts, node_parts}
 use Rattle.version_laws.specs.Writer.{BeganAt, IsWayBelow, at_leaf, below}
-use Rattle.tries.proofs.Tree.{built_within, within_trans, subtrie_child, within_child}
 use Rattle.version_laws.proofs.Now.{built_now, shown_now}
 use Rattle.version_laws.proofs.Statements.Search.{leaf_now}
-use Rattle.versions.proofs.Heap.{shown_within, leaf_parts, node_parts}
 
 spans_now : (now : ℕ) (l : Life) → IsLived now l → Spans now l now → last_of now l ≡ now
 spans_now now Out i h = elim h [ ]

@@ -1,13 +1,5 @@
 -- What a writer has at hand for a place of the tree.
-use Rattle.std.proofs.Common.{◌≡◌, ◌⊎◌, ℕ, Some}
-use Rattle.tries.specs.Tree.{Fixed, Tree, node, subtrie, IsBuilt, IsFork, IsTip, IsLower, IsFit}
-use Rattle.tries.specs.Content.{Item}
-use Rattle.tries.specs.Changes.{IsAdded}
-use Rattle.versions.specs.Heap.{IsShown}
-use Rattle.versions.specs.State.{Links}
-use Rattle.record_words.specs.declared.records.Rec.{Rec}
-use Rattle.record_words.specs.declared.records.Rec.TheVariants.{Node as a_node}
-use Rattle.versions.specs.Core.{Ready, BareCore}
+use Rattle.version_laws.proofs.Common.{◌≡◌, ◌⊎◌, ℕ, Some, Fixed, Tree, node, subtrie, IsBuilt, IsFork, IsTip, IsLower, IsFit, Item, IsAdded, IsShown, Links, Rec, a_node, Ready, BareCore}
 
 -- For the place of `s` the pass has `r`: its words show it, what it links anew is the pass's and ready, and the nodes
 -- that go are locked by the pass.

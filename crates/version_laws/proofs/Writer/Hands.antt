@@ -1,20 +1,7 @@
 -- What a writer has at hand, built up step by step.
-use Rattle.std.proofs.Common.{◌≡◌, ◌⊎◌, inl, inr, ℕ, Bool, true, false, ap, ◌∙◌, Some}
-use Rattle.tries.specs.Keys.{Key}
-use Rattle.tries.specs.Tree.{Fixed, Tree, leaf, node, IsBuilt, Within}
-use Rattle.versions.specs.Heap.{IsShown}
-use Rattle.versions.specs.State.{Links}
-use Rattle.record_words.specs.declared.records.Rec.{Rec}
-use Rattle.record_words.specs.declared.records.Rec.TheVariants.{Node as a_node, Leaf as a_leaf}
-use Rattle.versions.specs.Core.{Ready, BareCore}
-use Rattle.tries.specs.Content.{Item}
-use Rattle.tries.specs.Changes.{IsAdded}
-use Rattle.tries.proofs.Changes.{put, IsInOwnSubtrie}
-use Rattle.tries.proofs.Place.{grown}
-use Rattle.tries.proofs.Changes.Puts.{built_in_own_subtrie}
+use Rattle.version_laws.proofs.Common.{◌≡◌, ◌⊎◌, inl, inr, ℕ, Bool, true, false, ap, ◌∙◌, Some, Key, Fixed, Tree, leaf, node, IsBuilt, Within, IsShown, Links, Rec, a_node, a_leaf, Ready, BareCore, Item, IsAdded, put, IsInOwnSubtrie, grown, built_in_own_subtrie, node_number, leaf_node}
 use Rattle.version_laws.proofs.Replaced.{linked_after_put, linked_before_put, links_new, links_old, shown_in_own_subtrie}
 use Rattle.version_laws.proofs.Writer.AtHand.{IsAtHand, IsNewNode}
-use Rattle.versions.proofs.Heap.{node_number, node_leaf as leaf_node}
 
 module _ (c : BareCore) (q : ℕ) where
   -- what stays

@@ -1,12 +1,7 @@
 -- What was so in a past stays so as it grows; which records may be given back, and which stand now.
-use Rattle.std.proofs.Common.{◌≡◌, inl, inr, ℕ, ◌<◌, ◌≤◌, true, ap, ap₂, sym, ◌∙◌, subst, arith, Some, le_refl, le_trans}
-use Rattle.tries.specs.Keys.{Key}
-use Rattle.compound_node.specs.declared.entries.Entry.{Entry}
-use Rattle.tries.specs.Tree.{Tree, leaf, node, fork, subtrie}
+use Rattle.versions.proofs.Common.{◌≡◌, inl, inr, ℕ, ◌<◌, ◌≤◌, true, ap, ap₂, sym, ◌∙◌, subst, arith, Some, le_refl, le_trans, Key, Entry, Tree, leaf, node, fork, subtrie, Rec, a_node, a_leaf}
 use Rattle.versions.specs.Heap.{NodeWords, IsCopied}
 use Rattle.versions.specs.State.{rec_of, Spans, last_of, IsLived, Past, Stands, IsLawfulState, StoodWithKeys}
-use Rattle.record_words.specs.declared.records.Rec.{Rec}
-use Rattle.record_words.specs.declared.records.Rec.TheVariants.{Node as a_node, Leaf as a_leaf}
 use Rattle.versions.specs.Frames.{IsGrown}
 use Rattle.versions.specs.Core.{has_seen, InTree, Marked, life_of, BareCore, pin_version, view, HasLawfulEpochs}
 use Rattle.versions.specs.declared.Pin.{Pin}

@@ -1,11 +1,6 @@
 -- The steps keep the law of the epochs.
-use Rattle.std.proofs.Common.{◌≡◌, ◌⊎◌, ◌≢◌, inl, inr, ℕ, suc, ◌<◌, ◌≤◌, Bool, true, false, if◌then◌else◌, refl, ap, sym, ◌∙◌, subst, arith, Option, Some, None, le_refl, le_trans, nat_eq, eqb}
-use Rattle.std.proofs.lemmas.Bool.{eqb-true, cases_Bool, false≢true}
-use Rattle.compound_node.specs.declared.entries.Entry.{Entry}
-use Rattle.tries.specs.Tree.{Tree}
+use Rattle.versions.proofs.Common.{◌≡◌, ◌⊎◌, ◌≢◌, inl, inr, ℕ, suc, ◌<◌, ◌≤◌, Bool, true, false, if◌then◌else◌, refl, ap, sym, ◌∙◌, subst, arith, Option, Some, None, le_refl, le_trans, nat_eq, eqb, eqb-true, cases_Bool, false≢true, Entry, Tree, Rec, Change}
 use Rattle.versions.specs.State.{Spans, IsLived, IsLawfulState, Stands}
-use Rattle.record_words.specs.declared.records.Rec.{Rec}
-use Rattle.finite_map.specs.declared.Change.{Change}
 use Rattle.versions.specs.Core.{has_seen, pin_version, Fate, Free, Held, Ready, InTree, Unlinked, Marked, life_of, BareCore, view, HasLawfulEpochs}
 use Rattle.versions.specs.declared.Pin.{Pin}
 use Rattle.versions.specs.declared.Round.{Round}

@@ -1,17 +1,5 @@
 -- A value stored under the lock of what names its leaf is a legal publish; and nobody else has that lock.
-use Rattle.std.proofs.Common.{◌≡◌, ◌≢◌, ◌⊎◌, inl, inr, ℕ, ◌-◌, ◌<◌, ◌≤◌, [], ltb, refl, ap, sym, ◌∙◌, subst, arith, Option, Some, None, le_refl}
-use Rattle.std.proofs.lemmas.Bool.{cases_eq, cases_lt, cond-true, cond-false, lt-ltb, le-ltb}
-use Rattle.finite_map.specs.declared.Change.{Change}
-use Rattle.finite_map.specs.declared.Kind.TheVariants.{Replaced}
-use Rattle.compound_node.specs.declared.entries.Entry.{Entry}
-use Rattle.compound_node.specs.declared.entries.Entry.TheVariants.{Leaf}
-use Rattle.node_tries.specs.Piece.{Place, size}
-use Rattle.tries.specs.Content.{item}
-use Rattle.tries.specs.Place.{entry_at}
-use Rattle.tries.specs.Tree.{Tree, leaf, node, fork, subtrie, IsTrie, IsBuilt}
-use Rattle.tries.proofs.Read.{some_injective as some_same}
-use Rattle.record_words.specs.declared.records.Rec.{Rec}
-use Rattle.record_words.specs.declared.records.Rec.TheVariants.{Node as a_node, Leaf as a_leaf}
+use Rattle.versions.proofs.Common.{◌≡◌, ◌≢◌, ◌⊎◌, inl, inr, ℕ, ◌-◌, ◌<◌, ◌≤◌, [], ltb, refl, ap, sym, ◌∙◌, subst, arith, Option, Some, None, le_refl, cases_eq, cases_lt, cond-true, cond-false, lt-ltb, le-ltb, Change, Replaced, Entry, Leaf, Place, size, item, entry_at, Tree, leaf, node, fork, subtrie, IsTrie, IsBuilt, some_same, Rec, a_node, a_leaf}
 use Rattle.versions.specs.Heap.{NodeWords, LeafWords, Heap, IsShown}
 use Rattle.versions.specs.State.{Links, IsLinked, IsTop, IsLawfulState, Spans, IsLived}
 use Rattle.versions.specs.Core.{BareCore, view, Fate, Free, Held, Ready, InTree, Unlinked, Marked, life_of}

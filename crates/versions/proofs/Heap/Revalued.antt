@@ -1,13 +1,5 @@
 -- A tree with another value in one leaf; and what names a leaf.
-use Rattle.std.proofs.Common.{◌≡◌, ◌≢◌, ◌⊎◌, inl, inr, ℕ, true, false, if◌then◌else◌, nat_eq, eqb, refl, ap, ap₂, sym, ◌∙◌, subst, Option, Some}
-use Rattle.std.proofs.lemmas.Bool.{cases_Bool, eqb-true, eq-eqb, false≢true, cond-false}
-use Rattle.tries.specs.Keys.{Key}
-use Rattle.tries.specs.Tree.{Fixed, Tree, leaf, node, fork, subtrie, Has, IsTrie, IsFork, IsLower, IsBuilt, IsFit, Within, here, inside, zero_side, one_side}
-use Rattle.tries.specs.Content.{Item, item, items, IsExchange, exchanged}
-use Rattle.tries.proofs.Content.{put_exchange}
-use Rattle.node_tries.specs.Piece.{Fork}
-use Rattle.record_words.specs.declared.records.Rec.{Rec}
-use Rattle.record_words.specs.declared.records.Rec.TheVariants.{Node as a_node, Leaf as a_leaf}
+use Rattle.versions.proofs.Common.{◌≡◌, ◌≢◌, ◌⊎◌, inl, inr, ℕ, true, false, if◌then◌else◌, nat_eq, eqb, refl, ap, ap₂, sym, ◌∙◌, subst, Option, Some, cases_Bool, eqb-true, eq-eqb, false≢true, cond-false, Key, Fixed, Tree, leaf, node, fork, subtrie, Has, IsTrie, IsFork, IsLower, IsBuilt, IsFit, Within, here, inside, zero_side, one_side, Item, item, items, IsExchange, exchanged, put_exchange, Fork, Rec, a_node, a_leaf}
 use Rattle.versions.specs.Heap.{NodeWords, LeafWords, Heap, IsShown}
 use Rattle.versions.specs.State.{Links}
 use Rattle.versions.proofs.Heap.{leaf_number}

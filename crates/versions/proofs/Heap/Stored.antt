@@ -1,20 +1,12 @@
 -- One store into a node: the tree that the words show then. And the opening state.
-use Rattle.std.proofs.Common.{◌≡◌, ◌≢◌, inl, inr, ℕ, ◌<◌, refl, ap, ap₂, sym, ◌∙◌, subst, arith, Option, Some, None, lt_trans}
-use Rattle.std.proofs.lemmas.Bool.{false≢true}
-use Rattle.tries.specs.Tree.{Fixed, Tree, leaf, node, fork, Has, IsTrie, IsFork, IsLower, IsBuilt, Within, here, inside, zero_side, one_side, IsFit}
-use Rattle.compound_node.specs.declared.entries.Entry.TheVariants.{Leaf, Node}
-use Rattle.node_tries.specs.Piece.{Place}
+use Rattle.versions.proofs.Common.{◌≡◌, ◌≢◌, inl, inr, ℕ, ◌<◌, refl, ap, ap₂, sym, ◌∙◌, subst, arith, Option, Some, None, lt_trans, false≢true, Fixed, Tree, leaf, node, fork, Has, IsTrie, IsFork, IsLower, IsBuilt, Within, here, inside, zero_side, one_side, IsFit, Leaf, Node, Place, a_node, has_first, has_within, first, Rec}
 use Rattle.versions.specs.Heap.{NodeWords, Heap, IsShown}
 use Rattle.versions.specs.State.{IsRecord, Links, Out, IsLawfulState}
-use Rattle.record_words.specs.declared.records.Rec.TheVariants.{Node as a_node}
 use Rattle.tries.proofs.Changes.{put}
-use Rattle.tries.proofs.Tree.{has_first, has_within}
 use Rattle.versions.proofs.Heap.{shown_within, determined, leaf_node, leaf_number, node_leaf, node_number}
 use Rattle.versions.proofs.State.Publish.{links_within}
 use Rattle.versions.proofs.State.Quiet.{shown_if_same_words}
-use Rattle.tries.specs.Content.{first}
 use Rattle.tries.proofs.Changes.Puts.{subtrie_put}
-use Rattle.record_words.specs.declared.records.Rec.{Rec}
 
 -- Two trees of one record, shown by the same words, are the same.
 same_tree : (m : Heap) (i : Rec) (u v : Tree) → IsRecord i u → IsRecord i v → IsShown m u → IsShown m v → u ≡ v

@@ -1,16 +1,9 @@
 -- A publish keeps the state lawful.
-use Rattle.std.proofs.Common.{◌≡◌, ◌⊎◌, inl, inr, ℕ, suc, ◌<◌, ◌≤◌, refl, ap, sym, ◌∙◌, subst, arith, Option, Some, None, le_refl, le_trans, eqb}
-use Rattle.std.proofs.lemmas.Bool.{cond-true, cond-false, eq-eqb, ne_eqb, cases_lt}
-use Rattle.compound_node.specs.declared.entries.Entry.{Entry}
-use Rattle.tries.specs.Tree.{Tree, leaf, node, fork, IsTrie, IsBuilt, Within, here, inside, zero_side, one_side}
+use Rattle.versions.proofs.Common.{◌≡◌, ◌⊎◌, inl, inr, ℕ, suc, ◌<◌, ◌≤◌, refl, ap, sym, ◌∙◌, subst, arith, Option, Some, None, le_refl, le_trans, eqb, cond-true, cond-false, eq-eqb, ne_eqb, cases_lt, Entry, Tree, leaf, node, fork, IsTrie, IsBuilt, Within, here, inside, zero_side, one_side, Rec, a_node, a_leaf, trie_within, built_within, some_same}
 use Rattle.versions.specs.Heap.{NodeWords, LeafWords, Heap, IsCopied, IsShown, KeepsAllButOneEntry}
 use Rattle.versions.specs.State.{IsRecord, Links, Life, Out, Linked, Retired, Spans, last_of, State, Stands, IsSameRecord, IsTop, IsReach, IsLawfulState, IsLived, with_version, IsLinked}
-use Rattle.record_words.specs.declared.records.Rec.{Rec}
-use Rattle.record_words.specs.declared.records.Rec.TheVariants.{Node as a_node, Leaf as a_leaf}
-use Rattle.tries.proofs.Tree.{trie_within, built_within}
 use Rattle.versions.proofs.State.{same_trans, spans_last, spans_ended}
 use Rattle.versions.proofs.Heap.{shown_within, copied_if_shown, kin_step, near_subtrie, near_refl, node_number, leaf_number}
-use Rattle.tries.proofs.Read.{some_injective as some_same}
 
 -- What a publish makes of a record's life, where `L` says that the new version links it.
 pub data IsNext (now : ℕ) (L : Type 0) : Life → Life → Type 0 where

@@ -1,11 +1,7 @@
 -- A step that leaves the versions keeps the state lawful.
-use Rattle.std.proofs.Common.{◌≡◌, ◌≢◌, ◌⊎◌, inl, inr, ℕ, refl, ap, sym, ◌∙◌, subst, Option, Some, None, le_refl}
-use Rattle.compound_node.specs.declared.entries.Entry.{Entry}
-use Rattle.tries.specs.Tree.{Tree, leaf, node, fork, subtrie}
+use Rattle.versions.proofs.Common.{◌≡◌, ◌≢◌, ◌⊎◌, inl, inr, ℕ, refl, ap, sym, ◌∙◌, subst, Option, Some, None, le_refl, Entry, Tree, leaf, node, fork, subtrie, Rec, a_node, a_leaf}
 use Rattle.versions.specs.Heap.{Heap, IsCopied, IsShown}
 use Rattle.versions.specs.State.{IsRecord, Links, Life, Out, Spans, last_of, State, Stands, IsSameRecord, IsTop, IsReach, IsLawfulState, IsLived}
-use Rattle.record_words.specs.declared.records.Rec.{Rec}
-use Rattle.record_words.specs.declared.records.Rec.TheVariants.{Node as a_node, Leaf as a_leaf}
 use Rattle.versions.proofs.State.Publish.{links_within}
 use Rattle.versions.proofs.Core.Growth.{IsUnlinkedSince}
 use Rattle.versions.proofs.Heap.{determined}

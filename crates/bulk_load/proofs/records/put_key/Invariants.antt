@@ -1,6 +1,5 @@
 -- The key's words so far stand there, and all others are as before.
-use Rattle.std.proofs.Common.{◌≡◌, ℕ, ◌⊎◌, ◌+◌, ◌<◌, ◌≤◌, get_or, length}
-use Rattle.record_words.specs.Leaf.{key_word}
+use Rattle.bulk_load.proofs.Common.{◌≡◌, ℕ, ◌⊎◌, ◌+◌, ◌<◌, ◌≤◌, get_or, length, key_word}
 use Rattle.bulk_load.proofs.records.put_key.Given as goal
 
 abbrev pub invariant-loop-j : goal.invariant-loop-j

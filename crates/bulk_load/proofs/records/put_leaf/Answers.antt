@@ -1,6 +1,5 @@
 -- The words up to the key's end are those of the leaf.
-use Rattle.std.proofs.Common.{◌<◌, ap, arith, inl, length, subst, sym}
-use Rattle.record_words.proofs.Locations.{leaf_before, size_fits}
+use Rattle.bulk_load.proofs.Common.{◌<◌, ap, arith, inl, length, subst, sym, leaf_before, size_fits}
 use Rattle.bulk_load.proofs.records.Fields.{leaf_fields_are}
 use Rattle.bulk_load.proofs.records.put_leaf.Goals as goal
 

@@ -1,10 +1,8 @@
 -- The columns, rows and entries show the piece of the tips.
-use Rattle.std.proofs.Common.{arith, length, refl, subst, sym, ◌∙◌, ◌≡◌}
-use Rattle.std.proofs.lemmas.List.{length-map}
+use Rattle.bulk_load.proofs.Common.{arith, length, refl, subst, sym, ◌∙◌, ◌≡◌, length-map, IsBuiltFrom}
 use Rattle.bulk_load.proofs.tips.Tips.{built, front_rows, node_of_tips}
 use Rattle.bulk_load.specs.Tips.{entries_in_tips}
 use Rattle.bulk_load.specs.declared.tips.Tip.{Tip}
-use Rattle.compound_node.specs.Nodes.{IsBuiltFrom}
 use Rattle.bulk_load.proofs.tips.build_node.Goals as goal
 
 pub of-head-requires : goal.of-head-requires

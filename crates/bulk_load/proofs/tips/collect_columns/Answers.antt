@@ -1,12 +1,8 @@
 -- The next position is a column then.
-use Rattle.std.proofs.Common.{ap, arith, get_or, length, subst, sym, ◌∙◌}
+use Rattle.bulk_load.proofs.Common.{ap, arith, get_or, length, subst, sym, ◌∙◌, Leaf, length-with_position, has, IsColumns}
 use Rattle.bulk_load.proofs.tips.Tips.{more_columns, same_columns}
 use Rattle.bulk_load.specs.Tips.{tip}
-use Rattle.compound_node.specs.declared.entries.Entry.TheVariants.{Leaf}
-use Rattle.node_tries.proofs.Positions.{length-with_position}
-use Rattle.node_tries.specs.Positions.{has}
 use Rattle.partial_keys.proofs.Keeping.{IsColumns-with_position}
-use Rattle.partial_keys.specs.Columns.{IsColumns}
 use Rattle.bulk_load.proofs.tips.collect_columns.Goals as goal
 use Rattle.bulk_load.proofs.tips.collect_columns.Goals.{then-not-is_column_at, else-not-is_column_at}
 

@@ -1,8 +1,6 @@
 -- The columns are the positions of the forks so far.
-use Rattle.std.proofs.Common.{ℕ, ◌≡◌, ◌<◌, length, take}
+use Rattle.bulk_load.proofs.Common.{ℕ, ◌≡◌, ◌<◌, length, take, has, IsColumns}
 use Rattle.bulk_load.specs.Tips.{forks_between}
-use Rattle.node_tries.specs.Positions.{has}
-use Rattle.partial_keys.specs.Columns.{IsColumns}
 use Rattle.bulk_load.proofs.tips.collect_columns.Given as goal
 
 abbrev pub invariant-loop-i : goal.invariant-loop-i

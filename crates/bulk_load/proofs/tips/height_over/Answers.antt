@@ -1,9 +1,8 @@
 -- A height above that of each entry fits 16 bits.
-use Rattle.std.proofs.Common.{◌≡◌, ◌∙◌, ap, arith, drop}
+use Rattle.bulk_load.proofs.Common.{◌≡◌, ◌∙◌, ap, arith, drop, greatest_height}
 use Rattle.bulk_load.proofs.tips.Tips.{entries_fit}
 use Rattle.bulk_load.specs.Tips.{entries_in_tips}
 use Rattle.compound_node.proofs.Heights.{greatest_height-fits}
-use Rattle.compound_node.specs.Nodes.{greatest_height}
 use Rattle.bulk_load.proofs.tips.height_over.Goals as goal
 
 pub overflow_add-result : goal.overflow_add-result

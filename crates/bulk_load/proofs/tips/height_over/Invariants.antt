@@ -1,6 +1,5 @@
 -- The greatest height of the entries behind.
-use Rattle.std.proofs.Common.{◌≡◌, drop}
-use Rattle.compound_node.specs.Nodes.{greatest_height}
+use Rattle.bulk_load.proofs.Common.{◌≡◌, drop, greatest_height}
 use Rattle.bulk_load.specs.Tips.{entries_in_tips}
 use Rattle.bulk_load.proofs.tips.height_over.Given as goal
 

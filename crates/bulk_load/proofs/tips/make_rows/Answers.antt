@@ -1,8 +1,7 @@
 -- The next row goes to the first unused place.
-use Rattle.std.proofs.Common.{◌++◌, ◌∙◌, ap, arith, replicate, sym}
+use Rattle.bulk_load.proofs.Common.{◌++◌, ◌∙◌, ap, arith, replicate, sym, Leaf}
 use Rattle.bulk_load.proofs.tips.Tips.{next_last, next_rows, rows_end, rows_start}
 use Rattle.bulk_load.specs.Tips.{tip}
-use Rattle.compound_node.specs.declared.entries.Entry.TheVariants.{Leaf}
 use Rattle.bulk_load.proofs.tips.make_rows.Goals as goal
 
 pub loop-i-init : goal.loop-i-init

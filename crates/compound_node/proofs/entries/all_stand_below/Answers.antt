@@ -1,9 +1,5 @@
 -- One entry more that stands below.
-use Rattle.std.proofs.Common.{refl, subst, sym, ◌∙◌}
-use Rattle.std.proofs.lemmas.Bool.{false≢true}
-use Rattle.std.proofs.lemmas.List.Elements.{All-more}
-use Rattle.std.proofs.lemmas.List.{take_all}
-use Rattle.std.specs.List.{All}
+use Rattle.compound_node.proofs.Common.{refl, subst, sym, ◌∙◌, false≢true, All-more, take_all, All}
 use Rattle.compound_node.specs.Nodes.{StandsBelow}
 use Rattle.compound_node.proofs.entries.all_stand_below.Goals as goal
 

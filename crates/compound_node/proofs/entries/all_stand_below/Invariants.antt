@@ -1,6 +1,5 @@
 -- The entries so far stand below.
-use Rattle.std.proofs.Common.{take}
-use Rattle.std.specs.List.{All}
+use Rattle.compound_node.proofs.Common.{take, All}
 use Rattle.compound_node.specs.Nodes.{StandsBelow}
 use Rattle.compound_node.proofs.entries.all_stand_below.Given as goal
 

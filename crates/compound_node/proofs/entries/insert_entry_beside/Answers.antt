@@ -1,6 +1,5 @@
 -- Behind the entries from `first` to `last`, or before them.
-use Rattle.std.proofs.Common.{ap, arith, sym, ◌+◌, ◌-◌, ◌∙◌, ◌≡◌}
-use Rattle.std.specs.List.{insert}
+use Rattle.compound_node.proofs.Common.{ap, arith, sym, ◌+◌, ◌-◌, ◌∙◌, ◌≡◌, insert}
 use Rattle.compound_node.proofs.Editing.{put-before, put-behind}
 use Rattle.compound_node.proofs.entries.insert_entry_beside.Goals as goal
 use Rattle.compound_node.proofs.entries.insert_entry_beside.Goals.{then-bit, else-bit}

@@ -1,13 +1,8 @@
 -- The two sides of the root fork are covered by their rows.
-use Rattle.std.proofs.Common.{arith, subst, sym, ◌^◌, ◌∙◌}
-use Rattle.std.proofs.lemmas.List.{length-drop, length-take-le, take_rest}
-use Rattle.std.proofs.lemmas.List.Elements.{All-drop, All-take}
-use Rattle.std.specs.List.{All}
+use Rattle.compound_node.proofs.Common.{arith, subst, sym, ◌^◌, ◌∙◌, length-drop, length-take-le, take_rest, All-drop, All-take, All, piece_of, front_below}
 use Rattle.compound_node.proofs.halves.Halves.{Parts, parts}
 use Rattle.compound_node.specs.Nodes.{IsEntry}
 use Rattle.compound_node.specs.declared.entries.Entry.TheVariants.{Leaf}
-use Rattle.partial_keys.specs.Shown.{piece_of}
-use Rattle.node_tries.specs.Positions.{front_below}
 use Rattle.compound_node.proofs.halves.make_cut.Goals as goal
 
 pub make_half-zero-requires-clause-some : goal.make_half-zero-requires-clause-some

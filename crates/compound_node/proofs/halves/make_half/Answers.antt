@@ -1,15 +1,9 @@
 -- The used columns and the squeezed rows fit together.
-use Rattle.std.proofs.Common.{ap, arith, length, map, subst, ◌∙◌, ◌≡◌}
-use Rattle.std.proofs.lemmas.List.{length-map}
+use Rattle.compound_node.proofs.Common.{ap, arith, length, map, subst, ◌∙◌, ◌≡◌, length-map, rows_over, used_over, half_shows, piece_of_shown, or_all, squeezed, one_place}
 use Rattle.compound_node.proofs.Editing.{refill_same}
 use Rattle.compound_node.proofs.halves.Halves.{fit_used, some_used}
 use Rattle.compound_node.specs.Nodes.{IsBuiltFrom}
 use Rattle.compound_node.specs.declared.entries.Entry.TheVariants.{Leaf}
-use Rattle.partial_keys.proofs.Squeezed.Closing.{rows_over, used_over}
-use Rattle.partial_keys.proofs.Shown.Cutting.{half_shows}
-use Rattle.partial_keys.proofs.Shown.{piece_of_shown}
-use Rattle.partial_keys.specs.Squeezed.{or_all, squeezed}
-use Rattle.node_tries.proofs.Piece.{one_place}
 use Rattle.compound_node.proofs.halves.make_half.Goals as goal
 use Rattle.compound_node.proofs.halves.make_half.Goals.{After-as_slice-2}
 

@@ -1,13 +1,10 @@
 -- The rows that are left cover the piece without the place.
-use Rattle.std.proofs.Common.{subst, sym, take, drop, suc}
-use Rattle.std.proofs.lemmas.List.Elements.{All-append, All-drop, All-take}
-use Rattle.std.specs.List.{All}
+use Rattle.compound_node.proofs.Common.{subst, sym, take, drop, suc, All-append, All-drop, All-take, All, covers_self, piece_of_covered}
 use Rattle.compound_node.proofs.Ladders.{shown-sparse_keys}
 use Rattle.compound_node.proofs.Removal.{covers_without}
 use Rattle.compound_node.specs.Halves.{HalfShows}
 use Rattle.compound_node.specs.Nodes.{IsEntry}
 use Rattle.compound_node.specs.declared.entries.Entry.TheVariants.{Leaf}
-use Rattle.partial_keys.proofs.Shown.{covers_self, piece_of_covered}
 use Rattle.compound_node.proofs.halves.make_rest.Goals as goal
 
 pub without_row-rest_rows-requires-clause-ladder : goal.without_row-rest_rows-requires-clause-ladder

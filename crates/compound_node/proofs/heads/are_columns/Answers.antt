@@ -1,7 +1,5 @@
 -- One position more rises, or does not.
-use Rattle.std.proofs.Common.{arith}
-use Rattle.std.proofs.lemmas.Bool.{false≢true}
-use Rattle.std.proofs.lemmas.List.{drop_more}
+use Rattle.compound_node.proofs.Common.{arith, false≢true, drop_more}
 use Rattle.compound_node.proofs.heads.are_columns.Goals as goal
 use Rattle.compound_node.proofs.heads.are_columns.Goals.{then-position-least-via-then-position-least, then-position-least-via-else-position-least+then-position}
 

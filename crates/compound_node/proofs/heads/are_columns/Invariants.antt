@@ -1,6 +1,5 @@
 -- The positions so far rise, and the others must from there.
-use Rattle.std.proofs.Common.{drop}
-use Rattle.node_tries.specs.Positions.{AllBelow, Ascends}
+use Rattle.compound_node.proofs.Common.{drop, AllBelow, Ascends}
 use Rattle.compound_node.proofs.heads.are_columns.Given as goal
 
 abbrev pub invariant-loop-position : goal.invariant-loop-position

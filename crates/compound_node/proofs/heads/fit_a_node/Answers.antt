@@ -1,8 +1,5 @@
 -- The tests are the parts of what fits.
-use Rattle.std.proofs.Common.{arith, sym, take, ◌∙◌, ◌≡◌, ◌≤◌}
-use Rattle.std.proofs.lemmas.Bool.{false≢true, leb-true}
-use Rattle.partial_keys.specs.Columns.{IsColumns}
-use Rattle.partial_keys.specs.Rows.{with_unused}
+use Rattle.compound_node.proofs.Common.{arith, sym, take, ◌∙◌, ◌≡◌, ◌≤◌, false≢true, leb-true, IsColumns, with_unused}
 use Rattle.compound_node.proofs.heads.fit_a_node.Goals as goal
 use Rattle.compound_node.proofs.heads.fit_a_node.Goals.{Then-is_padded, then-are_columns, else-are_columns, then-used-ge2, else-used-ge2, then-used-le-MAX_ENTRIES, else-used-le-MAX_ENTRIES}
 

@@ -1,6 +1,5 @@
 -- Each further position is a column afterwards.
-use Rattle.std.proofs.Common.{◌∷◌, ap, arith, get_or, length, subst, sym, take, ◌∙◌}
-use Rattle.std.proofs.lemmas.List.{take_all, take_more}
+use Rattle.compound_node.proofs.Common.{◌∷◌, ap, arith, get_or, length, subst, sym, take, ◌∙◌, take_all, take_more}
 use Rattle.compound_node.proofs.joining.Widening.{below_at, length-widened, widened_more, widened_none}
 use Rattle.compound_node.specs.Joining.{IsWidened}
 use Rattle.compound_node.proofs.joining.ensure_columns.Goals as goal

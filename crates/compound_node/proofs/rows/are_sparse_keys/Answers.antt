@@ -1,6 +1,5 @@
 -- All ones but the low bits, as a mask.
-use Rattle.std.proofs.Common.{sym, ◌∙◌}
-use Rattle.std.proofs.lemmas.Bool.{eq-eqb, eqb-true}
+use Rattle.compound_node.proofs.Common.{sym, ◌∙◌, eq-eqb, eqb-true}
 use Rattle.compound_node.proofs.Removal.Full.{high_ones}
 use Rattle.compound_node.proofs.rows.are_sparse_keys.Goals as goal
 

@@ -1,8 +1,5 @@
 -- One row more lost the column.
-use Rattle.std.proofs.Common.{ap, arith, get_or, set, ◌∙◌}
-use Rattle.std.proofs.lemmas.List.{get_or_default}
-use Rattle.std.proofs.lemmas.List.Edits.{map_over_more}
-use Rattle.partial_keys.specs.Squeezed.{closed_row}
+use Rattle.compound_node.proofs.Common.{ap, arith, get_or, set, ◌∙◌, get_or_default, map_over_more, closed_row}
 use Rattle.compound_node.proofs.rows.close_column_of_rows.Goals as goal
 
 pub loop-row-preserved : goal.loop-row-preserved

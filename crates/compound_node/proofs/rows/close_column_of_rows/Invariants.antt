@@ -1,6 +1,5 @@
 -- The rows so far lost the column.
-use Rattle.std.proofs.Common.{◌≡◌, ◌++◌, drop, map, take}
-use Rattle.partial_keys.specs.Squeezed.{closed_row}
+use Rattle.compound_node.proofs.Common.{◌≡◌, ◌++◌, drop, map, take, closed_row}
 use Rattle.compound_node.proofs.rows.close_column_of_rows.Given as goal
 
 abbrev pub invariant-loop-row : goal.invariant-loop-row

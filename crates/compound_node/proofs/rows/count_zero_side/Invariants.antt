@@ -1,6 +1,5 @@
 -- The rows so far are below the bit.
-use Rattle.std.proofs.Common.{◌≡◌, ◌+◌, ◌^◌, drop}
-use Rattle.node_tries.specs.Positions.{front_below}
+use Rattle.compound_node.proofs.Common.{◌≡◌, ◌+◌, ◌^◌, drop, front_below}
 use Rattle.compound_node.proofs.rows.count_zero_side.Given as goal
 
 abbrev pub invariant-loop-i : goal.invariant-loop-i

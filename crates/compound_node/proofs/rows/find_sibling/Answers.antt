@@ -1,10 +1,8 @@
 -- The four cases.
-use Rattle.std.proofs.Common.{◌<◌, ◌≡◌, Option, ap₂, arith, length, subst, sym, ℕ, ◌∙◌}
+use Rattle.compound_node.proofs.Common.{◌<◌, ◌≡◌, Option, ap₂, arith, length, subst, sym, ℕ, ◌∙◌, found, beside_by, by_before, by_next, by_several_before, by_several_next}
 use Rattle.compound_node.proofs.Beside.{told_beside}
 use Rattle.compound_node.specs.Beside.{AreRound, IsBesideIn, column_before}
 use Rattle.compound_node.specs.Nodes.{IsLawfulNode, NodeView}
-use Rattle.node_tries.proofs.Changes.Beside.{found}
-use Rattle.node_tries.proofs.Changes.Seams.{beside_by, by_before, by_next, by_several_before, by_several_next}
 use Rattle.compound_node.proofs.rows.find_sibling.Goals as goal
 
 -- from what the columns tell

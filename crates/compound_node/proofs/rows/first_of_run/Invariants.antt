@@ -1,6 +1,5 @@
 -- The rows up to the found one agree with it.
-use Rattle.std.proofs.Common.{◌≡◌, ℕ, ◌<◌, ◌≤◌, get_or, true}
-use Rattle.partial_keys.specs.Runs.{agree_in}
+use Rattle.compound_node.proofs.Common.{◌≡◌, ℕ, ◌<◌, ◌≤◌, get_or, true, agree_in}
 use Rattle.compound_node.proofs.rows.first_of_run.Given as goal
 
 abbrev pub invariant-loop-i : goal.invariant-loop-i

@@ -1,7 +1,6 @@
 -- One row more is joined.
-use Rattle.std.proofs.Common.{◌-◌, get_or, ap, ◌∙◌, arith}
+use Rattle.compound_node.proofs.Common.{◌-◌, get_or, ap, ◌∙◌, arith, or_all_step}
 use Rattle.std.specs.Prelude.{bit_or}
-use Rattle.partial_keys.proofs.Squeezed.{or_all_step}
 use Rattle.compound_node.proofs.rows.or_rows.Goals as goal
 
 pub loop-i-preserved : goal.loop-i-preserved

@@ -1,6 +1,5 @@
 -- The rows behind, joined.
-use Rattle.std.proofs.Common.{◌≡◌, drop}
-use Rattle.partial_keys.specs.Squeezed.{or_all}
+use Rattle.compound_node.proofs.Common.{◌≡◌, drop, or_all}
 use Rattle.compound_node.proofs.rows.or_rows.Given as goal
 
 abbrev pub invariant-loop-i : goal.invariant-loop-i

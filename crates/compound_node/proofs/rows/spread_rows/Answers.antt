@@ -1,8 +1,5 @@
 -- One row more is spread.
-use Rattle.std.proofs.Common.{ap, arith, get_or, set, ◌∙◌}
-use Rattle.std.proofs.lemmas.List.{get_or_default}
-use Rattle.std.proofs.lemmas.List.Edits.{map_over_more}
-use Rattle.partial_keys.specs.Spread.{spread_row}
+use Rattle.compound_node.proofs.Common.{ap, arith, get_or, set, ◌∙◌, get_or_default, map_over_more, spread_row}
 use Rattle.compound_node.proofs.rows.spread_rows.Goals as goal
 
 pub loop-i-preserved : goal.loop-i-preserved

@@ -1,6 +1,5 @@
 -- The rows so far, spread.
-use Rattle.std.proofs.Common.{◌≡◌, ◌++◌, drop, map, take}
-use Rattle.partial_keys.specs.Spread.{spread_row}
+use Rattle.compound_node.proofs.Common.{◌≡◌, ◌++◌, drop, map, take, spread_row}
 use Rattle.compound_node.proofs.rows.spread_rows.Given as goal
 
 abbrev pub invariant-loop-i : goal.invariant-loop-i

@@ -1,8 +1,5 @@
 -- A column that `used` has not got goes.
-use Rattle.std.proofs.Common.{ap, arith, length, map, sym, take, ◌+◌, ◌-◌, ◌∙◌, ◌≡◌}
-use Rattle.std.proofs.lemmas.List.{length-map, take-map}
-use Rattle.partial_keys.proofs.Squeezed.Closing.{all-closed, all-end, all-kept, all-start, squeezed_from}
-use Rattle.partial_keys.specs.Squeezed.{closed_row}
+use Rattle.compound_node.proofs.Common.{ap, arith, length, map, sym, take, ◌+◌, ◌-◌, ◌∙◌, ◌≡◌, length-map, take-map, all-closed, all-end, all-kept, all-start, squeezed_from, closed_row}
 use Rattle.compound_node.proofs.rows.squeeze_lanes.Goals as goal
 
 pub loop-column-init : goal.loop-column-init

@@ -1,8 +1,5 @@
 -- The rows without those later columns that `used` has not got.
-use Rattle.std.proofs.Common.{ℕ, ◌≡◌, length, map, take}
-use Rattle.std.specs.List.{All}
-use Rattle.partial_keys.proofs.Squeezed.Closing.{squeezed_from}
-use Rattle.partial_keys.specs.Squeezed.{IsRowOver}
+use Rattle.compound_node.proofs.Common.{ℕ, ◌≡◌, length, map, take, All, squeezed_from, IsRowOver}
 use Rattle.compound_node.proofs.rows.squeeze_lanes.Given as goal
 
 abbrev pub invariant-loop-column : goal.invariant-loop-column

@@ -1,7 +1,5 @@
 -- A column that `used` has not got goes.
-use Rattle.std.proofs.Common.{ap, arith, map, sym, ◌+◌, ◌-◌, ◌∙◌, ◌≡◌}
-use Rattle.partial_keys.proofs.Squeezed.Closing.{all-closed, all-end, all-kept, all-start, squeezed_from}
-use Rattle.partial_keys.specs.Squeezed.{closed_row}
+use Rattle.compound_node.proofs.Common.{ap, arith, map, sym, ◌+◌, ◌-◌, ◌∙◌, ◌≡◌, all-closed, all-end, all-kept, all-start, squeezed_from, closed_row}
 use Rattle.compound_node.proofs.rows.squeeze_rows.Goals as goal
 
 pub loop-column-init : goal.loop-column-init

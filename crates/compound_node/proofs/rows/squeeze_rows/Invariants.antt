@@ -1,6 +1,5 @@
 -- The rows without those later columns that `used` has not got.
-use Rattle.std.proofs.Common.{◌≡◌, map}
-use Rattle.partial_keys.proofs.Squeezed.Closing.{squeezed_from}
+use Rattle.compound_node.proofs.Common.{◌≡◌, map, squeezed_from}
 use Rattle.compound_node.proofs.rows.squeeze_rows.Given as goal
 
 abbrev pub invariant-loop-column : goal.invariant-loop-column

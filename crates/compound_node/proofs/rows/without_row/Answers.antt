@@ -1,6 +1,5 @@
 -- The parts before and behind the row, joined.
-use Rattle.std.proofs.Common.{refl, ◌+◌}
-use Rattle.std.proofs.lemmas.List.{take_rest}
+use Rattle.compound_node.proofs.Common.{refl, ◌+◌, take_rest}
 use Rattle.compound_node.proofs.rows.without_row.Goals as goal
 
 pub returns : goal.returns

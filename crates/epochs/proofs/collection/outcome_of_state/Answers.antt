@@ -1,6 +1,5 @@
 -- Each obsolete state is read as one, and the free one as free.
-use Rattle.std.proofs.Common.{sym, ◌∙◌}
-use Rattle.record_words.specs.declared.state.Tag.TheVariants.{Free as FreeTag, Obsolete}
+use Rattle.epochs.proofs.Common.{sym, ◌∙◌, FreeTag, Obsolete}
 use Rattle.epochs.proofs.collection.outcome_of_state.Goals as goal
 
 pub returns-in_default-2-clause-waits : goal.returns-in_default-2-clause-waits

@@ -1,6 +1,5 @@
 -- One record more, and all of them.
-use Rattle.std.proofs.Common.{rules, arith, subst, sym, ◌∙◌, ◌≡◌}
-use Rattle.record_words.specs.declared.records.Rec.TheVariants.{Leaf as a_leaf}
+use Rattle.epochs.proofs.Common.{rules, arith, subst, sym, ◌∙◌, ◌≡◌, a_leaf}
 use Rattle.epochs.specs.Rounds.{is_given, GoesOnVisiting}
 use Rattle.epochs.proofs.collection.Visiting.{next_start, one_most, visits_more}
 use Rattle.epochs.proofs.collection.visit_class.Goals as goal

@@ -1,8 +1,6 @@
 -- The records of the class below the number have been visited, and the next begins where the last one ends.
 use Rattle.std.specs.Prelude.{◌≡◌, ◌≤◌}
-use Rattle.record_words.specs.Layout.{leaf_start}
-use Rattle.record_words.specs.declared.records.Rec.TheVariants.{Leaf as a_leaf}
-use Rattle.rowex_table.specs.Seats.{IsSeatOf}
+use Rattle.epochs.proofs.Common.{leaf_start, a_leaf, IsSeatOf}
 use Rattle.epochs.specs.Rounds.{GoesOnVisiting}
 use Rattle.epochs.proofs.collection.visit_class.Given as goal
 

@@ -1,6 +1,5 @@
 -- One record more.
-use Rattle.std.proofs.Common.{rules, arith}
-use Rattle.record_words.specs.declared.records.Rec.TheVariants.{Node as a_node}
+use Rattle.epochs.proofs.Common.{rules, arith, a_node}
 use Rattle.epochs.specs.Rounds.{is_given}
 use Rattle.epochs.proofs.collection.Visiting.{one_most, visits_more}
 use Rattle.epochs.proofs.collection.visit_node_records.Goals as goal

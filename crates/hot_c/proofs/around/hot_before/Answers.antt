@@ -1,6 +1,5 @@
 -- The key before this one is told, if this one fits.
-use Rattle.std.proofs.Common.{ℕ, List, IfSome, IfOk, IsOk, refl, subst, sym, ◌∙◌}
-use Rattle.key_ranges.specs.Ranges.{IsPreviousKey}
+use Rattle.hot_c.proofs.Common.{ℕ, List, IfSome, IfOk, IsOk, refl, subst, sym, ◌∙◌, IsPreviousKey}
 use Rattle.hot_c.proofs.around.hot_before.Goals as goal
 
 pub returns-in-Ok : goal.returns-in-Ok

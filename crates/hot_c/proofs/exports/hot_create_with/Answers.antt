@@ -1,7 +1,5 @@
 -- The handles are open on the new index.
-use Rattle.std.proofs.Common.{inl, refl}
-use Rattle.record_words.specs.Layout.{HasStock}
-use Rattle.hot_index.specs.Kept.{kept_stock}
+use Rattle.hot_c.proofs.Common.{inl, refl, HasStock, kept_stock}
 use Rattle.hot_c.specs.Stocks.{stock_in}
 use Rattle.hot_c.proofs.opening.Shares.{have_opened}
 use Rattle.hot_c.proofs.exports.hot_create_with.Goals as goal

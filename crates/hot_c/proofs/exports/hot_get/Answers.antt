@@ -1,6 +1,5 @@
 -- The look-up is made on the handle's pass.
-use Rattle.std.proofs.Common.{Ok, ap, length, refl}
-use Rattle.finite_map.specs.declared.Call.TheVariants.{Get}
+use Rattle.hot_c.proofs.Common.{Ok, ap, length, refl, Get}
 use Rattle.hot_c.proofs.Statuses.{answered, of_key, replied}
 use Rattle.hot_c.proofs.exports.hot_get.Goals as goal
 

@@ -1,6 +1,5 @@
 -- The look-ups are made on the handle's pass, and what they found stands in the array.
-use Rattle.std.proofs.Common.{◌≡◌, ◌∙◌, length, map, ap, refl, arith}
-use Rattle.std.proofs.lemmas.List.{length-map}
+use Rattle.hot_c.proofs.Common.{◌≡◌, ◌∙◌, length, map, ap, refl, arith, length-map}
 use Rattle.hot_c.specs.Lookups.{are_answered, key_in}
 use Rattle.hot_c.proofs.lookups.Lookups.{first_of, looked_up}
 use Rattle.hot_c.proofs.exports.hot_get_many.Goals as goal

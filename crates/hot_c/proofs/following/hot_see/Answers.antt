@@ -1,7 +1,5 @@
 -- The handle follows the leader's stamp.
-use Rattle.std.proofs.Common.{◌≡◌, ◌⊎◌, List, Option, None, Some, inl, inr, refl, sym, ap, subst, ◌∙◌}
-use Rattle.finite_map.specs.declared.Change.{Change}
-use Rattle.hot_index.specs.Handles.{HandleView, Stays}
+use Rattle.hot_c.proofs.Common.{◌≡◌, ◌⊎◌, List, Option, None, Some, inl, inr, refl, sym, ap, subst, ◌∙◌, Change, HandleView, Stays}
 use Rattle.hot_index.specs.Stamps.{HasCaughtUp}
 use Rattle.hot_c.specs.Following.{IsAsTold, SeesLeader}
 use Rattle.hot_c.specs.declared.opened.Opened.{Opened}

@@ -1,10 +1,6 @@
 -- The passes are those of the index that was made.
-use Rattle.std.proofs.Common.{◌≡◌, IfOk, ap, subst}
-use Rattle.record_words.specs.declared.layout.Layout.{Layout}
+use Rattle.hot_c.proofs.Common.{◌≡◌, IfOk, ap, subst, Layout, IsPassOfLoad, Owns, OpenLoad}
 use Rattle.tries.specs.Content.{pairs}
-use Rattle.hot_index.specs.Loads.{IsPassOfLoad}
-use Rattle.hot_index_calls.specs.Passes.{Owns}
-use Rattle.hot_handles.specs.declared.load.open_load.OpenLoad.{OpenLoad}
 use Rattle.hot_c.specs.Loads.{KeepsLoadedPasses}
 use Rattle.hot_c.proofs.opening.Keepers.{all_of, passes_kept}
 use Rattle.hot_c.proofs.loading.end_load.Goals as goal

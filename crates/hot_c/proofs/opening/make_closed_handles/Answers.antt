@@ -1,10 +1,5 @@
 -- One handle more.
-use Rattle.std.proofs.Common.{◌≡◌, ◌∷◌, [], ◌++◌, ◌∙◌, append_assoc, ap, subst, sym}
-use Rattle.std.specs.Vec.Iter.{into_iter_items}
-use Rattle.std.proofs.lemmas.List.Elements.{All-head, All-rest}
-use Rattle.hot_index.specs.Handles.{HandleView, handle_at}
-use Rattle.hot_index_calls.specs.Passes.{Owns}
-use Rattle.rowex_table.specs.Seats.{TableView}
+use Rattle.hot_c.proofs.Common.{◌≡◌, ◌∷◌, [], ◌++◌, ◌∙◌, append_assoc, ap, subst, sym, into_iter_items, All-head, All-rest, HandleView, handle_at, Owns, TableView}
 use Rattle.hot_c.proofs.opening.make_closed_handles.Goals as goal
 
 pub new-requires : goal.new-requires

@@ -1,9 +1,7 @@
 -- The handles that have been made, with those of the passes that are left, are those of all.
 use Rattle.std.specs.Prelude.{◌≡◌, ◌++◌, map}
 use Rattle.std.specs.List.{All}
-use Rattle.std.specs.Vec.Iter.{into_iter_items}
-use Rattle.hot_index.specs.Handles.{handle_at}
-use Rattle.hot_index_calls.specs.Passes.{Owns}
+use Rattle.hot_c.proofs.Common.{into_iter_items, handle_at, Owns}
 use Rattle.hot_c.proofs.opening.make_closed_handles.Given as goal
 
 abbrev pub invariant-loop-pass : goal.invariant-loop-pass

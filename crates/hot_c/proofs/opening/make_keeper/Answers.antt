@@ -1,8 +1,5 @@
 -- The passes are those of the new index.
-use Rattle.record_words.specs.Layout.{HasStock}
-use Rattle.record_words.specs.declared.layout.Layout.{Layout}
-use Rattle.hot_index.specs.Kept.{kept_stock}
-use Rattle.hot_index_calls.specs.Passes.{IsNewPass, Owns}
+use Rattle.hot_c.proofs.Common.{HasStock, Layout, kept_stock, IsNewPass, Owns}
 use Rattle.hot_c.specs.Calls.{IsKeeper}
 use Rattle.hot_c.proofs.opening.Keepers.{all_of, passes_kept, told_as}
 use Rattle.hot_c.proofs.opening.make_keeper.Goals as goal

@@ -1,6 +1,5 @@
 -- The passes are those of the new index.
-use Rattle.record_words.specs.Layout.{HasStock}
-use Rattle.hot_index.specs.Kept.{kept_stock}
+use Rattle.hot_c.proofs.Common.{HasStock, kept_stock}
 use Rattle.hot_c.proofs.opening.Shares.{are_new}
 use Rattle.hot_c.proofs.opening.make_passes_with_stock.Goals as goal
 

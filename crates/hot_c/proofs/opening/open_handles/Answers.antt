@@ -1,7 +1,5 @@
 -- One handle more is open.
-use Rattle.std.proofs.Common.{◌≡◌, ◌+◌, ◌<◌, ◌∙◌, None, Some, All, ap, sym, subst, length, drop, arith}
-use Rattle.std.proofs.lemmas.List.{drop-set-lt, length-set}
-use Rattle.std.specs.Vec.Iter.{into_iter_items}
+use Rattle.hot_c.proofs.Common.{◌≡◌, ◌+◌, ◌<◌, ◌∙◌, None, Some, All, ap, sym, subst, length, drop, arith, drop-set-lt, length-set, into_iter_items}
 use Rattle.hot_c.specs.declared.handle.IndexHandle.{IndexHandle}
 use Rattle.hot_c.proofs.opening.Places.{alike, all_after, first_after, one_less, same_image}
 use Rattle.hot_c.proofs.opening.open_handles.Goals as goal

@@ -1,11 +1,5 @@
 -- One pass more has a share.
-use Rattle.std.proofs.Common.{◌≡◌, ℕ, suc, ◌∷◌, [], ◌++◌, List, Box, Some, length, ap, sym, subst, arith, length-append}
-use Rattle.std.specs.Global.{Global}
-use Rattle.std.specs.List.{slice_get}
-use Rattle.std.specs.Vec.Iter.{into_iter_items}
-use Rattle.hot_index.specs.Handles.{HandleView}
-use Rattle.hot_index_calls.specs.Passes.{PassView, Owns, IsNewPass}
-use Rattle.rowex_table.specs.Seats.{TableView}
+use Rattle.hot_c.proofs.Common.{◌≡◌, ℕ, suc, ◌∷◌, [], ◌++◌, List, Box, Some, length, ap, sym, subst, arith, length-append, Global, slice_get, into_iter_items, HandleView, PassView, Owns, IsNewPass, TableView}
 use Rattle.hot_c.specs.declared.opened.Opened.{Opened}
 use Rattle.hot_c.proofs.opening.Places.{AreFrom, each_longer, first_of, rest_of}
 use Rattle.hot_c.proofs.opening.share_index.Goals as goal

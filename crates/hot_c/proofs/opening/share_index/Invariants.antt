@@ -1,8 +1,6 @@
 -- The passes that have a share are those of the numbers below, and the others are left.
 use Rattle.std.specs.Prelude.{◌≡◌, [], ℕ, ◌+◌, Box, Some, length, slice_get}
-use Rattle.std.specs.Global.{Global}
-use Rattle.std.specs.Vec.Iter.{into_iter_items, into_iter_len}
-use Rattle.hot_index_calls.specs.Passes.{PassView, Owns, IsNewPass}
+use Rattle.hot_c.proofs.Common.{Global, into_iter_items, into_iter_len, PassView, Owns, IsNewPass}
 use Rattle.hot_c.specs.declared.opened.Opened.{Opened}
 use Rattle.hot_c.proofs.opening.Places.{AreFrom}
 use Rattle.hot_c.proofs.opening.share_index.Given as goal

@@ -1,7 +1,6 @@
 -- The first pairs of the list stand in the two arrays.
-use Rattle.std.proofs.Common.{rules, ◌≡◌, ◌<◌, ◌^◌, ◌||◌, Bool, true, false, length, nat_lt, refl, ap, subst, ◌∙◌, arith}
+use Rattle.hot_c.proofs.Common.{rules, ◌≡◌, ◌<◌, ◌^◌, ◌||◌, Bool, true, false, length, nat_lt, refl, ap, subst, ◌∙◌, arith, fitting, keys_in}
 use Rattle.std.specs.Int.{from_bool}
-use Rattle.packed_pairs.specs.Parts.{fitting, keys_in}
 use Rattle.packed_pairs.proofs.Fits.{few_fit, room_fits}
 use Rattle.hot_c.specs.Orders.{IsFilledIn}
 use Rattle.hot_c.specs.Packs.{IsListedByParts}

@@ -1,7 +1,5 @@
 -- All heads and all bytes are copied.
-use Rattle.std.proofs.Common.{◌≡◌, ℕ, List, ◌++◌, length, drop, refl, ap, ◌∙◌}
-use Rattle.std.proofs.lemmas.List.{length-map}
-use Rattle.packed_pairs.specs.Parts.{packed_head}
+use Rattle.hot_c.proofs.Common.{◌≡◌, ℕ, List, ◌++◌, length, drop, refl, ap, ◌∙◌, length-map, packed_head}
 use Rattle.hot_c.proofs.packs.write_packed_pairs.Goals as goal
 
 laid : {A : Type 0} (new part old goal : List A) (n : ℕ) → new ≡ part → part ≡ goal → length goal ≡ n → new ++ drop (length part) old ≡ goal ++ drop n old

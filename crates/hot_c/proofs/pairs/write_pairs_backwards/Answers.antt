@@ -1,6 +1,5 @@
 -- One pair more is written.
-use Rattle.std.proofs.Common.{ap, get_or, reverse, subst}
-use Rattle.std.proofs.lemmas.List.{length-reverse}
+use Rattle.hot_c.proofs.Common.{ap, get_or, reverse, subst, length-reverse}
 use Rattle.hot_c.proofs.pairs.Pairs.{all_written, is_key, last_first, one_more}
 use Rattle.hot_c.specs.Pairs.{Spells}
 use Rattle.hot_c.proofs.pairs.write_pairs_backwards.Goals as goal

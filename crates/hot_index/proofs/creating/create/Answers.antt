@@ -1,7 +1,5 @@
 -- What is told of the numbers is what was found of them.
-use Rattle.record_words.specs.declared.layout.LayoutFault.{LayoutFault}
-use Rattle.std.proofs.Common.{◌≡◌, ◌∙◌, ap}
-use Rattle.record_words.specs.declared.layout.Layout.{Layout}
+use Rattle.hot_index.proofs.Common.{LayoutFault, ◌≡◌, ◌∙◌, ap, Layout}
 use Rattle.hot_index.specs.Kept.{with_one_kept}
 use Rattle.hot_index.proofs.Passes.{made_kept, told_as_found}
 use Rattle.hot_index.proofs.creating.create.Goals as goal

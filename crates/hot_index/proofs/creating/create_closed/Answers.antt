@@ -1,8 +1,5 @@
 -- What is told of the numbers is what was found of them.
-use Rattle.record_words.specs.declared.layout.LayoutFault.{LayoutFault}
-use Rattle.std.proofs.Common.{◌≡◌, ◌∙◌}
-use Rattle.record_words.specs.Layout.{HasStock}
-use Rattle.record_words.specs.declared.layout.Layout.{Layout}
+use Rattle.hot_index.proofs.Common.{LayoutFault, ◌≡◌, ◌∙◌, HasStock, Layout}
 use Rattle.hot_index.specs.Kept.{kept_stock}
 use Rattle.hot_index.proofs.Passes.{kept_has, made_kept, told_as_found}
 use Rattle.hot_index.proofs.creating.create_closed.Goals as goal

@@ -1,7 +1,5 @@
 -- One pass more.
-use Rattle.std.proofs.Common.{◌≡◌, ◌∷◌, [], ◌++◌, append_assoc, subst}
-use Rattle.std.specs.Vec.Iter.{into_iter_items}
-use Rattle.hot_index_calls.specs.Passes.{pass_of}
+use Rattle.hot_index.proofs.Common.{◌≡◌, ◌∷◌, [], ◌++◌, append_assoc, subst, into_iter_items, pass_of}
 use Rattle.hot_index.specs.Passes.{AreSettled}
 use Rattle.hot_index.proofs.Passes.{none_settled}
 use Rattle.hot_index.proofs.creating.make_closed_passes.Goals as goal

@@ -1,7 +1,6 @@
 -- The passes that have been made, with those of the seats that are left, are those of all. The count is that of the next one.
 use Rattle.std.specs.Prelude.{◌≡◌, ◌++◌, map}
-use Rattle.std.specs.Vec.Iter.{into_iter_items}
-use Rattle.hot_index_calls.specs.Passes.{pass_of}
+use Rattle.hot_index.proofs.Common.{into_iter_items, pass_of}
 use Rattle.hot_index.specs.Passes.{AreSettled}
 use Rattle.hot_index.proofs.creating.make_closed_passes.Given as goal
 

@@ -1,7 +1,5 @@
 -- The passes of the new seats.
-use Rattle.std.proofs.Common.{◌≡◌, ℕ, List, Some, sym, subst}
-use Rattle.std.specs.List.{slice_get}
-use Rattle.hot_index_calls.specs.Passes.{IsNewPass, Owns, PassView}
+use Rattle.hot_index.proofs.Common.{◌≡◌, ℕ, List, Some, sym, subst, slice_get, IsNewPass, Owns, PassView}
 use Rattle.hot_index.proofs.Passes.{new_pass, new_settled, passes_of}
 use Rattle.hot_index.proofs.creating.make_index.Goals as goal
 

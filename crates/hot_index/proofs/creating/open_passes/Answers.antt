@@ -1,7 +1,5 @@
 -- One pass more is open.
-use Rattle.std.proofs.Common.{◌≡◌, ◌∷◌, [], ◌++◌, append_assoc, subst}
-use Rattle.std.specs.Vec.Iter.{into_iter_items}
-use Rattle.hot_index_calls.specs.Passes.{PassView}
+use Rattle.hot_index.proofs.Common.{◌≡◌, ◌∷◌, [], ◌++◌, append_assoc, subst, into_iter_items, PassView}
 use Rattle.hot_index.proofs.creating.open_passes.Goals as goal
 
 pub loop-pass-preserved : goal.loop-pass-preserved

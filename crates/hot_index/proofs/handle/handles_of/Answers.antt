@@ -1,9 +1,6 @@
 -- One handle more.
-use Rattle.std.proofs.Common.{◌≡◌, ◌∷◌, [], ◌++◌, append_assoc, subst}
-use Rattle.std.specs.Vec.Iter.{into_iter_items}
-use Rattle.std.proofs.lemmas.List.Elements.{All-rest}
+use Rattle.hot_index.proofs.Common.{◌≡◌, ◌∷◌, [], ◌++◌, append_assoc, subst, into_iter_items, All-rest, Owns}
 use Rattle.hot_index.specs.Handles.{HandleView, handle_at}
-use Rattle.hot_index_calls.specs.Passes.{Owns}
 use Rattle.hot_index.proofs.handle.handles_of.Goals as goal
 
 pub loop-pass-preserved : goal.loop-pass-preserved

@@ -1,9 +1,8 @@
 -- The handles that have been made, with those of the passes that are left, are those of all.
 use Rattle.std.specs.Prelude.{◌≡◌, ◌++◌, map}
 use Rattle.std.specs.List.{All}
-use Rattle.std.specs.Vec.Iter.{into_iter_items}
+use Rattle.hot_index.proofs.Common.{into_iter_items, Owns}
 use Rattle.hot_index.specs.Handles.{handle_at}
-use Rattle.hot_index_calls.specs.Passes.{Owns}
 use Rattle.hot_index.proofs.handle.handles_of.Given as goal
 
 abbrev pub invariant-loop-pass : goal.invariant-loop-pass

@@ -1,6 +1,5 @@
 -- The total is that of the counts of the passes below.
-use Rattle.std.proofs.Common.{◌<◌, ◌^◌, List}
-use Rattle.finite_map.specs.declared.Change.{Change}
+use Rattle.hot_index.proofs.Common.{◌<◌, ◌^◌, List, Change}
 use Rattle.hot_index.specs.KeyCounts.{AreCounts, IsDifference, puts, takes}
 use Rattle.hot_index.proofs.key_counts.KeyCounts.{of_below}
 use Rattle.hot_index.proofs.key_counts.total.Given as goal

@@ -1,6 +1,5 @@
 -- One record more.
-use Rattle.std.proofs.Common.{rules, arith}
-use Rattle.record_words.specs.declared.records.Rec.TheVariants.{Leaf as a_leaf}
+use Rattle.hot_index_calls.proofs.Common.{rules, arith, a_leaf}
 use Rattle.hot_index_calls.proofs.Counted.{counts_few, counts_more, counts_none, found_tag}
 use Rattle.hot_index_calls.proofs.census.count_leaves.Goals as goal
 

@@ -1,13 +1,9 @@
 -- An attempt is noted as its pass clears the pin, and has settled then.
-use Rattle.rowex_core.specs.declared.event.Act.TheVariants.{ClearPin, LoadEpoch, SetPin}
+use Rattle.hot_index_calls.proofs.Common.{ClearPin, LoadEpoch, SetPin, rules, [], ◌∷◌, ◌≡◌, ◌+◌, ◌∙◌, ap, arith, subst, sym, key_of, nodes_among, Known}
 use Rattle.hot_index_calls.proofs.Rooms.{noted_spare, pin_room, pin_spare, runs_longer, step_longer}
-use Rattle.std.proofs.Common.{rules, [], ◌∷◌, ◌≡◌, ◌+◌, ◌∙◌, ap, arith, subst, sym}
-use Rattle.finite_map.specs.Maps.{key_of}
 use Rattle.hot_index_calls.specs.Asked.{HasLacked}
 use Rattle.hot_index_calls.specs.Lacking.{LeavesUsed}
-use Rattle.rowex_writing.specs.build.Walks.{nodes_among}
 use Rattle.hot_index_calls.proofs.Lacked.{attempt_leaves}
-use Rattle.rowex_core.specs.declared.known.Known.{Known}
 use Rattle.hot_index_calls.specs.Noting.{change_notes}
 use Rattle.hot_index_calls.proofs.changing.Conflicts.{no_change_since_pins}
 use Rattle.hot_index_calls.proofs.Noting.{fits_then}

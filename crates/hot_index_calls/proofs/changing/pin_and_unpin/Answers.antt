@@ -1,8 +1,6 @@
 -- The pass is as it was.
-use Rattle.rowex_table.specs.Runs.{silent}
-use Rattle.rowex_core.specs.declared.event.Act.TheVariants.{ClearPin}
+use Rattle.hot_index_calls.proofs.Common.{silent, ClearPin, ◌∙◌}
 use Rattle.hot_index_calls.proofs.Rooms.{noted_spare, pin_spare}
-use Rattle.std.proofs.Common.{◌∙◌}
 use Rattle.hot_index_calls.proofs.changing.Resting.{rests_ended, rests_failed, rests_fresh, rests_settled, rests_steps, rests_unnoted}
 use Rattle.hot_index_calls.proofs.changing.pin_and_unpin.Goals as goal
 

@@ -1,15 +1,6 @@
 -- The try, and the count after it.
-use Rattle.rowex_writing.specs.declared.attempts.TryFault.TheVariants.{FullNodes}
+use Rattle.hot_index_calls.proofs.Common.{FullNodes, ◌≡◌, ◌≤◌, ◌+◌, ◌∙◌, ℕ, List, Err, length, ap, inl, refl, sym, subst, arith, false≢true, key_of, Layout, Rec, ClearPin, Known, TryFault, nodes_among, MAX_BYTES}
 use Rattle.hot_index_calls.proofs.Rooms.{counts_spare, runs_longer}
-use Rattle.std.proofs.Common.{◌≡◌, ◌≤◌, ◌+◌, ◌∙◌, ℕ, List, Err, length, ap, inl, refl, sym, subst, arith}
-use Rattle.std.proofs.lemmas.Bool.{false≢true}
-use Rattle.finite_map.specs.Maps.{key_of}
-use Rattle.record_words.specs.declared.layout.Layout.{Layout}
-use Rattle.record_words.specs.declared.records.Rec.{Rec}
-use Rattle.rowex_core.specs.declared.event.Act.TheVariants.{ClearPin}
-use Rattle.rowex_core.specs.declared.known.Known.{Known}
-use Rattle.rowex_writing.specs.declared.attempts.TryFault.{TryFault}
-use Rattle.rowex_writing.specs.build.Walks.{nodes_among}
 use Rattle.hot_index_calls.specs.Answers.{fault_of}
 use Rattle.hot_index_calls.specs.Asked.{HasAsked, HasLacked, HasReplied}
 use Rattle.hot_index_calls.specs.Calls.{IsTried}
@@ -20,7 +11,6 @@ use Rattle.hot_index_calls.specs.Rooms.{FindsRoom, IsEarly}
 use Rattle.hot_index_calls.specs.Traces.{AreAttempts, is_full}
 use Rattle.hot_index_calls.proofs.changing.Resting.{lacked_full}
 use Rattle.hot_index_calls.specs.Lacking.{LeavesUsed}
-use Rattle.key_bits.specs.declared.TheConstants.{MAX_BYTES}
 use Rattle.hot_index_calls.proofs.Lacked.{counts_short}
 use Rattle.hot_index_calls.proofs.Passes.Settled.{counts_rest}
 use Rattle.hot_index_calls.proofs.Refusing.{counted_replied, judged_fault, nodes_most, stepped_on, told_after}

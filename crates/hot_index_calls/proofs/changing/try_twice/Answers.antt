@@ -1,18 +1,9 @@
 -- Where the first attempt was refused as full, a round follows; and what the second leaves is what the whole call leaves.
 use Rattle.hot_index_calls.proofs.Rooms.{collecting_room, collecting_still, collects_spare, ended_longer, runs_longer}
-use Rattle.std.proofs.Common.{◌≤◌, ◌∙◌, ◌∷◌, Result, Err, inl, inr, refl, sym, ap, subst, le_trans, arith}
-use Rattle.finite_map.specs.declared.Reply.{Reply}
-use Rattle.finite_map.specs.Maps.{key_of}
-use Rattle.finite_map.proofs.Fronts.{begins_on}
-use Rattle.rowex_core.specs.declared.known.Fresh.{Fresh}
-use Rattle.rowex_core.specs.declared.known.Known.{Known}
-use Rattle.rowex_writing.specs.declared.attempts.TryFault.{TryFault}
+use Rattle.hot_index_calls.proofs.Common.{◌≤◌, ◌∙◌, ◌∷◌, Result, Err, inl, inr, refl, sym, ap, subst, le_trans, arith, Reply, key_of, begins_on, Fresh, Known, TryFault, false≢true, LacksNodes, nodes_among, run_begins_on, runs_begin}
 use Rattle.hot_index_calls.specs.Answers.{fault_of}
 use Rattle.hot_index_calls.specs.Asked.{HasAsked}
 use Rattle.hot_index_calls.specs.Traces.{AreTries, IsOneAttempt, is_full}
-use Rattle.std.proofs.lemmas.Bool.{false≢true}
-use Rattle.rowex_writing.specs.build.Changes.{LacksNodes}
-use Rattle.rowex_writing.specs.build.Walks.{nodes_among}
 use Rattle.hot_index_calls.specs.Passes.{pass_of}
 use Rattle.hot_index_calls.proofs.Passes.Collected.{between, does_idle, none_between}
 use Rattle.hot_index_calls.proofs.changing.Conflicts.{may_take_from_before, no_further}
@@ -22,8 +13,6 @@ use Rattle.hot_index_calls.proofs.changing.Resting.{cause_still, lacked_full, la
 use Rattle.hot_index_calls.proofs.Passes.Settled.{full_unnoted, refused_still}
 use Rattle.hot_index_calls.proofs.Traces.{ended_again}
 use Rattle.hot_index_calls.proofs.Counts.{full_fault, lacks_from_before, once_asked, once_few, outcome_then, round_later, then_collected, twice_few, unnoted_then}
-use Rattle.rowex_table.proofs.Onward.{begins_on as run_begins_on}
-use Rattle.rowex_writing.proofs.Cited.{runs_begin}
 use Rattle.hot_index_calls.proofs.Hindered.{ended_begin}
 use Rattle.hot_index_calls.proofs.changing.try_twice.Goals as goal
 

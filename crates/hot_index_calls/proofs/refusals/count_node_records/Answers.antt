@@ -1,9 +1,5 @@
 -- None yet, one more, and all of them.
-use Rattle.std.proofs.Common.{◌≡◌, ◌∙◌, [], ◌∷◌, length, get_or, ap, arith}
-use Rattle.std.proofs.lemmas.List.{get_or_default, take_all}
-use Rattle.record_words.specs.declared.records.Rec.{Rec}
-use Rattle.record_words.specs.declared.records.Rec.TheVariants.{Node}
-use Rattle.rowex_writing.specs.build.Walks.{nodes_among}
+use Rattle.hot_index_calls.proofs.Common.{◌≡◌, ◌∙◌, [], ◌∷◌, length, get_or, ap, arith, get_or_default, take_all, Rec, Node, nodes_among}
 use Rattle.hot_index_calls.proofs.Refusing.{nodes_few, nodes_taken}
 use Rattle.hot_index_calls.proofs.refusals.count_node_records.Goals as goal
 

@@ -1,8 +1,5 @@
 -- One line more.
-use Rattle.std.proofs.Common.{◌≡◌, ◌++◌, ℕ, List, sym, ◌∙◌, ap, append_assoc}
-use Rattle.std.specs.Prelude.{flat_map}
-use Rattle.std.proofs.lemmas.List.Elements.{All-tail}
-use Rattle.key_bits.specs.Key.{IsKey}
+use Rattle.hot_scripts.proofs.Common.{◌≡◌, ◌++◌, ℕ, List, sym, ◌∙◌, ap, append_assoc, flat_map, All-tail, IsKey}
 use Rattle.hot_scripts.specs.Meaning.{pair_line}
 use Rattle.hot_scripts.proofs.answer.push_scan.Goals as goal
 

@@ -1,7 +1,5 @@
 -- The lines that went to the text, those on the page, and those of the pairs that are left, each of which has a key.
-use Rattle.std.proofs.Common.{◌≡◌, ◌++◌}
-use Rattle.std.specs.Prelude.{All, flat_map}
-use Rattle.key_bits.specs.Key.{IsKey}
+use Rattle.hot_scripts.proofs.Common.{◌≡◌, ◌++◌, All, flat_map, IsKey}
 use Rattle.hot_scripts.specs.Meaning.{pair_line}
 use Rattle.hot_scripts.proofs.answer.push_scan.Given as goal
 

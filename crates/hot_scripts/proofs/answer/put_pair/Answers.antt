@@ -1,8 +1,5 @@
 -- There is room for each part.
-use Rattle.std.proofs.Common.{◌+◌, ◌≤◌, [], ◌∷◌, ℕ, List, arith, length, ap, length-append}
-use Rattle.std.specs.Prelude.{decimal, codes}
-use Rattle.std.proofs.lemmas.Fmt.{length-decimal-le}
-use Rattle.hex.specs.Hex.{lower_digits}
+use Rattle.hot_scripts.proofs.Common.{◌+◌, ◌≤◌, [], ◌∷◌, ℕ, List, arith, length, ap, length-append, decimal, codes, length-decimal-le, lower_digits}
 use Rattle.hex.proofs.HexLemmas.{length-encode_with}
 use Rattle.hot_scripts.specs.Meaning.{key_text}
 use Rattle.hot_scripts.proofs.answer.put_pair.Goals as goal

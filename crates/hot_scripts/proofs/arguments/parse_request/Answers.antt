@@ -1,13 +1,5 @@
 -- Why `parse_request` meets its contract.
-use Rattle.std.proofs.Common.{◌≡◌, ◌∙◌, inl, ℕ, List, [], map, false, refl, ap, ap₂, arith, slice_index}
-use Rattle.std.specs.Prelude.{codes, string_bytes}
-use Rattle.std.specs.Borrow.{Bor}
-use Rattle.std.proofs.lemmas.Result.{err_from_is_err_and}
-use Rattle.std.specs.Str.Parse.{ParsesUnsigned, ExplainsUnsignedError, HasUnsignedDigitsIfOk}
-use Rattle.clap.specs.Matches.{found_of}
-use Rattle.clap.specs.Words.{app_of, new_app, rule_of, with_rule}
-use Rattle.clap.specs.declared.builder.arg.Arg.{Arg}
-use Rattle.clap.specs.declared.builder.command.Command.{Command}
+use Rattle.hot_scripts.proofs.Common.{◌≡◌, ◌∙◌, inl, ℕ, List, [], map, false, refl, ap, ap₂, arith, slice_index, codes, string_bytes, Bor, err_from_is_err_and, ParsesUnsigned, ExplainsUnsignedError, HasUnsignedDigitsIfOk, found_of, app_of, new_app, rule_of, with_rule, Arg, Command}
 use Rattle.record_words.specs.declared.TheConstants.{MAX_LEAVES, MAX_NODES}
 use Rattle.hot_scripts.specs.Options.{IsArgument, command_line, count_rule, names_rule}
 use Rattle.hot_scripts.proofs.arguments.Arguments.{faultless_at, few_named, many_named, names_given, number_given, refused_so, rows_are}

@@ -1,7 +1,5 @@
 -- Four digits at a time, and then up to four.
-use Rattle.std.proofs.Common.{◌≡◌, ℕ, ◌+◌, ◌^◌, ◌<◌, ◌≤◌, ◌/◌, arith, length}
-use Rattle.std.specs.Prelude.{decimal}
-use Rattle.std.proofs.lemmas.Fmt.{length-decimal-le}
+use Rattle.hot_scripts.proofs.Common.{◌≡◌, ℕ, ◌+◌, ◌^◌, ◌<◌, ◌≤◌, ◌/◌, arith, length, decimal, length-decimal-le}
 use Rattle.itoa.proofs.Decimal.{length_four, length_one, length_pair, length_two, length_step_wide}
 use Rattle.hot_scripts.proofs.digits.count_digits.Goals as goal
 

@@ -1,6 +1,5 @@
 -- The digits that are counted, and those that are left.
-use Rattle.std.proofs.Common.{◌≡◌, ◌+◌, length}
-use Rattle.std.specs.Prelude.{decimal}
+use Rattle.hot_scripts.proofs.Common.{◌≡◌, ◌+◌, length, decimal}
 use Rattle.hot_scripts.proofs.digits.count_digits.Given as goal
 
 abbrev pub invariant-loop-left : goal.invariant-loop-left

@@ -1,6 +1,5 @@
 -- One byte more, and all of them.
-use Rattle.std.proofs.Common.{arith, refl}
-use Rattle.hex.specs.Hex.{lower_digits}
+use Rattle.hot_scripts.proofs.Common.{arith, refl, lower_digits}
 use Rattle.hex.proofs.Pairs.{encode_step, encode_done}
 use Rattle.hot_scripts.proofs.digits.write_hex.Goals as goal
 

@@ -1,6 +1,5 @@
 -- The digits of the bytes below the index are written.
-use Rattle.std.proofs.Common.{◌≡◌, ◌*◌, ◌++◌, take, drop}
-use Rattle.hex.specs.Hex.{encode_lower}
+use Rattle.hot_scripts.proofs.Common.{◌≡◌, ◌*◌, ◌++◌, take, drop, encode_lower}
 use Rattle.hot_scripts.proofs.digits.write_hex.Given as goal
 
 abbrev pub invariant-eights : goal.invariant-eights

@@ -1,6 +1,5 @@
 -- Why `read_file_start` meets its contract.
-use Rattle.std.proofs.Common.{◌≡◌, ℕ, List, Option, None, Some, take}
-use Rattle.std.specs.Prelude.{IfSome}
+use Rattle.hot_scripts.proofs.Common.{◌≡◌, ℕ, List, Option, None, Some, take, IfSome}
 use Rattle.std.specs.Option.{option_map}
 use Rattle.hot_scripts.proofs.files.read_file_start.Goals as goal
 

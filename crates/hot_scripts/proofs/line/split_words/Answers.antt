@@ -1,6 +1,5 @@
 -- Why `split_words` meets its contract.
-use Rattle.std.proofs.Common.{◌≡◌, ◌==◌, ◌<◌, ◌∷◌, length, ap, arith, rules}
-use Rattle.std.specs.List.{slice_split}
+use Rattle.hot_scripts.proofs.Common.{◌≡◌, ◌==◌, ◌<◌, ◌∷◌, length, ap, arith, rules, slice_split}
 use Rattle.hot_scripts.specs.Grammar.{line_words}
 use Rattle.hot_scripts.proofs.line.Cuts.{some_part}
 use Rattle.hot_scripts.proofs.line.split_words.Goals as goal

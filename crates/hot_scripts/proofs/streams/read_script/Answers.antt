@@ -1,8 +1,5 @@
 -- Why `read_script` meets its contract.
-use Rattle.std.proofs.Common.{◌≡◌, ◌<◌, ◌≤◌, ℕ, List, [], ◌++◌, Option, None, Some, Result, Ok, length, take, refl, ap, sym, subst, ◌∙◌, append_assoc, append-nil, arith}
-use Rattle.std.proofs.lemmas.Grind.{common_steps}
-use Rattle.std.proofs.lemmas.List.{take-append-le}
-use Rattle.std.specs.Io.KnownBytes.{Consumes, IsAtEnd, Keeps, ReadConsumes}
+use Rattle.hot_scripts.proofs.Common.{◌≡◌, ◌<◌, ◌≤◌, ℕ, List, [], ◌++◌, Option, None, Some, Result, Ok, length, take, refl, ap, sym, subst, ◌∙◌, append_assoc, append-nil, arith, common_steps, take-append-le, Consumes, IsAtEnd, Keeps, ReadConsumes}
 use Rattle.hot_scripts.proofs.streams.read_script.Goals.{in-Ok+in_ok-extend_from_slice-in-Ok, in-Err}
 use Rattle.hot_scripts.proofs.streams.read_script.Goals as goal
 

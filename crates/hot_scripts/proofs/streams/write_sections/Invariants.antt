@@ -1,7 +1,5 @@
 -- What stays true in the loop of `write_sections`.
-use Rattle.std.proofs.Common.{take}
-use Rattle.std.specs.Prelude.{flat_map}
-use Rattle.std.specs.Io.KnownBytes.{Appends}
+use Rattle.hot_scripts.proofs.Common.{take, flat_map, Appends}
 use Rattle.hot_scripts.proofs.streams.write_sections.Given as goal
 
 abbrev pub invariant-loop-text : goal.invariant-loop-text

@@ -1,6 +1,5 @@
 -- The choice by steps is the choice of the affected node.
-use Rattle.std.proofs.Common.{◌+◌, get_or}
-use Rattle.std.proofs.lemmas.Option.{slice_get-get_or}
+use Rattle.insert_cases.proofs.Common.{◌+◌, get_or, slice_get-get_or}
 use Rattle.insert_cases.specs.declared.choice.PathNode.{PathNode}
 use Rattle.insert_cases.proofs.Ways.{chosen, chosen_several, chosen_next, chosen_leaf}
 use Rattle.insert_cases.proofs.choice.choose_case.Goals as goal

@@ -1,6 +1,5 @@
 -- What stays true in the loop of `last_level_before`.
-use Rattle.std.proofs.Common.{◌≡◌, ℕ, ◌<◌, ◌≤◌, Some, length}
-use Rattle.std.specs.Prelude.{slice_get}
+use Rattle.insert_cases.proofs.Common.{◌≡◌, ℕ, ◌<◌, ◌≤◌, Some, length, slice_get}
 use Rattle.insert_cases.specs.declared.choice.PathNode.{PathNode}
 use Rattle.insert_cases.proofs.choice.last_level_before.Given as goal
 

@@ -1,6 +1,5 @@
 -- What stays true in the loop of `pull_up_chain_end`.
-use Rattle.std.proofs.Common.{◌≡◌, ℕ, ◌+◌, ◌<◌, ◌≤◌, Some}
-use Rattle.std.specs.Prelude.{slice_get}
+use Rattle.insert_cases.proofs.Common.{◌≡◌, ℕ, ◌+◌, ◌<◌, ◌≤◌, Some, slice_get}
 use Rattle.insert_cases.specs.declared.choice.PathNode.{PathNode}
 use Rattle.insert_cases.proofs.choice.pull_up_chain_end.Given as goal
 

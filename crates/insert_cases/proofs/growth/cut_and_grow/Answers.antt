@@ -1,11 +1,6 @@
 -- The affected entries of a cut node are in one half.
-use Rattle.std.proofs.Common.{arith, ap}
-use Rattle.node_tries.specs.Piece.{size}
-use Rattle.node_tries.proofs.Piece.{size_pos}
-use Rattle.compound_node.specs.Nodes.{piece}
+use Rattle.insert_cases.proofs.Common.{arith, ap, size, size_pos, piece, affected_one, affected_rises, size-piece}
 use Rattle.insert_cases.specs.Grown.{half_piece}
-use Rattle.node_tries.proofs.Grafts.{affected_one, affected_rises}
-use Rattle.tries.proofs.Tree.Building.{size-piece}
 use Rattle.insert_cases.proofs.NodeFacts.{cut_is}
 use Rattle.insert_cases.proofs.growth.cut_and_grow.Goals as goal
 

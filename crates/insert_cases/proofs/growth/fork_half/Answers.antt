@@ -1,6 +1,5 @@
 -- Why `fork_half` meets its contract.
-use Rattle.std.proofs.Common.{arith}
-use Rattle.tries.proofs.Tree.Building.{size-piece}
+use Rattle.insert_cases.proofs.Common.{arith, size-piece}
 use Rattle.insert_cases.proofs.growth.fork_half.Goals as goal
 
 pub put_fork-requires-clause-room : goal.put_fork-requires-clause-room

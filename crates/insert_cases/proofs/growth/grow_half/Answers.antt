@@ -1,6 +1,5 @@
 -- Why `grow_half` meets its contract.
-use Rattle.std.proofs.Common.{arith}
-use Rattle.tries.proofs.Tree.Building.{size-piece}
+use Rattle.insert_cases.proofs.Common.{arith, size-piece}
 use Rattle.insert_cases.proofs.growth.grow_half.Goals as goal
 
 pub add_entry-requires-clause-room : goal.add_entry-requires-clause-room

@@ -1,6 +1,5 @@
 -- Why `half_count` meets its contract.
-use Rattle.std.proofs.Common.{sym, ◌∙◌}
-use Rattle.tries.proofs.Tree.Building.{size-piece}
+use Rattle.insert_cases.proofs.Common.{sym, ◌∙◌, size-piece}
 use Rattle.insert_cases.proofs.growth.half_count.Goals as goal
 
 pub returns-in-Many : goal.returns-in-Many

@@ -1,10 +1,6 @@
 -- The fork stands in the half that has the entry.
-use Rattle.std.proofs.Common.{arith, ap, false, ◌||◌}
-use Rattle.node_tries.specs.Piece.{size}
-use Rattle.node_tries.proofs.Piece.{size_pos}
-use Rattle.compound_node.specs.Nodes.{piece}
+use Rattle.insert_cases.proofs.Common.{arith, ap, false, ◌||◌, size, size_pos, piece, size-piece}
 use Rattle.insert_cases.specs.Grown.{half_piece}
-use Rattle.tries.proofs.Tree.Building.{size-piece}
 use Rattle.insert_cases.proofs.NodeFacts.{cut_is, half_anew}
 use Rattle.insert_cases.proofs.growth.pull_up_full.Goals as goal
 

@@ -1,14 +1,5 @@
 -- A leaf in the entry's place, the higher entry beside it, and the lower one in the leaf's place.
-use Rattle.std.proofs.Common.{◌≡◌, ℕ, ◌+◌, ◌<◌, ◌≤◌, ap, sym, ◌∙◌, arith, length, true, false, Bool}
-use Rattle.compound_node.specs.Nodes.{NodeView, piece, IsLawfulNode, IsBuiltFrom, height_of, greatest_height}
-use Rattle.compound_node.specs.declared.entries.Entry.{Entry}
-use Rattle.compound_node.specs.declared.entries.Entry.TheVariants.{Leaf}
-use Rattle.node_tries.specs.Changes.{replaced}
-use Rattle.node_tries.specs.Growth.{forked, grown, IsAffected}
-use Rattle.node_tries.specs.Piece.{Place, size, places}
-use Rattle.node_tries.specs.Grafts.{grafted, IsAbovePath}
-use Rattle.node_tries.proofs.Grafts.{old_at, size-replaced, size-grown, affected_alone, replaced-grown}
-use Rattle.tries.proofs.Tree.Building.{size-piece}
+use Rattle.insert_cases.proofs.Common.{◌≡◌, ℕ, ◌+◌, ◌<◌, ◌≤◌, ap, sym, ◌∙◌, arith, length, true, false, Bool, NodeView, piece, IsLawfulNode, IsBuiltFrom, height_of, greatest_height, Entry, Leaf, replaced, forked, grown, IsAffected, Place, size, places, grafted, IsAbovePath, old_at, size-replaced, size-grown, affected_alone, replaced-grown, size-piece}
 use Rattle.insert_cases.proofs.NodeFacts.{height_positive, greatest-grown, greatest-grafted}
 use Rattle.insert_cases.proofs.growth.put_fork.Goals as goal
 

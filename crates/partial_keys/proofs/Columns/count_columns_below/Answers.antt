@@ -1,6 +1,5 @@
 -- The unused lanes reach each position.
-use Rattle.std.proofs.Common.{ap, arith, ◌++◌, ◌∙◌, ◌∷◌, ◌≡◌, []}
-use Rattle.node_tries.specs.Positions.{front_below}
+use Rattle.partial_keys.proofs.Common.{ap, arith, ◌++◌, ◌∙◌, ◌∷◌, ◌≡◌, [], front_below}
 use Rattle.partial_keys.proofs.Reaching.{front_below-columns, front_below-le}
 use Rattle.partial_keys.proofs.Windows.{column_lanes}
 use Rattle.partial_keys.proofs.Columns.count_columns_below.Goals as goal

@@ -1,8 +1,7 @@
 -- Why `drop_unused` meets its contract.
-use Rattle.std.proofs.Common.{List, length, subst, sym, take, ℕ, ◌<◌}
+use Rattle.partial_keys.proofs.Common.{List, length, subst, sym, take, ℕ, ◌<◌, kept}
 use Rattle.partial_keys.proofs.Keeping.{IsColumns-kept, holds_front}
 use Rattle.partial_keys.specs.Squeezed.{used_bits}
-use Rattle.node_tries.specs.Kept.{kept}
 use Rattle.partial_keys.proofs.Columns.drop_unused.Goals as goal
 
 pub invariant_of-self : goal.invariant_of-self

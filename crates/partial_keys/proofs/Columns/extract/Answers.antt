@@ -1,6 +1,5 @@
 -- The columns stand at the first lanes.
-use Rattle.std.proofs.Common.{ap, subst, sym, take, ◌∙◌}
-use Rattle.key_bits.specs.Bits.{bit_of}
+use Rattle.partial_keys.proofs.Common.{ap, subst, sym, take, ◌∙◌, bit_of}
 use Rattle.partial_keys.specs.Columns.{AreColumnLanes}
 use Rattle.partial_keys.specs.Rows.{dense_of}
 use Rattle.partial_keys.proofs.Windows.{column_lanes}

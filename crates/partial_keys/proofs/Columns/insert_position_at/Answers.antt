@@ -1,10 +1,7 @@
 -- The column stands at its place, and the places behind are unused.
-use Rattle.std.proofs.Common.{ap, arith, false, length, subst, sym, take, ◌<◌, ◌++◌, ◌+◌, ◌∙◌, ◌≡◌, drop, List, ℕ}
-use Rattle.std.specs.List.{insert}
+use Rattle.partial_keys.proofs.Common.{ap, arith, false, length, subst, sym, take, ◌<◌, ◌++◌, ◌+◌, ◌∙◌, ◌≡◌, drop, List, ℕ, insert, IsPlaceOf, front_below-place, front_below, has, with_position}
 use Rattle.partial_keys.proofs.Keeping.{put_holds, put_shown}
 use Rattle.partial_keys.specs.Columns.{HoldsColumns}
-use Rattle.node_tries.proofs.Positions.{IsPlaceOf, front_below-place}
-use Rattle.node_tries.specs.Positions.{front_below, has, with_position}
 use Rattle.partial_keys.proofs.Columns.insert_position_at.Goals as goal
 use Rattle.partial_keys.proofs.Columns.insert_position_at.Goals.{After-self-1}
 

@@ -1,9 +1,5 @@
 -- One look answers whether the position is a column.
-use Rattle.std.proofs.Common.{List, ap, arith, eqb, get_or, length, subst, sym, ℕ, ◌<◌, ◌≤◌, ◌∙◌, ◌≡◌}
-use Rattle.std.proofs.lemmas.Bool.{le-ltb}
-use Rattle.std.proofs.lemmas.List.{get_or-take}
-use Rattle.node_tries.specs.Positions.{front_below}
-use Rattle.node_tries.proofs.Positions.{has-found, has-past}
+use Rattle.partial_keys.proofs.Common.{List, ap, arith, eqb, get_or, length, subst, sym, ℕ, ◌<◌, ◌≤◌, ◌∙◌, ◌≡◌, le-ltb, get_or-take, front_below, has-found, has-past}
 use Rattle.partial_keys.specs.Columns.{IsColumns}
 use Rattle.partial_keys.proofs.Columns.is_column_at.Goals as goal
 

@@ -1,6 +1,5 @@
 -- Each lane's difference stops at 0.
-use Rattle.std.proofs.Common.{◌-◌, ◌∙◌, ap, arith, get_or, replicate, sym}
-use Rattle.std.proofs.lemmas.List.{get_or-replicate, length-replicate}
+use Rattle.partial_keys.proofs.Common.{◌-◌, ◌∙◌, ap, arith, get_or, replicate, sym, get_or-replicate, length-replicate}
 use Rattle.partial_keys.proofs.gathering.Sliding.{over_at, over_long, same_fit}
 use Rattle.partial_keys.proofs.gathering.distances_below.Goals as goal
 

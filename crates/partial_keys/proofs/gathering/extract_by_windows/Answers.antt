@@ -1,9 +1,5 @@
 -- No bit is told, sixteen bytes more, and all of the key.
-use Rattle.std.proofs.Common.{ℕ, List, ◌≡◌, ◌∙◌, ◌+◌, ◌-◌, ◌*◌, ◌/◌, ◌≤◌, ◌&&◌, ◌||◌, ap, ap₂, arith, eqb, get_or, length, sym, take}
-use Rattle.std.specs.Prelude.{nat_lt}
-use Rattle.std.proofs.lemmas.List.{get_or-replicate, length-replicate}
-use Rattle.key_bits.specs.Bits.{bit_of}
-use Rattle.key_bits.specs.Gather.{gathered}
+use Rattle.partial_keys.proofs.Common.{ℕ, List, ◌≡◌, ◌∙◌, ◌+◌, ◌-◌, ◌*◌, ◌/◌, ◌≤◌, ◌&&◌, ◌||◌, ap, ap₂, arith, eqb, get_or, length, sym, take, nat_lt, get_or-replicate, length-replicate, bit_of, gathered}
 use Rattle.partial_keys.proofs.gathering.Sliding.{all_before, least_long, least_zero, next_within, none_before}
 use Rattle.partial_keys.proofs.Windows.{free_bit, gathered_used, lanes_tell}
 use Rattle.partial_keys.proofs.gathering.extract_by_windows.Goals as goal

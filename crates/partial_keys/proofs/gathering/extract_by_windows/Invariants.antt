@@ -1,7 +1,5 @@
 -- The bits in the bytes so far are told, from the first column's on.
-use Rattle.std.proofs.Common.{ℕ, ◌≡◌, ◌+◌, ◌*◌, ◌/◌, ◌<◌, ◌&&◌, eqb, get_or, length}
-use Rattle.std.specs.Prelude.{nat_lt}
-use Rattle.key_bits.specs.Bits.{bit_of}
+use Rattle.partial_keys.proofs.Common.{ℕ, ◌≡◌, ◌+◌, ◌*◌, ◌/◌, ◌<◌, ◌&&◌, eqb, get_or, length, nat_lt, bit_of}
 use Rattle.partial_keys.proofs.gathering.extract_by_windows.Given as goal
 
 abbrev pub invariant-loop-part : goal.invariant-loop-part

@@ -1,12 +1,7 @@
 -- Each lane tells its bit of the key, and those that are unused tell none.
-use Rattle.std.proofs.Common.{eqb, ◌≡◌, ◌/◌, ◌∙◌, ◌-◌, ◌<◌, ℕ, List, ap, arith, get_or, length, refl, sym, take, ⊎_elim, subst, ◌≤◌, ◌+◌, ◌⊎◌}
-use Rattle.key_bits.specs.Bits.{bit_of}
-use Rattle.key_bits.specs.Gather.{gathered}
+use Rattle.partial_keys.proofs.Common.{eqb, ◌≡◌, ◌/◌, ◌∙◌, ◌-◌, ◌<◌, ℕ, List, ap, arith, get_or, length, refl, sym, take, ⊎_elim, subst, ◌≤◌, ◌+◌, ◌⊎◌, bit_of, gathered, cases_lt, get_or-map, get_or_past, All-get_or}
 use Rattle.partial_keys.specs.Windows.{byte_lane, mask_lane, missed_lane}
 use Rattle.partial_keys.proofs.Windows.{free_bit, gathered_used, lane_tells, lanes_tell, within}
-use Rattle.std.proofs.lemmas.Bool.{cases_lt}
-use Rattle.std.proofs.lemmas.List.{get_or-map, get_or_past}
-use Rattle.std.proofs.lemmas.List.Elements.{All-get_or}
 use Rattle.partial_keys.proofs.gathering.extract_dense_key_by_lanes.Goals as goal
 
 pub returns-then-window_has_all_bits : goal.returns-then-window_has_all_bits

@@ -1,10 +1,6 @@
 -- Each lane tells its bit, if that is within the sixteen.
-use Rattle.std.proofs.Common.{eqb, ◌≡◌, ◌∙◌, ◌-◌, ◌+◌, ◌<◌, ◌≤◌, ℕ, List, ap, ap₂, arith, bit_or, get_or, length, min, ⊎_elim, sym}
-use Rattle.std.proofs.lemmas.Bool.{cases_lt}
-use Rattle.std.proofs.lemmas.List.{get_or-map, get_or_past}
-use Rattle.std.proofs.lemmas.List.Elements.{All-get_or}
-use Rattle.std.proofs.lemmas.Simd.{get_or-zip2, length-zip2}
-use Rattle.std.proofs.Math.Nat.{min-le_left, min-le_right}
+use Rattle.partial_keys.proofs.Common.{eqb, ◌≡◌, ◌∙◌, ◌-◌, ◌+◌, ◌<◌, ◌≤◌, ℕ, List, ap, ap₂, arith, bit_or, get_or, length, ⊎_elim, sym, cases_lt, get_or-map, get_or_past, All-get_or, get_or-zip2, length-zip2, min-le_left, min-le_right}
+use Rattle.std.proofs.Common.{min}
 use Rattle.partial_keys.specs.Windows.{bit_within, byte_lane, mask_lane, missed_lane}
 use Rattle.partial_keys.proofs.gathering.Sliding.{lane_within}
 use Rattle.partial_keys.proofs.gathering.find_missing_bits_from.Goals as goal

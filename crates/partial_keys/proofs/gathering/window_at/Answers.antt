@@ -1,7 +1,5 @@
 -- The window begins at its first byte.
-use Rattle.std.proofs.Common.{◌+◌, ◌-◌, ◌%◌, ap, get_or, take, drop, ◌∙◌, arith}
-use Rattle.std.proofs.lemmas.List.{get_or-drop, get_or-take}
-use Rattle.std.proofs.lemmas.Simd.{get_or-chunk}
+use Rattle.partial_keys.proofs.Common.{◌+◌, ◌-◌, ◌%◌, ap, get_or, take, drop, ◌∙◌, arith, get_or-drop, get_or-take, get_or-chunk}
 use Rattle.partial_keys.proofs.gathering.window_at.Goals as goal
 
 pub returns : goal.returns

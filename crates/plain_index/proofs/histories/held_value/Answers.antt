@@ -1,6 +1,5 @@
 -- The change is of the key, or of another.
-use Rattle.std.proofs.Common.{◌∙◌, refl, ⊎_elim}
-use Rattle.finite_map.specs.declared.Kind.TheVariants.{Added, Replaced, Removed}
+use Rattle.plain_index.proofs.Common.{◌∙◌, refl, ⊎_elim, Added, Replaced, Removed}
 use Rattle.plain_index.proofs.histories.Histories.{value_after_same, value_after_other}
 use Rattle.plain_index.proofs.histories.held_value.Goals as goal
 use Rattle.plain_index.proofs.histories.held_value.Goals.{then-eq+in-Added, then-eq+in-Removed, else-eq}

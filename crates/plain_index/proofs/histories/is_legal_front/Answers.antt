@@ -1,6 +1,5 @@
 -- The change at `i` fits the map of those before it, or the front is not legal.
-use Rattle.std.proofs.Common.{true, sym, subst, ◌≡◌}
-use Rattle.finite_map.specs.Fronts.{FitsKind}
+use Rattle.plain_index.proofs.Common.{true, sym, subst, ◌≡◌, FitsKind}
 use Rattle.plain_index.proofs.histories.Histories.{legal_take_more, legal_front-fits}
 use Rattle.plain_index.proofs.histories.is_legal_front.Goals as goal
 

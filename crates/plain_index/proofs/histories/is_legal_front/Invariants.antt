@@ -1,6 +1,5 @@
 -- The changes so far are legal.
-use Rattle.std.proofs.Common.{take}
-use Rattle.finite_map.specs.Fronts.{LegalFront}
+use Rattle.plain_index.proofs.Common.{take, LegalFront}
 use Rattle.plain_index.proofs.histories.is_legal_front.Given as goal
 
 abbrev pub invariant-loop-i : goal.invariant-loop-i

@@ -1,7 +1,5 @@
 -- The front has no such place, and so no change there.
-use Rattle.std.proofs.Common.{sym, arith}
-use Rattle.std.proofs.lemmas.Option.{slice_get_within}
-use Rattle.finite_map.proofs.Calls.{change_of-change}
+use Rattle.plain_index.proofs.Common.{sym, arith, slice_get_within, change_of-change}
 use Rattle.plain_index.proofs.histories.names_change.Goals as goal
 
 pub returns-in-None : goal.returns-in-None

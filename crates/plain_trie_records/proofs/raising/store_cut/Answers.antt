@@ -1,6 +1,5 @@
 -- The second half gets a new record, the first one the old one's.
-use Rattle.std.proofs.Common.{◌≡◌, refl, arith, length}
-use Rattle.std.specs.Vec.{vec_len}
+use Rattle.plain_trie_records.proofs.Common.{◌≡◌, refl, arith, length, vec_len}
 use Rattle.plain_trie_records.specs.Risen.{pushed_nodes}
 use Rattle.plain_trie_records.proofs.Heights.{heights_double}
 use Rattle.plain_trie_records.proofs.Risen.{double_shows, double_side, single_side, others_kept, others_pushed}

@@ -1,7 +1,6 @@
 -- A whole node takes the old one's record.
-use Rattle.std.proofs.Common.{arith}
+use Rattle.plain_trie_records.proofs.Common.{arith, IsBuiltFrom}
 use Rattle.plain_trie_records.proofs.Heights.{heights_whole}
-use Rattle.compound_node.specs.Nodes.{IsBuiltFrom}
 use Rattle.plain_trie_records.proofs.Risen.{set_other, set_same}
 use Rattle.plain_trie_records.proofs.raising.store_grown.Goals as goal
 

@@ -1,25 +1,6 @@
 -- The search goes down to the affected node, and the new leaf rises from there.
-use Rattle.std.proofs.Common.{◌≡◌, ◌⊎◌, inl, inr, ℕ, ◌+◌, ◌<◌, ◌≤◌, Bool, true, false, List, length, refl, suc, ap, sym, ◌∙◌, subst, arith}
-use Rattle.std.specs.Prelude.{◌↔◌, IsTrue, slice_get, Some}
-use Rattle.std.proofs.lemmas.Bool.{cases_lt, false≢true}
-use Rattle.node_tries.specs.Changes.{AtRootFork}
-use Rattle.node_tries.specs.Growth.{affected_first, affected_count, grown, IsAffected}
-use Rattle.node_tries.specs.Piece.{Place, Fork, size}
-use Rattle.node_tries.proofs.Grafts.{size-grown}
-use Rattle.compound_node.specs.Nodes.{NodeView, piece, height_of, IsLawfulNode}
-use Rattle.compound_node.specs.declared.entries.Entry.{Entry}
-use Rattle.compound_node.specs.declared.entries.Entry.TheVariants.{Leaf, Node}
-use Rattle.insert_cases.specs.Grown.{GrownShows, is_whole, keeps_node}
-use Rattle.insert_cases.specs.Risen.{subtrie_of}
-use Rattle.insert_cases.specs.declared.growth.Grown.{Grown}
-use Rattle.insert_cases.specs.declared.raising.Risen.{Risen}
-use Rattle.tries.specs.Affected.{subtrie_forked}
-use Rattle.tries.specs.Content.{Item, item}
-use Rattle.tries.specs.Keys.{bit}
-use Rattle.tries.specs.Place.{spot}
-use Rattle.tries.specs.Search.{child, seek}
-use Rattle.tries.specs.Tree.{Tree, Fixed, node, subtrie}
-use Rattle.tries.proofs.Tree.Building.{size-piece}
+use Rattle.plain_trie_records.proofs.Common.{◌≡◌, ◌⊎◌, inl, inr, ℕ, ◌+◌, ◌<◌, ◌≤◌, Bool, true, false, List, length, refl, suc, ap, sym, ◌∙◌, subst, arith, ◌↔◌, IsTrue, slice_get, cases_lt, false≢true, AtRootFork, affected_first, affected_count, grown, IsAffected, Place, Fork, size, size-grown, NodeView, piece, height_of, IsLawfulNode, Entry, Leaf, Node, GrownShows, is_whole, keeps_node, subtrie_of, Grown, Risen, subtrie_forked, Item, item, bit, spot, child, seek, Tree, Fixed, node, subtrie, size-piece}
+use Rattle.std.specs.Prelude.{Some}
 use Rattle.plain_trie_records.specs.declared.leaf.LeafRecord.{LeafRecord}
 use Rattle.plain_trie_records.specs.Rising.{IsAddable, IsLifting, IsRaised, level, records}
 use Rattle.plain_trie_records.specs.Cases.{AddsByCase, IsLevelDone, IsPutBetween, is_split}

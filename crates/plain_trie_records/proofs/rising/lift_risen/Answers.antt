@@ -1,16 +1,5 @@
 -- What rose is put in the child's place.
-use Rattle.std.proofs.Common.{◌≡◌, ◌≢◌, inr, suc, ◌+◌, ◌<◌, List, refl, ap, ◌∙◌, sym, subst, arith, Some}
-use Rattle.std.specs.Prelude.{slice_get, slice_set}
-use Rattle.std.proofs.lemmas.Bool.{false≢true}
-use Rattle.std.proofs.lemmas.Option.{slice_get_within}
-use Rattle.node_tries.specs.Grafts.{grafted, IsAbovePath}
-use Rattle.node_tries.specs.Piece.{Place, Fork, size}
-use Rattle.compound_node.specs.Nodes.{NodeView, piece, IsBuiltFrom, IsLawfulNode}
-use Rattle.insert_cases.specs.Grown.{GrownShows, is_whole}
-use Rattle.insert_cases.specs.Risen.{subtrie_of}
-use Rattle.insert_cases.specs.declared.raising.Risen.TheVariants.{Whole}
-use Rattle.insert_cases.proofs.Ways.{some_injective}
-use Rattle.tries.proofs.Tree.Building.{size-piece}
+use Rattle.plain_trie_records.proofs.Common.{◌≡◌, ◌≢◌, inr, suc, ◌+◌, ◌<◌, List, refl, ap, ◌∙◌, sym, subst, arith, Some, slice_get, slice_set, false≢true, slice_get_within, grafted, IsAbovePath, Place, Fork, size, NodeView, piece, IsBuiltFrom, IsLawfulNode, GrownShows, is_whole, subtrie_of, Whole, some_injective, size-piece}
 use Rattle.plain_trie_records.proofs.Cases.{takes_fork}
 use Rattle.plain_trie_records.proofs.rising.Rising.{old_at, old_high, at_within, above_path, pair_here, stands_here, lift, between}
 use Rattle.plain_trie_records.proofs.Heights.{heights_new, heights_over}

@@ -1,12 +1,7 @@
 -- An entry stands for itself, and a fork for a node.
-use Rattle.std.proofs.Common.{◌≡◌, suc, true, ap, sym, ◌∙◌, arith, subst}
-use Rattle.std.proofs.lemmas.Bool.{false≢true}
-use Rattle.std.specs.Vec.{vec_len}
-use Rattle.insert_cases.specs.declared.raising.Risen.{Risen}
+use Rattle.plain_trie_records.proofs.Common.{◌≡◌, suc, true, ap, sym, ◌∙◌, arith, subst, false≢true, vec_len, Risen, subtrie_of, pair_facts}
 use Rattle.plain_trie_records.specs.Cases.{IsNewNode, is_split}
 use Rattle.plain_trie_records.specs.Rising.{IsRaised}
-use Rattle.insert_cases.specs.Risen.{subtrie_of}
-use Rattle.insert_cases.proofs.Pairs.{pair_facts}
 use Rattle.plain_trie_records.proofs.rising.Rising.{raised_in_new_node}
 use Rattle.plain_trie_records.proofs.Store.{lower_more}
 use Rattle.plain_trie_records.proofs.rising.make_root.Goals as goal

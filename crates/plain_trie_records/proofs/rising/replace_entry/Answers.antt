@@ -1,13 +1,8 @@
 -- The node that is named gets the entry.
-use Rattle.std.proofs.Common.{◌≡◌, inl, inr, ap, sym, ◌∙◌, arith}
-use Rattle.std.specs.Prelude.{slice_get, slice_set, Some}
-use Rattle.std.proofs.lemmas.Option.{slice_get_within}
-use Rattle.node_tries.specs.Changes.{replaced}
-use Rattle.node_tries.specs.Piece.{size}
-use Rattle.compound_node.specs.Nodes.{NodeView, piece}
+use Rattle.plain_trie_records.proofs.Common.{◌≡◌, inl, inr, ap, sym, ◌∙◌, arith, slice_get, slice_set, slice_get_within, replaced, size, NodeView, piece, size-piece}
+use Rattle.std.specs.Prelude.{Some}
 use Rattle.plain_trie_records.proofs.rising.Rising.{replaced_named}
 use Rattle.plain_trie_records.proofs.Heights.{heights_set}
-use Rattle.tries.proofs.Tree.Building.{size-piece}
 use Rattle.plain_trie_records.proofs.Store.Searching.{read_at}
 use Rattle.plain_trie_records.proofs.Risen.{set_same, set_other}
 use Rattle.plain_trie_records.proofs.rising.replace_entry.Goals as goal

@@ -1,16 +1,6 @@
 -- The pairs below a node are those at its places, one place after the other.
-use Rattle.std.proofs.Common.{◌≡◌, ◌≢◌, ◌∙◌, ℕ, ◌+◌, ◌<◌, List, [], ◌∷◌, ◌++◌, take, drop, get_or, ap, sym, subst, arith, length, append_assoc, MatchResult}
-use Rattle.std.proofs.lemmas.List.{append-nil, take_all, take-append-drop}
-use Rattle.std.proofs.lemmas.Option.{slice_get_within}
+use Rattle.plain_trie_records.proofs.Common.{◌≡◌, ◌≢◌, ◌∙◌, ℕ, ◌+◌, ◌<◌, List, [], ◌∷◌, ◌++◌, take, drop, get_or, ap, sym, subst, arith, length, append_assoc, MatchResult, append-nil, take_all, take-append-drop, slice_get_within, Map, IsScanOf, range_of, Place, height_of, Entry, Leaf, Node, items, pairs, Tree, subtrie}
 use Rattle.std.proofs.lemmas.Result.{err_from_is_err_and}
-use Rattle.finite_map.specs.Maps.{Map}
-use Rattle.finite_map.specs.Scans.{IsScanOf, range_of}
-use Rattle.node_tries.specs.Piece.{Place}
-use Rattle.compound_node.specs.Nodes.{height_of}
-use Rattle.compound_node.specs.declared.entries.Entry.{Entry}
-use Rattle.compound_node.specs.declared.entries.Entry.TheVariants.{Leaf, Node}
-use Rattle.tries.specs.Content.{items, pairs}
-use Rattle.tries.specs.Tree.{Tree, subtrie}
 use Rattle.plain_trie_records.specs.Store.{ShowsSound}
 use Rattle.plain_trie_records.proofs.scanning.Parts.{items_of_all, leaves-append, leaves_more}
 use Rattle.plain_trie_records.proofs.scanning.Scanning.{pairs-append, some_more}

@@ -1,11 +1,5 @@
 -- The scan goes on to the pairs at the places so far; heights fall on the way down.
-use Rattle.std.proofs.Common.{◌≡◌, ◌++◌, take}
-use Rattle.finite_map.specs.Maps.{Map}
-use Rattle.finite_map.specs.Scans.{IsScanOf}
-use Rattle.node_tries.specs.Piece.{Place}
-use Rattle.compound_node.specs.Nodes.{height_of}
-use Rattle.tries.specs.Content.{pairs}
-use Rattle.tries.specs.Tree.{Tree, subtrie}
+use Rattle.plain_trie_records.proofs.Common.{◌≡◌, ◌++◌, take, Map, IsScanOf, Place, height_of, pairs, Tree, subtrie}
 use Rattle.plain_trie_records.specs.Store.{ShowsSound}
 use Rattle.plain_trie_records.proofs.scanning.Parts.{items_of_all}
 use Rattle.plain_trie_records.proofs.scanning.Standing.{below}

@@ -1,5 +1,4 @@
-use Rattle.std.proofs.Common.{subst}
-use Rattle.versions.specs.Trades.{IsOneOf}
+use Rattle.publish_laws.proofs.Common.{subst, IsOneOf}
 use Rattle.publish_laws.proofs.Lone.{runs_free}
 use Rattle.publish_laws.proofs.laws.free_stays.Goals as goal
 

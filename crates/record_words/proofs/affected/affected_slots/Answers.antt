@@ -1,14 +1,6 @@
 -- The rows that agree with one in the columns below a position stand side by side: they are counted from both sides.
-use Rattle.std.proofs.Common.{◌≡◌, ◌∙◌, ◌+◌, ◌-◌, ◌*◌, ◌/◌, ◌^◌, ◌<◌, ◌≤◌, ℕ, ap, ap₂, arith, bit_and, bit_or, count_by, get_or, length, min, nat_lt}
-use Rattle.std.proofs.lemmas.List.{get_or_default}
-use Rattle.std.proofs.lemmas.Nat.{and_mask, pow_pos, shr_split}
+use Rattle.record_words.proofs.Common.{◌≡◌, ◌∙◌, ◌+◌, ◌-◌, ◌*◌, ◌/◌, ◌^◌, ◌<◌, ◌≤◌, ℕ, ap, ap₂, arith, bit_and, bit_or, count_by, get_or, length, min, nat_lt, get_or_default, and_mask, pow_pos, shr_split, or_add_and, same_count, IsLawfulNode, NodeView, head_of, piece, with_unused, affected_count, affected_first, front_below}
 use Rattle.std.proofs.lemmas.Nat.Bits.{and_high_mask, ones_shr}
-use Rattle.std.specs.Int.Bits.{or_add_and}
-use Rattle.compound_node.proofs.Lawful.{same_count}
-use Rattle.compound_node.specs.Nodes.{IsLawfulNode, NodeView, head_of, piece}
-use Rattle.partial_keys.specs.Rows.{with_unused}
-use Rattle.node_tries.specs.Growth.{affected_count, affected_first}
-use Rattle.node_tries.specs.Positions.{front_below}
 use Rattle.record_words.specs.Node.{head_words}
 use Rattle.record_words.proofs.affected.Affected.{affected_by_counts, columns_below, end_some, few_below, rows_in_front}
 use Rattle.record_words.proofs.Lawful.{row-lt}

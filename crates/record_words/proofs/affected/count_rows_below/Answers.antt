@@ -1,6 +1,5 @@
 -- Each lane that is below the bound sets a bit.
-use Rattle.std.proofs.Common.{◌∙◌, ap, arith, count_ones, nat_lt, w32}
-use Rattle.std.proofs.lemmas.Simd.{bitmask_splat, ones-mask_l}
+use Rattle.record_words.proofs.Common.{◌∙◌, ap, arith, count_ones, nat_lt, w32, bitmask_splat, ones-mask_l}
 use Rattle.record_words.proofs.affected.count_rows_below.Goals as goal
 
 pub returns : goal.returns

@@ -1,6 +1,5 @@
 -- Each lane that is not above the bound sets a bit.
-use Rattle.std.proofs.Common.{◌∙◌, ◌+◌, ap, arith, count_ones, leb, nat_lt, w32}
-use Rattle.std.proofs.lemmas.Simd.{bitmask_splat, ones-mask_l}
+use Rattle.record_words.proofs.Common.{◌∙◌, ◌+◌, ap, arith, count_ones, leb, nat_lt, w32, bitmask_splat, ones-mask_l}
 use lib.Lanes.{mask_l}
 use Rattle.record_words.proofs.affected.Affected.{all_upto}
 use Rattle.record_words.proofs.affected.count_rows_upto.Goals as goal

@@ -1,6 +1,5 @@
 -- The places are those of the columns.
-use Rattle.std.proofs.Common.{◌∙◌, ap, arith, sym, take}
-use Rattle.std.proofs.lemmas.List.{length-take-le}
+use Rattle.record_words.proofs.Common.{◌∙◌, ap, arith, sym, take, length-take-le}
 use Rattle.record_words.proofs.Reading.{places_taken}
 use Rattle.record_words.proofs.fixed.read_positions.Goals as goal
 

@@ -1,10 +1,7 @@
 -- Each column is tested.
-use Rattle.std.proofs.Common.{Bool, List, [], ◌∷◌, ◌≡◌, ◌∙◌, ◌&&◌, ◌+◌, ap, ap₂, arith, refl, rules, sym, tests}
-use Rattle.std.proofs.lemmas.Bool.{le-leb}
+use Rattle.record_words.proofs.Common.{Bool, List, [], ◌∷◌, ◌≡◌, ◌∙◌, ◌&&◌, ◌+◌, ap, ap₂, arith, refl, rules, sym, tests, le-leb, list_all, all}
 use Rattle.std.proofs.lemmas.Iterator.{YieldsList-from_slice}
 use Rattle.std.proofs.lemmas.Iterator.Search.{all_from_yields_List}
-use Rattle.std.specs.List.{list_all}
-use Rattle.node_tries.specs.Positions.{all}
 use Rattle.record_words.specs.Kinds.{first_byte, is_near}
 use Rattle.record_words.proofs.kind.are_near.Goals as goal
 

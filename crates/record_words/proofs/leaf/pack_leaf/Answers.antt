@@ -1,6 +1,5 @@
 -- The words are those of the leaf.
-use Rattle.std.proofs.Common.{arith, ◌+◌, ◌<◌, ◌≤◌, ◌∙◌, refl, ⊎_elim, ap, length, sym}
-use Rattle.std.proofs.lemmas.Bool.{cases_lt}
+use Rattle.record_words.proofs.Common.{arith, ◌+◌, ◌<◌, ◌≤◌, ◌∙◌, refl, ⊎_elim, ap, length, sym, cases_lt}
 use Rattle.record_words.proofs.Leaves.{leaf_words_made}
 use Rattle.record_words.proofs.Unused.{first_rest, key_word_past}
 use Rattle.record_words.proofs.leaf.pack_leaf.Goals as goal

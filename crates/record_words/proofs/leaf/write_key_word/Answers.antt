@@ -1,6 +1,5 @@
 -- The eight bytes from 8j on are those of the word, and the others are as before.
-use Rattle.std.proofs.Common.{◌≡◌, ◌+◌, ◌-◌, ◌*◌, ◌<◌, length, arith, ◌∙◌, ap, get_or, subst, sym}
-use Rattle.std.specs.Int.{to_be_bytes, w64}
+use Rattle.record_words.proofs.Common.{◌≡◌, ◌+◌, ◌-◌, ◌*◌, ◌<◌, length, arith, ◌∙◌, ap, get_or, subst, sym, to_be_bytes, w64}
 use Rattle.record_words.proofs.Bytes.{key_word-bytes, same_key_word, small_byte, small_written, written_at, written_other, outside}
 use Rattle.record_words.proofs.leaf.write_key_word.Goals as goal
 

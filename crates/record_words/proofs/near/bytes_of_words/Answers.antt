@@ -1,6 +1,5 @@
 -- The bytes are the lanes of which the words are made.
-use Rattle.std.proofs.Common.{◌∙◌, ◌^◌, ◌<◌, ap, arith, sym}
-use Rattle.std.proofs.lemmas.Simd.{Each1-from_get_or}
+use Rattle.record_words.proofs.Common.{◌∙◌, ◌^◌, ◌<◌, ap, arith, sym, Each1-from_get_or}
 use Rattle.record_words.specs.Kinds.{lane_words}
 use Rattle.record_words.proofs.near.Digits.{base_8, base_64, digits_of_number, number-lt, number_of_digits}
 use lib.Lanes.{digits_l, number_l}

@@ -1,9 +1,7 @@
 -- Each lane tells its column's bit of the key.
-use Rattle.std.proofs.Common.{◌≡◌, ◌∙◌, ◌-◌, ◌+◌, ◌<◌, ◌≤◌, ℕ, List, ap, arith, drop, get_or, take}
-use Rattle.std.proofs.lemmas.List.{get_or-drop, get_or-take}
-use Rattle.std.proofs.lemmas.Simd.{get_or-chunk}
+use Rattle.record_words.proofs.Common.{◌≡◌, ◌∙◌, ◌-◌, ◌+◌, ◌<◌, ◌≤◌, ℕ, List, ap, arith, drop, get_or, take, get_or-drop, get_or-chunk, with_zeros}
+use Rattle.std.proofs.lemmas.List.{get_or-take}
 use lib.Lanes.{chunk}
-use Rattle.key_bits.specs.Key.{with_zeros}
 use Rattle.record_words.proofs.near.NearDense.{dense_is, indexes_ok, told_fits, window_within}
 use Rattle.record_words.proofs.near.extract_near.Goals as goal
 

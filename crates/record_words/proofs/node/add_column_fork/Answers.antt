@@ -1,11 +1,5 @@
 -- The columns and the rows with one more give the words.
-use Rattle.std.proofs.Common.{List, ℕ, ◌≡◌, ◌+◌, ◌≤◌, ◌∙◌, ap, arith, get_or, get_or-take, length, subst, sym, take}
-use Rattle.compound_node.proofs.Lawful.{same_count}
-use Rattle.compound_node.specs.Nodes.{IsLawfulNode, NodeView, head_of}
-use Rattle.partial_keys.proofs.Keeping.{holds_front}
-use Rattle.partial_keys.proofs.Reaching.{front_below-le}
-use Rattle.partial_keys.specs.Columns.{IsColumns, with_free}
-use Rattle.node_tries.specs.Positions.{front_below, has, with_position}
+use Rattle.record_words.proofs.Common.{List, ℕ, ◌≡◌, ◌+◌, ◌≤◌, ◌∙◌, ap, arith, get_or, get_or-take, length, subst, sym, take, same_count, IsLawfulNode, NodeView, head_of, holds_front, front_below-le, IsColumns, with_free, front_below, has, with_position}
 use Rattle.record_words.specs.HeadParts.{AreNumbersOf}
 use Rattle.record_words.specs.Node.{CanGrowAt, head_words}
 use Rattle.record_words.specs.declared.numbers.HeadNumbers.{HeadNumbers}

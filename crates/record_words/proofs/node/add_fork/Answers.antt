@@ -1,8 +1,5 @@
 -- Where the position is a column, the rows alone change.
-use Rattle.std.proofs.Common.{◌≡◌, ◌≤◌, ◌∙◌, ap, arith, get_or-set_other, get_or-set_same, length, rules, sym, true, inl}
-use Rattle.compound_node.specs.Nodes.{NodeView}
-use Rattle.partial_keys.proofs.Reaching.{front_below-le}
-use Rattle.node_tries.specs.Positions.{front_below, has}
+use Rattle.record_words.proofs.Common.{◌≡◌, ◌≤◌, ◌∙◌, ap, arith, get_or-set_other, get_or-set_same, length, rules, sym, true, inl, NodeView, front_below-le, front_below, has}
 use Rattle.record_words.specs.Kinds.{kind_in}
 use Rattle.record_words.specs.Node.{CanGrowAt}
 use Rattle.record_words.proofs.node.Forking.{column_found, column_lacks, few_numbers, front_is, has_fork, in_range, kind_stays, ordered, room, some_before_rows}

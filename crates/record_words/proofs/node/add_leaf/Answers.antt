@@ -1,10 +1,7 @@
 -- The head's words are those of the head with the fork, and the leaf's word stands among those of the other entries.
-use Rattle.std.proofs.Common.{rules, arith, insert, length, refl, ◌≡◌, ◌+◌, ◌∙◌}
+use Rattle.record_words.proofs.Common.{rules, arith, length, refl, ◌≡◌, ◌+◌, ◌∙◌, forked_head, IsBuiltFrom, NodeView, head_of, node_of, piece, Leaf, grown}
+use Rattle.std.proofs.Common.{insert}
 use Rattle.std.specs.Prelude.{if◌then◌else◌}
-use Rattle.compound_node.specs.Forking.{forked_head}
-use Rattle.compound_node.specs.Nodes.{IsBuiltFrom, NodeView, head_of, node_of, piece}
-use Rattle.compound_node.specs.declared.entries.Entry.TheVariants.{Leaf}
-use Rattle.node_tries.specs.Growth.{grown}
 use Rattle.record_words.proofs.node.Forking.{grown_leaf}
 use Rattle.record_words.proofs.Growing.{has_words, place_within, words_grown}
 use Rattle.record_words.proofs.Reading.{entries_counted}

@@ -1,8 +1,7 @@
 -- The first word tells the height and how many entries there are.
 use Rattle.record_words.proofs.Reading.{first_word}
 use Rattle.record_words.proofs.node.can_take_leaf.Goals as goal
-use Rattle.std.proofs.Common.{arith}
-use Rattle.std.proofs.lemmas.Bool.Decides.{nat_tests}
+use Rattle.record_words.proofs.Common.{arith, nat_tests}
 
 pub returns-then-numbers-eq1 : goal.returns-then-numbers-eq1
 returns-then-numbers-eq1 c = λ node has spells.

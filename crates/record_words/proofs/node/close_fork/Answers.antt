@@ -1,6 +1,5 @@
 -- With the entry's word in the slot `other` the words are those of the node with the entry, of which the slot `at` goes.
-use Rattle.std.proofs.Common.{◌≡◌, ◌+◌, Some, ap, arith, length-set, set, subst, sym, rules, ◌∙◌}
-use Rattle.compound_node.specs.Nodes.{NodeView}
+use Rattle.record_words.proofs.Common.{◌≡◌, ◌+◌, Some, ap, arith, length-set, set, subst, sym, rules, ◌∙◌, NodeView}
 use Rattle.record_words.specs.Entry.{HasEntryWord}
 use Rattle.record_words.specs.Node.{CanCloseAt, SpellLeft, node_words}
 use Rattle.record_words.proofs.node.Closed.{changed, changed_has, changed_spells, closed_piece, place_inside}

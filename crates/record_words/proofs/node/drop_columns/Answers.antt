@@ -1,12 +1,5 @@
 -- The columns and rows that are left give the words.
-use Rattle.std.proofs.Common.{List, ℕ, ◌≡◌, ◌<◌, ◌++◌, ◌∙◌, ap, ap₂, arith, drop, get_or, get_or-take, length, map, subst, sym, take}
-use Rattle.std.specs.List.{All}
-use Rattle.compound_node.specs.Nodes.{IsLawfulNode, NodeView, head_of}
-use Rattle.partial_keys.proofs.Keeping.{holds_front}
-use Rattle.partial_keys.specs.Columns.{IsColumns, with_free}
-use Rattle.partial_keys.specs.Rows.{with_unused}
-use Rattle.partial_keys.specs.Squeezed.{IsRowOver, squeezed, used_bits}
-use Rattle.node_tries.specs.Kept.{kept}
+use Rattle.record_words.proofs.Common.{List, ℕ, ◌≡◌, ◌<◌, ◌++◌, ◌∙◌, ap, ap₂, arith, drop, get_or, get_or-take, length, map, subst, sym, take, All, IsLawfulNode, NodeView, head_of, holds_front, IsColumns, with_free, with_unused, IsRowOver, squeezed, used_bits, kept}
 use Rattle.record_words.specs.Dropping.{CanDropColumns}
 use Rattle.record_words.specs.HeadParts.{AreNumbersOf}
 use Rattle.record_words.specs.Node.{head_words}

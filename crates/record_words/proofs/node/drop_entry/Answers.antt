@@ -1,9 +1,5 @@
 -- The words of the other entries move, and those of the head are the new head's; or the other of two entries is read.
-use Rattle.std.proofs.Common.{rules, List, ℕ, ◌≢◌, ◌≡◌, ◌+◌, ◌-◌, ◌<◌, ◌∙◌, ap, arith, drop, get_or, get_or-take, length, refl, sym, subst, take}
-use Rattle.std.specs.Prelude.{remove}
-use Rattle.compound_node.specs.Nodes.{IsBuiltFrom, IsLawfulNode, NodeView, greatest_height, head_of, node_of, piece}
-use Rattle.compound_node.specs.declared.entries.Entry.TheVariants.{Leaf}
-use Rattle.node_tries.specs.Changes.{without}
+use Rattle.record_words.proofs.Common.{rules, List, ℕ, ◌≢◌, ◌≡◌, ◌+◌, ◌-◌, ◌<◌, ◌∙◌, ap, arith, drop, get_or, get_or-take, length, refl, sym, subst, take, remove, IsBuiltFrom, IsLawfulNode, NodeView, greatest_height, head_of, node_of, piece, Leaf, without}
 use Rattle.record_words.specs.HeadParts.{AreNumbersOf}
 use Rattle.record_words.specs.Dropping.{CanDropAt, HasHeadWithout}
 use Rattle.record_words.specs.Node.{HasNodeWords, SpellBuilt, SpellEntries, head_words, node_words}

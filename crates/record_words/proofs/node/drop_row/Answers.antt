@@ -1,14 +1,7 @@
 -- Where each column is used still, the rows and the numbers alone change.
-use Rattle.std.proofs.Common.{◌∷◌, List, ℕ, ◌<◌, ◌++◌, drop, map, subst, ◌≡◌, ◌+◌, ◌-◌, ◌*◌, ◌/◌, ◌^◌, ◌≤◌, ◌∙◌, ap, arith, get_or, get_or-set_other, get_or-set_same, get_or-take, inl, length, refl, rules, sym, take}
-use Rattle.compound_node.specs.Nodes.{HeadView, IsLawfulNode, NodeView, head_of}
-use Rattle.compound_node.specs.Removal.{removed_row}
-use Rattle.partial_keys.specs.Columns.{IsColumns}
+use Rattle.record_words.proofs.Common.{◌∷◌, List, ℕ, ◌<◌, ◌++◌, drop, map, subst, ◌≡◌, ◌+◌, ◌-◌, ◌*◌, ◌/◌, ◌^◌, ◌≤◌, ◌∙◌, ap, arith, get_or, get_or-set_other, get_or-set_same, get_or-take, inl, length, refl, rules, sym, take, HeadView, IsLawfulNode, NodeView, head_of, removed_row, IsColumns, IsRowOver, or_all, squeezed, used_bits, kept, length-map, take_at, with_unused}
 use Rattle.record_words.specs.Node.{head_words}
 use Rattle.record_words.specs.declared.numbers.HeadNumbers.{HeadNumbers}
-use Rattle.partial_keys.specs.Squeezed.{IsRowOver, or_all, squeezed, used_bits}
-use Rattle.node_tries.specs.Kept.{kept}
-use Rattle.std.proofs.lemmas.List.{length-map, take_at}
-use Rattle.partial_keys.specs.Rows.{with_unused}
 use Rattle.record_words.proofs.Written.{head_put}
 use Rattle.record_words.specs.HeadParts.{AreNumbersOf}
 use Rattle.record_words.specs.Kinds.{kind_of, kind_part}

@@ -1,7 +1,6 @@
 -- A word tells the height of its entry, and a height above that of each fits 16 bits.
-use Rattle.std.proofs.Common.{◌≡◌, ◌+◌, ◌-◌, ◌/◌, ◌^◌, ◌∙◌, ap, arith, drop, get_or, max}
+use Rattle.record_words.proofs.Common.{◌≡◌, ◌+◌, ◌-◌, ◌/◌, ◌^◌, ◌∙◌, ap, arith, drop, get_or, max, greatest_height}
 use Rattle.compound_node.proofs.Heights.{greatest_height-fits}
-use Rattle.compound_node.specs.Nodes.{greatest_height}
 use Rattle.record_words.proofs.Dropping.{height_more, heights_flat}
 use Rattle.record_words.proofs.node.height_over.Goals as goal
 use Rattle.record_words.proofs.node.height_over.Goals.{After-loop-i}

@@ -1,7 +1,5 @@
 -- The greatest height of the entries behind.
-use Rattle.std.proofs.Common.{◌≡◌, List, drop}
-use Rattle.compound_node.specs.declared.entries.Entry.{Entry}
-use Rattle.compound_node.specs.Nodes.{greatest_height}
+use Rattle.record_words.proofs.Common.{◌≡◌, List, drop, Entry, greatest_height}
 use Rattle.record_words.specs.Node.{SpellEntries}
 use Rattle.record_words.proofs.node.height_over.Given as goal
 

@@ -1,6 +1,5 @@
 -- The first sixteen places are those of the columns.
-use Rattle.std.proofs.Common.{ℕ, List, ◌≡◌, ◌≢◌, ◌∙◌, ap}
-use Rattle.partial_keys.specs.Columns.{with_free}
+use Rattle.record_words.proofs.Common.{ℕ, List, ◌≡◌, ◌≢◌, ◌∙◌, ap, with_free}
 use Rattle.record_words.proofs.OfKinds.{few_and_near, has_near_lanes}
 use Rattle.record_words.proofs.node.HeadPut.{sixteen_places}
 use Rattle.record_words.specs.Kinds.{kind_of, lane_words, with_free_to_16}

@@ -1,7 +1,5 @@
 -- They are the first words of a node with this head.
-use Rattle.std.proofs.Common.{List, ℕ, ◌≡◌, ◌∙◌, ap, arith, length, refl, sym, take}
-use Rattle.std.proofs.lemmas.List.{length-take-le, take_at}
-use Rattle.compound_node.specs.Nodes.{HeadView}
+use Rattle.record_words.proofs.Common.{List, ℕ, ◌≡◌, ◌∙◌, ap, arith, length, refl, sym, take, length-take-le, take_at, HeadView}
 use Rattle.record_words.proofs.HeadParts.HeadsByKind.{head_parts}
 use Rattle.record_words.specs.Node.{head_words}
 use Rattle.record_words.proofs.node.pack_head.Goals as goal

@@ -1,6 +1,5 @@
 -- The words so far are the node's, and its entries so far have words.
-use Rattle.std.proofs.Common.{ℕ, ◌+◌, ◌<◌, replicate}
-use Rattle.std.specs.Prelude.{slice_get}
+use Rattle.record_words.proofs.Common.{ℕ, ◌+◌, ◌<◌, replicate, slice_get}
 use Rattle.record_words.specs.Entry.{HasEntryWord}
 use Rattle.record_words.specs.Node.{node_words}
 use Rattle.record_words.proofs.Written.{AreSoFar}

@@ -1,6 +1,5 @@
 -- The first word and the unused ones are written, then the columns, then the rows.
-use Rattle.std.proofs.Common.{List, ℕ, ◌≡◌, ◌∙◌, ◌++◌, ◌^◌, ◌-◌, arith, ap, drop, length, replicate, rules}
-use Rattle.std.proofs.lemmas.List.{length-take-le}
+use Rattle.record_words.proofs.Common.{List, ℕ, ◌≡◌, ◌∙◌, ◌++◌, ◌^◌, ◌-◌, arith, ap, drop, length, replicate, rules, length-take-le}
 use Rattle.record_words.proofs.node.HeadPut.{as_fixed, in_order, put_together, start, start_behind, start_first, start_ones, start_whole}
 use Rattle.record_words.proofs.node.put_parts.Goals as goal
 

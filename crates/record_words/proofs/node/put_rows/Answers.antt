@@ -1,10 +1,5 @@
 -- The rows' words are stored by kind: those of both halves of wide ones, one after the other.
-use Rattle.std.proofs.Common.{List, ℕ, ap, arith, get_or, inl, inr, length, rules, subst, sym, ⊎_elim, ◌++◌, ◌+◌, ◌-◌, ◌<◌, ◌∙◌, ◌≡◌, ◌≤◌, ◌⊎◌}
-use Rattle.std.proofs.lemmas.Bool.{cases_lt}
-use Rattle.std.proofs.lemmas.List.{ext_get_or}
-use Rattle.std.proofs.lemmas.List.FromFn.{get_or-map-range_with_len, length-map-range_with_len}
-use Rattle.std.proofs.lemmas.Simd.{get_or-chunk, length-chunk, pick_l-range_with_len, pick_l_left}
-use Rattle.std.specs.List.{range_with_len}
+use Rattle.record_words.proofs.Common.{List, ℕ, ap, arith, get_or, inl, inr, length, rules, subst, sym, ⊎_elim, ◌++◌, ◌+◌, ◌-◌, ◌<◌, ◌∙◌, ◌≡◌, ◌≤◌, ◌⊎◌, cases_lt, ext_get_or, get_or-map-range_with_len, length-map-range_with_len, get_or-chunk, length-chunk, pick_l-range_with_len, pick_l_left, range_with_len}
 use Rattle.record_words.proofs.HeadParts.HeadsByKind.{length-row_words}
 use Rattle.record_words.proofs.Written.{at_stored, before_stored, chunk_stored, half_words, length-stored, other_stored, stored}
 use Rattle.record_words.specs.Kinds.{head_size, rows_from}

@@ -1,8 +1,5 @@
 -- The numbers that stand in the words are those of a node.
-use Rattle.std.proofs.Common.{List, ℕ, ◌≡◌, ap, arith, get_or, sym, ◌∙◌}
-use Rattle.partial_keys.proofs.Keeping.{holds_front}
-use Rattle.compound_node.proofs.Lawful.{same_count}
-use Rattle.compound_node.specs.Nodes.{head_of}
+use Rattle.record_words.proofs.Common.{List, ℕ, ◌≡◌, ap, arith, get_or, sym, ◌∙◌, holds_front, same_count, head_of}
 use Rattle.record_words.specs.Node.{HasHeadWords, head_words}
 use Rattle.record_words.specs.Reading.{IsSpelling}
 use Rattle.record_words.proofs.Reading.{columns_in_front, head_is, is_head_read, its, lawful_its, same_its, spells_head, whole}

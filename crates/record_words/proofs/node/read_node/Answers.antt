@@ -1,8 +1,5 @@
 -- The two parts of the words are those of the node.
-use Rattle.std.proofs.Common.{◌≡◌, ◌<◌, get_or, length, refl, ◌∙◌, arith}
-use Rattle.std.proofs.lemmas.List.{take_all}
-use Rattle.compound_node.specs.declared.entries.Entry.TheVariants.{Leaf}
-use Rattle.compound_node.specs.Nodes.{head_of}
+use Rattle.record_words.proofs.Common.{◌≡◌, ◌<◌, get_or, length, refl, ◌∙◌, arith, take_all, Leaf, head_of}
 use Rattle.record_words.proofs.Nodes.{head_part}
 use Rattle.record_words.proofs.Reading.{both_read, spells_node, entry_spelled, one_more_read, entries_counted}
 use Rattle.record_words.proofs.node.read_node.Goals as goal

@@ -1,6 +1,5 @@
 -- The entries so far are those of the node that has the words.
-use Rattle.std.proofs.Common.{◌≡◌, take}
-use Rattle.compound_node.specs.Nodes.{NodeView}
+use Rattle.record_words.proofs.Common.{◌≡◌, take, NodeView}
 use Rattle.record_words.specs.Node.{HasNodeWords, node_words}
 use Rattle.record_words.proofs.node.read_node.Given as goal
 

@@ -1,7 +1,5 @@
 -- The first position is the lowest part of its word, or the first mask is the highest.
-use Rattle.std.proofs.Common.{◌≡◌, ◌∙◌, ◌%◌, ap, arith, get_or, refl, sym}
-use Rattle.std.proofs.lemmas.List.{get_or_default}
-use Rattle.compound_node.specs.Nodes.{head_of}
+use Rattle.record_words.proofs.Common.{◌≡◌, ◌∙◌, ◌%◌, ap, arith, get_or, refl, sym, get_or_default, head_of}
 use Rattle.record_words.proofs.numbers.NearPositions.{near_is}
 use Rattle.record_words.proofs.HeadParts.{near_mask, wide_position}
 use Rattle.record_words.specs.Kinds.{mask_index}

@@ -1,8 +1,5 @@
 -- The numbers are parts of the word.
-use Rattle.std.proofs.Common.{◌∙◌, ◌/◌, ◌^◌, arith, length, refl, sym}
-use Rattle.std.proofs.lemmas.Nat.{and_mask}
-use Rattle.compound_node.proofs.Lawful.{same_count}
-use Rattle.compound_node.specs.Nodes.{head_of}
+use Rattle.record_words.proofs.Common.{◌∙◌, ◌/◌, ◌^◌, arith, length, refl, sym, and_mask, same_count, head_of}
 use Rattle.record_words.specs.Node.{head_words}
 use Rattle.record_words.proofs.HeadParts.HeadsByKind.{first_tells, head_parts}
 use Rattle.record_words.proofs.numbers.read_numbers.Goals as goal

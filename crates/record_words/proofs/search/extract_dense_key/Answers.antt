@@ -1,10 +1,6 @@
 -- The lanes are the positions of each node whose head begins so.
-use Rattle.std.proofs.Common.{◌≡◌, ◌∙◌, ◌*◌, ◌+◌, ◌/◌, ◌%◌, ◌^◌, ◌<◌, List, ℕ, ap, arith, get_or, get_or-take, length, lit<, lit≤, refl, sym, take, drop}
+use Rattle.record_words.proofs.Common.{◌≡◌, ◌∙◌, ◌*◌, ◌+◌, ◌/◌, ◌%◌, ◌^◌, ◌<◌, List, ℕ, ap, arith, get_or, get_or-take, length, lit<, lit≤, refl, sym, take, drop, NodeView, IsLawfulNode, head_of, bit_of, AreColumnLanes, dense_of}
 use lib.Lanes.{chunk}
-use Rattle.compound_node.specs.Nodes.{NodeView, IsLawfulNode, head_of}
-use Rattle.key_bits.specs.Bits.{bit_of}
-use Rattle.partial_keys.specs.Columns.{AreColumnLanes}
-use Rattle.partial_keys.specs.Rows.{dense_of}
 use Rattle.record_words.specs.HeadParts.{front_words}
 use Rattle.record_words.specs.Kinds.{kind_of}
 use Rattle.record_words.specs.Node.{head_words}

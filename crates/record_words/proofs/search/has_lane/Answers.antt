@@ -1,6 +1,5 @@
 -- Each lane that is the number sets a bit.
-use Rattle.std.proofs.Common.{◌∙◌, ap, arith, eqb, not, w16}
-use Rattle.std.proofs.lemmas.Simd.{bitmask_splat}
+use Rattle.record_words.proofs.Common.{◌∙◌, ap, arith, eqb, not, w16, bitmask_splat}
 use Rattle.record_words.proofs.Lanes.{some_told}
 use Rattle.record_words.proofs.search.has_lane.Goals as goal
 

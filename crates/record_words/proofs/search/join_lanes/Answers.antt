@@ -1,6 +1,5 @@
 -- All lanes, in order.
-use Rattle.std.proofs.Common.{◌++◌, ◌∙◌, arith, length-append}
-use Rattle.std.proofs.lemmas.Simd.{pick_l_whole}
+use Rattle.record_words.proofs.Common.{◌++◌, ◌∙◌, arith, length-append, pick_l_whole}
 use Rattle.record_words.proofs.search.join_lanes.Goals as goal
 
 pub returns : goal.returns

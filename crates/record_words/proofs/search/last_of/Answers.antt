@@ -1,7 +1,5 @@
 -- The mask has a set bit below the place, and the highest such is found.
-use Rattle.std.proofs.Common.{ℕ, ◌≡◌, ◌+◌, ◌-◌, ◌*◌, ◌/◌, ◌%◌, ◌^◌, ◌<◌, ◌≤◌, ◌∙◌, ap, arith, bit_and, subst, sym}
-use Rattle.std.proofs.Math.Pow.{pow_mono}
-use Rattle.std.proofs.lemmas.Nat.{and_mask, leading_top, mod-pow-add, mod_below, pow_pos}
+use Rattle.record_words.proofs.Common.{ℕ, ◌≡◌, ◌+◌, ◌-◌, ◌*◌, ◌/◌, ◌%◌, ◌^◌, ◌<◌, ◌≤◌, ◌∙◌, ap, arith, bit_and, subst, sym, pow_mono, and_mask, leading_top, mod-pow-add, mod_below, pow_pos}
 use lib.Count.{count_leading_zeros}
 use Rattle.record_words.proofs.search.last_of.Goals as goal
 

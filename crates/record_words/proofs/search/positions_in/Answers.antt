@@ -1,7 +1,5 @@
 -- By the kind: quarters of words, or the positions that near lanes spell.
-use Rattle.std.proofs.Common.{ℕ, ◌≡◌, ◌≢◌, ◌*◌, ◌/◌, ◌%◌, ◌^◌, ◌<◌, ◌++◌, ◌∙◌, List, ap, arith, get_or, replicate, sym}
-use Rattle.std.proofs.lemmas.Simd.{get_or-chunk}
-use Rattle.compound_node.specs.Nodes.{IsLawfulNode, NodeView, head_of}
+use Rattle.record_words.proofs.Common.{ℕ, ◌≡◌, ◌≢◌, ◌*◌, ◌/◌, ◌%◌, ◌^◌, ◌<◌, ◌++◌, ◌∙◌, List, ap, arith, get_or, replicate, sym, get_or-chunk, IsLawfulNode, NodeView, head_of}
 use Rattle.record_words.specs.HeadParts.{AreNumbersOf}
 use Rattle.record_words.specs.Kinds.{first_byte, kind_of}
 use Rattle.record_words.specs.Node.{head_words}

@@ -1,10 +1,7 @@
 -- By the kind: halves of words, or lanes of fewer bits that are moved up.
-use Rattle.std.proofs.Common.{ℕ, ◌≡◌, ◌-◌, ◌*◌, ◌/◌, ◌%◌, ◌^◌, ◌<◌, ◌∙◌, ap, arith, drop, get_or, length, length-drop, map, replicate, sym, w8, w16}
-use Rattle.std.proofs.lemmas.List.{take_all}
-use Rattle.std.proofs.lemmas.Simd.{get_or-chunk, length-chunk}
+use Rattle.record_words.proofs.Common.{ℕ, ◌≡◌, ◌-◌, ◌*◌, ◌/◌, ◌%◌, ◌^◌, ◌<◌, ◌∙◌, ap, arith, drop, get_or, length, map, replicate, sym, w8, w16, take_all, get_or-chunk, length-chunk, same_count, IsLawfulNode, NodeView, head_of}
+use Rattle.std.proofs.Common.{length-drop}
 use lib.Lanes.{zip2}
-use Rattle.compound_node.proofs.Lawful.{same_count}
-use Rattle.compound_node.specs.Nodes.{IsLawfulNode, NodeView, head_of}
 use Rattle.record_words.specs.HeadParts.{AreNumbersOf}
 use Rattle.record_words.specs.Kinds.{kind_of}
 use Rattle.record_words.specs.Node.{head_words}

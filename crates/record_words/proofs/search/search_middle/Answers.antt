@@ -1,6 +1,5 @@
 -- The last lane of the entries that complies with the key's highest bits is where the forks lead.
-use Rattle.std.proofs.Common.{◌≡◌, ◌*◌, ◌/◌, ◌%◌, ◌^◌, ◌∙◌, ap, arith, sym, w16}
-use Rattle.compound_node.specs.Nodes.{IsLawfulNode, NodeView, head_of}
+use Rattle.record_words.proofs.Common.{◌≡◌, ◌*◌, ◌/◌, ◌%◌, ◌^◌, ◌∙◌, ap, arith, sym, w16, IsLawfulNode, NodeView, head_of}
 use Rattle.record_words.specs.HeadParts.{AreNumbersOf, middle_words}
 use Rattle.record_words.specs.Kinds.{AreNearLanes, kind_of}
 use Rattle.record_words.specs.Node.{head_words}

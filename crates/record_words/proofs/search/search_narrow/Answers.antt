@@ -1,9 +1,6 @@
 -- The last lane of the entries that complies with the key's highest bits is where the forks lead.
-use Rattle.std.proofs.Common.{rules, ℕ, ◌≡◌, ◌-◌, ◌/◌, ◌^◌, ◌∙◌, List, arith, drop, length, sym, take, w8}
+use Rattle.record_words.proofs.Common.{rules, ℕ, ◌≡◌, ◌-◌, ◌/◌, ◌^◌, ◌∙◌, List, arith, drop, length, sym, take, w8, length-chunk, length-drop, length-take-le, IsLawfulNode, NodeView, head_of}
 use lib.Lanes.{chunk}
-use Rattle.std.proofs.lemmas.Simd.{length-chunk}
-use Rattle.std.proofs.lemmas.List.{length-drop, length-take-le}
-use Rattle.compound_node.specs.Nodes.{IsLawfulNode, NodeView, head_of}
 use Rattle.record_words.specs.HeadParts.{AreNumbersOf, narrow_words}
 use Rattle.record_words.specs.Kinds.{AreNearLanes, kind_of}
 use Rattle.record_words.specs.Node.{head_words}

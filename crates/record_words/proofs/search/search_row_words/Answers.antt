@@ -1,8 +1,5 @@
 -- The highest complying row is where the forks lead.
-use Rattle.std.proofs.Common.{◌∙◌, ap, get_or, refl}
-use Rattle.compound_node.proofs.Lawful.{head_leads}
-use Rattle.compound_node.specs.Nodes.{head_of}
-use Rattle.partial_keys.proofs.Leads.{first_is_zero}
+use Rattle.record_words.proofs.Common.{◌∙◌, ap, get_or, refl, head_leads, head_of, first_is_zero}
 use Rattle.record_words.specs.HeadParts.{back_words}
 use Rattle.record_words.specs.declared.kind.HeadKind.TheVariants.{Wide}
 use Rattle.record_words.proofs.Reading.{kind_of_one, lawful_one, one_of_kind, part_of_one}

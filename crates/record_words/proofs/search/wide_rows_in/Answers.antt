@@ -1,8 +1,5 @@
 -- The halves are the rows, one after the other.
-use Rattle.std.proofs.Common.{◌≡◌, ◌∙◌, ◌/◌, ◌%◌, ◌*◌, ◌^◌, ◌++◌, ◌+◌, ℕ, ap, arith, get_or, length, length-append, refl, sym}
-use Rattle.std.proofs.lemmas.List.{get_or-drop}
-use Rattle.std.proofs.lemmas.Simd.{get_or-chunk, pick_l_whole}
-use Rattle.compound_node.specs.Nodes.{head_of}
+use Rattle.record_words.proofs.Common.{◌≡◌, ◌∙◌, ◌/◌, ◌%◌, ◌*◌, ◌^◌, ◌++◌, ◌+◌, ℕ, ap, arith, get_or, length, length-append, refl, sym, get_or-drop, get_or-chunk, pick_l_whole, head_of}
 use Rattle.record_words.specs.Node.{head_words}
 use Rattle.record_words.proofs.Lanes.{row_lanes_read, rows_joined}
 use Rattle.record_words.proofs.HeadParts.{wide_row}

@@ -1,9 +1,5 @@
 -- What the words of a head tell of the entries that a position affects.
-use Rattle.std.proofs.Common.{◌∙◌, ap, arith, length, sym}
-use Rattle.compound_node.specs.Nodes.{HeadView, leaves, node_of}
-use Rattle.compound_node.specs.declared.entries.Entry.TheVariants.{Node}
-use Rattle.compound_node.proofs.Lawful.{same_count}
-use Rattle.record_words.proofs.Nodes.{same_head}
+use Rattle.rowex_reading.proofs.Common.{◌∙◌, ap, arith, length, sym, HeadView, leaves, node_of, Node, same_count, same_head}
 use Rattle.rowex_reading.proofs.reading.Heading.{spelled_so}
 use Rattle.rowex_reading.proofs.Seen.Led.{led_on, reader_then, reads_later}
 use Rattle.rowex_reading.proofs.Seen.{room_stable, sure_later}

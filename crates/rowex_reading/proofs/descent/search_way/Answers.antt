@@ -1,10 +1,6 @@
 -- The empty root, the root's entry, one node down, and the leaf.
-use Rattle.std.proofs.Common.{◌≡◌, ◌↔◌, IsNone, length, take, sym, ap, subst, arith}
-use Rattle.std.specs.Prelude.{IfSome}
-use Rattle.key_bits.specs.Bits.{IsFirstDifference}
-use Rattle.rowex_table.proofs.Rule.Located.{leaf_at, node_at}
+use Rattle.rowex_reading.proofs.Common.{◌≡◌, ◌↔◌, IsNone, length, take, sym, ap, subst, arith, IfSome, IsFirstDifference, leaf_at, node_at, Leaf, Node}
 use Rattle.rowex_reading.specs.Seen.{since, RootIs}
-use Rattle.compound_node.specs.declared.entries.Entry.TheVariants.{Leaf, Node}
 use Rattle.rowex_reading.proofs.lookup.Lookup.{none_searched, none_found, at_root, at_led, leaf_searched}
 use Rattle.rowex_reading.proofs.Seen.Led.{reader_then, root_reader, root_pinned}
 use Rattle.rowex_reading.proofs.descent.Descent.{IsGoing, going_first, ends_nowhere, there, falls_on, led_down, way_on, way_room, way_ends, end_found}

@@ -1,6 +1,5 @@
 -- The head that was read leads the key to the slot.
-use Rattle.std.proofs.Common.{ap}
-use Rattle.insert_cases.specs.declared.choice.PathNode.{PathNode}
+use Rattle.rowex_reading.proofs.Common.{ap, PathNode}
 use Rattle.rowex_reading.specs.Seen.{shape_of}
 use Rattle.rowex_reading.proofs.lookup.find_slot.Goals as goal
 

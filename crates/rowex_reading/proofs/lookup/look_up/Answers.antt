@@ -1,8 +1,5 @@
 -- The empty root, the root's entry, one node down, and the leaf.
-use Rattle.std.proofs.Common.{◌<◌, sym, subst}
-use Rattle.compound_node.specs.Nodes.{height_of}
-use Rattle.compound_node.specs.declared.entries.Entry.TheVariants.{Node}
-use Rattle.rowex_table.proofs.Rule.Located.{node_at}
+use Rattle.rowex_reading.proofs.Common.{◌<◌, sym, subst, height_of, Node, node_at}
 use Rattle.rowex_reading.specs.Seen.{since}
 use Rattle.rowex_reading.proofs.lookup.Lookup.{IsAt, none_searched, none_found, at_root, at_led, place_of, next_of, leaf_searched, leaf_found}
 use Rattle.rowex_reading.proofs.Seen.Led.{reader_then, root_reader}

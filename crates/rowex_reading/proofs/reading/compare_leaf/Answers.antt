@@ -1,14 +1,6 @@
 -- The length, one word more, a word that is another key's, and the value.
-use Rattle.std.proofs.Common.{inl, inr, refl, ◌+◌, ◌-◌, ◌<◌, ◌≤◌, ◌∙◌, sym, subst, arith, lit<, lit≤}
-use Rattle.record_words.specs.declared.records.Rec.TheVariants.{Leaf as a_leaf}
-use Rattle.record_words.specs.declared.TheConstants.{LEAF_FIELDS}
-use Rattle.rowex_core.specs.declared.event.Act.TheVariants.{LoadRef, LoadFixed}
-use Rattle.rowex_core.specs.declared.event.Spot.TheVariants.{Value}
-use Rattle.rowex_table.specs.Rule.{record_number}
+use Rattle.rowex_reading.proofs.Common.{inl, inr, refl, ◌+◌, ◌-◌, ◌<◌, ◌≤◌, ◌∙◌, sym, subst, arith, lit<, lit≤, a_leaf, LEAF_FIELDS, LoadRef, LoadFixed, Value, record_number, leaf_size, words_for, size_fits}
 use Rattle.rowex_reading.specs.Reads.{Reads}
-use Rattle.record_words.specs.Layout.{leaf_size}
-use Rattle.record_words.specs.Leaf.{words_for}
-use Rattle.record_words.proofs.Locations.{size_fits}
 use Rattle.rowex_reading.proofs.reading.Leafing.{room_of}
 use Rattle.rowex_reading.proofs.reading.Comparing.{first_same, next_same, other_key, same_key}
 use Rattle.rowex_reading.proofs.Seen.Led.{of_kind, reader_then, reads_one, reads_trans}

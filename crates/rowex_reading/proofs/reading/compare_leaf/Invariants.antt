@@ -1,10 +1,5 @@
 -- The words so far are those of the key.
-use Rattle.std.proofs.Common.{◌≡◌, ◌+◌, ◌-◌, ◌≤◌, length}
-use Rattle.record_words.specs.declared.records.Rec.TheVariants.{Leaf as a_leaf}
-use Rattle.record_words.specs.declared.TheConstants.{LEAF_FIELDS}
-use Rattle.record_words.specs.Layout.{leaf_size}
-use Rattle.record_words.specs.Leaf.{words_of_key}
-use Rattle.rowex_table.specs.Rule.{record_number}
+use Rattle.rowex_reading.proofs.Common.{◌≡◌, ◌+◌, ◌-◌, ◌≤◌, length, a_leaf, LEAF_FIELDS, leaf_size, words_of_key, record_number}
 use Rattle.rowex_reading.specs.Reads.{IsReader, Reads}
 use Rattle.rowex_reading.proofs.Seen.Valuing.{words_with}
 use Rattle.rowex_reading.proofs.reading.Wording.{IsKeyWord}

@@ -1,8 +1,5 @@
 -- What a load of an entry tells.
-use Rattle.std.proofs.Common.{Some, refl}
-use Rattle.rowex_core.specs.declared.event.Act.TheVariants.{LoadRef}
-use Rattle.rowex_core.specs.declared.event.Spot.TheVariants.{Slot}
-use Rattle.rowex_table.specs.Rule.{record_number}
+use Rattle.rowex_reading.proofs.Common.{Some, refl, LoadRef, Slot, record_number}
 use Rattle.rowex_reading.proofs.Seen.Led.{reads_one}
 use Rattle.rowex_reading.proofs.Possible.Placing.{is_entry, slot_spelled, slot_some, slot_placed, slot_lower, some_spelled}
 use Rattle.rowex_reading.proofs.reading.load_entry.Goals as goal

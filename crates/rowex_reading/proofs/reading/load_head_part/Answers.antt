@@ -1,10 +1,5 @@
 -- What the loads of words of a head tell.
-use Rattle.std.proofs.Common.{◌+◌, ◌<◌, ◌∙◌, arith, length, refl, subst}
-use Rattle.std.proofs.lemmas.List.{length-set}
-use Rattle.compound_node.specs.declared.entries.Entry.TheVariants.{Node}
-use Rattle.record_words.specs.declared.records.Rec.TheVariants.{Node as a_node}
-use Rattle.rowex_core.specs.declared.event.Act.TheVariants.{LoadFixed}
-use Rattle.rowex_table.specs.Rule.{record_number}
+use Rattle.rowex_reading.proofs.Common.{◌+◌, ◌<◌, ◌∙◌, arith, length, refl, subst, length-set, Node, a_node, LoadFixed, record_number}
 use Rattle.rowex_reading.specs.Reads.{Reads}
 use Rattle.rowex_reading.proofs.Seen.Led.{of_kind, reader_then, reads_none, reads_one, reads_trans}
 use Rattle.rowex_reading.proofs.reading.Wording.{fewer_loaded, led_stood, next_loaded, none_loaded}

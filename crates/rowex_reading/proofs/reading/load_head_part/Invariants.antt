@@ -1,7 +1,5 @@
 -- The words so far are loaded.
-use Rattle.std.proofs.Common.{◌≡◌, ◌<◌, length}
-use Rattle.record_words.specs.declared.records.Rec.TheVariants.{Node as a_node}
-use Rattle.rowex_table.specs.Rule.{record_number}
+use Rattle.rowex_reading.proofs.Common.{◌≡◌, ◌<◌, length, a_node, record_number}
 use Rattle.rowex_reading.specs.Reads.{IsReader, Reads}
 use Rattle.rowex_reading.specs.Seen.{AreLoaded}
 use Rattle.rowex_reading.proofs.reading.load_head_part.Given as goal

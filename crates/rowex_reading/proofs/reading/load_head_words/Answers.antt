@@ -1,8 +1,5 @@
 -- What the words of a head tell.
-use Rattle.std.proofs.Common.{◌+◌, ◌∙◌, ap, lit≤, sym}
-use Rattle.compound_node.specs.declared.entries.Entry.TheVariants.{Node}
-use Rattle.record_words.specs.declared.kind.HeadKind.TheVariants.{Middle, Narrow, Wide}
-use Rattle.rowex_table.specs.Rule.{record_number}
+use Rattle.rowex_reading.proofs.Common.{◌+◌, ◌∙◌, ap, lit≤, sym, Node, Middle, Narrow, Wide, record_number}
 use Rattle.rowex_reading.proofs.Seen.Led.{led_on, reader_then, reads_trans}
 use Rattle.rowex_reading.proofs.Seen.Naming.{node_led, words_told}
 use Rattle.rowex_reading.proofs.Seen.Standing.{led_in_table}

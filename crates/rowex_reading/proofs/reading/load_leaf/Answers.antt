@@ -1,13 +1,5 @@
 -- What the loads of a leaf tell.
-use Rattle.std.proofs.Common.{rules, ◌≡◌, ◌+◌, ◌<◌, arith, length, lit≤, lit<, subst, sym}
-use Rattle.record_words.specs.declared.records.Rec.TheVariants.{Leaf as a_leaf}
-use Rattle.key_bits.specs.declared.TheConstants.{MAX_BYTES}
-use Rattle.record_words.specs.declared.TheConstants.{LEAF_FIELDS}
-use Rattle.record_words.specs.Leaf.{words_of_key}
-use Rattle.record_words.proofs.Locations.{size_fits}
-use Rattle.rowex_core.specs.declared.event.Act.TheVariants.{LoadRef, LoadFixed}
-use Rattle.rowex_core.specs.declared.event.Spot.TheVariants.{Value}
-use Rattle.rowex_table.specs.Rule.{record_number}
+use Rattle.rowex_reading.proofs.Common.{rules, ◌≡◌, ◌+◌, ◌<◌, arith, length, lit≤, lit<, subst, sym, a_leaf, MAX_BYTES, LEAF_FIELDS, words_of_key, size_fits, LoadRef, LoadFixed, Value, record_number}
 use Rattle.rowex_reading.proofs.Seen.Led.{of_kind, reader_then, reads_one, reads_trans}
 use Rattle.rowex_reading.proofs.reading.Leafing.{AreSoFar, all_places, first_read, so_far_first, so_far_next, zero_small}
 use Rattle.rowex_reading.proofs.reading.Fronting.{front, front_small, front_written, front_others, length-front}

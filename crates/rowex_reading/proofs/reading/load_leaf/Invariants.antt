@@ -1,10 +1,5 @@
 -- The words so far are loaded, and their bytes, with zeros behind them, are theirs; so are the places where all were zero.
-use Rattle.std.proofs.Common.{◌≡◌, ℕ, ◌+◌, ◌<◌, ◌≤◌, length, replicate, get_or}
-use Rattle.key_bits.specs.declared.TheConstants.{MAX_BYTES}
-use Rattle.record_words.specs.declared.TheConstants.{LEAF_FIELDS}
-use Rattle.record_words.specs.Layout.{leaf_size}
-use Rattle.record_words.specs.Leaf.{words_of_key}
-use Rattle.rowex_table.specs.Rule.{record_number}
+use Rattle.rowex_reading.proofs.Common.{◌≡◌, ℕ, ◌+◌, ◌<◌, ◌≤◌, length, replicate, get_or, MAX_BYTES, LEAF_FIELDS, leaf_size, words_of_key, record_number}
 use Rattle.rowex_reading.specs.Reads.{IsReader, Reads}
 use Rattle.rowex_reading.proofs.reading.Leafing.{AreSoFar}
 use Rattle.rowex_reading.proofs.reading.Fronting.{front}

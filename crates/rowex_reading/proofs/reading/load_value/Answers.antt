@@ -1,7 +1,5 @@
 -- The leaf is one of the table's, and its record was located by its number.
-use Rattle.std.proofs.Common.{ap}
-use Rattle.compound_node.specs.declared.entries.Entry.TheVariants.{Leaf}
-use Rattle.rowex_table.specs.Rule.{record_number}
+use Rattle.rowex_reading.proofs.Common.{ap, Leaf, record_number}
 use Rattle.rowex_reading.proofs.Seen.Standing.{led_in_table}
 use Rattle.rowex_reading.proofs.reading.load_value.Goals as goal
 

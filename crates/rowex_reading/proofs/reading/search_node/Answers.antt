@@ -1,11 +1,5 @@
 -- What the loads of the words of a head tell.
-use Rattle.std.proofs.Common.{ℕ, ◌≡◌, ◌≢◌, ◌/◌, cond, eqb, ◌+◌, ◌-◌, ◌^◌, ◌++◌, ◌∙◌, [], ap, arith, get_or, length, length-append, lit≤, replicate, sym}
-use Rattle.std.proofs.lemmas.Bool.{ne_eqb}
-use Rattle.std.proofs.lemmas.List.{get_or_append_left}
-use Rattle.compound_node.specs.declared.entries.Entry.TheVariants.{Node}
-use Rattle.record_words.specs.Kinds.{kind_in}
-use Rattle.record_words.specs.declared.kind.HeadKind.TheVariants.{Middle, Narrow, Wide}
-use Rattle.rowex_table.specs.Rule.{record_number}
+use Rattle.rowex_reading.proofs.Common.{ℕ, ◌≡◌, ◌≢◌, ◌/◌, cond, eqb, ◌+◌, ◌-◌, ◌^◌, ◌++◌, ◌∙◌, [], ap, arith, get_or, length, length-append, lit≤, replicate, sym, ne_eqb, get_or_append_left, Node, kind_in, Middle, Narrow, Wide, record_number}
 use Rattle.rowex_reading.specs.Lookups.{search_touches}
 use Rattle.rowex_reading.specs.Seen.{AreHeadWords, IsLedTo}
 use Rattle.rowex_reading.proofs.Seen.Led.{led_on, reader_then, reads_trans}

@@ -1,10 +1,5 @@
 -- The node's head leads the key to the slot, and the entry there is of the table.
-use Rattle.std.proofs.Common.{◌+◌, ◌<◌, ap, arith, subst, sym}
-use Rattle.compound_node.specs.Nodes.{height_of}
-use Rattle.compound_node.specs.declared.entries.Entry.TheVariants.{Node}
-use Rattle.rowex_table.specs.Rule.{record_number}
-use Rattle.rowex_table.specs.Seats.{SeatView}
-use Rattle.rowex_table.proofs.Rule.Located.{node_at}
+use Rattle.rowex_reading.proofs.Common.{◌+◌, ◌<◌, ap, arith, subst, sym, height_of, Node, record_number, SeatView, node_at}
 use Rattle.rowex_reading.specs.Seen.{since}
 use Rattle.rowex_reading.specs.Together.{HasComeTo}
 use Rattle.rowex_reading.proofs.Seen.Led.{reader_then}

@@ -1,10 +1,5 @@
 -- None has gone down; one search more has, or is at a leaf; and all have.
-use Rattle.std.proofs.Common.{◌≡◌, ◌+◌, List, Bool, arith, length, refl, subst, sym, Some, true, false}
-use Rattle.std.specs.Prelude.{slice_get}
-use Rattle.std.proofs.lemmas.Option.{slice_get_read, slice_get-get_or}
-use Rattle.compound_node.specs.declared.entries.Entry.{Entry}
-use Rattle.compound_node.specs.declared.entries.Entry.TheVariants.{Leaf, Node}
-use Rattle.rowex_table.specs.Seats.{SeatView}
+use Rattle.rowex_reading.proofs.Common.{◌≡◌, ◌+◌, List, Bool, arith, length, refl, subst, sym, Some, true, false, slice_get, slice_get_read, slice_get-get_or, Entry, Leaf, Node, SeatView}
 use Rattle.rowex_reading.specs.Together.{AreLeaves, HasComeTo}
 use Rattle.rowex_reading.proofs.Seen.Led.{reads_none}
 use Rattle.rowex_reading.proofs.together.Together.{HaveGone, gone_down, gone_still}

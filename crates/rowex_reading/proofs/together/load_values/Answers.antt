@@ -1,9 +1,5 @@
 -- The leaf of one key more has been compared.
-use Rattle.std.proofs.Common.{◌≡◌, ◌∙◌, ◌+◌, arith, length, refl, subst, Some}
-use Rattle.std.specs.Prelude.{slice_get}
-use Rattle.std.proofs.lemmas.List.{length-set}
-use Rattle.std.proofs.lemmas.Option.{slice_get_read, slice_get-get_or}
-use Rattle.compound_node.specs.declared.entries.Entry.TheVariants.{Leaf}
+use Rattle.rowex_reading.proofs.Common.{◌≡◌, ◌∙◌, ◌+◌, arith, length, refl, subst, Some, slice_get, length-set, slice_get_read, slice_get-get_or, Leaf}
 use Rattle.rowex_reading.specs.Seen.{since}
 use Rattle.rowex_reading.specs.Together.{HasComeTo}
 use Rattle.rowex_reading.proofs.Seen.Led.{reader_then, reads_trans}

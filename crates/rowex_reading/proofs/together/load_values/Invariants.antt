@@ -1,6 +1,5 @@
 -- The keys before the index have been compared with their leaves.
-use Rattle.std.proofs.Common.{◌≡◌, ℕ, ◌*◌, ◌≤◌, length}
-use Rattle.record_words.specs.declared.TheConstants.{LEAF_FIELDS}
+use Rattle.rowex_reading.proofs.Common.{◌≡◌, ℕ, ◌*◌, ◌≤◌, length, LEAF_FIELDS}
 use Rattle.rowex_reading.specs.Lookups.{HaveFound}
 use Rattle.rowex_reading.specs.Reads.{IsReader, Reads}
 use Rattle.rowex_reading.specs.Together.{HaveComeTo}

@@ -1,7 +1,5 @@
 -- No key is there; the root's entry; and one group more.
-use Rattle.std.proofs.Common.{◌≡◌, ◌∙◌, ◌+◌, ◌-◌, ◌≤◌, ℕ, [], None, arith, get_or, length, subst}
-use Rattle.std.proofs.lemmas.List.{length-set}
-use Rattle.std.proofs.lemmas.Option.{slice_get-get_or}
+use Rattle.rowex_reading.proofs.Common.{◌≡◌, ◌∙◌, ◌+◌, ◌-◌, ◌≤◌, ℕ, [], None, arith, get_or, length, subst, length-set, slice_get-get_or}
 use borrow.Rule.Slice.PartMut.{mid_len, mid_of, same_len_mid}
 use Rattle.rowex_reading.specs.Lookups.{HaveFound}
 use Rattle.rowex_reading.proofs.Seen.Led.{reader_then, root_pinned, root_reader}

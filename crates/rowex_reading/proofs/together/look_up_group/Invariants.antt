@@ -1,6 +1,5 @@
 -- The searches have gone down so far.
-use Rattle.std.proofs.Common.{◌≡◌, ℕ, ◌+◌, ◌*◌, ◌≤◌, length}
-use Rattle.key_bits.specs.declared.TheConstants.{MAX_BYTES}
+use Rattle.rowex_reading.proofs.Common.{◌≡◌, ℕ, ◌+◌, ◌*◌, ◌≤◌, length, MAX_BYTES}
 use Rattle.rowex_reading.specs.Reads.{IsReader, Reads}
 use Rattle.rowex_reading.specs.Together.{HaveComeTo, heights_in}
 use Rattle.rowex_reading.proofs.together.look_up_group.Given as goal

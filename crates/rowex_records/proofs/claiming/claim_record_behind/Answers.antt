@@ -1,6 +1,5 @@
 -- No span yet, one of records that are not free, and one that has a free record.
-use Rattle.std.proofs.Common.{arith, ◌≡◌, ◌<◌, ◌≤◌, ◌+◌, ◌∙◌, ap, subst}
-use Rattle.std.specs.Prelude.{None}
+use Rattle.rowex_records.proofs.Common.{arith, ◌≡◌, ◌<◌, ◌≤◌, ◌+◌, ◌∙◌, ap, subst, None}
 use Rattle.rowex_records.specs.Claims.{GoesOnBehind, begin_of, count_of}
 use Rattle.rowex_records.proofs.Claims.{behind_claims, behind_none, behind_span, next_turn, turned_low, turned_over}
 use Rattle.rowex_records.proofs.claiming.claim_record_behind.Goals as goal

@@ -1,6 +1,5 @@
 -- None of the span yet, one more that is not free, and one that is.
-use Rattle.std.proofs.Common.{rules, arith, ◌≡◌, ◌+◌, ◌∙◌, ap, sym, subst, add-zero}
-use Rattle.std.specs.Prelude.{None}
+use Rattle.rowex_records.proofs.Common.{rules, arith, ◌≡◌, ◌+◌, ◌∙◌, ap, sym, subst, add-zero, None}
 use Rattle.rowex_records.specs.Claims.{GoesOnTrying}
 use Rattle.rowex_records.proofs.Claims.{has_index, span_none, span_more, span_claims, starts_at}
 use Rattle.rowex_records.proofs.claiming.claim_record_in_span.Goals as goal

@@ -1,7 +1,5 @@
 -- None yet, one more that is not free, and one that is.
-use Rattle.std.proofs.Common.{arith, ◌≡◌, ◌<◌, ◌≤◌, ◌+◌, ◌∙◌, min, ap, subst}
-use Rattle.rowex_core.specs.declared.event.Act.TheVariants.{LoadState}
-use Rattle.rowex_table.specs.Runs.{Steps}
+use Rattle.rowex_records.proofs.Common.{arith, ◌≡◌, ◌<◌, ◌≤◌, ◌+◌, ◌∙◌, min, ap, subst, LoadState, Steps}
 use Rattle.rowex_records.specs.Claims.{FindsNone, MissesOne, begin_of, count_of, record_of}
 use Rattle.rowex_records.proofs.Claims.{begin_turn, begins_turned, finds_more, finds_none, has_index, has_record, missed_by_load, turned_over, begins_low}
 use Rattle.rowex_records.proofs.claiming.find_free_record.Goals as goal

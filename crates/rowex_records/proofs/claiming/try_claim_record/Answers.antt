@@ -1,8 +1,5 @@
 -- Found not free by the load, or by the claim, or claimed.
-use Rattle.std.proofs.Common.{arith, ◌≡◌, ◌∙◌, subst}
-use Rattle.std.proofs.lemmas.Bool.{eqb-true, eqb-false}
-use Rattle.rowex_core.specs.declared.event.Act.TheVariants.{LoadState}
-use Rattle.rowex_table.specs.Runs.{Steps}
+use Rattle.rowex_records.proofs.Common.{arith, ◌≡◌, ◌∙◌, subst, eqb-true, eqb-false, LoadState, Steps}
 use Rattle.rowex_records.proofs.Claims.{missed_by_load, missed_by_claim, claimed_free}
 use Rattle.rowex_records.proofs.claiming.try_claim_record.Goals as goal
 

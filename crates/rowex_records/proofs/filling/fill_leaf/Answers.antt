@@ -1,7 +1,5 @@
 -- The value, then the length and the words of the key, each behind the one before: these are the leaf's words up to the end of its key.
-use Rattle.std.proofs.Common.{rules, arith, subst, length, ap, ◌≡◌, ◌+◌, ◌-◌}
-use Rattle.record_words.specs.declared.records.Rec.TheVariants.{Leaf as a_leaf}
-use Rattle.record_words.specs.Leaf.{leaf_words, words_for}
+use Rattle.rowex_records.proofs.Common.{rules, arith, subst, length, ap, ◌≡◌, ◌+◌, ◌-◌, a_leaf, leaf_words, words_for}
 use Rattle.rowex_records.specs.Records.{SetsSome}
 use Rattle.rowex_records.proofs.filling.Named.{stores_of}
 use Rattle.rowex_records.proofs.filling.SetAll.{key_next, length_next, sets_leaf_value, sets_leaf_next, sets_count, sets_leaf}

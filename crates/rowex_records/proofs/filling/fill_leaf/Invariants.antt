@@ -1,7 +1,6 @@
 -- The words are stored up to the one that waits: the length, or the word with the bytes of the key before the index.
 use Rattle.std.specs.Prelude.{◌+◌, ◌≡◌, get_or}
-use Rattle.record_words.specs.declared.records.Rec.TheVariants.{Leaf}
-use Rattle.record_words.specs.Leaf.{leaf_words}
+use Rattle.rowex_records.proofs.Common.{Leaf, leaf_words}
 use Rattle.rowex_records.specs.Records.{SetsSome}
 use Rattle.rowex_records.proofs.filling.fill_leaf.Given as goal
 

@@ -1,7 +1,5 @@
 -- Eight by eight, and then the last one: these are all, and spell the node.
-use Rattle.std.proofs.Common.{arith, rules, length, refl, ◌≡◌}
-use Rattle.record_words.specs.declared.records.Rec.TheVariants.{Node as a_node}
-use Rattle.rowex_core.specs.Reading.{IsPacked}
+use Rattle.rowex_records.proofs.Common.{arith, rules, length, refl, ◌≡◌, a_node, IsPacked}
 use Rattle.rowex_records.specs.Records.{SetsSome}
 use Rattle.rowex_records.proofs.filling.Named.{claimed_at, more_of, stores_of}
 use Rattle.rowex_records.proofs.filling.SetAll.{sets_eights, sets_node, sets_count, sets_give}

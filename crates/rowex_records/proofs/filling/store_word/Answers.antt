@@ -1,6 +1,5 @@
 -- The word is stored.
-use Rattle.std.proofs.Common.{rules}
-use Rattle.rowex_table.proofs.Rights.{fills}
+use Rattle.rowex_records.proofs.Common.{rules, fills}
 use Rattle.rowex_records.proofs.filling.store_word.Goals as goal
 
 pub fill_at-requires-clause-may : goal.fill_at-requires-clause-may

@@ -1,9 +1,7 @@
 -- Behind the common front the first leaves differ.
-use Rattle.std.proofs.Common.{ℕ, ◌-◌, List, length, take, drop, map, sym, ◌∙◌, ap, subst, ◌≡◌, arith}
-use Rattle.std.proofs.lemmas.List.{length-map, drop-map, take_rest}
+use Rattle.rowex_replay_state.proofs.Common.{ℕ, ◌-◌, List, length, take, drop, map, sym, ◌∙◌, ap, subst, ◌≡◌, arith, length-map, drop-map, take_rest, AreSame}
 use Rattle.rowex_replay_state.specs.Versions.{read_item}
 use Rattle.rowex_replay_state.specs.declared.linked.Item.{Item}
-use Rattle.rowex_core.specs.Events.{AreSame}
 use Rattle.rowex_replay_state.specs.Changed.{BeginApart, IsFoundChange}
 use Rattle.rowex_replay_state.proofs.Changed.{found_from, apart_from}
 use Rattle.rowex_replay_state.proofs.changes.change_between.Goals as goal

@@ -1,12 +1,11 @@
 -- The change at the first place where the lists differ.
-use Rattle.std.proofs.Common.{◌∷◌, [], refl, sym, subst}
+use Rattle.rowex_replay_state.proofs.Common.{◌∷◌, [], refl, sym, subst, added_change, removed_change}
 use Rattle.std.specs.declared.cmp.Ordering.TheVariants.{Less, Equal, Greater}
 use Rattle.std.specs.Prelude.{map}
 use Rattle.rowex_replay_state.specs.Versions.{read_item}
 use Rattle.rowex_replay_state.specs.Changed.{IsMade}
 use Rattle.rowex_replay_state.proofs.Changed.{removal_found, addition_found, exchange_found, apart_change, found_at, no_items}
 use Rattle.rowex_replay_state.proofs.changes.change_from_first_difference.Goals as goal
-use Rattle.versions.specs.Told.{added_change, removed_change}
 
 pub returns-in-None-Some : goal.returns-in-None-Some
 returns-in-None-Some c =

@@ -1,7 +1,5 @@
 -- The columns so far.
-use Rattle.std.proofs.Common.{◌≡◌, length, take}
-use Rattle.record_words.specs.HeadParts.{AreNumbersOf}
-use Rattle.record_words.specs.Node.{InNodesOf}
+use Rattle.rowex_replay_state.proofs.Common.{◌≡◌, length, take, AreNumbersOf, InNodesOf}
 use Rattle.rowex_replay_state.proofs.fixed.read_columns.Given as goal
 
 abbrev pub invariant-loop-column : goal.invariant-loop-column

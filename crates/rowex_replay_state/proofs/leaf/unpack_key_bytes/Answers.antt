@@ -1,10 +1,6 @@
 -- Each word of the key is written, and behind these all is 0.
-use Rattle.std.proofs.Common.{◌+◌, ◌<◌, ◌≤◌, arith, refl, sym, ◌∙◌, ⊎_elim}
-use Rattle.std.proofs.lemmas.Bool.{cases_lt}
-use Rattle.record_words.specs.Leaf.{up_to_key}
-use Rattle.record_words.proofs.Leaves.{key_part}
+use Rattle.rowex_replay_state.proofs.Common.{◌+◌, ◌<◌, ◌≤◌, arith, refl, sym, ◌∙◌, ⊎_elim, cases_lt, up_to_key, key_part, up_to_key_before, up_to_key_past}
 use Rattle.record_words.proofs.Unused.{zero_word}
-use Rattle.record_words.proofs.UpToKey.{up_to_key_before, up_to_key_past}
 use Rattle.rowex_replay_state.proofs.leaf.unpack_key_bytes.Goals as goal
 
 pub loop-j-init : goal.loop-j-init

@@ -1,6 +1,5 @@
 -- The words so far are those of the bytes, and the others 0.
-use Rattle.std.proofs.Common.{ℕ, ◌≡◌, ◌+◌, ◌<◌, ◌≤◌, length, slice_index}
-use Rattle.record_words.specs.Leaf.{key_word}
+use Rattle.rowex_replay_state.proofs.Common.{ℕ, ◌≡◌, ◌+◌, ◌<◌, ◌≤◌, length, slice_index, key_word}
 use Rattle.rowex_replay_state.proofs.leaf.unpack_key_bytes.Given as goal
 
 abbrev pub invariant-loop-j : goal.invariant-loop-j

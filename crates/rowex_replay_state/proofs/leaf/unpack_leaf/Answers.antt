@@ -1,9 +1,5 @@
 -- No key is so long.
-use Rattle.std.proofs.Common.{arith, sym}
-use Rattle.record_words.specs.Leaf.{up_to_key}
-use Rattle.record_words.specs.declared.WordFault.TheVariants.{Bad}
-use Rattle.record_words.proofs.Leaves.{leaf_words_parts}
-use Rattle.record_words.proofs.UpToKey.{up_to_key_size}
+use Rattle.rowex_replay_state.proofs.Common.{arith, sym, up_to_key, Bad, leaf_words_parts, up_to_key_size}
 use Rattle.rowex_replay_state.proofs.leaf.Readings.{reads_none}
 use Rattle.rowex_replay_state.proofs.leaf.unpack_leaf.Goals as goal
 

@@ -1,10 +1,5 @@
 -- The bytes of the words are those of the key, if there is one.
-use Rattle.std.proofs.Common.{ℕ, ◌≡◌, ◌<◌, take, drop, get_or, sym, ◌∙◌}
-use Rattle.std.specs.Prelude.{EachIndex}
-use Rattle.record_words.specs.Leaf.{up_to_key}
-use Rattle.record_words.specs.declared.WordFault.TheVariants.{Bad}
-use Rattle.record_words.proofs.Leaves.{leaf_words_parts, key_of_bytes, same_pair}
-use Rattle.record_words.proofs.UpToKey.{up_to_key_long, up_to_key_size, up_to_key_value}
+use Rattle.rowex_replay_state.proofs.Common.{ℕ, ◌≡◌, ◌<◌, take, drop, get_or, sym, ◌∙◌, EachIndex, up_to_key, Bad, leaf_words_parts, key_of_bytes, same_pair, up_to_key_long, up_to_key_size, up_to_key_value}
 use Rattle.rowex_replay_state.proofs.leaf.Readings.{reads_none, reads_one}
 use Rattle.rowex_replay_state.proofs.leaf.LeafBytes.{rest_of_bytes, leaf_of_bytes}
 use Rattle.rowex_replay_state.proofs.leaf.unpack_leaf_with_bytes.Goals as goal

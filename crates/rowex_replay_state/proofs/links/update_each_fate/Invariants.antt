@@ -1,5 +1,4 @@
-use Rattle.std.proofs.Common.{◌≡◌, ℕ, ◌<◌, ◌≤◌, get_or, slice_get, false, Some}
-use Rattle.versions.specs.Steps.{next_fate}
+use Rattle.rowex_replay_state.proofs.Common.{◌≡◌, ℕ, ◌<◌, ◌≤◌, get_or, slice_get, false, Some, next_fate}
 use Rattle.rowex_replay_state.specs.declared.fate.Fate.{Fate}
 use Rattle.rowex_replay_state.specs.Fates.{stored_fate}
 use Rattle.rowex_replay_state.proofs.links.update_each_fate.Given as goal

@@ -1,8 +1,6 @@
 -- The words are read one after another, and after a word 0 none is an entry's.
-use Rattle.std.proofs.Common.{◌≡◌, ◌≢◌, arith, sym, length, ◌∙◌}
+use Rattle.rowex_replay_state.proofs.Common.{◌≡◌, ◌≢◌, arith, sym, length, ◌∙◌, Bad, entry_words_at}
 use Rattle.std.specs.Prelude.{slice_get}
-use Rattle.record_words.specs.declared.WordFault.TheVariants.{Bad}
-use Rattle.record_words.proofs.Entries.{entry_words_at}
 use Rattle.rowex_replay_state.proofs.node.Entries.{none_so_far, one_more, none_more, no_entry_later, entries_read}
 use Rattle.rowex_replay_state.proofs.leaf.Readings.{reads_none, reads_fault}
 use Rattle.rowex_replay_state.proofs.node.unpack_entries.Goals as goal

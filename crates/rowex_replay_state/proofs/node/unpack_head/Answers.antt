@@ -1,7 +1,5 @@
 -- The numbers that were read are those of a head with these words, if there is one.
-use Rattle.std.proofs.Common.{◌≡◌, ◌∙◌, List, ℕ, refl, sym, take}
-use Rattle.compound_node.specs.Nodes.{HeadView, IsHead}
-use Rattle.record_words.specs.Node.{InNodesOf}
+use Rattle.rowex_replay_state.proofs.Common.{◌≡◌, ◌∙◌, List, ℕ, refl, sym, take, HeadView, IsHead, InNodesOf}
 use Rattle.rowex_replay_state.proofs.node.Heads.{AreReadOf, head_read, no_head, other_head, read_of}
 use Rattle.rowex_replay_state.proofs.node.unpack_head.Goals as goal
 use Rattle.rowex_replay_state.proofs.node.unpack_head.Goals.{After-read_rows-rows}

@@ -1,7 +1,5 @@
 -- The numbers and the entries that were read are those of a node with these words, if there is one.
-use Rattle.std.proofs.Common.{◌≡◌, ◌∙◌, List, ℕ, get_or, get_or-take, lit<, refl, sym, take}
-use Rattle.compound_node.specs.Nodes.{IsNode}
-use Rattle.record_words.specs.Node.{InNodesOf}
+use Rattle.rowex_replay_state.proofs.Common.{◌≡◌, ◌∙◌, List, ℕ, get_or, get_or-take, lit<, refl, sym, take, IsNode, InNodesOf}
 use Rattle.rowex_replay_state.proofs.node.Heads.{AreReadOf, read_of}
 use Rattle.rowex_replay_state.proofs.node.Nodes.{entries_unread, no_node, node_read, other_node}
 use Rattle.rowex_replay_state.proofs.node.unpack_node.Goals as goal

@@ -1,9 +1,6 @@
 -- Reading is exact.
-use Rattle.std.proofs.Common.{◌+◌, inl, inr, true, arith, ap, sym, ◌∙◌, subst, refl, length-set}
+use Rattle.rowex_replay_state.proofs.Common.{◌+◌, inl, inr, true, arith, ap, sym, ◌∙◌, subst, refl, length-set, IfOk-weaker, piece, Place}
 use Rattle.std.specs.Vec.{with_item}
-use Rattle.std.proofs.lemmas.Result.{IfOk-weaker}
-use Rattle.compound_node.specs.Nodes.{piece}
-use Rattle.node_tries.specs.Piece.{Place}
 use Rattle.rowex_replay_state.specs.Parts.{IsTreeRead, ShowsPart, table_of}
 use Rattle.rowex_replay_state.proofs.parts.Steps.{cut_steps, node_steps, steps}
 use Rattle.rowex_replay_state.proofs.parts.Parts.{no_node}

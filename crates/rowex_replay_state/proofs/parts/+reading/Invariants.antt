@@ -1,6 +1,5 @@
 -- A half has more steps to go than its cut, a cut more than each of its sides, and an entry more than the node that it leads to.
-use Rattle.std.proofs.Common.{◌+◌, ◌*◌, max}
-use Rattle.node_tries.specs.Piece.{Place}
+use Rattle.rowex_replay_state.proofs.Common.{◌+◌, ◌*◌, max, Place}
 use Rattle.rowex_replay_state.proofs.parts.Steps.{steps, half_steps}
 use Rattle.rowex_replay_state.proofs.parts.+reading.Given as goal
 

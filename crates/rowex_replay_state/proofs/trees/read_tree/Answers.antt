@@ -1,6 +1,5 @@
 -- What was read from the root is told exactly of a lawful version.
-use Rattle.std.proofs.Common.{Some, None, refl, subst, sym}
-use Rattle.node_tries.specs.Piece.{Place}
+use Rattle.rowex_replay_state.proofs.Common.{Some, None, refl, subst, sym, Place}
 use Rattle.rowex_replay_state.specs.declared.linked.Linked.{Linked}
 use Rattle.rowex_replay_state.specs.Versions.{IsReadVersion, Table}
 use Rattle.rowex_replay_state.specs.Parts.{IsTreeRead, ShowsPart}

@@ -1,16 +1,7 @@
 -- No entry, and one more: it leads to a leaf or to a node.
-use Rattle.std.proofs.Common.{◌≡◌, ℕ, ◌+◌, ◌∙◌, arith, rules, subst, sym}
-use Rattle.std.proofs.lemmas.List.{length-set}
-use Rattle.compound_node.specs.declared.entries.Entry.TheVariants.{Leaf, Node}
-use Rattle.rowex_table.specs.Seats.{SeatView}
-use Rattle.rowex_reading.specs.Seen.{HasPlace, IsLedTo, Sure}
-use Rattle.rowex_reading.proofs.Seen.Led.{placed_led, reader_then, reads_later, reads_none, reads_trans}
+use Rattle.rowex_scanning.proofs.Common.{◌≡◌, ℕ, ◌+◌, ◌∙◌, arith, rules, subst, sym, length-set, Leaf, Node, SeatView, HasPlace, IsLedTo, Sure, placed_led, reader_then, reads_later, reads_none, reads_trans, since_later, reads_touching, reads_untouched, touches_last, IsPlaced, place_ahead}
 use Rattle.rowex_reading.proofs.Seen.Naming.{entry_told, node_place}
-use Rattle.rowex_reading.proofs.Seen.{since_later}
-use Rattle.rowex_reading.proofs.Touching.{reads_touching, reads_untouched, touches_last}
-use Rattle.version_laws.specs.Scan.{IsPlaced}
 use Rattle.rowex_scanning.specs.Ahead.{AreSlots, HasPlaces}
-use Rattle.version_laws.specs.Directions.{place_ahead}
 use Rattle.rowex_scanning.proofs.ahead.Begins.{begins_there, leaf_begins, leaf_there, node_begins, node_there}
 use Rattle.rowex_scanning.proofs.taking.Passing.{ahead_later, ahead_more, loaded_at, places_later, starts_more}
 use Rattle.rowex_scanning.proofs.ahead.load_entries_ahead.Given as given

@@ -1,6 +1,5 @@
 -- The entries so far lead to leaves, whose records begin at the first starts. The slots go on behind them.
-use Rattle.std.proofs.Common.{◌≡◌, ℕ, ◌≤◌, length}
-use Rattle.rowex_reading.specs.Reads.{IsReader, Reads}
+use Rattle.rowex_scanning.proofs.Common.{◌≡◌, ℕ, ◌≤◌, length, IsReader, Reads}
 use Rattle.rowex_scanning.specs.Ahead.{AreAhead, AreSlots, FirstLeavesBeginAt, HasPlaces}
 use Rattle.rowex_scanning.specs.declared.ahead.TheConstants.{MOST_AHEAD}
 use Rattle.rowex_scanning.proofs.ahead.load_entries_ahead.Given as goal

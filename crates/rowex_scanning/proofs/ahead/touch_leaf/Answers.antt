@@ -1,8 +1,5 @@
 -- The record is one of the table's, and has these words.
-use Rattle.std.proofs.Common.{◌∙◌, ap, arith, subst, sym}
-use Rattle.record_words.specs.declared.records.Rec.TheVariants.{Leaf as a_leaf}
-use Rattle.rowex_table.specs.Rule.{IsStartOf, record_number}
-use Rattle.rowex_reading.proofs.Touching.{touched_none, touched_on}
+use Rattle.rowex_scanning.proofs.Common.{◌∙◌, ap, arith, subst, sym, a_leaf, IsStartOf, record_number, touched_none, touched_on}
 use Rattle.rowex_scanning.proofs.ahead.Begins.{word_there}
 use Rattle.rowex_scanning.proofs.ahead.touch_leaf.Goals as goal
 

@@ -1,9 +1,5 @@
 -- The last leaf tells of all; else the leaves between one that is not past the range and one that is are halved.
-use Rattle.std.proofs.Common.{◌≡◌, ℕ, ◌+◌, ◌-◌, ◌*◌, ◌/◌, ◌<◌, ◌≤◌, arith, length, subst, get_or, sym}
-use Rattle.record_words.specs.declared.TheConstants.{LEAF_FIELDS}
-use Rattle.rowex_reading.specs.Seen.{since}
-use Rattle.rowex_reading.proofs.Seen.Led.{reader_then, reads_later, reads_trans}
-use Rattle.rowex_reading.proofs.Seen.{later_reflexive}
+use Rattle.rowex_scanning.proofs.Common.{◌≡◌, ℕ, ◌+◌, ◌-◌, ◌*◌, ◌/◌, ◌<◌, ◌≤◌, arith, length, subst, get_or, sym, LEAF_FIELDS, since, reader_then, reads_later, reads_trans, later_reflexive}
 use Rattle.rowex_scanning.specs.Ahead.{IsLeafNotPast, IsLeafPast}
 use Rattle.rowex_scanning.specs.Scanning.{request_of}
 use Rattle.rowex_scanning.proofs.taking.Runs.{behind_led, not_past_later, past_later, within_up_to}

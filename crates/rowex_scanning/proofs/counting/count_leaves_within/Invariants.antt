@@ -1,8 +1,5 @@
 -- The leaf before those in question is not past the range, and the one behind them is.
-use Rattle.std.proofs.Common.{◌≡◌, ℕ, ◌+◌, ◌-◌, ◌*◌, ◌<◌, ◌≤◌, length, get_or}
-use Rattle.record_words.specs.declared.TheConstants.{LEAF_FIELDS}
-use Rattle.rowex_reading.specs.Reads.{IsReader, Reads}
-use Rattle.rowex_reading.specs.Seen.{since}
+use Rattle.rowex_scanning.proofs.Common.{◌≡◌, ℕ, ◌+◌, ◌-◌, ◌*◌, ◌<◌, ◌≤◌, length, get_or, LEAF_FIELDS, IsReader, Reads, since}
 use Rattle.rowex_scanning.specs.Ahead.{IsLeafNotPast, IsLeafPast}
 use Rattle.rowex_scanning.specs.Scanning.{request_of}
 use Rattle.rowex_scanning.proofs.counting.count_leaves_within.Given as goal

@@ -1,7 +1,5 @@
 -- The order of the bytes is that of the first different bit.
-use Rattle.std.proofs.Common.{◌≡◌, true, false, ap, sym, subst, ◌∙◌}
-use Rattle.std.specs.Prelude.{IsTrue}
-use Rattle.std.specs.Ordering.{is_lt}
+use Rattle.rowex_scanning.proofs.Common.{◌≡◌, true, false, ap, sym, subst, ◌∙◌, IsTrue, is_lt}
 use Rattle.rowex_scanning.proofs.Walking.{is_less, less_before, not_less_after}
 use Rattle.rowex_scanning.proofs.direction.is_key_before.Goals as goal
 

@@ -1,6 +1,5 @@
 -- A smaller first word is that of a key before the last one of the range.
-use Rattle.std.proofs.Common.{inr, ◌<◌, arith}
-use Rattle.record_words.specs.Leaf.{key_word}
+use Rattle.rowex_scanning.proofs.Common.{inr, ◌<◌, arith, key_word}
 use Rattle.rowex_scanning.proofs.scan.Ordering.{small_byte, word_less}
 use Rattle.rowex_scanning.proofs.Walking.{less_before}
 use Rattle.rowex_scanning.proofs.scan.is_past_range.Goals as goal

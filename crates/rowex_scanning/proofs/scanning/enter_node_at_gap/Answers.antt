@@ -1,8 +1,5 @@
 -- The step at the head that was loaded, and the gap before its first entry.
-use Rattle.std.proofs.Common.{◌∙◌, ap}
-use Rattle.insert_cases.specs.declared.choice.PathNode.{PathNode}
-use Rattle.rowex_reading.specs.Ways.{step_at}
-use Rattle.version_laws.specs.Directions.{first_gap}
+use Rattle.rowex_scanning.proofs.Common.{◌∙◌, ap, PathNode, step_at, first_gap}
 use Rattle.rowex_scanning.proofs.Walking.{entered, head_size}
 use Rattle.rowex_scanning.proofs.scanning.enter_node_at_gap.Goals as goal
 

@@ -1,12 +1,5 @@
 -- A scan of one leaf.
-use Rattle.std.proofs.Common.{◌∙◌, ◌≤◌, ℕ, subst, take}
-use Rattle.std.proofs.lemmas.Result.{err_from_is_err_and}
-use Rattle.compound_node.specs.declared.entries.Entry.TheVariants.{Leaf}
-use Rattle.record_words.specs.declared.TheConstants.{LEAF_FIELDS}
-use Rattle.rowex_reading.specs.Reads.{Reads}
-use Rattle.rowex_reading.specs.Seen.{since}
-use Rattle.rowex_reading.proofs.Seen.Led.{reads_later, rooted_led, same_since}
-use Rattle.version_laws.specs.Directions.{IsEarlier, IsNoLater}
+use Rattle.rowex_scanning.proofs.Common.{◌∙◌, ◌≤◌, ℕ, subst, take, err_from_is_err_and, Leaf, LEAF_FIELDS, Reads, since, reads_later, rooted_led, same_since, IsEarlier, IsNoLater}
 use Rattle.rowex_scanning.specs.Scanning.{asked_range}
 use Rattle.rowex_scanning.proofs.scanning.Parts.{leaf_part}
 use Rattle.rowex_scanning.proofs.Walking.{IsRootRead, leaf_early, leaf_full, leaf_unfilled}

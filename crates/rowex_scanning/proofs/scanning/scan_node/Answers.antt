@@ -1,12 +1,5 @@
 -- The start, the leaf that comes first, and the walk from there on.
-use Rattle.std.proofs.Common.{◌≡◌, ◌∙◌, ◌≤◌, ℕ, ap, length, arith}
-use Rattle.std.proofs.lemmas.List.{length-take-le}
-use Rattle.std.proofs.lemmas.Result.{err_from_is_err_and}
-use Rattle.compound_node.specs.declared.entries.Entry.TheVariants.{Leaf}
-use Rattle.rowex_reading.specs.Reads.{Reads}
-use Rattle.rowex_reading.specs.Seen.{since}
-use Rattle.rowex_reading.proofs.Seen.Led.{reader_then, reads_later, reads_trans, same_since}
-use Rattle.version_laws.specs.Directions.{first_key}
+use Rattle.rowex_scanning.proofs.Common.{◌≡◌, ◌∙◌, ◌≤◌, ℕ, ap, length, arith, length-take-le, err_from_is_err_and, Leaf, Reads, since, reader_then, reads_later, reads_trans, same_since, first_key}
 use Rattle.rowex_scanning.specs.Scanning.{asked_range}
 use Rattle.rowex_scanning.proofs.ahead.Begins.{begins_there, leaf_there}
 use Rattle.rowex_scanning.proofs.scanning.Parts.{walk_part}

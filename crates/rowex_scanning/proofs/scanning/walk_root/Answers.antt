@@ -1,10 +1,6 @@
 -- A range without keys; an empty root; and a search that has ended at a leaf.
-use Rattle.std.proofs.Common.{subst, ◌∙◌, arith}
-use Rattle.rowex_reading.specs.Seen.{since}
-use Rattle.rowex_reading.proofs.Seen.Led.{looks_first, looks_same, reads_none}
-use Rattle.rowex_reading.specs.Ways.{IsWayOf}
+use Rattle.rowex_scanning.proofs.Common.{subst, ◌∙◌, arith, since, looks_first, looks_same, reads_none, IsWayOf, IsBefore}
 use Rattle.rowex_reading.specs.declared.descent.Found.TheVariants.{Leaf}
-use Rattle.tries.specs.Keys.{IsBefore}
 use Rattle.rowex_scanning.specs.Scanning.{asked_range}
 use Rattle.rowex_scanning.proofs.Starts.{leaf_rooted, nothing_blank}
 use Rattle.rowex_scanning.proofs.Walking.{blank_scanned, empty_is, nothing_scanned, scans_few, searched_scans, walks_alone}

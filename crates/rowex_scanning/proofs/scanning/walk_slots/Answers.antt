@@ -1,16 +1,8 @@
 -- The steps of the walk.
-use Rattle.std.proofs.Common.{◌≡◌, ◌+◌, ◌<◌, ◌∷◌, ◌++◌, [], List, length, take, ap, sym, subst, ◌∙◌, arith}
-use Rattle.std.specs.Prelude.{IfSome, option_to_list}
-use Rattle.std.proofs.lemmas.List.{length-take-le}
-use Rattle.compound_node.specs.declared.entries.Entry.TheVariants.{Node}
-use Rattle.insert_cases.specs.declared.choice.PathNode.{PathNode}
-use Rattle.rowex_reading.specs.Seen.{since}
-use Rattle.rowex_reading.proofs.Seen.Led.{reader_then, reads_later, reads_none, reads_trans, same_since}
-use Rattle.rowex_reading.proofs.Seen.{placed_stable, sure_later}
+use Rattle.rowex_scanning.proofs.Common.{◌≡◌, ◌+◌, ◌<◌, ◌∷◌, ◌++◌, [], List, length, take, ap, sym, subst, ◌∙◌, arith, IfSome, option_to_list, length-take-le, Node, PathNode, since, reader_then, reads_later, reads_none, reads_trans, same_since, placed_stable, sure_later, first_key, place_ahead, to_come}
 use Rattle.rowex_scanning.specs.Ahead.{AreAhead, AreNext, HavePassed, IsNodeAhead, entries_ahead}
 use Rattle.rowex_scanning.specs.Counts.{Walks}
 use Rattle.rowex_scanning.specs.declared.ahead.TheConstants.{MOST_AHEAD}
-use Rattle.version_laws.specs.Directions.{first_key, place_ahead, to_come}
 use Rattle.rowex_scanning.specs.Scanning.{HasTaken, IsBound, IsBoundWalk, asked_range, request_of}
 use Rattle.rowex_scanning.proofs.direction.Directed.{gap_before_place}
 use Rattle.rowex_scanning.proofs.taking.Passing.{ahead_first, node_at, node_later, starts_first, taken_all}

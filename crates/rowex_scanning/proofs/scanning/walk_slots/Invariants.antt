@@ -1,8 +1,5 @@
 -- The pass has made loads alone, which are paid for; where the walk is; and what it has still to do.
-use Rattle.std.proofs.Common.{ℕ}
-use Rattle.rowex_reading.specs.Reads.{IsReader, Reads}
-use Rattle.rowex_reading.specs.Seen.{since}
-use Rattle.version_laws.specs.Directions.{first_key}
+use Rattle.rowex_scanning.proofs.Common.{ℕ, IsReader, Reads, since, first_key}
 use Rattle.rowex_scanning.specs.Scanning.{asked_range, request_of, IsBound, IsWalk}
 use Rattle.rowex_scanning.proofs.Walking.{IsPaid, rest_of}
 use Rattle.rowex_scanning.proofs.scanning.walk_slots.Given as goal

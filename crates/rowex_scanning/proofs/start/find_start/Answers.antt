@@ -1,16 +1,7 @@
 -- The place of the scan upwards, and what stands left of it.
-use Rattle.std.proofs.Common.{◌≡◌, ◌-◌, ℕ, List, Bool, true, false, Option, None, Some, not, refl, length, subst, sym, arith}
-use Rattle.std.specs.Prelude.{is_some}
-use Rattle.std.proofs.lemmas.Option.{slice_get-get_or}
-use Rattle.insert_cases.specs.declared.choice.PathNode.{PathNode}
-use Rattle.rowex_core.specs.declared.known.Known.{Known}
-use Rattle.tries.specs.Keys.{Key}
-use Rattle.tries.proofs.Place.{spot_below}
-use Rattle.rowex_reading.proofs.Seen.Led.{reader_then, reads_later}
+use Rattle.rowex_scanning.proofs.Common.{◌≡◌, ◌-◌, ℕ, List, Bool, true, false, Option, None, Some, not, refl, length, subst, sym, arith, is_some, slice_get-get_or, PathNode, Known, Key, spot_below, reader_then, reads_later, Direction, Downwards}
 use Rattle.rowex_scanning.specs.Scanning.{first_key_of}
 use Rattle.rowex_scanning.specs.Starts.{IsSearchEnd, IsParting, IsStart}
-use Rattle.packed_pairs.specs.declared.direction.Direction.{Direction}
-use Rattle.packed_pairs.specs.declared.direction.Direction.TheVariants.{Downwards}
 use Rattle.rowex_scanning.specs.declared.start.Start.{Start}
 use Rattle.rowex_scanning.proofs.Starts.Turning.{turns_before, turns_behind, turns_same, turns_there}
 use Rattle.rowex_scanning.proofs.start.find_start.Given as given

@@ -1,12 +1,5 @@
 -- The way of the search, with the affected entries of the node at the level.
-use Rattle.std.proofs.Common.{rules, ◌≡◌, ◌∙◌, ap, ◌+◌, ◌-◌, ◌<◌, ◌≤◌, ℕ, Bool, false, Some, sym, length, nat_eq, if◌then◌else◌, arith}
-use Rattle.std.specs.Prelude.{slice_get}
-use Rattle.std.proofs.lemmas.Option.{slice_get-get_or}
-use Rattle.rowex_reading.proofs.Seen.Led.{reader_then, reads_later}
-use Rattle.rowex_reading.proofs.Ways.{way_place}
-use Rattle.insert_cases.specs.declared.choice.PathNode.{PathNode}
-use Rattle.key_bits.specs.Bits.{bit_of}
-use Rattle.rowex_reading.specs.Ways.{IsWayOf}
+use Rattle.rowex_scanning.proofs.Common.{rules, ◌≡◌, ◌∙◌, ap, ◌+◌, ◌-◌, ◌<◌, ◌≤◌, ℕ, Bool, false, Some, sym, length, nat_eq, if◌then◌else◌, arith, slice_get, slice_get-get_or, reader_then, reads_later, way_place, PathNode, bit_of, IsWayOf}
 use Rattle.rowex_reading.specs.declared.descent.Found.TheVariants.{Leaf}
 use Rattle.rowex_scanning.specs.Scanning.{first_key_of}
 use Rattle.rowex_scanning.specs.Starts.{IsParting}

@@ -1,6 +1,5 @@
 -- What was read of the record is what the number's leaf had.
-use Rattle.std.proofs.Common.{refl, take}
-use Rattle.rowex_reading.specs.Reads.{leaf_loads}
+use Rattle.rowex_scanning.proofs.Common.{refl, take, leaf_loads}
 use Rattle.rowex_scanning.proofs.taking.load_leaf_at.Goals as goal
 
 pub load_leaf-requires-clause-led : goal.load_leaf-requires-clause-led

@@ -1,15 +1,5 @@
 -- The last leaf is read, and then those before it: without a test where it is not past the range, or one by one.
-use Rattle.std.proofs.Common.{◌≡◌, ℕ, ◌+◌, ◌-◌, ◌*◌, ◌<◌, ◌≤◌, List, arith, length, false, get_or, refl, ⊎_elim, subst, sym, take}
-use Rattle.std.proofs.lemmas.List.{length-take-le}
-use Rattle.std.proofs.lemmas.Result.{err_from_is_err_and}
-use Rattle.insert_cases.specs.declared.choice.PathNode.{PathNode}
-use Rattle.record_words.specs.declared.TheConstants.{LEAF_FIELDS}
-use Rattle.rowex_reading.specs.Reads.{Reads}
-use Rattle.rowex_reading.specs.Seen.{Sure, since}
-use Rattle.rowex_reading.proofs.Seen.Led.{reader_then, reads_later, reads_none, reads_trans, same_since}
-use Rattle.rowex_reading.proofs.Seen.{later_reflexive, read_stable, sure_later}
-use Rattle.version_laws.specs.Directions.{IsNoLater}
-use Rattle.version_laws.specs.Scan.{IsRead}
+use Rattle.rowex_scanning.proofs.Common.{◌≡◌, ℕ, ◌+◌, ◌-◌, ◌*◌, ◌<◌, ◌≤◌, List, arith, length, false, get_or, refl, ⊎_elim, subst, sym, take, length-take-le, err_from_is_err_and, PathNode, LEAF_FIELDS, Reads, Sure, since, reader_then, reads_later, reads_none, reads_trans, same_since, later_reflexive, read_stable, sure_later, IsNoLater, IsRead}
 use Rattle.rowex_scanning.specs.Ahead.{AreNext, AreWithin, HavePassed, IsLeafNotPast, IsLeafPast}
 use Rattle.rowex_scanning.specs.Scanning.{HasTaken, asked_range, first_key_of, last_key_of, request_of}
 use Rattle.rowex_scanning.proofs.taking.Passing.{next_few, next_first, next_kept, next_later, passed_as, passed_none, starts_first, taken_all, taken_past}

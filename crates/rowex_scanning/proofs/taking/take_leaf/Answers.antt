@@ -1,7 +1,5 @@
 -- The leaf is read, and then its pair is taken.
-use Rattle.std.proofs.Common.{take}
-use Rattle.std.proofs.lemmas.Result.{IfOk-weaker, on_err_weaker}
-use Rattle.rowex_reading.proofs.Seen.Led.{reader_then, reads_later}
+use Rattle.rowex_scanning.proofs.Common.{take, IfOk-weaker, on_err_weaker, reader_then, reads_later}
 use Rattle.rowex_scanning.specs.Scanning.{asked_range, request_of, IsLeafRefused, IsLeafTaken, IsPairRefused, IsPairTaken}
 use Rattle.rowex_scanning.proofs.taking.take_leaf.Goals as goal
 

@@ -1,8 +1,5 @@
 -- No leaf, and one more: it belongs to the range, since the last one is not past it.
-use Rattle.std.proofs.Common.{◌≡◌, ℕ, ◌+◌, ◌-◌, ◌*◌, ◌<◌, ◌≤◌, List, arith, length, subst, take}
-use Rattle.record_words.specs.declared.TheConstants.{LEAF_FIELDS}
-use Rattle.rowex_reading.specs.Seen.{since}
-use Rattle.rowex_reading.proofs.Seen.Led.{reader_then, reads_later, reads_none, reads_trans}
+use Rattle.rowex_scanning.proofs.Common.{◌≡◌, ℕ, ◌+◌, ◌-◌, ◌*◌, ◌<◌, ◌≤◌, List, arith, length, subst, take, LEAF_FIELDS, since, reader_then, reads_later, reads_none, reads_trans}
 use Rattle.rowex_scanning.specs.Ahead.{HavePassed}
 use Rattle.rowex_scanning.specs.Scanning.{request_of}
 use Rattle.rowex_scanning.proofs.taking.Passing.{passed_later, passed_none}

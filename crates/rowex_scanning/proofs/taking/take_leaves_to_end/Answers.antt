@@ -1,14 +1,6 @@
 -- No leaf, and one more.
-use Rattle.std.proofs.Common.{◌≡◌, ℕ, ◌+◌, ◌*◌, ◌≤◌, List, arith, length, get_or, subst}
-use Rattle.std.proofs.lemmas.Result.{err_from_is_err_and}
-use Rattle.compound_node.specs.declared.entries.Entry.TheVariants.{Leaf}
-use Rattle.record_words.specs.declared.TheConstants.{LEAF_FIELDS}
-use Rattle.insert_cases.specs.declared.choice.PathNode.{PathNode}
-use Rattle.rowex_reading.specs.Reads.{Reads}
-use Rattle.rowex_reading.specs.Seen.{since}
-use Rattle.rowex_reading.proofs.Seen.Led.{reader_then, reads_later, reads_none, reads_trans, same_since}
+use Rattle.rowex_scanning.proofs.Common.{◌≡◌, ℕ, ◌+◌, ◌*◌, ◌≤◌, List, arith, length, get_or, subst, err_from_is_err_and, Leaf, LEAF_FIELDS, PathNode, Reads, since, reader_then, reads_later, reads_none, reads_trans, same_since, place_ahead}
 use Rattle.rowex_scanning.specs.Ahead.{AreNext, HavePassed}
-use Rattle.version_laws.specs.Directions.{place_ahead}
 use Rattle.rowex_scanning.specs.Scanning.{asked_range, request_of}
 use Rattle.rowex_scanning.proofs.scanning.Parts.{walk_part}
 use Rattle.rowex_scanning.proofs.taking.Passing.{ahead_later, leaf_at, leaf_reached, passed_more, passed_none}

@@ -1,9 +1,5 @@
 -- The leaves so far were passed, on each way on which they came next.
-use Rattle.std.proofs.Common.{ℕ, ◌*◌, ◌≤◌, List, length}
-use Rattle.record_words.specs.declared.TheConstants.{LEAF_FIELDS}
-use Rattle.insert_cases.specs.declared.choice.PathNode.{PathNode}
-use Rattle.rowex_reading.specs.Reads.{IsReader, Reads}
-use Rattle.rowex_reading.specs.Seen.{since}
+use Rattle.rowex_scanning.proofs.Common.{ℕ, ◌*◌, ◌≤◌, List, length, LEAF_FIELDS, PathNode, IsReader, Reads, since}
 use Rattle.rowex_scanning.specs.Ahead.{AreAhead, AreNext, HavePassed}
 use Rattle.rowex_scanning.specs.Scanning.{request_of}
 use Rattle.rowex_scanning.proofs.taking.take_leaves_to_end.Given as goal

@@ -1,6 +1,5 @@
 -- The key is past the range, or belongs to it, from its first key on.
-use Rattle.std.proofs.Common.{refl, sym, take, ◌∙◌}
-use Rattle.std.proofs.lemmas.Result.{err_from_is_err_and}
+use Rattle.rowex_scanning.proofs.Common.{refl, sym, take, ◌∙◌, err_from_is_err_and}
 use Rattle.rowex_scanning.specs.Scanning.{asked_range}
 use Rattle.rowex_scanning.proofs.direction.Directed.{in_range}
 use Rattle.rowex_scanning.proofs.Walking.{kept_more}

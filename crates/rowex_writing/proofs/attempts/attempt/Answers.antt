@@ -1,10 +1,6 @@
 -- The search, its plan, and what follows from it.
 use Rattle.rowex_writing.proofs.build.Spare.{looks_room, looks_spare, reads_room, reads_spare}
-use Rattle.std.proofs.Common.{[], Err, Some, inl, inr, ◌∙◌, ap, subst, sym, arith, refl, IsSome, ◌≡◌, ◌≤◌, ◌+◌}
-use Rattle.rowex_reading.specs.Seen.{since}
-use Rattle.rowex_reading.specs.Ways.{IsWayOf, value_of}
-use Rattle.rowex_reading.proofs.Seen.Led.{reads_later, same_since}
-use Rattle.rowex_reading.proofs.Ways.{way_later}
+use Rattle.rowex_writing.proofs.Common.{[], Err, Some, inl, inr, ◌∙◌, ap, subst, sym, arith, refl, IsSome, ◌≡◌, ◌≤◌, ◌+◌, since, IsWayOf, value_of, reads_later, same_since, way_later, later_trans}
 use Rattle.rowex_writing.specs.attempts.Attempts.{HasAttempted}
 use Rattle.rowex_writing.specs.plan.Planned.{IsPlanned}
 use Rattle.rowex_writing.specs.plan.Counts.{most_steps}
@@ -21,7 +17,6 @@ use Rattle.rowex_writing.proofs.attempts.attempt.Goals.{After-find_plan, After-t
 use Rattle.rowex_writing.specs.plan.Asking.{aim_of, value_in}
 use Rattle.rowex_writing.specs.declared.attempts.TryFault.TheVariants.{FullNodes}
 use Rattle.rowex_writing.specs.declared.plan.Plan.TheVariants.{Change}
-use Rattle.rowex_reading.proofs.Seen.{later_trans}
 use Rattle.rowex_writing.specs.declared.plan.Deed.TheVariants.{Value as ValueDeed}
 
 -- what the search and the plan leave

@@ -1,7 +1,5 @@
 -- What is left is published, as one with the node beside it or alone.
-use Rattle.std.proofs.Common.{◌+◌, ◌*◌, arith, subst, sym}
-use Rattle.record_words.specs.declared.TheConstants.{NODE_FIELDS}
-use Rattle.rowex_reading.proofs.Seen.{later_trans}
+use Rattle.rowex_writing.proofs.Common.{◌+◌, ◌*◌, arith, subst, sym, NODE_FIELDS, later_trans}
 use Rattle.rowex_writing.specs.build.Changes.{IsTakeChange}
 use Rattle.rowex_writing.specs.locks.Locks.{span_numbers}
 use Rattle.rowex_writing.specs.build.Taking.{HasClaimed, IsLeftOfNode}

@@ -1,14 +1,12 @@
 -- The locks are taken, and what is found under them is what the search found; or all are given back.
 use Rattle.rowex_writing.proofs.build.Spare.{goes_room, goes_spare, works_room, works_spare}
-use Rattle.std.proofs.Common.{◌≡◌, true, false, inl, inr, ◌∙◌, arith}
-use Rattle.rowex_reading.proofs.Seen.{later_trans}
+use Rattle.rowex_writing.proofs.Common.{◌≡◌, true, false, inl, inr, ◌∙◌, arith, later_trans, way_later}
 use Rattle.rowex_writing.proofs.locks.Onward.{longer, run_possible, run_seat}
 use Rattle.rowex_writing.proofs.locks.Checks.{span_later}
 use Rattle.rowex_writing.specs.locks.Locks.{span_numbers}
 use Rattle.rowex_writing.proofs.locks.Tried.{nodes_then}
 use Rattle.rowex_writing.proofs.locks.Runs.{goes_run, nodes_run, once_run, tries_once, works_run}
 use Rattle.rowex_writing.proofs.locks.Ways.{way_apart, way_led}
-use Rattle.rowex_reading.proofs.Ways.{way_later}
 use Rattle.rowex_writing.proofs.locks.Locks.{works_count, works_later, works_seat}
 use Rattle.rowex_writing.proofs.attempts.lock_and_check_span.Goals as goal
 

@@ -1,12 +1,5 @@
 -- One entry that is left is published; for more a record is claimed; or all is given back.
-use Rattle.std.proofs.Common.{ℕ, Option, ◌+◌, ◌*◌, [], Some, ap, arith, length, refl, rules, subst, sym, ◌∙◌}
-use Rattle.std.proofs.lemmas.Option.{slice_get_within}
-use Rattle.finite_map.specs.declared.Change.{Change}
-use Rattle.tries.specs.Content.{item}
-use Rattle.version_laws.specs.Writer.{removed_change}
-use Rattle.record_words.specs.declared.TheConstants.{NODE_FIELDS}
-use Rattle.publish_laws.specs.Rises.{one}
-use Rattle.rowex_reading.proofs.Seen.{later_trans}
+use Rattle.rowex_writing.proofs.Common.{ℕ, Option, ◌+◌, ◌*◌, [], Some, ap, arith, length, refl, rules, subst, sym, ◌∙◌, slice_get_within, Change, item, removed_change, NODE_FIELDS, one, later_trans}
 use Rattle.rowex_writing.specs.build.Building.{IsBuilding}
 use Rattle.rowex_writing.specs.build.Changes.{IsTakeChange}
 use Rattle.rowex_writing.specs.build.Deeds.{MayReplace, leaf_gone}

@@ -1,8 +1,7 @@
 -- The value is as it was found, and the change is published; or all is given back.
 use Rattle.rowex_writing.specs.build.Spare.{by_gone}
 use Rattle.rowex_writing.proofs.build.Spare.{goes_spare, gone_node, works_spare}
-use Rattle.std.proofs.Common.{refl, arith}
-use Rattle.rowex_reading.proofs.Seen.{later_trans}
+use Rattle.rowex_writing.proofs.Common.{refl, arith, later_trans}
 use Rattle.rowex_writing.proofs.build.Changes.{changed_since}
 use Rattle.rowex_writing.proofs.build.Building.{building_on}
 use Rattle.rowex_writing.proofs.build.deeds.Deeds.{replace_later}

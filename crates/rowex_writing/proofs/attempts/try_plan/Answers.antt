@@ -1,9 +1,6 @@
 -- A refusal, or the change.
 use Rattle.rowex_writing.proofs.build.Spare.{goes_room, goes_spare, works_spare}
-use Rattle.std.proofs.Common.{◌≡◌, inl, inr, ap, refl, sym, subst, ◌∙◌, arith, Err, [], IsSome, length}
-use Rattle.rowex_core.specs.declared.known.Fresh.{Fresh}
-use Rattle.rowex_reading.specs.Ways.{IsFoundAt, value_of}
-use Rattle.rowex_reading.proofs.Seen.{later_trans}
+use Rattle.rowex_writing.proofs.Common.{◌≡◌, inl, inr, ap, refl, sym, subst, ◌∙◌, arith, Err, [], IsSome, length, Fresh, IsFoundAt, value_of, later_trans}
 use Rattle.rowex_writing.specs.plan.Asking.{value_in}
 use Rattle.rowex_writing.specs.build.Changes.{IsDeedChange}
 use Rattle.rowex_writing.specs.locks.Checks.{HasTakenSpan}

@@ -1,6 +1,5 @@
 -- The records that were made are those that the pass has.
-use Rattle.std.proofs.Common.{ap, arith, length, subst, sym}
-use Rattle.rowex_records.specs.Records.{HoldsJust}
+use Rattle.rowex_writing.proofs.Common.{ap, arith, length, subst, sym, HoldsJust}
 use Rattle.rowex_writing.specs.build.Putting.{AreInTable}
 use Rattle.rowex_writing.proofs.build.Changes.{made_held, made_records}
 use Rattle.rowex_writing.proofs.attempts.undo_change.Goals as goal

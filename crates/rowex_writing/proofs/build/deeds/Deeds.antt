@@ -1,32 +1,6 @@
 -- What goes and what stays for what a deed has raised, and where that is stored.
-use Rattle.std.specs.Prelude.{nat_eq, slice_range}
-use Rattle.std.proofs.Common.{◌≡◌, ◌≢◌, inl, inr, ℕ, suc, zero, ◌+◌, ◌-◌, ◌<◌, ◌≤◌, Bool, true, false, List, [], ◌++◌, length, map, Option, Some, None, Result, Ok, Err, IfOk, IfErr, refl, sym, ap, subst, ◌∙◌, arith}
-use Rattle.std.proofs.lemmas.Bool.{eqb-true}
-use Rattle.std.proofs.lemmas.List.{length-append, length-map}
-use Rattle.std.proofs.lemmas.List.Elements.{All-append}
-use Rattle.insert_cases.specs.declared.choice.PathNode.{PathNode}
-use Rattle.versions.specs.Trades.{IsOneOf, AreApart}
-use Rattle.record_words.specs.declared.records.Rec.{Rec}
-use Rattle.record_words.specs.declared.records.Rec.TheVariants.{Node as a_node}
-use Rattle.versions.proofs.Trades.{of_append, of_left}
-use Rattle.record_words.specs.declared.layout.Layout.{Layout}
-use Rattle.tries.specs.Keys.{Key}
-use Rattle.tries.proofs.Place.{spot_below}
-use Rattle.rowex_core.specs.Cores.{HasRecord}
-use Rattle.rowex_core.specs.Having.{AreKept}
-use Rattle.rowex_core.specs.declared.event.Event.{Event}
-use Rattle.rowex_core.specs.declared.event.Spot.{Spot}
-use Rattle.rowex_core.specs.declared.event.Spot.TheVariants.{Root, Slot, Value}
-use Rattle.rowex_core.specs.declared.known.Known.{Known}
-use Rattle.rowex_table.specs.Made.{nodes_of, Made}
-use Rattle.rowex_table.specs.Rule.{HasSpot}
-use Rattle.rowex_reading.specs.Ways.{IsWayOf}
-use Rattle.rowex_reading.specs.declared.descent.Found.{Found}
-use Rattle.rowex_reading.specs.declared.descent.Found.TheVariants.{Leaf}
-use Rattle.rowex_table.specs.Made.{IsLater}
-use Rattle.rowex_table.specs.Seats.{TableView, SeatView, IsSeatOf}
-use Rattle.version_laws.specs.Writer.{added_change, removed_change}
-use Rattle.tries.specs.Content.{item}
+use Rattle.rowex_writing.proofs.Common.{slice_range, ◌≡◌, ◌≢◌, inl, inr, ℕ, suc, zero, ◌+◌, ◌-◌, ◌<◌, ◌≤◌, Bool, true, false, List, [], ◌++◌, length, map, Option, Some, None, Result, Ok, Err, IfOk, IfErr, refl, sym, ap, subst, ◌∙◌, arith, eqb-true, length-append, length-map, All-append, PathNode, IsOneOf, AreApart, Rec, a_node, of_append, of_left, Layout, Key, spot_below, HasRecord, AreKept, Event, Spot, Root, Slot, Value, Known, nodes_of, Made, HasSpot, IsWayOf, Found, Leaf, IsLater, TableView, SeatView, IsSeatOf, added_change, removed_change, item, IsPossible, Change, spot, HasReady, later_transitive}
+use Rattle.std.specs.Prelude.{nat_eq}
 use Rattle.rowex_writing.specs.build.Building.{IsBuilding}
 use Rattle.rowex_writing.specs.build.Changes.{IsFull, IsPutChange, IsTakeChange, MayPublishOnceReady}
 use Rattle.rowex_writing.specs.build.Deeds.{CarriesOut, HasNoneFree, HasRaised, MayReplace, gone_of_span, kept_of_span, leaf_gone}
@@ -44,11 +18,6 @@ use Rattle.rowex_writing.specs.declared.plan.job.Raised.{Raised}
 use Rattle.rowex_writing.specs.declared.plan.Span.{Span}
 use Rattle.rowex_writing.proofs.build.Growths.{full_since, kept_span, range_records, two_nodes}
 use Rattle.rowex_writing.proofs.locks.Spans.{slice_none, slice_few}
-use Rattle.rowex_reading.specs.Possible.{IsPossible}
-use Rattle.finite_map.specs.declared.Change.{Change}
-use Rattle.tries.specs.Place.{spot}
-use Rattle.publish_laws.specs.Stages.{HasReady}
-use Rattle.publish_laws.proofs.Loops.{later_transitive}
 
 -- ---- what goes
 no_node : (leaf : Option ℕ) (n : ℕ) → IsOneOf (a_node n) (leaf_gone leaf) → ⊥

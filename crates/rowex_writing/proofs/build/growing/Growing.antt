@@ -1,51 +1,8 @@
 -- From what a pass knows under its locks to the way up of a new leaf.
-use Rattle.std.proofs.Common.{◌≡◌, inl, inr, ◌⊎◌, ⊎_elim, ℕ, zero, suc, ◌+◌, ◌-◌, ◌<◌, ◌≤◌, Bool, true, false, List, [], ◌∷◌, length, refl, sym, ap, subst, ◌∙◌, arith, le_trans, if◌then◌else◌, nat_lt, ◌&&◌, Some, None}
-use Rattle.std.specs.Prelude.{slice_get}
-use Rattle.std.proofs.lemmas.Bool.{cases_lt, le-ltb, ltb-true}
-use Rattle.compound_node.specs.Nodes.{piece, height_of}
-use Rattle.compound_node.specs.declared.entries.Entry.{Entry}
-use Rattle.compound_node.specs.declared.entries.Entry.TheVariants.{Leaf as LeafEntry, Node}
-use Rattle.insert_cases.specs.Levels.{IsLevel, IsChosen, IsChainEnd}
-use Rattle.insert_cases.specs.Ways.{case_of}
-use Rattle.insert_cases.specs.declared.choice.Case.{Case}
-use Rattle.insert_cases.specs.declared.choice.Case.TheVariants.{LeafPushdown, NormalInsert, Overflow}
-use Rattle.insert_cases.specs.declared.choice.Choice.{Choice}
-use Rattle.insert_cases.specs.declared.choice.PathNode.{PathNode}
-use Rattle.insert_cases.proofs.Ways.Affecting.{key_part}
-use Rattle.insert_cases.proofs.Ways.{some_injective, some_at}
-use Rattle.versions.specs.Heap.{NodeWords}
+use Rattle.rowex_writing.proofs.Common.{◌≡◌, inl, inr, ◌⊎◌, ⊎_elim, ℕ, zero, suc, ◌+◌, ◌-◌, ◌<◌, ◌≤◌, Bool, true, false, List, [], ◌∷◌, length, refl, sym, ap, subst, ◌∙◌, arith, le_trans, if◌then◌else◌, nat_lt, ◌&&◌, Some, None, slice_get, cases_lt, le-ltb, ltb-true, piece, height_of, Entry, LeafEntry, Node, IsLevel, IsChosen, IsChainEnd, case_of, Case, LeafPushdown, NormalInsert, Overflow, Choice, PathNode, key_part, some_injective, some_at, NodeWords, Past, a_node, all_of, size_pos, Place, Fork, size, HasLeafWords, Layout, MustSpellValue, IsPinnedSince, IsPacked, node_words_of, IsLocked, Spot, Known, knows_all, node_is, IsPossible, Sure, IsSpotOf, HasFoundBelow, IsLockedAbove, IsSure, above_goes_on, descent_begins, descent_ends, descent_finds, descent_goes_on, seen_is_sure, EntryStoodSince, IsPlaced, HadShapeSince, IsRead, way_of_leaf, subtrie_affected, FirstForkIsBefore, IsPartSubtrie, IsTipSubtrie, Key, bit, seek, Subtrie, first_position, size-piece, IsWayNode, IsWayOf, end_of, named, named_at, named_end, Found, Nothing, Leaf, item, spot}
 use Rattle.versions.specs.Frames.{IsGrown}
-use Rattle.versions.specs.State.{Past}
-use Rattle.record_words.specs.declared.records.Rec.TheVariants.{Node as a_node}
-use Rattle.versions.proofs.Trades.{all_of}
-use Rattle.node_tries.proofs.Piece.{size_pos}
-use Rattle.node_tries.specs.Piece.{Place, Fork, size}
-use Rattle.record_words.specs.Leaf.{HasLeafWords}
-use Rattle.record_words.specs.declared.layout.Layout.{Layout}
-use Rattle.rowex_core.specs.Cores.{MustSpellValue}
-use Rattle.rowex_core.specs.Knowing.{IsPinnedSince}
-use Rattle.rowex_core.specs.Reading.{IsPacked, node_words_of}
-use Rattle.rowex_core.specs.Sharing.{IsLocked}
-use Rattle.rowex_core.specs.declared.event.Spot.{Spot}
-use Rattle.rowex_core.specs.declared.known.Known.{Known}
-use Rattle.rowex_core.proofs.Sharing.Owning.{knows_all}
-use Rattle.rowex_core.proofs.Reading.{node_is}
-use Rattle.rowex_reading.specs.Possible.{IsPossible}
-use Rattle.rowex_reading.specs.Seen.{Sure}
-use Rattle.publish_laws.specs.Spots.{IsSpotOf}
-use Rattle.publish_laws.specs.Rises.{HasFoundBelow}
-use Rattle.publish_laws.specs.Stages.{IsLockedAbove, IsSure}
-use Rattle.publish_laws.proofs.Rises.{above_goes_on}
-use Rattle.publish_laws.proofs.Sure.{descent_begins, descent_ends, descent_finds, descent_goes_on, seen_is_sure}
-use Rattle.version_laws.specs.Scan.{EntryStoodSince, IsPlaced, HadShapeSince, IsRead}
 use Rattle.version_laws.specs.Ways.{IsOnWay, IsWayFrom}
 use Rattle.version_laws.proofs.Scan.Persist.{placed_grown, shaped_grown, read_grown}
-use Rattle.version_laws.proofs.Ways.{way_of_leaf}
-use Rattle.tries.specs.Affected.{subtrie_affected, FirstForkIsBefore, IsPartSubtrie, IsTipSubtrie}
-use Rattle.tries.specs.Keys.{Key, bit}
-use Rattle.tries.specs.Search.{seek}
-use Rattle.tries.specs.Tree.{Subtrie, first_position}
-use Rattle.tries.proofs.Tree.Building.{size-piece}
 use Rattle.rowex_writing.specs.build.Building.{FitsAbove, IsLockedSpan}
 use Rattle.rowex_writing.specs.locks.Checks.{IsChecked}
 use Rattle.rowex_writing.specs.locks.Going.{HasLocked}
@@ -53,13 +10,9 @@ use Rattle.rowex_writing.specs.locks.Locks.{HasLockedSpan}
 use Rattle.rowex_writing.specs.build.Putting.{IsSpotAbove}
 use Rattle.rowex_writing.specs.plan.Plans.{change, IsCase, IsNewLeafPlan}
 use Rattle.rowex_writing.specs.plan.Planned.{AffectsJust, AreAffected, IsPlanned}
-use Rattle.rowex_reading.specs.Ways.{IsWayNode, IsWayOf, end_of, named}
-use Rattle.rowex_reading.proofs.Ways.{named_at, named_end}
 use Rattle.rowex_writing.specs.declared.plan.Aim.{Aim}
 use Rattle.rowex_writing.specs.declared.plan.Aim.TheVariants.{Insert, Upsert, Remove}
 use Rattle.rowex_writing.specs.declared.plan.Deed.TheVariants.{Empty, Grow, PushDown, Put, Take, TakeTop, Value}
-use Rattle.rowex_reading.specs.declared.descent.Found.{Found}
-use Rattle.rowex_reading.specs.declared.descent.Found.TheVariants.{Nothing, Leaf}
 use Rattle.rowex_writing.specs.declared.plan.Plan.{Plan}
 use Rattle.rowex_writing.specs.declared.plan.Plan.TheVariants.{Answer, Change}
 use Rattle.rowex_writing.specs.declared.plan.Span.{Span}
@@ -67,8 +20,6 @@ use Rattle.rowex_writing.proofs.plan.Plans.{chosen_within, same_span, takes_too}
 use Rattle.rowex_writing.proofs.build.Above.{locked_at, holds_above}
 use Rattle.rowex_writing.proofs.locks.Shapes.{IsStepOf, locked_shape, shape_affects, way_node_locked}
 use Rattle.rowex_writing.proofs.build.Staging.{stage_of_held}
-use Rattle.tries.specs.Content.{item}
-use Rattle.tries.specs.Place.{spot}
 
 -- ---- the plan
 -- a plan by which a node gets the new leaf

@@ -1,37 +1,13 @@
 -- What the subtrie of a lawful tree tells of the fork that it got, and how high the nodes of a subtrie are.
-use Rattle.std.proofs.Common.{◌≡◌, inl, inr, ℕ, suc, Option, ◌+◌, ◌*◌, ◌<◌, ◌≤◌, Bool, true, false, List, [], ◌∷◌, ◌++◌, length, max, ap, sym, ◌∙◌, subst, arith, if◌then◌else◌, nat_lt}
-use Rattle.std.specs.Prelude.{All}
+use Rattle.rowex_writing.proofs.Common.{◌≡◌, inl, inr, ℕ, suc, Option, ◌+◌, ◌*◌, ◌<◌, ◌≤◌, Bool, true, false, List, [], ◌∷◌, ◌++◌, length, max, ap, sym, ◌∙◌, subst, arith, if◌then◌else◌, nat_lt, All, affected_first, affected_count, grown, IsAffected, IsFresh, without, Place, Fork, leads_to, places, size, HalfShows, NodeView, piece, IsLawfulNode, IsBuiltFrom, IsEntry, height_of, greatest_height, Entry, Half, One, Many, Same, subtrie_affected, subtrie_forked, subtrie_grown, first, Key, bit, spot, with_subtrie, subtrie_without, Subtrie, Tree, fork, subtrie, IsTrie, Within, here, zero_side, one_side, bit_below, greatest-append, size-piece, greatest_without, leads_spot, spot_below, grafted_spot, path_low, path_high, without_spot, has_first, rises, trie_within, built_within, GrownShows, SidesShow, Grown, Two, FirstForkIsNot, key_part, first_fork_is_not, IsPairOf, pair_facts, CanTakeLeaf, HasNodeWords, CanGrowAt, SpellLeft, node_words}
 use Rattle.key_bits.specs.Bits.{bit_of}
 use Rattle.key_bits.specs.declared.TheConstants.{MAX_BYTES}
 use Rattle.node_tries.specs.Grafts.{grafted, IsAbovePath}
-use Rattle.node_tries.specs.Growth.{affected_first, affected_count, grown, IsAffected, IsFresh}
-use Rattle.node_tries.specs.Changes.{without}
-use Rattle.node_tries.specs.Piece.{Place, Fork, leads_to, places, size}
 use Rattle.node_tries.proofs.Affected.{affected_again}
-use Rattle.compound_node.specs.Halves.{HalfShows}
-use Rattle.compound_node.specs.Nodes.{NodeView, piece, IsLawfulNode, IsBuiltFrom, IsEntry, height_of, greatest_height}
-use Rattle.compound_node.specs.declared.entries.Entry.{Entry}
 use Rattle.compound_node.specs.declared.entries.Entry.TheVariants.{Leaf}
-use Rattle.compound_node.specs.declared.halves.Half.{Half}
-use Rattle.compound_node.specs.declared.halves.Half.TheVariants.{One, Many, Same}
-use Rattle.tries.specs.Affected.{subtrie_affected, subtrie_forked, subtrie_grown}
-use Rattle.tries.specs.Content.{first}
-use Rattle.tries.specs.Keys.{Key, bit}
-use Rattle.tries.specs.Place.{spot, with_subtrie, subtrie_without}
-use Rattle.tries.specs.Tree.{Subtrie, Tree, fork, subtrie, IsTrie, Within, here, zero_side, one_side}
-use Rattle.tries.proofs.Tree.Building.{bit_below, greatest-append, size-piece, greatest_without}
-use Rattle.tries.proofs.Place.{leads_spot, spot_below}
 use Rattle.tries.proofs.Keys.{has_key}
-use Rattle.tries.proofs.Place.Spots.{grafted_spot, path_low, path_high, without_spot}
-use Rattle.tries.proofs.Tree.{has_first, rises, trie_within, built_within}
-use Rattle.insert_cases.specs.Grown.{GrownShows, SidesShow}
-use Rattle.insert_cases.specs.declared.growth.Grown.{Grown}
-use Rattle.insert_cases.specs.declared.growth.Grown.TheVariants.{One as Whole, Two}
-use Rattle.insert_cases.proofs.Ways.Affecting.{FirstForkIsNot, key_part}
-use Rattle.insert_cases.proofs.Ways.{first_fork_is_not}
-use Rattle.insert_cases.proofs.Pairs.{IsPairOf, pair_facts}
+use Rattle.insert_cases.specs.declared.growth.Grown.TheVariants.{One as Whole}
 use Rattle.insert_cases.proofs.NodeFacts.{height_positive}
-use Rattle.record_words.specs.Node.{CanTakeLeaf, HasNodeWords, CanGrowAt, SpellLeft, node_words}
 use Rattle.record_words.specs.Reading.{IsSpelledBy}
 use Rattle.rowex_writing.specs.build.Remaking.{IsSubtrieOfTree, IsLowHalf, IsNoHigher, AwaitsLeaf, subtrie_with_fork}
 use Rattle.rowex_writing.specs.plan.Planned.{AffectsJust}

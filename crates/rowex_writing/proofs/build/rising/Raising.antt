@@ -1,37 +1,6 @@
 -- What has risen, once the records for it are made.
-use Rattle.std.proofs.Common.{◌≡◌, ◌||◌, ℕ, ◌<◌, Bool, true, false, List, [], ◌∷◌, ◌++◌, refl, sym, ap, subst, ◌∙◌, arith}
-use Rattle.compound_node.specs.Halves.{HalfShows}
-use Rattle.compound_node.specs.Nodes.{NodeView, piece}
-use Rattle.compound_node.specs.declared.entries.Entry.{Entry}
-use Rattle.compound_node.specs.declared.entries.Entry.TheVariants.{Leaf, Node}
-use Rattle.compound_node.specs.declared.halves.Half.{Half}
-use Rattle.compound_node.specs.declared.halves.Half.TheVariants.{One, Many, Same}
-use Rattle.insert_cases.specs.Grown.{GrownShows, SidesShow, is_same, keeps_node}
-use Rattle.insert_cases.specs.Risen.{subtrie_of}
-use Rattle.insert_cases.specs.declared.growth.Grown.{Grown}
-use Rattle.insert_cases.specs.declared.growth.Grown.TheVariants.{One as Single, Two}
-use Rattle.insert_cases.specs.declared.raising.Risen.{Risen}
-use Rattle.insert_cases.specs.declared.raising.Risen.TheVariants.{Whole, Split}
-use Rattle.node_tries.specs.Changes.{AtRootFork}
-use Rattle.node_tries.specs.Piece.{Place, Fork}
-use Rattle.record_words.specs.declared.layout.Layout.{Layout}
-use Rattle.tries.specs.Affected.{subtrie_forked, subtrie_grown}
-use Rattle.tries.specs.Keys.{Key, bit}
-use Rattle.tries.specs.Tree.{Subtrie}
-use Rattle.versions.specs.Trades.{IsOneOf}
-use Rattle.record_words.specs.declared.records.Rec.{Rec}
-use Rattle.record_words.specs.declared.records.Rec.TheVariants.{Node as a_node}
-use Rattle.version_laws.specs.Rise.{body, entry}
-use Rattle.version_laws.specs.Writer.{Newcomer}
-use Rattle.versions.specs.State.{FirstForkIsFrom}
-use Rattle.rowex_core.specs.Reading.{node_words_of}
-use Rattle.std.proofs.lemmas.Bool.{le-ltb}
-use Rattle.rowex_core.specs.declared.known.Known.{Known}
-use Rattle.rowex_core.specs.declared.known.Locked.{Locked}
-use Rattle.rowex_table.specs.Made.{Made}
-use Rattle.publish_laws.specs.Rises.{made_of_leaf, IsSide, one, anew, HasFoundBelow}
-use Rattle.publish_laws.specs.Stages.{HasLeaf, HasRisen}
-use Rattle.publish_laws.proofs.Rises.{rises_copied, rises_halved, rise_whole}
+use Rattle.rowex_writing.proofs.Common.{◌≡◌, ◌||◌, ℕ, ◌<◌, Bool, true, false, List, [], ◌∷◌, ◌++◌, refl, sym, ap, subst, ◌∙◌, arith, HalfShows, NodeView, piece, Entry, Node, Half, One, Many, Same, GrownShows, SidesShow, is_same, keeps_node, subtrie_of, Grown, Single, Two, Risen, Whole, Split, AtRootFork, Place, Fork, Layout, subtrie_forked, subtrie_grown, Key, bit, Subtrie, IsOneOf, Rec, a_node, body, entry, Newcomer, FirstForkIsFrom, node_words_of, le-ltb, Known, Locked, Made, made_of_leaf, IsSide, one, anew, HasFoundBelow, HasLeaf, HasRisen, rises_copied, rises_halved, rise_whole}
+use Rattle.compound_node.specs.declared.entries.Entry.TheVariants.{Leaf}
 use Rattle.rowex_writing.specs.build.Building.{IsHalfMade, IsMadeFrom}
 
 -- a half that was made is a side

@@ -1,41 +1,7 @@
 -- One level up.
-use Rattle.std.proofs.Common.{◌≡◌, ℕ, ◌<◌, ◌≤◌, ◌+◌, ◌-◌, List, [], ◌∷◌, ◌++◌, refl, sym, ap, ap₂, subst, ◌∙◌, arith, Option, Some, None, Bool, true, false, inl, inr, ◌⊎◌, append_assoc, get_or}
-use Rattle.std.specs.Prelude.{MatchOption, IfSome, IsTrue, ◌↔◌, slice_get, length, map, drop, take}
-use Rattle.std.proofs.lemmas.List.{drop-append-le, drop-take, length-take-le, map-append, take_more}
-use Rattle.std.proofs.lemmas.Option.{get_or_from_slice_get, slice_get-get_or, slice_get_within}
-use Rattle.compound_node.specs.Nodes.{NodeView, piece, height_of, IsBuiltFrom}
-use Rattle.record_words.specs.Node.{HasNodeWords}
-use Rattle.compound_node.specs.declared.entries.Entry.{Entry}
-use Rattle.compound_node.specs.declared.entries.Entry.TheVariants.{Leaf, Node}
-use Rattle.compound_node.specs.declared.halves.Half.{Half}
-use Rattle.compound_node.specs.declared.halves.Half.TheVariants.{One, Many, Same}
-use Rattle.insert_cases.specs.Grown.{GrownShows, keeps_node, is_whole}
-use Rattle.insert_cases.specs.Risen.{subtrie_of}
-use Rattle.insert_cases.specs.declared.growth.Grown.{Grown}
-use Rattle.insert_cases.specs.declared.growth.Grown.TheVariants.{One as Single, Two}
-use Rattle.insert_cases.specs.declared.raising.Risen.{Risen}
-use Rattle.insert_cases.specs.declared.raising.Risen.TheVariants.{Whole, Split}
-use Rattle.node_tries.specs.Changes.{AtRootFork}
-use Rattle.node_tries.specs.Piece.{Place, Fork, size}
-use Rattle.insert_cases.specs.declared.choice.PathNode.{PathNode}
-use Rattle.tries.proofs.Tree.Building.{size-piece}
-use Rattle.tries.specs.Affected.{subtrie_grown}
-use Rattle.tries.specs.Place.{spot, with_subtrie}
-use Rattle.tries.specs.Tree.{Subtrie}
-use Rattle.versions.specs.Heap.{NodeWords}
-use Rattle.versions.specs.Trades.{IsOneOf}
-use Rattle.record_words.specs.declared.records.Rec.{Rec}
-use Rattle.versions.proofs.Trades.{of_right}
-use Rattle.record_words.specs.declared.records.Rec.TheVariants.{Node as a_node}
-use Rattle.version_laws.specs.Rise.{Side, body, entry}
-use Rattle.version_laws.specs.Writer.{Newcomer}
-use Rattle.rowex_core.specs.declared.event.Event.{Event}
-use Rattle.rowex_core.specs.Reading.{node_words_of}
-use Rattle.rowex_table.specs.Made.{Made}
-use Rattle.rowex_table.specs.Seats.{TableView, SeatView}
-use Rattle.publish_laws.specs.Stages.{HasLeaf, HasRisen, IsLockedAbove}
-use Rattle.publish_laws.proofs.Rises.{risen_stays, rises_pulled, rises_wrapped, rise_grows}
-use Rattle.publish_laws.specs.Rises.{made_of_node, made_of_leaf, IsSide, anew, HasFoundBelow}
+use Rattle.rowex_writing.proofs.Common.{◌≡◌, ℕ, ◌<◌, ◌≤◌, ◌+◌, ◌-◌, List, [], ◌∷◌, ◌++◌, refl, sym, ap, ap₂, subst, ◌∙◌, arith, Option, Some, None, Bool, true, false, inl, inr, ◌⊎◌, append_assoc, get_or, MatchOption, IfSome, IsTrue, ◌↔◌, slice_get, drop-append-le, drop-take, length-take-le, map-append, take_more, get_or_from_slice_get, slice_get-get_or, slice_get_within, NodeView, piece, height_of, IsBuiltFrom, HasNodeWords, Entry, Node, Half, One, Many, Same, GrownShows, keeps_node, is_whole, subtrie_of, Grown, Single, Two, Risen, Whole, Split, AtRootFork, Place, Fork, size, PathNode, size-piece, subtrie_grown, spot, with_subtrie, Subtrie, NodeWords, IsOneOf, Rec, of_right, a_node, Side, body, entry, Newcomer, Event, node_words_of, Made, TableView, SeatView, HasLeaf, HasRisen, IsLockedAbove, risen_stays, rises_pulled, rises_wrapped, rise_grows, made_of_node, made_of_leaf, IsSide, anew, HasFoundBelow, IsPairOf, pair_facts}
+use Rattle.std.specs.Prelude.{length, map, drop, take}
+use Rattle.compound_node.specs.declared.entries.Entry.TheVariants.{Leaf}
 use Rattle.rowex_writing.specs.build.Building.{IsBuilding, IsHalfMade, IsMadeFrom, IsRaising, GetsFork, IsLevelRisen, GetsLeaf, IsLowRisen, IsAtMostOneHigher, IsRisenAt, IsSingle, IsSplit, FitsAbove, IsLockedSpan, Rises, IsGrowing, IsGrownFrom, HasNotMade, HasRisenTo, gone_unless_whole, gone_with_way, newcomer_of}
 use Rattle.rowex_writing.specs.locks.Going.{WorksOn, ReadsOn, HasLocked, IsNodeOf}
 use Rattle.rowex_writing.specs.build.Taking.{no_step}
@@ -49,7 +15,6 @@ use Rattle.rowex_writing.proofs.build.Building.{building_on}
 use Rattle.rowex_writing.proofs.build.rising.Raising.{rises_made, rises_kept}
 use Rattle.rowex_writing.proofs.locks.Going.{goes_more}
 use Rattle.rowex_writing.proofs.build.Staging.{risen_subtrie}
-use Rattle.insert_cases.proofs.Pairs.{IsPairOf, pair_facts}
 
 -- ---- heights
 half_made_low : (old : Entry) (h : ℕ) (half : Half) (e : Entry) (news : List Made) → height_of old ≡ h → IsLowHalf h half → IsHalfMade old half e news → height_of e ≤ h

@@ -1,46 +1,6 @@
 -- From what a pass knows under its locks to the publish of a removal.
-use Rattle.std.proofs.Common.{◌≡◌, inl, inr, ℕ, ◌+◌, ◌-◌, ◌<◌, ◌≤◌, Bool, true, false, List, [], ◌∷◌, ◌++◌, get_or, length, take, drop, Option, Some, None, refl, sym, ap, subst, ◌∙◌, arith, map}
-use Rattle.std.specs.Prelude.{All, if◌then◌else◌, slice_get, slice_range, Contains}
-use Rattle.std.proofs.lemmas.List.Elements.{All-cons}
-use Rattle.std.proofs.lemmas.Option.{get_or_from_slice_get, slice_get-get_or}
-use Rattle.compound_node.specs.Nodes.{NodeView, IsEntry, height_of, piece, greatest_height}
-use Rattle.compound_node.specs.declared.entries.Entry.{Entry}
-use Rattle.compound_node.specs.declared.entries.Entry.TheVariants.{Leaf as LeafEntry, Node}
-use Rattle.finite_map.specs.declared.Change.{Change as MapChange}
-use Rattle.insert_cases.specs.declared.choice.PathNode.{PathNode}
-use Rattle.insert_cases.proofs.Ways.{some_injective}
-use Rattle.node_tries.specs.Piece.{Place, Fork, places}
-use Rattle.record_words.specs.declared.layout.Layout.{Layout}
-use Rattle.record_words.specs.Entry.{HasEntryWord, entry_word}
-use Rattle.tries.specs.Keys.{Key, bit}
-use Rattle.tries.specs.Place.{joined, subtrie_without, spot}
-use Rattle.tries.specs.Search.{seek}
-use Rattle.tries.specs.Tree.{Subtrie, leaf}
-use Rattle.versions.specs.Heap.{NodeWords}
-use Rattle.record_words.specs.declared.records.Rec.{Rec}
-use Rattle.record_words.specs.declared.records.Rec.TheVariants.{Node as a_node, Leaf as a_leaf}
-use Rattle.versions.specs.Trades.{IsOneOf}
-use Rattle.versions.proofs.Trades.{all_of, none_of, of_append, of_left, of_right}
-use Rattle.rowex_core.specs.declared.event.Spot.{Spot}
-use Rattle.rowex_core.specs.declared.event.Spot.TheVariants.{Root, Slot, Value}
-use Rattle.rowex_core.specs.declared.known.Known.{Known}
-use Rattle.rowex_core.specs.declared.known.Locked.{Locked}
-use Rattle.rowex_core.specs.Cores.{HasRecord}
-use Rattle.rowex_core.specs.Reading.{node_words_of, IsPacked}
-use Rattle.version_laws.specs.Scan.{IsRead}
-use Rattle.version_laws.specs.Writer.{removed_change}
-use Rattle.rowex_table.specs.Made.{IsLater, Made}
-use Rattle.rowex_table.specs.Publishes.{Publishes}
-use Rattle.rowex_table.specs.Seats.{TableView, SeatView, IsSeatOf}
-use Rattle.rowex_reading.specs.Possible.{IsPossible}
-use Rattle.rowex_reading.specs.Seen.{Sure}
-use Rattle.rowex_reading.proofs.Seen.{read_stable, since_later}
-use Rattle.rowex_reading.proofs.Seen.Standing.{led_in_table}
-use Rattle.publish_laws.specs.Rises.{IsSide, one, anew}
-use Rattle.publish_laws.specs.Stages.{HasLoaded, HasReady, IsLeafThere}
-use Rattle.publish_laws.proofs.Loops.{later_transitive}
-use Rattle.publish_laws.proofs.Cases.{leaf_stays, remove, remove_the_last}
-use Rattle.publish_laws.proofs.Sure.{seen_is_sure, sure_stays}
+use Rattle.rowex_writing.proofs.Common.{◌≡◌, inl, inr, ℕ, ◌+◌, ◌-◌, ◌<◌, ◌≤◌, Bool, true, false, List, [], ◌∷◌, ◌++◌, get_or, length, take, drop, Option, Some, None, refl, sym, ap, subst, ◌∙◌, arith, map, All, slice_get, slice_range, Contains, All-cons, get_or_from_slice_get, slice_get-get_or, NodeView, IsEntry, height_of, piece, greatest_height, Entry, LeafEntry, Node, MapChange, PathNode, some_injective, Place, Fork, places, Layout, HasEntryWord, entry_word, Key, bit, joined, subtrie_without, spot, seek, Subtrie, leaf, NodeWords, Rec, a_node, a_leaf, IsOneOf, all_of, none_of, of_append, of_left, of_right, Spot, Root, Slot, Value, Known, Locked, HasRecord, node_words_of, IsPacked, IsRead, removed_change, IsLater, Made, Publishes, TableView, SeatView, IsSeatOf, IsPossible, Sure, read_stable, since_later, led_in_table, IsSide, one, anew, HasLoaded, HasReady, IsLeafThere, later_transitive, leaf_stays, remove, remove_the_last, seen_is_sure, sure_stays, Case, LeafPushdown, NormalInsert, Overflow, Choice, IsWayOf, named_at, named_end, way_later, Found, Nothing, Leaf, FoundLeaf, item, Held, IsClaimed, same_rec, same_rec_refl, Event, SetsAll, fill_with}
+use Rattle.std.specs.Prelude.{if◌then◌else◌}
 use Rattle.rowex_writing.specs.build.Building.{IsBuilding}
 use Rattle.rowex_writing.specs.build.Changes.{MayPublishOnceReady, KnowsWas}
 use Rattle.rowex_writing.specs.locks.Checks.{HasTakenSpan}
@@ -52,33 +12,19 @@ use Rattle.rowex_writing.specs.declared.plan.Deed.{Deed}
 use Rattle.rowex_writing.specs.declared.plan.Deed.TheVariants.{Empty, Take, TakeTop}
 use Rattle.rowex_writing.specs.declared.plan.Plan.{Plan}
 use Rattle.rowex_writing.specs.declared.plan.Plan.TheVariants.{Answer, Change}
-use Rattle.insert_cases.specs.declared.choice.Case.{Case}
-use Rattle.insert_cases.specs.declared.choice.Case.TheVariants.{LeafPushdown, NormalInsert, Overflow}
-use Rattle.insert_cases.specs.declared.choice.Choice.{Choice}
 use Rattle.rowex_writing.specs.locks.Going.{HasLocked, IsLockedBy, LeadsLocked}
 use Rattle.rowex_writing.specs.locks.Locks.{numbers_of}
 use Rattle.rowex_writing.specs.build.Putting.{IsSpotAbove, AreInTable}
 use Rattle.rowex_writing.specs.build.Taking.{HasLeafBelow, HasOnlyLeaf, HasReadLeaf, TakesOn, HasHeight, lower, HasClaimed}
-use Rattle.rowex_reading.specs.Ways.{IsWayOf}
-use Rattle.rowex_reading.proofs.Ways.{named_at, named_end, way_later}
-use Rattle.rowex_reading.specs.declared.descent.Found.{Found}
-use Rattle.rowex_reading.specs.declared.descent.Found.TheVariants.{Nothing, Leaf, Leaf as FoundLeaf}
 use Rattle.rowex_writing.specs.declared.plan.job.Job.{Job}
 use Rattle.rowex_writing.proofs.build.Above.{locked_at, holds_above}
 use Rattle.rowex_writing.proofs.locks.Going.{locked_node, seat_of}
 use Rattle.rowex_writing.proofs.plan.Plans.{below_taking, none_taking, same_deed, same_span, top_taking}
 use Rattle.rowex_writing.proofs.locks.Shapes.{way_node_locked}
 use Rattle.rowex_writing.proofs.locks.Spans.{slice_more, slice_none}
-use Rattle.tries.specs.Content.{item}
 use Rattle.rowex_writing.specs.build.Growths.{HasNumber}
 use Rattle.rowex_writing.specs.build.Deeds.{MayReplace}
 use Rattle.rowex_writing.proofs.build.remaking.Remaking.{left_under}
-use Rattle.rowex_core.specs.declared.known.Holding.TheVariants.{Held}
-use Rattle.rowex_table.specs.Rights.{IsClaimed}
-use Rattle.versions.specs.Steps.{same_rec}
-use Rattle.versions.proofs.Core.{same_rec_refl}
-use Rattle.rowex_core.specs.declared.event.Event.{Event}
-use Rattle.rowex_records.specs.Records.{SetsAll, fill_with}
 use Rattle.rowex_writing.proofs.build.Building.{goes_possible, set_all_on}
 
 -- ---- the leaf

@@ -1,10 +1,7 @@
 -- The anchor, found live, is locked.
-use Rattle.rowex_core.specs.declared.event.Act.TheVariants.{Lock}
-use Rattle.rowex_core.specs.declared.event.Target.TheVariants.{Anchor}
+use Rattle.rowex_writing.proofs.Common.{Lock, Anchor, version_of, step_few}
 use Rattle.rowex_writing.proofs.locks.Locks.{works_one, anchor_locked, anchor_met, is_live, is_not_live}
 use Rattle.rowex_writing.proofs.locks.Others.{anchor_blocked}
-use Rattle.rowex_core.specs.Knowing.{version_of}
-use Rattle.rowex_reading.proofs.Counting.{step_few}
 use Rattle.rowex_writing.proofs.locks.lock_anchor.Goals as goal
 
 pub returns-clause-tries : goal.returns-clause-tries

@@ -1,9 +1,7 @@
 -- A node that the pass may lock; found live, it is.
-use Rattle.rowex_core.specs.declared.event.Act.TheVariants.{Lock}
-use Rattle.rowex_core.specs.declared.event.Target.TheVariants.{Node as NodeTarget}
+use Rattle.rowex_writing.proofs.Common.{Lock, NodeTarget, step_few}
 use Rattle.rowex_writing.proofs.locks.Locks.{works_one, node_locked, node_met, node_same, is_live, is_not_live}
 use Rattle.rowex_writing.proofs.locks.Others.{node_blocked}
-use Rattle.rowex_reading.proofs.Counting.{step_few}
 use Rattle.rowex_writing.proofs.locks.lock_node.Goals as goal
 
 pub returns-clause-tries : goal.returns-clause-tries

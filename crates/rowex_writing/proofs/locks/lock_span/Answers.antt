@@ -1,10 +1,6 @@
 -- One node more; one that is refused, and the anchor.
-use Rattle.std.proofs.Common.{ℕ, ◌≡◌, ◌∷◌, ◌+◌, ◌-◌, ◌<◌, ◌≤◌, le_trans, length, rules, true, false, refl, sym, ap, subst, ◌∙◌, arith, get_or}
-use Rattle.std.specs.Prelude.{slice_range}
-use Rattle.insert_cases.specs.declared.choice.PathNode.{PathNode}
-use Rattle.publish_laws.proofs.Acts.{led_may_lock}
+use Rattle.rowex_writing.proofs.Common.{ℕ, ◌≡◌, ◌∷◌, ◌+◌, ◌-◌, ◌<◌, ◌≤◌, le_trans, length, rules, true, false, refl, sym, ap, subst, ◌∙◌, arith, get_or, slice_range, PathNode, led_may_lock, IsOneOf}
 use Rattle.rowex_writing.specs.locks.Locks.{HasJustLocked, HasNotLocked, TriesNodes, numbers_of}
-use Rattle.versions.specs.Trades.{IsOneOf}
 use Rattle.rowex_writing.proofs.locks.Tried.{anchor_more, nodes_more, nodes_none, nodes_once, number_new, once_then}
 use Rattle.rowex_writing.proofs.locks.Locks.{works_seat, works_later, works_count, no_change_made_later}
 use Rattle.rowex_writing.proofs.locks.Spans.{slice_more, slice_none, none_taken, locked_more, locked_same, led_at, led_nodes, met_since, not_locked, numbers_few, slice_few}

@@ -1,7 +1,5 @@
 -- The nodes from the index on are locked.
-use Rattle.std.proofs.Common.{◌-◌, ◌≡◌, ◌≤◌, None, ◌+◌}
-use Rattle.std.specs.Prelude.{slice_range}
-use Rattle.rowex_table.specs.Seats.{IsSeatOf}
+use Rattle.rowex_writing.proofs.Common.{◌-◌, ◌≡◌, ◌≤◌, None, ◌+◌, slice_range, IsSeatOf}
 use Rattle.rowex_writing.specs.locks.Locks.{HasJustLocked, TriesNodes, numbers_of}
 use Rattle.rowex_writing.proofs.locks.lock_span.Given as goal
 

@@ -1,11 +1,7 @@
 -- The first of those that are left is unlocked.
-use Rattle.std.proofs.Common.{inl, refl, ◌∙◌, arith}
-use Rattle.rowex_table.specs.Runs.{silent}
-use Rattle.rowex_table.proofs.Made.ActsAfter.{unlocks_node, unlock_gives}
-use Rattle.rowex_table.proofs.Made.ActsLeave.{act_leaves}
+use Rattle.rowex_writing.proofs.Common.{inl, refl, ◌∙◌, arith, silent, unlocks_node, unlock_gives, act_leaves, step_few}
 use Rattle.rowex_writing.proofs.locks.Locks.{works_none, works_one, works_more, works_seat}
 use Rattle.rowex_writing.proofs.locks.Spans.{first_locked, none_locked}
-use Rattle.rowex_reading.proofs.Counting.{step_few}
 use Rattle.rowex_writing.proofs.locks.unlock_nodes.Goals as goal
 
 pub loop-index-init : goal.loop-index-init

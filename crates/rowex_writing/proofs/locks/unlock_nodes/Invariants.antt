@@ -1,6 +1,5 @@
 -- Those from the index on are locked still.
-use Rattle.std.proofs.Common.{drop, ◌+◌, ◌≤◌}
-use Rattle.rowex_table.specs.Seats.{IsSeatOf}
+use Rattle.rowex_writing.proofs.Common.{drop, ◌+◌, ◌≤◌, IsSeatOf}
 use Rattle.rowex_writing.specs.locks.Locks.{HasJustLocked, KnowsSameButLocks, Works, numbers_of}
 use Rattle.rowex_writing.proofs.locks.unlock_nodes.Given as goal
 

@@ -1,7 +1,6 @@
 -- The rows round the place, the entry beside, and the count of what that names.
-use Rattle.std.proofs.Common.{rules, ◌<◌, ◌∙◌, arith}
+use Rattle.rowex_writing.proofs.Common.{rules, ◌<◌, ◌∙◌, arith, beside_in_table}
 use Rattle.rowex_writing.proofs.merging.Merging.{beside_on}
-use Rattle.publish_laws.proofs.Cases.Merging.{beside_in_table}
 use Rattle.rowex_writing.specs.build.Taking.{upper}
 use Rattle.rowex_writing.proofs.locks.Going.{locked_on, reads_fixed, reads_more, locked_node}
 use Rattle.rowex_writing.proofs.merging.Beside.{column_few, found_beside, place_shown, sibling_is, takes_on, upper_held, upper_place, upper_range, upper_within}

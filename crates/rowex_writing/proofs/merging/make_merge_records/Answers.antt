@@ -1,8 +1,5 @@
 -- The node of both in the record that is claimed, and what is left of the upper one.
-use Rattle.std.proofs.Common.{◌∷◌, [], ◌++◌, ap, arith, length, refl, subst, sym, ◌∙◌}
-use Rattle.compound_node.specs.declared.entries.Entry.TheVariants.{Node}
-use Rattle.record_words.specs.declared.records.Rec.TheVariants.{Node as a_node}
-use Rattle.publish_laws.specs.Rises.{made_of_node}
+use Rattle.rowex_writing.proofs.Common.{◌∷◌, [], ◌++◌, ap, arith, length, refl, subst, sym, ◌∙◌, Node, a_node, made_of_node}
 use Rattle.rowex_writing.specs.build.Building.{IsBuilding}
 use Rattle.rowex_writing.specs.merging.Merging.{ClosesFork}
 use Rattle.rowex_writing.specs.build.Taking.{upper}

@@ -1,9 +1,5 @@
 -- The sibling is read, and joined with what is left.
-use Rattle.std.proofs.Common.{ℕ, List, ap, arith, refl, subst, sym, ◌∙◌}
-use Rattle.compound_node.specs.Nodes.{IsBuiltFrom, piece}
-use Rattle.node_tries.specs.Piece.{RisesFrom}
-use Rattle.tries.specs.Keys.{bit}
-use Rattle.tries.specs.Place.{fork_of}
+use Rattle.rowex_writing.proofs.Common.{ℕ, List, ap, arith, refl, subst, sym, ◌∙◌, IsBuiltFrom, piece, RisesFrom, bit, fork_of}
 use Rattle.rowex_writing.specs.locks.Going.{HasLocked, IsNodeOf}
 use Rattle.rowex_writing.specs.build.Taking.{lower}
 use Rattle.rowex_writing.proofs.merging.Leaving.{left_built, lower_node}

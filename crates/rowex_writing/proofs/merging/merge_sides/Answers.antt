@@ -1,8 +1,5 @@
 -- The fork's sides are in the order of the bit.
-use Rattle.std.proofs.Common.{sym, subst}
-use Rattle.compound_node.specs.Nodes.{IsBuiltFrom, piece}
-use Rattle.node_tries.specs.Piece.{RisesFrom}
-use Rattle.tries.specs.Place.{fork_of}
+use Rattle.rowex_writing.proofs.Common.{sym, subst, IsBuiltFrom, piece, RisesFrom, fork_of}
 use Rattle.rowex_writing.proofs.merging.merge_sides.Goals as goal
 
 pub merge-requires-clause-after : goal.merge-requires-clause-after

@@ -1,7 +1,6 @@
 -- The store, or the wider locks are given back.
 use Rattle.rowex_writing.proofs.build.Spare.{goes_spare}
-use Rattle.std.proofs.Common.{refl, sym, subst}
-use Rattle.rowex_reading.proofs.Seen.{later_trans}
+use Rattle.rowex_writing.proofs.Common.{refl, sym, subst, later_trans}
 use Rattle.rowex_writing.specs.build.Changes.{IsDeedChange}
 use Rattle.rowex_writing.specs.merging.Merging.{MayMergeInto}
 use Rattle.rowex_writing.specs.declared.plan.Deed.TheVariants.{Take}

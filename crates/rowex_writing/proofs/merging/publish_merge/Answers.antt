@@ -1,10 +1,7 @@
 -- What is stored above the upper node.
 use Rattle.rowex_writing.specs.build.Taking.{upper}
-use Rattle.record_words.specs.declared.records.Rec.TheVariants.{Node as a_node}
-use Rattle.versions.specs.Trades.{IsOneOf}
+use Rattle.rowex_writing.proofs.Common.{a_node, IsOneOf, ◌-◌, length, ap, arith, inl, refl, subst, sym, slice_range}
 use Rattle.rowex_writing.specs.build.Spare.{by_gone}
-use Rattle.std.proofs.Common.{◌-◌, length, ap, arith, inl, refl, subst, sym}
-use Rattle.std.specs.Prelude.{slice_range}
 use Rattle.rowex_writing.proofs.locks.Spans.{slice_few}
 use Rattle.rowex_writing.proofs.merging.Merging.{merge_store}
 use Rattle.rowex_writing.proofs.merging.publish_merge.Goals as goal

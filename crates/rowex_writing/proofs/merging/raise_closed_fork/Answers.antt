@@ -1,6 +1,5 @@
 -- What is left is a side: the entry alone, or a node whose words are those of a new record.
-use Rattle.std.proofs.Common.{◌∙◌, [], sym}
-use Rattle.publish_laws.specs.Rises.{one}
+use Rattle.rowex_writing.proofs.Common.{◌∙◌, [], sym, one}
 use Rattle.rowex_writing.proofs.locks.Going.{goes_more, words_shown}
 use Rattle.rowex_writing.proofs.build.Building.{building_on}
 use Rattle.rowex_writing.proofs.merging.Merging.{can_close, closed_height, closed_over, closed_shown, entry_height}

@@ -1,7 +1,6 @@
 -- The node beside, the wider locks, and the store under them.
 use Rattle.rowex_writing.proofs.build.Spare.{goes_spare}
-use Rattle.std.proofs.Common.{sym, ◌∙◌, subst, arith}
-use Rattle.rowex_reading.proofs.Seen.{later_trans}
+use Rattle.rowex_writing.proofs.Common.{sym, ◌∙◌, subst, arith, later_trans, IsWayOf}
 use Rattle.rowex_writing.specs.build.Changes.{IsDeedChange}
 use Rattle.rowex_writing.specs.locks.Locks.{span_numbers}
 use Rattle.rowex_writing.specs.merging.Merging.{HasTriedUpToTwoMore}
@@ -13,7 +12,6 @@ use Rattle.rowex_writing.proofs.locks.Onward.{run_possible, run_seat}
 use Rattle.rowex_writing.proofs.locks.Runs.{goes_run, run_none, runs_trans}
 use Rattle.rowex_writing.proofs.merging.widening.Widening.{few_both, few_more}
 use Rattle.rowex_writing.proofs.merging.try_merge.Goals as goal
-use Rattle.rowex_reading.specs.Ways.{IsWayOf}
 use Rattle.rowex_writing.proofs.locks.Going.{seat_of}
 use Rattle.rowex_writing.proofs.build.Building.{goes_possible}
 use Rattle.rowex_writing.proofs.store.Values.{held_few}

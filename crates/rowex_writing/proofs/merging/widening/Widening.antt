@@ -1,42 +1,11 @@
 -- Locks beyond those of a span: taken, tried once each, and given back.
-use Rattle.std.proofs.Common.{◌≡◌, inl, inr, ℕ, zero, suc, ◌+◌, ◌-◌, ◌*◌, ◌<◌, ◌≤◌, Bool, true, false, List, [], ◌∷◌, length, get_or, take, drop, Option, Some, None, refl, sym, ap, subst, ◌∙◌, arith, nat_eq, eq-eqb, ne_eqb}
-use Rattle.std.specs.Prelude.{slice_get, slice_range}
-use Rattle.std.proofs.lemmas.Option.{get_or_from_slice_get}
-use Rattle.insert_cases.specs.declared.choice.PathNode.{PathNode}
-use Rattle.record_words.specs.declared.layout.Layout.{Layout}
-use Rattle.tries.specs.Keys.{Key}
-use Rattle.tries.specs.Place.{entry_at}
-use Rattle.tries.specs.Search.{seek}
-use Rattle.tries.proofs.Place.{seek_spot}
-use Rattle.versions.specs.Trades.{IsOneOf, AreApart}
-use Rattle.rowex_core.specs.Knowing.{IsEvent, without_lock}
-use Rattle.rowex_core.specs.Reading.{node_words_of}
-use Rattle.rowex_core.specs.declared.event.Act.TheVariants.{Unlock}
-use Rattle.rowex_core.specs.declared.event.Event.{Event}
-use Rattle.rowex_core.specs.declared.event.Target.{Target}
-use Rattle.rowex_core.specs.declared.event.Target.TheVariants.{Anchor, Node as NodeTarget}
-use Rattle.rowex_core.specs.declared.known.Known.{Known}
-use Rattle.rowex_core.specs.declared.known.Locked.{Locked}
-use Rattle.compound_node.specs.declared.entries.Entry.TheVariants.{Node}
-use Rattle.rowex_reading.specs.Seen.{HasPlace}
-use Rattle.rowex_reading.proofs.Seen.{room_stable, seen_stable, since_later, sure_later}
-use Rattle.publish_laws.specs.Stages.{IsSure}
-use Rattle.publish_laws.proofs.Sure.{seen_is_sure}
-use Rattle.version_laws.specs.Scan.{EntryStoodSince}
-use Rattle.rowex_table.specs.Made.{IsLater, nodes_of}
-use Rattle.rowex_table.specs.Rule.{MayStep}
-use Rattle.rowex_table.specs.Runs.{silent}
-use Rattle.rowex_table.specs.Seats.{TableView, SeatView}
-use Rattle.rowex_table.proofs.Made.ActsAfter.{locks_exact, unlocks_node}
+use Rattle.rowex_writing.proofs.Common.{◌≡◌, inl, inr, ℕ, zero, suc, ◌+◌, ◌-◌, ◌*◌, ◌<◌, ◌≤◌, Bool, true, false, List, [], ◌∷◌, length, get_or, take, drop, Option, Some, None, refl, sym, ap, subst, ◌∙◌, arith, nat_eq, slice_get, slice_range, get_or_from_slice_get, PathNode, Layout, Key, entry_at, seek, seek_spot, IsOneOf, AreApart, IsEvent, without_lock, node_words_of, Unlock, Event, Target, Anchor, NodeTarget, Known, Locked, Node, HasPlace, room_stable, seen_stable, since_later, sure_later, IsSure, seen_is_sure, EntryStoodSince, IsLater, nodes_of, MayStep, silent, TableView, SeatView, locks_exact, unlocks_node, Entry, IsPossible, IsWayOf, named, Found}
+use Rattle.std.proofs.Common.{eq-eqb, ne_eqb}
 use Rattle.rowex_writing.specs.plan.Counts.{level_steps}
 use Rattle.rowex_writing.specs.locks.Going.{HasLocked}
 use Rattle.rowex_writing.specs.locks.Locks.{LocksLast, LocksOne, numbers_of, span_numbers, HasTried}
 use Rattle.rowex_writing.specs.declared.plan.job.Job.{Job}
 use Rattle.rowex_writing.specs.declared.plan.Span.{Span}
-use Rattle.compound_node.specs.declared.entries.Entry.{Entry}
-use Rattle.rowex_reading.specs.Possible.{IsPossible}
-use Rattle.rowex_reading.specs.Ways.{IsWayOf, named}
-use Rattle.rowex_reading.specs.declared.descent.Found.{Found}
 use Rattle.rowex_writing.specs.merging.Merging.{HasChangeStepsAfterTries, IsFarFromSpan, IsTargetAbove, LocksAbove, HasFewStepsAfterTries, HasTriedUpToTwoMore, by_anchor, by_node}
 use Rattle.rowex_writing.specs.build.Taking.{IsTaking}
 use Rattle.rowex_writing.proofs.locks.Spans.{numbers_few}

@@ -1,9 +1,5 @@
 -- The affected entries are those of the node at the level, whose forks the search has read.
-use Rattle.std.proofs.Common.{arith}
-use Rattle.std.proofs.lemmas.Option.{slice_get-get_or}
-use Rattle.rowex_reading.proofs.Counting.{reads_count}
-use Rattle.rowex_reading.proofs.Seen.Led.{reader_then, reads_later, reads_none}
-use Rattle.rowex_reading.proofs.Ways.{way_place}
+use Rattle.rowex_writing.proofs.Common.{arith, slice_get-get_or, reads_count, reader_then, reads_later, reads_none, way_place}
 use Rattle.rowex_writing.proofs.plan.Planned.{known_planned, beside_planned}
 use Rattle.rowex_writing.proofs.plan.Plans.{plan_within, beside_within}
 use Rattle.rowex_writing.proofs.plan.find_plan.Goals as goal

@@ -1,8 +1,5 @@
 -- A node with room gets the leaf, and a full one overflows.
-use Rattle.std.proofs.Common.{◌≡◌, ◌+◌, ℕ, List, arith, get_or, length, Some}
-use Rattle.std.proofs.lemmas.Option.{slice_get-get_or}
-use Rattle.std.specs.Prelude.{slice_get}
-use Rattle.insert_cases.specs.declared.choice.PathNode.{PathNode}
+use Rattle.rowex_writing.proofs.Common.{◌≡◌, ◌+◌, ℕ, List, arith, get_or, length, Some, slice_get-get_or, slice_get, PathNode}
 use Rattle.rowex_writing.proofs.plan.Plans.{low_full, low_room}
 use Rattle.rowex_writing.proofs.plan.plan_in_lowest_node.Goals as goal
 

@@ -1,39 +1,11 @@
 -- The store that makes a change, and what is known after the end of the change.
-use Rattle.std.proofs.Common.{◌≡◌, ℕ, eqb, ◌+◌, ◌*◌, ◌/◌, ◌%◌, ◌<◌, ◌≤◌, ◌^◌, List, Bool, true, false, Option, Some, sym, subst, ◌∙◌, arith}
+use Rattle.rowex_writing.proofs.Common.{◌≡◌, ℕ, eqb, ◌+◌, ◌*◌, ◌/◌, ◌%◌, ◌<◌, ◌≤◌, ◌^◌, List, Bool, true, false, Option, Some, sym, subst, ◌∙◌, arith, ne_eqb, Node, Change, BeginsWith, OthersGoOn, begins_on, others_on, HasEntryWord, Layout, Rec, AreApart, Publish, Event, Spot, Fresh, Known, AreKept, IsEvent, entry_of, nodes_of, HasPublished, Publishes, MayStep, silent, TableView, SeatView, act_leaves, IsAtRest, HasReady, IsPossible, Root, Slot, Value, IsOfEntry}
 use Rattle.std.specs.Prelude.{IsSome}
-use Rattle.std.proofs.lemmas.Bool.{ne_eqb}
-use Rattle.compound_node.specs.declared.entries.Entry.TheVariants.{Node}
-use Rattle.finite_map.specs.declared.Change.{Change}
-use Rattle.finite_map.specs.Fronts.{BeginsWith, OthersGoOn}
-use Rattle.finite_map.proofs.Fronts.{begins_on, others_on}
-use Rattle.record_words.specs.Entry.{HasEntryWord}
-use Rattle.record_words.specs.declared.layout.Layout.{Layout}
-use Rattle.record_words.specs.declared.records.Rec.{Rec}
-use Rattle.versions.specs.Trades.{AreApart}
-use Rattle.rowex_core.specs.declared.event.Act.TheVariants.{Publish}
-use Rattle.rowex_core.specs.declared.event.Event.{Event}
-use Rattle.rowex_core.specs.declared.event.Spot.{Spot}
-use Rattle.rowex_core.specs.declared.known.Fresh.{Fresh}
-use Rattle.rowex_core.specs.declared.known.Known.{Known}
-use Rattle.rowex_core.specs.Having.{AreKept}
-use Rattle.rowex_core.specs.Knowing.{IsEvent}
-use Rattle.record_words.specs.Decoding.{entry_of}
-use Rattle.rowex_table.specs.Made.{nodes_of}
-use Rattle.rowex_table.specs.Publishes.{HasPublished, Publishes}
-use Rattle.rowex_table.specs.Rule.{MayStep}
-use Rattle.rowex_table.specs.Runs.{silent}
-use Rattle.rowex_table.specs.Seats.{TableView, SeatView}
-use Rattle.rowex_table.proofs.Made.ActsLeave.{act_leaves}
-use Rattle.publish_laws.specs.Ending.{IsAtRest}
-use Rattle.publish_laws.specs.Stages.{HasReady}
-use Rattle.rowex_reading.specs.Possible.{IsPossible}
 use Rattle.rowex_writing.specs.build.Changes.{HasChanged, KnowsWas, MayPublishOnceReady}
 use Rattle.rowex_writing.specs.locks.Going.{WorksOn}
 use Rattle.rowex_writing.specs.store.Retiring.{HasJustPublished}
 use Rattle.rowex_writing.specs.build.Putting.{IsAnchored}
 use Rattle.rowex_writing.proofs.build.Building.{goes_possible}
-use Rattle.rowex_core.specs.declared.event.Spot.TheVariants.{Root, Slot, Value}
-use Rattle.rowex_core.specs.Events.{IsOfEntry}
 
 -- ---- the word
 -- a word that spells a node has a height in it

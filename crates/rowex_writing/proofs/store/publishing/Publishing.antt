@@ -1,29 +1,5 @@
 -- The records that a pass has made, made ready one after the other; the publish, and what it leaves with its end.
-use Rattle.std.proofs.Common.{◌≡◌, ℕ, zero, suc, ◌+◌, ◌-◌, ◌<◌, ◌≤◌, List, [], ◌∷◌, ◌++◌, length, get_or, take, drop, map, reverse, refl, sym, ap, subst, ◌∙◌, arith, inl}
-use Rattle.std.specs.Prelude.{Contains}
-use Rattle.std.proofs.lemmas.List.{append-nil, drop_all, drop_more, get_or-map, get_or-reverse, length-map, length-reverse, take_all, take_more}
-use Rattle.std.proofs.lemmas.List.Elements.{All-cons, Contains-append_right}
-use Rattle.record_words.specs.declared.layout.Layout.{Layout}
-use Rattle.record_words.specs.declared.records.Rec.{Rec}
-use Rattle.versions.specs.Trades.{IsOneOf}
-use Rattle.versions.proofs.Trades.{all_of, of_right}
-use Rattle.rowex_core.specs.declared.event.Act.TheVariants.{Ready}
-use Rattle.rowex_core.specs.declared.event.Event.{Event}
-use Rattle.rowex_core.specs.declared.known.Holding.TheVariants.{Held, Ready as IsReady}
-use Rattle.rowex_core.specs.declared.known.Known.{Known}
-use Rattle.rowex_core.specs.Cores.{FitsIn, HasRecord}
-use Rattle.rowex_core.specs.Knowing.{IsEvent}
-use Rattle.rowex_core.specs.Reading.{IsPacked}
-use Rattle.rowex_core.specs.Sharing.{IsOwned}
-use Rattle.rowex_core.proofs.Having.{owned_used}
-use Rattle.rowex_core.proofs.Sharing.Owning.{knows_all}
-use Rattle.rowex_table.specs.Made.{Made, held_as, recs_of, HasReadied}
-use Rattle.rowex_table.specs.Runs.{silent}
-use Rattle.rowex_table.specs.Seats.{TableView, SeatView}
-use Rattle.rowex_records.specs.Records.{IsFilled, Readies}
-use Rattle.publish_laws.specs.Stages.{HasReady}
-use Rattle.publish_laws.proofs.Loops.{ready_next}
-use Rattle.rowex_reading.specs.Possible.{IsPossible}
+use Rattle.rowex_writing.proofs.Common.{◌≡◌, ℕ, zero, suc, ◌+◌, ◌-◌, ◌<◌, ◌≤◌, List, [], ◌∷◌, ◌++◌, length, get_or, take, drop, map, reverse, refl, sym, ap, subst, ◌∙◌, arith, inl, Contains, append-nil, drop_all, drop_more, get_or-map, get_or-reverse, length-map, length-reverse, take_all, take_more, All-cons, Contains-append_right, Layout, Rec, IsOneOf, all_of, of_right, Ready, Event, Held, IsReady, Known, FitsIn, HasRecord, IsEvent, IsPacked, IsOwned, owned_used, knows_all, Made, held_as, recs_of, HasReadied, silent, TableView, SeatView, IsFilled, Readies, HasReady, ready_next, IsPossible}
 use Rattle.rowex_writing.specs.build.Building.{AreMadePacked, IsBuilding}
 use Rattle.rowex_writing.specs.locks.Going.{WorksOn, TriesNoLock}
 use Rattle.rowex_writing.proofs.locks.Going.{goes_more}

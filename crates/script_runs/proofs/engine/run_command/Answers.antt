@@ -1,6 +1,5 @@
 -- Why `run_command` meets its contract.
-use Rattle.std.proofs.lemmas.Result.{on_ok_weaker}
-use Rattle.hot_index_calls.specs.Passes.{PassView}
+use Rattle.script_runs.proofs.Common.{on_ok_weaker, PassView}
 use Rattle.script_runs.proofs.Progress.{HasAnsweredCommand-call}
 use Rattle.script_runs.proofs.engine.run_command.Goals as goal
 

@@ -1,7 +1,5 @@
 -- Why `run_script` meets its contract.
-use Rattle.std.proofs.Common.{◌≡◌, ◌∷◌, [], ◌∙◌, append_assoc, append-nil, rules}
-use Rattle.hot_index_calls.specs.Passes.{PassView}
-use Rattle.hot_scripts.specs.Parses.{commands_left}
+use Rattle.script_runs.proofs.Common.{◌≡◌, ◌∷◌, [], ◌∙◌, append_assoc, append-nil, rules, PassView, commands_left}
 use Rattle.script_runs.proofs.Progress.{HasRunCommands-none, HasRunCommands-more}
 use Rattle.script_runs.proofs.engine.run_script.Goals as goal
 

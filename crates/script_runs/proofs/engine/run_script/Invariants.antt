@@ -1,7 +1,5 @@
 -- What stays true in the loop of `run_script`.
-use Rattle.std.proofs.Common.{◌≡◌, ◌++◌, List, ℕ, length}
-use Rattle.hot_index_calls.specs.Passes.{PassView}
-use Rattle.hot_scripts.specs.Parses.{commands_left, script_commands}
+use Rattle.script_runs.proofs.Common.{◌≡◌, ◌++◌, List, ℕ, length, PassView, commands_left, script_commands}
 use Rattle.script_runs.specs.Progress.{HasRunCommands}
 use Rattle.script_runs.proofs.engine.run_script.Given as goal
 

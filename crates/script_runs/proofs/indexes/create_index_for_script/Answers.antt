@@ -1,13 +1,9 @@
 -- Why `create_index_for_script` meets its contract: each leaf record has room for the longest key of the script's calls.
-use Rattle.std.proofs.Common.{◌≡◌, ◌≤◌, ◌<◌, ◌++◌, [], ◌∷◌, ℕ, length, ◌∙◌, ap, arith, length-append}
+use Rattle.script_runs.proofs.Common.{◌≡◌, ◌≤◌, ◌<◌, ◌++◌, [], ◌∷◌, ℕ, length, ◌∙◌, ap, arith, length-append, nil_from_length, Layout, Command, HasKeyUpTo}
 use Rattle.std.specs.Prelude.{slice_get}
-use Rattle.std.proofs.lemmas.List.{nil_from_length}
 use Rattle.key_bits.specs.declared.TheConstants.{MAX_BYTES}
-use Rattle.record_words.specs.declared.layout.Layout.{Layout}
 use Rattle.record_words.specs.Layout.{leaf_size}
 use Rattle.record_words.specs.Leaf.{words_for}
-use Rattle.hot_scripts.specs.declared.command.Command.{Command}
-use Rattle.hot_scripts.specs.Grammar.{HasKeyUpTo}
 use Rattle.script_runs.specs.Told.{HasRoomFor}
 use Rattle.script_runs.proofs.indexes.create_index_for_script.Goals as goal
 

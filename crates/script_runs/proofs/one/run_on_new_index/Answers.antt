@@ -1,7 +1,5 @@
 -- Why `run_on_new_index` meets its contract.
-use Rattle.std.proofs.Common.{refl, ap, ◌∙◌}
-use Rattle.std.proofs.lemmas.Result.{IfOk-weaker}
-use Rattle.finite_map.specs.Fronts.{map_of}
+use Rattle.script_runs.proofs.Common.{refl, ap, ◌∙◌, IfOk-weaker, map_of}
 use Rattle.script_runs.specs.Runs.{text_told}
 use Rattle.script_runs.proofs.one.Alone.{alone_at_first, told_alone}
 use Rattle.script_runs.proofs.one.run_on_new_index.Goals as goal

@@ -1,6 +1,5 @@
 -- Why `run_script_alone` meets its contract.
-use Rattle.std.proofs.lemmas.Result.{IfOk-weaker}
-use Rattle.hot_scripts.specs.Parses.{script_commands}
+use Rattle.script_runs.proofs.Common.{IfOk-weaker, script_commands}
 use Rattle.script_runs.proofs.Progress.{HasRunCommands-untold}
 use Rattle.script_runs.proofs.one.run_script_alone.Goals as goal
 

@@ -1,6 +1,5 @@
 -- Why `end_run` meets its contract.
-use Rattle.std.proofs.Common.{ap, length, arith}
-use Rattle.std.proofs.lemmas.List.{length-map}
+use Rattle.script_runs.proofs.Common.{ap, length, arith, length-map}
 use Rattle.script_runs.proofs.Scripts.{met_long}
 use Rattle.script_runs.proofs.together.Numbered.{at_own}
 use Rattle.script_runs.proofs.together.end_run.Goals as goal

@@ -1,8 +1,5 @@
 -- Why `join_files` meets its contract.
-use Rattle.std.proofs.Common.{◌≡◌, [], ◌∷◌, ◌++◌, map, append_assoc, append-nil, arith}
-use Rattle.std.specs.List.{AllZip}
-use Rattle.std.specs.Vec.Iter.{into_iter_items}
-use Rattle.std.proofs.lemmas.List.{nil_from_length}
+use Rattle.script_runs.proofs.Common.{◌≡◌, [], ◌∷◌, ◌++◌, map, append_assoc, append-nil, arith, AllZip, into_iter_items, nil_from_length}
 use Rattle.script_runs.specs.Progress.{HasKept}
 use Rattle.script_runs.proofs.together.join_files.Goals as goal
 

@@ -1,7 +1,5 @@
 -- What stays true while threads are joined.
-use Rattle.std.proofs.Common.{◌++◌, List, map}
-use Rattle.std.specs.List.{AllZip}
-use Rattle.std.specs.Vec.Iter.{into_iter_items}
+use Rattle.script_runs.proofs.Common.{◌++◌, List, map, AllZip, into_iter_items}
 use Rattle.script_runs.specs.declared.answer.Done.{Done}
 use Rattle.script_runs.specs.Progress.{HasKept}
 use Rattle.script_runs.proofs.together.join_files.Given as goal

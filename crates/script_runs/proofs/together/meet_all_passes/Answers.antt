@@ -1,8 +1,5 @@
 -- Why `meet_all_passes` meets its contract.
-use Rattle.std.proofs.Common.{◌≡◌, ◌+◌, ◌<◌, ◌≤◌, [], ◌∷◌, ◌∙◌, append_assoc, append-nil, arith, drop, get_or, length, refl, sym}
-use Rattle.std.proofs.lemmas.List.{drop-set-lt, drop_all, drop_more, take_all, take_more_set}
-use Rattle.std.proofs.lemmas.List.Elements.{All-get_or, All-set}
-use Rattle.hot_index_calls.specs.Answers.{HaveMet}
+use Rattle.script_runs.proofs.Common.{◌≡◌, ◌+◌, ◌<◌, ◌≤◌, [], ◌∷◌, ◌∙◌, append_assoc, append-nil, arith, drop, get_or, length, refl, sym, drop-set-lt, drop_all, drop_more, take_all, take_more_set, All-get_or, All-set, HaveMet}
 use Rattle.script_runs.specs.declared.answer.Done.{Done}
 use Rattle.script_runs.specs.Progress.{MeetInTurn}
 use Rattle.script_runs.proofs.together.meet_all_passes.Goals as goal

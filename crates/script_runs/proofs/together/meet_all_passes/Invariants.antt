@@ -1,6 +1,5 @@
 -- The meetings that are left complete those that were made.
-use Rattle.std.proofs.Common.{◌++◌, List, drop, take}
-use Rattle.hot_index_calls.specs.Passes.{PassView}
+use Rattle.script_runs.proofs.Common.{◌++◌, List, drop, take, PassView}
 use Rattle.script_runs.specs.declared.answer.Done.{Done}
 use Rattle.script_runs.specs.Progress.{AreAt, MeetInTurn}
 use Rattle.script_runs.proofs.together.meet_all_passes.Given as goal

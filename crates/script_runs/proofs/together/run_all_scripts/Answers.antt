@@ -1,10 +1,6 @@
 -- Why `run_all_scripts` meets its contract.
-use Rattle.std.proofs.Common.{◌≡◌, ◌+◌, length, map, refl, sym, subst, ap, arith, ◌∙◌}
-use Rattle.std.specs.List.{flat_map, zip}
-use Rattle.std.proofs.lemmas.Result.{IfOk-weaker}
-use Rattle.std.proofs.lemmas.List.{length-map}
-use Rattle.hot_index.specs.Handles.{handle_at}
-use Rattle.hot_scripts.specs.Parses.{script_commands}
+use Rattle.script_runs.proofs.Common.{◌≡◌, ◌+◌, length, map, refl, sym, subst, ap, arith, ◌∙◌, zip, IfOk-weaker, length-map, handle_at, script_commands}
+use Rattle.std.specs.List.{flat_map}
 use Rattle.script_runs.specs.Progress.{IsNewPassOf}
 use Rattle.script_runs.specs.Told.{IsOfSize}
 use Rattle.script_runs.proofs.Scripts.{lawful_together}

@@ -1,8 +1,5 @@
 -- Why `run_files_in_scope` meets its contract.
-use Rattle.std.proofs.Common.{map}
-use Rattle.std.specs.List.{AllZip, zip}
-use Rattle.std.proofs.lemmas.Result.{IfOk-weaker}
-use Rattle.hot_scripts.specs.Parses.{script_commands}
+use Rattle.script_runs.proofs.Common.{map, AllZip, zip, IfOk-weaker, script_commands}
 use Rattle.script_runs.specs.Progress.{AllThree, HasKept, IsDone}
 use Rattle.script_runs.proofs.together.Numbered.{all_joined}
 use Rattle.script_runs.proofs.together.run_files_in_scope.Goals as goal

@@ -1,9 +1,5 @@
 -- Why `run_last_script` meets its contract.
-use Rattle.std.proofs.Common.{subst, arith}
-use Rattle.std.proofs.lemmas.Result.{IfOk-weaker}
-use Rattle.hot_index.specs.Handles.{HandleView}
-use Rattle.hot_index_calls.specs.Passes.{Owns}
-use Rattle.hot_scripts.specs.Parses.{script_commands}
+use Rattle.script_runs.proofs.Common.{subst, arith, IfOk-weaker, HandleView, Owns, script_commands}
 use Rattle.script_runs.proofs.Scripts.{met_long}
 use Rattle.script_runs.proofs.together.Numbered.{at_own}
 use Rattle.script_runs.proofs.Progress.{HasRunCommands-untold}

@@ -1,7 +1,5 @@
 -- Why `split_gates` meets its contract.
-use Rattle.std.proofs.Common.{◌≡◌, [], ◌∷◌, ◌∙◌, sym, append_assoc, append-nil, arith}
-use Rattle.std.specs.Vec.Iter.{into_iter_items}
-use Rattle.std.proofs.lemmas.List.{nil_from_length}
+use Rattle.script_runs.proofs.Common.{◌≡◌, [], ◌∷◌, ◌∙◌, sym, append_assoc, append-nil, arith, into_iter_items, nil_from_length}
 use Rattle.script_runs.proofs.together.split_gates.Goals as goal
 
 pub loop-script-preserved : goal.loop-script-preserved

@@ -1,6 +1,5 @@
 -- What was taken apart is completed by what is left.
-use Rattle.std.proofs.Common.{◌≡◌, ◌++◌, map}
-use Rattle.std.specs.Vec.Iter.{into_iter_items}
+use Rattle.script_runs.proofs.Common.{◌≡◌, ◌++◌, map, into_iter_items}
 use Rattle.script_runs.proofs.together.split_gates.Given as goal
 
 abbrev pub invariant-loop-script : goal.invariant-loop-script

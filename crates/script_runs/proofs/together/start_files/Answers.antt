@@ -1,10 +1,5 @@
 -- Why `start_files` meets its contract.
-use Rattle.std.proofs.Common.{◌≡◌, [], ◌∷◌, ◌++◌, length, map, ap, ◌∙◌, append_assoc, append-nil, arith}
-use Rattle.std.specs.List.{zip}
-use Rattle.std.specs.Vec.Iter.{into_iter_items}
-use Rattle.std.proofs.lemmas.List.{map-append, nil_from_length}
-use Rattle.std.specs.Slice.Iter.{iter_rest}
-use Rattle.hot_scripts.specs.Parses.{script_commands}
+use Rattle.script_runs.proofs.Common.{◌≡◌, [], ◌∷◌, ◌++◌, length, map, ap, ◌∙◌, append_assoc, append-nil, arith, zip, into_iter_items, map-append, nil_from_length, iter_rest, script_commands}
 use Rattle.script_runs.specs.Progress.{AllThree, IsOrderOf}
 use Rattle.script_runs.proofs.together.start_files.Goals as goal
 

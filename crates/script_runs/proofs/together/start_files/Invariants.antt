@@ -1,10 +1,6 @@
 -- What stays true while threads are started.
-use Rattle.std.proofs.Common.{◌≡◌, ◌++◌, List, length, map}
-use Rattle.std.specs.List.{zip}
-use Rattle.std.specs.Vec.Iter.{into_iter_items}
-use Rattle.std.specs.Slice.Iter.{iter_rest}
+use Rattle.script_runs.proofs.Common.{◌≡◌, ◌++◌, List, length, map, zip, into_iter_items, iter_rest, script_commands}
 use Rattle.script_runs.specs.declared.together.Order.{Order}
-use Rattle.hot_scripts.specs.Parses.{script_commands}
 use Rattle.script_runs.specs.Progress.{AllThree, IsOrderOf}
 use Rattle.script_runs.proofs.together.start_files.Given as goal
 

@@ -1,18 +1,9 @@
 -- The leaf stands beside the piece at the top.
-use Rattle.std.proofs.Common.{◌≡◌, inl, inr, ◌+◌, ◌≤◌, ◌∷◌, ◌++◌, [], Some, length, map, ap, sym, subst, ◌∙◌, arith, rules}
-use Rattle.std.proofs.lemmas.List.{length-append, length-set, with_items_is, places, map-append}
-use Rattle.std.proofs.lemmas.List.Elements.{All-nil, All-push, All-from_recursion}
-use Rattle.std.specs.Prelude.{All}
-use Rattle.compound_node.specs.declared.entries.Entry.TheVariants.{Leaf}
-use Rattle.tries.specs.Content.{item}
-use Rattle.tries.specs.Keys.{IsParted}
-use Rattle.tries.specs.Tree.{leaf, fork}
-use Rattle.record_words.specs.declared.records.Rec.TheVariants.{Leaf as a_leaf}
+use Rattle.bulk_load.proofs.Common.{◌≡◌, inl, inr, ◌+◌, ◌≤◌, ◌∷◌, ◌++◌, [], Some, length, map, ap, sym, subst, ◌∙◌, arith, rules, length-append, length-set, with_items_is, places, map-append, All-nil, All-push, All-from_recursion, All, Leaf, item, IsParted, leaf, fork, a_leaf, set}
 use Rattle.bulk_load.specs.declared.builder.StackedPiece.{StackedPiece}
 use Rattle.bulk_load.specs.Loading.{IsOfLeaves, IsStackOf, greatest_key}
 use Rattle.bulk_load.specs.Tips.{tip}
 use Rattle.bulk_load.specs.Stacks.{left_piece, whole_of}
-use Rattle.std.proofs.Math.ListN.{set}
 use Rattle.bulk_load.specs.Tables.{AreCursors, IsPut, HoldsTree}
 use Rattle.bulk_load.proofs.Tables.{cursors_moved}
 use Rattle.bulk_load.proofs.Stacks.{last_joined}

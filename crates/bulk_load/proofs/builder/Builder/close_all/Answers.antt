@@ -1,11 +1,5 @@
 -- The words are those of a load, with the root's entry.
-use Rattle.std.proofs.Common.{◌≡◌, ◌<◌, Some, None, length, ap, sym, subst, arith, rules}
-use Rattle.std.proofs.Math.ListN.{set}
-use Rattle.std.proofs.lemmas.List.{with_items_is, places}
-use Rattle.std.specs.Vec.{vec_len}
-use Rattle.record_words.specs.declared.layout.Layout.{Layout}
-use Rattle.record_words.specs.declared.TheConstants.{ROOT_WORD}
-use Rattle.record_words.specs.Entry.{entry_word}
+use Rattle.bulk_load.proofs.Common.{◌≡◌, ◌<◌, Some, None, length, ap, sym, subst, arith, rules, set, with_items_is, places, vec_len, Layout, ROOT_WORD, entry_word}
 use Rattle.bulk_load.specs.Finished.{IsFinished}
 use Rattle.bulk_load.proofs.Finished.{nothing_written, tree_written}
 use Rattle.bulk_load.proofs.Stacks.Joining.{none_loaded, stack_loaded}

@@ -1,6 +1,5 @@
 -- The one piece that is left has one entry, once it is closed.
-use Rattle.std.proofs.Common.{ℕ, ◌≤◌, [], None, IsTrue, nat_lt, ap, arith, rules}
-use Rattle.record_words.specs.declared.layout.Layout.{Layout}
+use Rattle.bulk_load.proofs.Common.{ℕ, ◌≤◌, [], None, IsTrue, nat_lt, ap, arith, rules, Layout}
 use Rattle.bulk_load.proofs.Finished.{closed_tree, has_entry_word, lone_piece, node_left, root_tip, tips_count}
 use Rattle.bulk_load.proofs.builder.Builder.close_tree.Goals as goal
 

@@ -1,9 +1,5 @@
 -- No cursor before this one stands at a free record with room.
-use Rattle.std.proofs.Common.{◌≡◌, ℕ, ◌<◌, get_or}
-use Rattle.record_words.specs.declared.state.Tag.TheVariants.{Free}
-use Rattle.record_words.specs.Layout.{leaf_size}
-use Rattle.record_words.specs.State.{state_word}
-use Rattle.record_words.specs.declared.records.Rec.TheVariants.{Leaf as a_leaf}
+use Rattle.bulk_load.proofs.Common.{◌≡◌, ℕ, ◌<◌, get_or, Free, leaf_size, state_word, a_leaf}
 use Rattle.bulk_load.specs.Tables.{leaf_class, state_in}
 use Rattle.bulk_load.proofs.builder.Builder.find_leaf.Given as goal
 

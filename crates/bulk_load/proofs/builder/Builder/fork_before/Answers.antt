@@ -1,9 +1,5 @@
 -- The keys part where they first differ.
-use Rattle.std.proofs.Common.{◌≡◌, ◌≢◌, ◌<◌, refl, sym, subst, ◌∙◌, rules}
-use Rattle.std.specs.declared.cmp.Ordering.TheVariants.{Less, Equal}
-use Rattle.std.specs.Vec.{vec_len}
-use Rattle.finite_map.specs.Maps.{key_order}
-use Rattle.tries.specs.Keys.{Key}
+use Rattle.bulk_load.proofs.Common.{◌≡◌, ◌≢◌, ◌<◌, refl, sym, subst, ◌∙◌, rules, Less, Equal, vec_len, key_order, Key}
 use Rattle.tries.proofs.Content.Maps.{same_order}
 use Rattle.bulk_load.proofs.builder.Pushing.{parted_by}
 use Rattle.bulk_load.proofs.builder.Builder.fork_before.Goals as goal

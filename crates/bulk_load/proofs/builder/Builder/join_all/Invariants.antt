@@ -1,7 +1,5 @@
 -- The pieces are those of one tree all the time.
-use Rattle.std.proofs.Common.{◌≡◌, List}
-use Rattle.std.specs.Vec.{vec_len}
-use Rattle.tries.specs.Content.{Item}
+use Rattle.bulk_load.proofs.Common.{◌≡◌, List, vec_len, Item}
 use Rattle.bulk_load.specs.Loading.{IsStackOf}
 use Rattle.bulk_load.proofs.builder.Builder.join_all.Given as goal
 

@@ -1,7 +1,5 @@
 -- Pieces that may be joined at first still may be.
-use Rattle.std.proofs.Common.{List}
-use Rattle.std.specs.Vec.{vec_len}
-use Rattle.tries.specs.Content.{Item}
+use Rattle.bulk_load.proofs.Common.{List, vec_len, Item}
 use Rattle.bulk_load.specs.Loading.{CanJoin, KeepsNodes}
 use Rattle.bulk_load.proofs.builder.Builder.join_behind.Given as goal
 

@@ -1,9 +1,5 @@
 -- Both pieces are closed as planned, and stand beside each other then.
-use Rattle.std.proofs.Common.{◌≡◌, ◌+◌, ◌-◌, ◌<◌, take, slice_set, None, length, refl, ap, sym, subst, ◌∙◌, arith}
-use Rattle.std.specs.Vec.{vec_len}
-use Rattle.std.proofs.lemmas.List.{length-set, length-take}
-use Rattle.record_words.specs.declared.layout.Layout.{Layout}
-use Rattle.std.specs.Prelude.{All}
+use Rattle.bulk_load.proofs.Common.{◌≡◌, ◌+◌, ◌-◌, ◌<◌, take, slice_set, None, length, refl, ap, sym, subst, ◌∙◌, arith, vec_len, length-set, length-take, Layout, All}
 use Rattle.bulk_load.specs.declared.builder.StackedPiece.{StackedPiece}
 use Rattle.bulk_load.specs.Loading.{IsOfLeaves}
 use Rattle.bulk_load.proofs.Stacks.Closing.{fits}

@@ -1,8 +1,7 @@
 -- Nothing is loaded.
-use Rattle.std.proofs.Common.{inl, refl, rules}
+use Rattle.bulk_load.proofs.Common.{inl, refl, rules, a_leaf}
 use Rattle.bulk_load.proofs.Tables.{first_cursors}
 use Rattle.bulk_load.proofs.builder.Opening.{first_free, holds_none}
-use Rattle.record_words.specs.declared.records.Rec.TheVariants.{Leaf as a_leaf}
 use Rattle.bulk_load.proofs.builder.Builder.new.Goals as goal
 
 pub returns : goal.returns

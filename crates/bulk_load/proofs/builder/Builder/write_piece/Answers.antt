@@ -1,20 +1,12 @@
 -- The node stands for the piece.
-use Rattle.std.proofs.Common.{◌≡◌, ◌+◌, ◌-◌, ◌<◌, List, Option, Some, get_or, length, refl, ap, sym, subst, ◌∙◌, arith, rules}
-use Rattle.std.proofs.lemmas.List.{with_items_is, places}
-use Rattle.compound_node.specs.declared.entries.Entry.TheVariants.{Node}
-use Rattle.compound_node.specs.Nodes.{IsBuiltFrom}
-use Rattle.tries.specs.Tree.{Tree, subtrie}
-use Rattle.record_words.specs.declared.records.Rec.TheVariants.{Node as a_node}
+use Rattle.bulk_load.proofs.Common.{◌≡◌, ◌+◌, ◌-◌, ◌<◌, List, Option, Some, get_or, length, refl, ap, sym, subst, ◌∙◌, arith, rules, with_items_is, places, Node, IsBuiltFrom, Tree, subtrie, a_node, Leaf, a_leaf, node_leaf}
 use Rattle.bulk_load.specs.Loading.{IsPiece}
 use Rattle.bulk_load.specs.Tips.{tip}
 use Rattle.bulk_load.specs.Stacks.{LeftPiece, whole_of, position_of, front_tips, with_right}
 use Rattle.bulk_load.specs.Tables.{IsPut, state_in}
-use Rattle.compound_node.specs.declared.entries.Entry.TheVariants.{Leaf}
 use Rattle.bulk_load.specs.Tables.{HoldsTree}
 use Rattle.bulk_load.proofs.Stacks.Closing.{fits, taken_piece, tips_given, each_given, merged, closed, holds_closed, local_closed, all_built, taken_closed, tips_closed}
 use Rattle.bulk_load.proofs.Tables.Putting.{state_stays}
-use Rattle.record_words.specs.declared.records.Rec.TheVariants.{Leaf as a_leaf}
-use Rattle.versions.proofs.Heap.{node_leaf}
 use Rattle.bulk_load.proofs.builder.Builder.write_piece.Goals as goal
 use Rattle.bulk_load.proofs.builder.Builder.write_piece.Goals.{After-deref}
 

@@ -1,11 +1,5 @@
 -- The words are those of a load of the leaves that the builder had.
-use Rattle.std.proofs.Common.{◌≡◌, ◌<◌, ℕ, subst}
-use Rattle.record_words.specs.declared.records.Rec.TheVariants.{Node as a_node}
-use Rattle.versions.specs.State.{IsLinked}
-use Rattle.versions.specs.Told.{items_of}
-use Rattle.rowex_core.specs.Events.{IsLoad, after, loaded_tree}
-use Rattle.rowex_core.specs.Opening.{opening}
-use Rattle.rowex_core.specs.Words.{Shows}
+use Rattle.bulk_load.proofs.Common.{◌≡◌, ◌<◌, ℕ, subst, a_node, IsLinked, items_of, IsLoad, after, loaded_tree, opening, Shows}
 use Rattle.bulk_load.specs.Loading.{items_in}
 use Rattle.bulk_load.specs.Views.{LoadView, load_act}
 use Rattle.bulk_load.proofs.loader.Loader.finish.Goals as goal

@@ -1,6 +1,5 @@
 -- What contracts see is what the builder has loaded.
-use Rattle.std.proofs.Common.{◌++◌, ◌∷◌, [], ap, ◌∙◌}
-use Rattle.tries.specs.Content.{item}
+use Rattle.bulk_load.proofs.Common.{◌++◌, ◌∷◌, [], ap, ◌∙◌, item}
 use Rattle.bulk_load.specs.Loading.{items_in}
 use Rattle.bulk_load.specs.Views.{LoadView, with_item}
 use Rattle.bulk_load.proofs.Loading.{loading_shown, same_loading, same_view}

@@ -1,11 +1,8 @@
 -- The words with a new fork are those of the head.
-use Rattle.std.proofs.Common.{ap, arith, drop, false, length, subst, sym, take, ◌%◌, ◌*◌, ◌++◌, ◌+◌, ◌-◌, ◌<◌, ◌^◌, ◌∙◌, ◌≡◌}
+use Rattle.compound_node.proofs.Common.{ap, arith, drop, false, length, subst, sym, take, ◌%◌, ◌*◌, ◌++◌, ◌+◌, ◌-◌, ◌<◌, ◌^◌, ◌∙◌, ◌≡◌, forked_rows, edited, has}
 use Rattle.compound_node.proofs.Forking.Forked.{new_fits, new_rows, room_for_column, words_forked}
 use Rattle.compound_node.specs.Forking.{forked_head}
 use Rattle.compound_node.specs.Nodes.{FitsHead, HeadView, IsLawfulNode, leaves, node_of}
-use Rattle.partial_keys.specs.Spread.{forked_rows}
-use Rattle.node_tries.specs.Growth.{edited}
-use Rattle.node_tries.specs.Positions.{has}
 use Rattle.compound_node.proofs.heads.Head.add_fork.Goals as goal
 use Rattle.compound_node.proofs.heads.Head.add_fork.Goals.{After-self-3-1}
 

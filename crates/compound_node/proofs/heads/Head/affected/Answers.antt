@@ -1,10 +1,8 @@
 -- The run of rows is the affected range.
-use Rattle.std.proofs.Common.{ap, arith, length, subst, sym, ◌∙◌, ◌≡◌}
+use Rattle.compound_node.proofs.Common.{ap, arith, length, subst, sym, ◌∙◌, ◌≡◌, IsRunEnd, IsRunStart, front_below}
 use Rattle.compound_node.proofs.Lawful.{length-leaves}
 use Rattle.compound_node.proofs.heads.Ranges.{IsRange, range_of_head}
 use Rattle.compound_node.specs.Nodes.{HeadView, IsLawfulNode, NodeView, head_of}
-use Rattle.partial_keys.specs.Runs.{IsRunEnd, IsRunStart}
-use Rattle.node_tries.specs.Positions.{front_below}
 use Rattle.compound_node.proofs.heads.Head.affected.Goals as goal
 use Rattle.compound_node.proofs.heads.Head.affected.Goals.{After-last_of_run}
 

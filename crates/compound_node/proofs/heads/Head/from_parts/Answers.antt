@@ -1,6 +1,5 @@
 -- Words that fit are those of some node.
-use Rattle.std.proofs.Common.{arith, refl, subst, sym, take, ◌∙◌}
-use Rattle.std.proofs.lemmas.Bool.{false≢true}
+use Rattle.compound_node.proofs.Common.{arith, refl, subst, sym, take, ◌∙◌, false≢true}
 use Rattle.compound_node.proofs.Lawful.{fits_head, fits_words, head_height, some_node}
 use Rattle.compound_node.specs.Nodes.{FitsHead}
 use Rattle.compound_node.proofs.heads.Head.from_parts.Goals as goal

@@ -1,6 +1,5 @@
 -- The rows stand in front of the words.
-use Rattle.std.proofs.Common.{List, ap, length, refl, subst, sym, take, ℕ, ◌∙◌, ◌≡◌}
-use Rattle.std.proofs.Math.Seq.{take-append_seam}
+use Rattle.compound_node.proofs.Common.{List, ap, length, refl, subst, sym, take, ℕ, ◌∙◌, ◌≡◌, take-append_seam}
 use Rattle.compound_node.specs.Nodes.{FitsHead, HeadView}
 use Rattle.compound_node.proofs.heads.Head.from_rows.Goals as goal
 use Rattle.compound_node.proofs.heads.Head.from_rows.Goals.{After-pad}

@@ -1,9 +1,8 @@
 -- The highest complying row is where the forks lead.
-use Rattle.std.proofs.Common.{ap, get_or, length, refl, subst, sym, ◌<◌, ◌∙◌}
+use Rattle.compound_node.proofs.Common.{ap, get_or, length, refl, subst, sym, ◌<◌, ◌∙◌, first_is_zero}
 use Rattle.compound_node.proofs.Lawful.{head_leads, head_leads-fits}
 use Rattle.compound_node.specs.Nodes.{HeadView}
 use Rattle.key_bits.specs.Bits.{bit_of}
-use Rattle.partial_keys.proofs.Leads.{first_is_zero}
 use Rattle.compound_node.proofs.heads.Head.search.Goals as goal
 
 pub search_lanes-requires : goal.search_lanes-requires

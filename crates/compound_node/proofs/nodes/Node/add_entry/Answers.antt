@@ -1,10 +1,8 @@
 -- The head and the entries with the fork make a node, built from the piece with it.
-use Rattle.std.proofs.Common.{ap, arith, length, subst, sym, ◌+◌, ◌-◌, ◌<◌, ◌∙◌, ◌≡◌}
-use Rattle.std.specs.List.{All}
+use Rattle.compound_node.proofs.Common.{ap, arith, length, subst, sym, ◌+◌, ◌-◌, ◌<◌, ◌∙◌, ◌≡◌, All, edited, forked_places, grown}
 use Rattle.compound_node.proofs.Forking.{NewFork, new_fork}
 use Rattle.compound_node.proofs.Lawful.{same_count}
 use Rattle.compound_node.specs.Nodes.{IsBuiltFrom, IsEntry, NodeView, greatest_height, node_of, piece}
-use Rattle.node_tries.specs.Growth.{edited, forked_places, grown}
 use Rattle.compound_node.proofs.nodes.Node.add_entry.Goals as goal
 use Rattle.compound_node.proofs.nodes.Node.add_entry.Goals.{After-add_fork, After-add_fork-arg-1, After-height, After-insert_entry_beside-arg-1}
 

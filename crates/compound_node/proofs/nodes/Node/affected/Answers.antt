@@ -1,8 +1,7 @@
 -- The head's range is the node's.
-use Rattle.std.proofs.Common.{ap, arith, length, refl, subst, ℕ, ◌+◌, ◌<◌, ◌↔◌, ◌≡◌, ◌≤◌}
+use Rattle.compound_node.proofs.Common.{ap, arith, length, refl, subst, ℕ, ◌+◌, ◌<◌, ◌↔◌, ◌≡◌, ◌≤◌, affected_count, affected_first}
 use Rattle.compound_node.proofs.Lawful.{same_count}
 use Rattle.compound_node.specs.Nodes.{AgreeBefore, NodeView, piece}
-use Rattle.node_tries.specs.Growth.{affected_count, affected_first}
 use Rattle.compound_node.proofs.nodes.Node.affected.Goals as goal
 
 pub affected-requires : goal.affected-requires

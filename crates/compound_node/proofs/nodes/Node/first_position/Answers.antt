@@ -1,6 +1,5 @@
 -- The head's root fork is the node's.
-use Rattle.std.proofs.Common.{refl, subst, ◌≡◌}
-use Rattle.node_tries.specs.Changes.{AtRootFork}
+use Rattle.compound_node.proofs.Common.{refl, subst, ◌≡◌, AtRootFork}
 use Rattle.compound_node.specs.Nodes.{piece}
 use Rattle.compound_node.proofs.nodes.Node.first_position.Goals as goal
 

@@ -1,11 +1,8 @@
 -- Both nodes' rows over the columns of both show the two sides of the fork.
-use Rattle.std.proofs.Common.{◌≡◌, ◌++◌, ◌∷◌, ap, ap₂, arith, map, take, subst, ◌∙◌}
+use Rattle.compound_node.proofs.Common.{◌≡◌, ◌++◌, ◌∷◌, ap, ap₂, arith, map, take, subst, ◌∙◌, weight, with_unused, front_below}
 use Rattle.std.specs.Prelude.{bit_or}
 use Rattle.compound_node.proofs.joining.Joining.{join_below, join_columns, join_fits, join_piece, join_place}
 use Rattle.compound_node.specs.Joining.{IsWidened}
-use Rattle.partial_keys.proofs.Rows.Growing.{weight}
-use Rattle.partial_keys.specs.Rows.{with_unused}
-use Rattle.node_tries.specs.Positions.{front_below}
 use Rattle.compound_node.specs.Nodes.{IsBuiltFrom, NodeView}
 use Rattle.compound_node.proofs.nodes.Node.merge.Goals as goal
 use Rattle.compound_node.proofs.nodes.Node.merge.Goals.{After-as_slice-3, After-count_columns_below}

@@ -1,6 +1,5 @@
 -- A place past the last one has none.
-use Rattle.std.proofs.Common.{arith, subst, sym}
-use Rattle.std.proofs.lemmas.List.{get_or_past}
+use Rattle.compound_node.proofs.Common.{arith, subst, sym, get_or_past}
 use Rattle.compound_node.proofs.Lawful.{same_count}
 use Rattle.compound_node.specs.Nodes.{IsLawfulNode}
 use Rattle.compound_node.proofs.nodes.Node.row.Goals as goal

@@ -1,11 +1,8 @@
 -- The node with another entry is lawful, and shows it at its place.
-use Rattle.std.proofs.Common.{ap, length, set, subst, sym, ◌<◌, ◌∙◌, ◌≡◌}
-use Rattle.std.proofs.lemmas.List.{length-set}
-use Rattle.std.specs.List.{refill}
+use Rattle.compound_node.proofs.Common.{ap, length, set, subst, sym, ◌<◌, ◌∙◌, ◌≡◌, length-set, refill, replaced}
 use Rattle.compound_node.proofs.Editing.{refill_same}
 use Rattle.compound_node.proofs.Lawful.{piece-replaced, replaced_lawful}
 use Rattle.compound_node.specs.Nodes.{IsLawfulNode, NodeView, StandsBelow, node_of, piece}
-use Rattle.node_tries.specs.Changes.{replaced}
 use Rattle.compound_node.proofs.nodes.Node.set_entry.Goals as goal
 use Rattle.compound_node.proofs.nodes.Node.set_entry.Goals.{After-self-1}
 

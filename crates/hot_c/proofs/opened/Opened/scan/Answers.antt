@@ -1,11 +1,6 @@
 -- The scan of the index fills the list.
-use Rattle.std.proofs.Common.{subst}
+use Rattle.hot_c.proofs.Common.{subst, Stays, range_from, IsListReadBy, untold, IsLawfulBy}
 use Rattle.packed_pairs.specs.declared.direction.Direction.{Direction}
-use Rattle.hot_index.specs.Handles.{Stays}
-use Rattle.hot_index_calls.specs.Answers.{range_from}
-use Rattle.hot_index_calls.specs.Calls.{IsListReadBy}
-use Rattle.hot_index_calls.specs.Traces.{untold}
-use Rattle.version_laws.specs.Directions.{IsLawfulBy}
 use Rattle.hot_c.proofs.Orders.{filled_in}
 use Rattle.hot_c.proofs.opened.Opened.scan.Goals as goal
 

@@ -1,7 +1,5 @@
 -- The keys that are left are those that the scan was asked for.
-use Rattle.std.proofs.Common.{rules, ◌≡◌, Option, Some, None, Ok, Err, sym, ◌∙◌}
-use Rattle.hot_index_calls.specs.Answers.{range_from}
-use Rattle.hot_index_calls.specs.Calls.{IsListRead}
+use Rattle.hot_index.proofs.Common.{rules, ◌≡◌, Option, Some, None, Ok, Err, sym, ◌∙◌, range_from, IsListRead}
 use Rattle.hot_index.specs.Cursors.{IsLeft}
 use Rattle.hot_index.specs.declared.cursor.Rest.{Rest}
 use Rattle.hot_index.proofs.cursor.Cursor.next_into.Goals as goal

@@ -1,6 +1,5 @@
 -- A get's steps are those of a call that only reads.
-use Rattle.hot_index_calls.proofs.Traces.{read_told}
-use Rattle.hot_index_calls.proofs.Counts.{unless_get, waited_lacks}
+use Rattle.hot_index.proofs.Common.{read_told, unless_get, waited_lacks}
 use Rattle.hot_index.proofs.index.Index.call_with.Goals as goal
 
 pub returns-in-Get-clause-told : goal.returns-in-Get-clause-told

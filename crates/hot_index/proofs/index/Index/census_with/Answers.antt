@@ -1,9 +1,5 @@
 -- A count changes nothing that a call tells.
-use Rattle.std.proofs.Common.{subst, ◌∙◌}
-use Rattle.rowex_table.specs.Seats.{TableView}
-use Rattle.hot_index_calls.specs.Answers.{IsUnnoted}
-use Rattle.hot_index_calls.specs.Census.{HasCounted}
-use Rattle.hot_index_calls.specs.Passes.{PassView, pass_of}
+use Rattle.hot_index.proofs.Common.{subst, ◌∙◌, TableView, IsUnnoted, HasCounted, PassView, pass_of}
 use Rattle.hot_index_calls.proofs.Counted.{counts_settled, counts_unnoted, has_counted}
 use Rattle.hot_index.proofs.KeyCounts.Counted.{settled_on}
 use Rattle.hot_index.proofs.index.Index.census_with.Goals as goal

@@ -1,10 +1,5 @@
 -- A round changes nothing that a call tells, and what it gives back is its own.
-use Rattle.std.proofs.Common.{refl, ap, subst}
-use Rattle.rowex_core.specs.declared.known.Known.{Known}
-use Rattle.rowex_table.specs.Seats.{TableView}
-use Rattle.hot_index_calls.specs.Answers.{IsUnnoted}
-use Rattle.hot_index_calls.specs.Passes.{PassView, pass_of}
-use Rattle.hot_index_calls.specs.Traces.{HasCollected}
+use Rattle.hot_index.proofs.Common.{refl, ap, subst, Known, TableView, IsUnnoted, PassView, pass_of, HasCollected}
 use Rattle.hot_index_calls.proofs.Passes.Collected.{round_few, round_settled, round_unnoted}
 use Rattle.hot_index.proofs.KeyCounts.Counted.{settled_on}
 use Rattle.hot_index.proofs.index.Index.collect_with.Goals as goal

@@ -1,7 +1,5 @@
 -- The list has one pair at most, and this is taken.
-use Rattle.std.proofs.Common.{◌≡◌, ◌≤◌, ℕ, List, length, refl, sym, subst, ◌∙◌, arith}
-use Rattle.std.proofs.lemmas.Result.{err_from_is_err_and}
-use Rattle.std.specs.Option.{option_to_list}
+use Rattle.hot_index.proofs.Common.{◌≡◌, ◌≤◌, ℕ, List, length, refl, sym, subst, ◌∙◌, arith, err_from_is_err_and, option_to_list}
 use Rattle.hot_index.proofs.index.Firsts.{one_at_most, only}
 use Rattle.hot_index.proofs.Reading.{range_first, range_refused, range_uncopied}
 use Rattle.hot_index.proofs.index.Index.find_first_pair.Goals as goal

@@ -1,8 +1,5 @@
 -- The greatest key is the last one with the empty prefix.
-use Rattle.std.proofs.Common.{ℕ, List, ap, subst, ◌∙◌}
-use Rattle.finite_map.specs.Scans.{IsLawfulScan}
-use Rattle.hot_index_calls.specs.Answers.{IsFoundBy, range_from}
-use Rattle.hot_index_calls.specs.Calls.{IsRangeRead}
+use Rattle.hot_index.proofs.Common.{ℕ, List, ap, subst, ◌∙◌, IsLawfulScan, IsFoundBy, range_from, IsRangeRead}
 use Rattle.key_ranges.specs.Ranges.{last_with}
 use Rattle.hot_index.proofs.index.Index.first.Goals as goal
 

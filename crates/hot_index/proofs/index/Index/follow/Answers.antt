@@ -1,7 +1,5 @@
 -- What the seat has seen, the pass has.
-use Rattle.std.proofs.Common.{subst}
-use Rattle.rowex_table.specs.Seats.{StampView, TableView}
-use Rattle.hot_index_calls.specs.Passes.{PassView, pass_of}
+use Rattle.hot_index.proofs.Common.{subst, StampView, TableView, PassView, pass_of}
 use Rattle.hot_index.specs.Stamps.{HasCaughtUp}
 use Rattle.hot_index.proofs.KeyCounts.Counted.{settled_on}
 use Rattle.hot_index.proofs.Stamps.{caught_up, followed_settled}

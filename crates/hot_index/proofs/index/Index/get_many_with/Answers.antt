@@ -1,10 +1,5 @@
 -- The gets are noted as their pass clears the pin, and it has settled then.
-use Rattle.std.proofs.Common.{rules, ◌∙◌, length, ap, subst}
-use Rattle.rowex_table.specs.Seats.{TableView}
-use Rattle.rowex_reading.proofs.Seen.Led.{looks_same}
-use Rattle.hot_index_calls.specs.Passes.{PassView, pass_of}
-use Rattle.hot_index_calls.specs.Many.{AreNoted, HasMadeGetManySteps, gets}
-use Rattle.hot_index_calls.proofs.Traces.{has_got_many}
+use Rattle.hot_index.proofs.Common.{rules, ◌∙◌, length, ap, subst, TableView, looks_same, PassView, pass_of, AreNoted, HasMadeGetManySteps, gets, has_got_many}
 use Rattle.hot_index.proofs.index.ManyNoted.{gets_counted, gets_noted}
 use Rattle.hot_index.proofs.Reading.{still_pinned}
 use Rattle.hot_index.proofs.index.Index.get_many_with.Goals as goal

@@ -1,13 +1,5 @@
 -- A get is noted as its pass clears the pin, and has settled then.
-use Rattle.std.proofs.Common.{rules, ◌∙◌, ap, subst}
-use Rattle.finite_map.specs.declared.Call.TheVariants.{Get}
-use Rattle.rowex_table.specs.Seats.{TableView}
-use Rattle.hot_index_calls.specs.Passes.{PassView, pass_of}
-use Rattle.hot_index_calls.specs.Answers.{IsNoted, got}
-use Rattle.hot_index_calls.specs.Traces.{HasMadeGetSteps}
-use Rattle.rowex_reading.proofs.Seen.Led.{looks_same}
-use Rattle.hot_index_calls.proofs.Noting.{get_noted}
-use Rattle.hot_index_calls.proofs.Traces.{has_got}
+use Rattle.hot_index.proofs.Common.{rules, ◌∙◌, ap, subst, Get, TableView, PassView, pass_of, IsNoted, got, HasMadeGetSteps, looks_same, get_noted, has_got}
 use Rattle.hot_index.proofs.KeyCounts.Counted.{got_on}
 use Rattle.hot_index.proofs.Reading.{still_pinned}
 use Rattle.hot_index.proofs.index.Index.get_with.Goals as goal

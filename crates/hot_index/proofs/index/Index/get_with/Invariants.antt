@@ -1,7 +1,5 @@
 -- The note of the get.
-use Rattle.finite_map.specs.declared.Call.TheVariants.{Get}
-use Rattle.hot_index_calls.specs.Answers.{got}
-use Rattle.hot_index_calls.proofs.Noting.{note_of}
+use Rattle.hot_index.proofs.Common.{Get, got, note_of}
 use Rattle.hot_index.proofs.index.Index.get_with.Given as goal
 
 abbrev pub ghost-end_get : goal.ghost-end_get

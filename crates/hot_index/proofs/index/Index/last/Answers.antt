@@ -1,8 +1,6 @@
 -- The first key of all is empty.
-use Rattle.std.proofs.Common.{ℕ, List, subst}
+use Rattle.hot_index.proofs.Common.{ℕ, List, subst, IsFoundBy, range_from, IsRangeRead}
 use Rattle.finite_map.specs.Reverse.{IsLawfulReverseScan}
-use Rattle.hot_index_calls.specs.Answers.{IsFoundBy, range_from}
-use Rattle.hot_index_calls.specs.Calls.{IsRangeRead}
 use Rattle.hot_index.proofs.index.Index.last.Goals as goal
 
 pub returns : goal.returns

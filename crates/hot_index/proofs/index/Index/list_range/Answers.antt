@@ -1,11 +1,5 @@
 -- A scan ends as its pass clears the pin, whether it is answered or refused.
-use Rattle.std.proofs.Common.{rules, subst}
-use Rattle.rowex_table.specs.Seats.{TableView}
-use Rattle.version_laws.specs.Scan.{Range}
-use Rattle.rowex_scanning.specs.Scanning.{asked_range}
-use Rattle.version_laws.specs.Directions.{IsLawfulBy}
-use Rattle.hot_index_calls.specs.Calls.{IsListReadBy}
-use Rattle.hot_index_calls.specs.Passes.{PassView, pass_of}
+use Rattle.hot_index.proofs.Common.{rules, subst, TableView, Range, asked_range, IsLawfulBy, IsListReadBy, PassView, pass_of}
 use Rattle.hot_index.proofs.Reading.{list_read, scanned_on, still_pinned}
 use Rattle.hot_index.proofs.index.Index.list_range.Goals as goal
 

@@ -1,9 +1,5 @@
 -- What the seats have seen, the passes have.
-use Rattle.std.proofs.Common.{subst, ap, ◌∙◌}
-use Rattle.rowex_core.specs.declared.known.Known.{Known}
-use Rattle.rowex_table.specs.Seats.{IsShownAll, TableView}
-use Rattle.hot_index_calls.specs.Answers.{HaveMet}
-use Rattle.hot_index_calls.specs.Passes.{PassView, pass_of}
+use Rattle.hot_index.proofs.Common.{subst, ap, ◌∙◌, Known, IsShownAll, TableView, HaveMet, PassView, pass_of}
 use Rattle.hot_index.specs.Stamps.{HasSeenMore}
 use Rattle.hot_index.proofs.KeyCounts.Counted.{settled_on}
 use Rattle.hot_index.proofs.index.Meets.{first_settled, second_settled, passes_met, seen_more}

@@ -1,9 +1,5 @@
 -- What the call leaves on the seat, as the pass sees it.
-use Rattle.hot_index_calls.proofs.Counts.{replied_cause, replied_outcome, replied_own, room_seen, stepped_told, tries_seen, waited_leafless}
-use Rattle.std.proofs.Common.{subst, sym}
-use Rattle.rowex_table.specs.Seats.{TableView}
-use Rattle.hot_index_calls.specs.Asked.{last_try}
-use Rattle.hot_index_calls.specs.Refusals.{HasNodeLeft}
+use Rattle.hot_index.proofs.Common.{replied_cause, replied_outcome, replied_own, room_seen, stepped_told, tries_seen, waited_leafless, subst, sym, TableView, last_try, HasNodeLeft}
 use Rattle.hot_index.proofs.KeyCounts.Counted.{waited_on}
 use Rattle.hot_index.proofs.index.Index.retry_change_with.Goals as goal
 

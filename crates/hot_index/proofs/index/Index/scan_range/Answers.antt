@@ -1,6 +1,5 @@
 -- The scan has the pairs of the list.
-use Rattle.std.proofs.Common.{refl}
-use Rattle.std.proofs.lemmas.Result.{err_from_is_err_and}
+use Rattle.hot_index.proofs.Common.{refl, err_from_is_err_and}
 use Rattle.hot_index.proofs.Reading.{range_copied, range_refused, range_uncopied}
 use Rattle.hot_index.proofs.index.Index.scan_range.Goals as goal
 

@@ -1,10 +1,5 @@
 -- A scan of values ends as its pass clears the pin.
-use Rattle.std.proofs.Common.{rules, subst}
-use Rattle.rowex_table.specs.Seats.{TableView}
-use Rattle.version_laws.specs.Scan.{Range}
-use Rattle.hot_index_calls.specs.Answers.{range_from}
-use Rattle.hot_index_calls.specs.Calls.{IsValuesReadWith}
-use Rattle.hot_index_calls.specs.Passes.{PassView, pass_of}
+use Rattle.hot_index.proofs.Common.{rules, subst, TableView, Range, range_from, IsValuesReadWith, PassView, pass_of}
 use Rattle.hot_index.proofs.Reading.{scanned_on, still_pinned, values_read}
 use Rattle.hot_index.proofs.index.Index.scan_values_into_with.Goals as goal
 

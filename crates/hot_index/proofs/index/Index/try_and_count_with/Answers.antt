@@ -1,6 +1,5 @@
 -- What the call leaves on the seat, as the pass sees it.
-use Rattle.hot_index_calls.proofs.Counts.{counted_seen, replied_cause, replied_outcome, replied_own}
-use Rattle.hot_index_calls.specs.Refusals.{as_tried}
+use Rattle.hot_index.proofs.Common.{counted_seen, replied_cause, replied_outcome, replied_own, as_tried}
 use Rattle.hot_index.proofs.KeyCounts.Counted.{counted_on}
 use Rattle.hot_index.proofs.index.Index.try_and_count_with.Goals as goal
 

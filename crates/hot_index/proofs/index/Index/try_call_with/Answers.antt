@@ -1,6 +1,5 @@
 -- A get's steps are those of a call that only reads; any other call's are a change's.
-use Rattle.hot_index_calls.proofs.Traces.{read_told}
-use Rattle.hot_index_calls.proofs.Counts.{get_few, unless_get, may_lack, may_refuse}
+use Rattle.hot_index.proofs.Common.{read_told, get_few, unless_get, may_lack, may_refuse}
 use Rattle.hot_index.proofs.index.Index.try_call_with.Goals as goal
 
 pub returns-in-Get-clause-told : goal.returns-in-Get-clause-told

@@ -1,6 +1,5 @@
 -- A change is counted, and a get is never refused.
-use Rattle.hot_index_calls.proofs.Counts.{may_refuse, unless_get}
-use Rattle.hot_index_calls.specs.Refusals.{as_tried}
+use Rattle.hot_index.proofs.Common.{may_refuse, unless_get, as_tried}
 use Rattle.hot_index.proofs.index.Index.try_counted.Goals as goal
 
 pub returns-in_default : goal.returns-in_default

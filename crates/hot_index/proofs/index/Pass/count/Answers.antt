@@ -1,8 +1,6 @@
 -- What the pass keeps is true of the pass that contracts see.
-use Rattle.std.proofs.Common.{subst}
-use Rattle.finite_map.specs.Calls.{LegalCalls}
+use Rattle.hot_index.proofs.Common.{subst, LegalCalls, PassView}
 use Rattle.hot_index.specs.KeyCounts.{IsCountOf}
-use Rattle.hot_index_calls.specs.Passes.{PassView}
 use Rattle.hot_index.proofs.index.Pass.count.Goals as goal
 
 pub returns-clause-count : goal.returns-clause-count

@@ -1,6 +1,5 @@
 -- One call more.
-use Rattle.std.proofs.Common.{◌+◌, ◌%◌, ◌^◌, ◌++◌, ◌∷◌, [], sym, subst}
-use Rattle.finite_map.specs.Calls.{changes_of}
+use Rattle.hot_index.proofs.Common.{◌+◌, ◌%◌, ◌^◌, ◌++◌, ◌∷◌, [], sym, subst, changes_of}
 use Rattle.hot_index.specs.KeyCounts.{IsNet}
 use Rattle.hot_index.proofs.key_counts.Nets.{noted, one_more}
 use Rattle.hot_index.proofs.key_counts.KeyCount.note.Goals as goal

@@ -1,6 +1,5 @@
 -- No pair is counted.
-use Rattle.std.proofs.Common.{◌≡◌, refl, sym, subst}
-use Rattle.bulk_load.specs.Views.{LoadView}
+use Rattle.hot_index.proofs.Common.{◌≡◌, refl, sym, subst, LoadView}
 use Rattle.hot_index.specs.Loads.{CountsItems}
 use Rattle.hot_index.proofs.loading.Load.begin.Goals as goal
 

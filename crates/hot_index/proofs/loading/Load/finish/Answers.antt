@@ -1,9 +1,5 @@
 -- The passes of the seats of a table that was loaded.
-use Rattle.std.proofs.Common.{◌≡◌, ◌∙◌, ℕ, List, Some, sym, subst}
-use Rattle.std.specs.List.{slice_get}
-use Rattle.tries.specs.Content.{pairs}
-use Rattle.bulk_load.specs.Views.{LoadView}
-use Rattle.hot_index_calls.specs.Passes.{Owns, PassView}
+use Rattle.hot_index.proofs.Common.{◌≡◌, ◌∙◌, ℕ, List, Some, sym, subst, slice_get, pairs, LoadView, Owns, PassView}
 use Rattle.hot_index.specs.Loads.{IsPassOfLoad}
 use Rattle.hot_index.proofs.Passes.{passes_of}
 use Rattle.hot_index.proofs.Loads.{loaded_settled, pass_of_load, words_for_table}

@@ -1,7 +1,5 @@
 -- One pair more is counted, or none.
-use Rattle.std.proofs.Common.{◌≡◌, sym, subst}
-use Rattle.tries.specs.Content.{item}
-use Rattle.bulk_load.specs.Views.{LoadView}
+use Rattle.hot_index.proofs.Common.{◌≡◌, sym, subst, item, LoadView}
 use Rattle.hot_index.specs.Loads.{CountsItems}
 use Rattle.hot_index.proofs.Loads.{counts_one_more}
 use Rattle.hot_index.proofs.loading.Load.push.Goals as goal

@@ -1,8 +1,5 @@
 -- A number of 64 bits has at most 20 digits, and they follow what stood before.
-use Rattle.std.proofs.Common.{◌≡◌, ◌++◌, ◌+◌, ◌≤◌, ℕ, List, sym, ◌∙◌, ap, arith, length, take, drop, append_assoc, length-append}
-use Rattle.std.specs.Prelude.{decimal}
-use Rattle.std.proofs.lemmas.Fmt.{length-decimal-le}
-use Rattle.std.proofs.lemmas.List.{length-take-le, take-append-drop, take_at}
+use Rattle.hot_scripts.proofs.Common.{◌≡◌, ◌++◌, ◌+◌, ◌≤◌, ℕ, List, sym, ◌∙◌, ap, arith, length, take, drop, append_assoc, length-append, decimal, length-decimal-le, length-take-le, take-append-drop, take_at}
 use Rattle.hot_scripts.proofs.page.Page.put_number.Goals as goal
 use Rattle.hot_scripts.proofs.page.Page.put_number.Goals.{After-count_digits}
 

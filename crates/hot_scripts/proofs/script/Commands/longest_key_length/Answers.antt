@@ -1,7 +1,6 @@
 -- One line more.
-use Rattle.std.proofs.Common.{◌≡◌, ◌≤◌, ℕ, List, ◌∷◌, map, Option, Some, None, Result, Ok, sym, ap, arith}
-use Rattle.std.specs.Prelude.{All, MatchOption, filter_map, length}
-use Rattle.std.proofs.lemmas.List.Elements.{All-cons}
+use Rattle.hot_scripts.proofs.Common.{◌≡◌, ◌≤◌, ℕ, List, ◌∷◌, map, Option, Some, None, Result, Ok, sym, ap, arith, All, MatchOption, filter_map, All-cons}
+use Rattle.std.specs.Prelude.{length}
 use Rattle.hot_scripts.specs.declared.command.Command.{Command}
 use Rattle.hot_scripts.specs.declared.fault.Reason.{Reason}
 use Rattle.hot_scripts.specs.Grammar.{HasKeyUpTo, asked, called_key, reading_of}

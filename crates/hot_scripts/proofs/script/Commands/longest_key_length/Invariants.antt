@@ -1,6 +1,6 @@
--- What stays true in the loop of `longest_key_length`: keys that fit in the lines that are left fit in all lines, from the longest so far on.
-use Rattle.std.proofs.Common.{◌≡◌, ℕ, ◌+◌, ◌^◌, ◌<◌, ◌≤◌, map}
-use Rattle.std.specs.Prelude.{All, filter_map}
+-- What stays true in the loop of `longest_key_length`: keys that fit in the lines that are left fit in all lines, from the longest so far
+-- on.
+use Rattle.hot_scripts.proofs.Common.{◌≡◌, ℕ, ◌+◌, ◌^◌, ◌<◌, ◌≤◌, map, All, filter_map}
 use Rattle.hot_scripts.specs.Grammar.{HasKeyUpTo, asked, first_bad, reading_of}
 use Rattle.hot_scripts.specs.Words.{parts_left, text_len}
 use Rattle.hot_scripts.proofs.script.Commands.longest_key_length.Given as goal

@@ -1,6 +1,5 @@
 -- What each call answers, by what the map's method tells of the value that was held.
-use Rattle.std.proofs.Common.{sym, ◌∙◌}
-use Rattle.std.proofs.lemmas.Result.{err_from_is_err_and}
+use Rattle.plain_index.proofs.Common.{sym, ◌∙◌, err_from_is_err_and}
 use Rattle.plain_index.proofs.plain.Made.{reply_where}
 use Rattle.plain_index.proofs.plain.PlainIndex.apply.Goals as goal
 use Rattle.plain_index.proofs.plain.PlainIndex.apply.Goals.{in-Some-2, in-None-2, in-Some-get, in-None-get, in-Some-remove, in-None-remove}

@@ -1,6 +1,5 @@
 -- One more call was made, or some first calls were.
-use Rattle.std.proofs.Common.{refl}
-use Rattle.std.proofs.lemmas.Result.{err_from_is_err_and}
+use Rattle.plain_index.proofs.Common.{refl, err_from_is_err_and}
 use Rattle.plain_index.proofs.plain.Made.{made_one_more, made_some}
 use Rattle.plain_index.proofs.plain.PlainIndex.run.Goals as goal
 

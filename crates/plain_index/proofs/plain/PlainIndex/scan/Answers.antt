@@ -1,6 +1,5 @@
 -- A range that runs backwards is empty. Where a pair found no room, the range has it, and it is within the limit.
-use Rattle.std.proofs.Common.{arith, ◌<◌, ◌++◌, ◌∙◌, ap, length, refl, sym}
-use Rattle.std.proofs.lemmas.Result.{err_from_is_err_and}
+use Rattle.plain_index.proofs.Common.{arith, ◌<◌, ◌++◌, ◌∙◌, ap, length, refl, sym, err_from_is_err_and}
 use Rattle.plain_index.proofs.plain.Backwards.{scan_of-backwards}
 use Rattle.plain_index.proofs.plain.Giving.{gives_one}
 use Rattle.plain_index.proofs.plain.PlainIndex.scan.Goals as goal

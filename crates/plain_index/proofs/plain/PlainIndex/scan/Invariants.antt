@@ -1,6 +1,5 @@
 -- The pairs so far and those that are left are the range.
-use Rattle.std.proofs.Common.{◌≡◌, ◌≤◌, ◌++◌, length}
-use Rattle.finite_map.specs.Scans.{range_of}
+use Rattle.plain_index.proofs.Common.{◌≡◌, ◌≤◌, ◌++◌, length, range_of}
 use Rattle.plain_index.proofs.plain.PlainIndex.scan.Given as goal
 
 abbrev pub invariant-loop-key : goal.invariant-loop-key

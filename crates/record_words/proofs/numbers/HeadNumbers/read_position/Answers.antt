@@ -1,8 +1,5 @@
 -- A position is a quarter of its word, or that of a near column, and past the last one there is none.
-use Rattle.std.proofs.Common.{◌≡◌, ◌+◌, ◌-◌, ◌*◌, ◌∙◌, ◌/◌, ◌%◌, ◌<◌, ◌^◌, ap, arith, get_or, length, refl, sym}
-use Rattle.std.proofs.lemmas.List.{get_or_default, get_or_past}
-use Rattle.std.proofs.lemmas.Nat.{and_mask}
-use Rattle.compound_node.specs.Nodes.{head_of}
+use Rattle.record_words.proofs.Common.{◌≡◌, ◌+◌, ◌-◌, ◌*◌, ◌∙◌, ◌/◌, ◌%◌, ◌<◌, ◌^◌, ap, arith, get_or, length, refl, sym, get_or_default, get_or_past, and_mask, head_of}
 use Rattle.record_words.proofs.numbers.NearPositions.{near_is}
 use Rattle.record_words.proofs.HeadParts.{near_index, near_mask, wide_position}
 use Rattle.record_words.specs.Kinds.{mask_index, position_index}

@@ -1,9 +1,5 @@
 -- A row is a part of its word, and past the last entry there is none.
-use Rattle.std.proofs.Common.{ℕ, ◌≡◌, ◌+◌, ◌*◌, ◌/◌, ◌%◌, ◌^◌, ◌<◌, ◌-◌, ◌∙◌, ap, arith, bit_and, get_or, length, refl, sym}
-use Rattle.std.proofs.lemmas.List.{get_or_default, get_or_past}
-use Rattle.std.proofs.lemmas.Nat.{and_mask}
-use Rattle.compound_node.proofs.Lawful.{same_count}
-use Rattle.compound_node.specs.Nodes.{IsLawfulNode, NodeView, head_of}
+use Rattle.record_words.proofs.Common.{ℕ, ◌≡◌, ◌+◌, ◌*◌, ◌/◌, ◌%◌, ◌^◌, ◌<◌, ◌-◌, ◌∙◌, ap, arith, bit_and, get_or, length, refl, sym, get_or_default, get_or_past, and_mask, same_count, IsLawfulNode, NodeView, head_of}
 use Rattle.record_words.proofs.Lawful.{row-lt}
 use Rattle.record_words.proofs.near.NearKinds.{IsNearKind, middle_kind, narrow_kind, row_bits}
 use Rattle.record_words.proofs.HeadParts.{near_row_is, wide_row}

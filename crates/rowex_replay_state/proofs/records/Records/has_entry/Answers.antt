@@ -1,7 +1,5 @@
 -- No entry before has the word, and this one hasn't.
-use Rattle.std.proofs.Common.{◌+◌, arith}
-use Rattle.std.proofs.lemmas.Bool.{false≢true}
-use Rattle.record_words.specs.declared.records.Rec.TheVariants.{Node as a_node}
+use Rattle.rowex_replay_state.proofs.Common.{◌+◌, arith, false≢true, a_node}
 use Rattle.rowex_replay_state.specs.Records.{HasWordStored}
 use Rattle.rowex_replay_state.proofs.records.Searches.{none_yet}
 use Rattle.rowex_replay_state.proofs.records.Records.has_entry.Goals as goal

@@ -1,5 +1,4 @@
-use Rattle.std.proofs.Common.{ℕ, ◌<◌, ◌+◌}
-use Rattle.record_words.specs.declared.records.Rec.TheVariants.{Node as a_node}
+use Rattle.rowex_replay_state.proofs.Common.{ℕ, ◌<◌, ◌+◌, a_node}
 use Rattle.rowex_replay_state.specs.Records.{HasWordStored}
 use Rattle.rowex_replay_state.proofs.records.Records.has_entry.Given as goal
 

@@ -1,7 +1,5 @@
 -- The words spell the leaf, or none.
-use Rattle.std.proofs.Common.{sym, ap, ◌∙◌}
-use Rattle.versions.specs.Heap.{LeafWords}
-use Rattle.rowex_core.proofs.Reading.Leafing.{leaf_is}
+use Rattle.rowex_replay_state.proofs.Common.{sym, ap, ◌∙◌, LeafWords, leaf_is}
 use Rattle.rowex_replay_state.proofs.records.Searches.{not_spelled}
 use Rattle.rowex_replay_state.proofs.records.Records.key_of.Goals as goal
 

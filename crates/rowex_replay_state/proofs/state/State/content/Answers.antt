@@ -1,6 +1,5 @@
 -- The items are those of the newest version.
-use Rattle.std.proofs.Common.{sym, ◌∙◌, ap, map}
-use Rattle.std.proofs.lemmas.List.{take_all}
+use Rattle.rowex_replay_state.proofs.Common.{sym, ◌∙◌, ap, map, take_all}
 use Rattle.rowex_replay_state.specs.declared.linked.Item.{Item}
 use Rattle.rowex_replay_state.proofs.state.Opening.{content_is}
 use Rattle.rowex_replay_state.proofs.state.State.content.Goals as goal

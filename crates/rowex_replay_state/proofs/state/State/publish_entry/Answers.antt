@@ -1,6 +1,5 @@
 -- The word is put back where the publish is refused.
-use Rattle.std.proofs.Common.{refl, sym, true, false, ◌∙◌}
-use Rattle.record_words.specs.declared.records.Rec.TheVariants.{Node as a_node}
+use Rattle.rowex_replay_state.proofs.Common.{refl, sym, true, false, ◌∙◌, a_node}
 use Rattle.rowex_replay_state.specs.contracts.state.State.{the_view}
 use Rattle.rowex_replay_state.specs.Records.{with_words_in}
 use Rattle.rowex_replay_state.proofs.Publishing.Stores.{entry_publishes, entry_refused, entry_unpacked, of_words, restored}

@@ -1,6 +1,5 @@
 -- The value is stored where what names the leaf is locked.
-use Rattle.std.proofs.Common.{◌≡◌, refl, sym, set}
-use Rattle.record_words.specs.declared.records.Rec.TheVariants.{Leaf as a_leaf}
+use Rattle.rowex_replay_state.proofs.Common.{◌≡◌, refl, sym, set, a_leaf}
 use Rattle.rowex_replay_state.specs.contracts.state.State.{the_view}
 use Rattle.rowex_replay_state.specs.Records.{with_words_in}
 use Rattle.rowex_replay_state.proofs.States.Valued.{not_named, not_there, value_steps}

@@ -1,7 +1,5 @@
 -- The first leaves are counted, up to the limit or to the first one past the range.
-use Rattle.std.proofs.Common.{◌+◌, ◌-◌, arith, subst}
-use Rattle.rowex_reading.specs.Seen.{since}
-use Rattle.rowex_reading.proofs.Seen.Led.{reads_later, same_since}
+use Rattle.rowex_scanning.proofs.Common.{◌+◌, ◌-◌, arith, subst, since, reads_later, same_since}
 use Rattle.rowex_scanning.specs.Ahead.{HavePassed}
 use Rattle.rowex_scanning.specs.Scanning.{request_of}
 use Rattle.rowex_scanning.specs.Tallies.{tally_of_number}

@@ -1,7 +1,5 @@
 -- A claim is legal in every core, of a record that the table has.
-use Rattle.std.proofs.Common.{refl, subst, sym}
-use Rattle.record_words.specs.declared.layout.Layout.{Layout}
-use Rattle.rowex_core.specs.Cores.{HasRecord}
+use Rattle.rowex_table.proofs.Common.{refl, subst, sym, Layout, HasRecord}
 use Rattle.rowex_table.proofs.Rights.{state_there}
 use Rattle.rowex_table.proofs.table.HotTable.claim_at.Goals as goal
 

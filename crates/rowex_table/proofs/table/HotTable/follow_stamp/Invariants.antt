@@ -1,6 +1,5 @@
 -- The layout of this table. To follow a stamp makes no event.
-use Rattle.std.specs.Prelude.{Some}
-use Rattle.rowex_core.specs.declared.event.Act.TheVariants.{ClearPin}
+use Rattle.rowex_table.proofs.Common.{Some, ClearPin}
 use Rattle.rowex_table.specs.Runs.{silent}
 use Rattle.rowex_table.proofs.table.HotTable.follow_stamp.Given as goal
 

@@ -1,7 +1,5 @@
 -- The first view, and one seat more.
-use Rattle.std.proofs.Common.{rules, ◌≡◌, ℕ, ◌<◌, List, ap, subst, sym, ◌∙◌}
-use Rattle.std.proofs.Common.{[]}
-use Rattle.atomic_table.specs.Table.{opening as first_state}
+use Rattle.rowex_table.proofs.Common.{rules, ◌≡◌, ℕ, ◌<◌, List, ap, subst, sym, ◌∙◌, [], first_state}
 use mathlib.Core.Option.{some}
 use lib.ListN.{get_elem?}
 use Rattle.rowex_table.specs.Rule.{Ruled, dealt, first_view, next_dealer, known_of, trace_of}

@@ -1,7 +1,5 @@
 -- The opening of a new table.
-use Rattle.std.proofs.Common.{rules, ◌≡◌, ap, ◌∙◌, sym, length}
-use Rattle.std.proofs.lemmas.Result.{IfOk-weaker}
-use Rattle.record_words.specs.declared.layout.Layout.{Layout}
+use Rattle.rowex_table.proofs.Common.{rules, ◌≡◌, ap, ◌∙◌, sym, length, IfOk-weaker, Layout}
 use Rattle.rowex_table.proofs.Seats.{opens, all_new, both_ok, dealt_new}
 use Rattle.rowex_table.proofs.table.HotTable.new.Goals as goal
 

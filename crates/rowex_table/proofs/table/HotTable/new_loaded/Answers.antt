@@ -1,7 +1,5 @@
 -- The opening of a table that shows loaded pairs.
-use Rattle.std.proofs.Common.{◌∙◌, true, ap, sym, arith}
-use Rattle.std.proofs.lemmas.Result.{IfOk-weaker}
-use Rattle.record_words.specs.declared.layout.Layout.{Layout}
+use Rattle.rowex_table.proofs.Common.{◌∙◌, true, ap, sym, arith, IfOk-weaker, Layout}
 use Rattle.rowex_table.specs.Rule.{first_view, loader_of}
 use Rattle.rowex_table.proofs.Seats.{both_ok, dealt_other, opens_loaded}
 use Rattle.rowex_table.proofs.table.HotTable.new_loaded.Goals as goal

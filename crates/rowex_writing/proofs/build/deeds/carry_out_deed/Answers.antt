@@ -1,7 +1,5 @@
 -- Where the root loses its only leaf nothing is made.
-use Rattle.std.proofs.Common.{[], ◌∷◌, ◌+◌, ◌≤◌, Some, Ok, refl, sym, ap, subst, arith, length, ◌≡◌, ◌∙◌, None}
-use Rattle.record_words.specs.declared.records.Rec.TheVariants.{Leaf as a_leaf}
-use Rattle.version_laws.specs.Writer.{removed_change}
+use Rattle.rowex_writing.proofs.Common.{[], ◌∷◌, ◌+◌, ◌≤◌, Some, Ok, refl, sym, ap, subst, arith, length, ◌≡◌, ◌∙◌, None, a_leaf, removed_change, item, Leaf}
 use Rattle.rowex_writing.specs.build.Changes.{IsDeedChange, IsTakeChange, MayPublishOnceReady}
 use Rattle.rowex_writing.specs.plan.Counts.{deed_steps, spare_steps}
 use Rattle.rowex_writing.specs.build.Deeds.{MayReplace}
@@ -13,8 +11,6 @@ use Rattle.rowex_writing.proofs.locks.Going.{goes_none}
 use Rattle.rowex_writing.proofs.build.deeds.Deeds.{just_leaf_gone}
 use Rattle.rowex_writing.proofs.build.taking.Taking.{found_leaf, may_empty, only_records, take_all, take_only}
 use Rattle.rowex_writing.proofs.build.deeds.carry_out_deed.Goals as goal
-use Rattle.tries.specs.Content.{item}
-use Rattle.rowex_reading.specs.declared.descent.Found.TheVariants.{Leaf}
 use Rattle.rowex_writing.specs.declared.plan.Full.{Full}
 
 pub empty_root-requires : goal.empty_root-requires

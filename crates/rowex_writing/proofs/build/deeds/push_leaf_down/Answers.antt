@@ -1,15 +1,6 @@
 -- The new node takes the found leaf's place.
 use Rattle.rowex_writing.specs.build.Spare.{by_free}
-use Rattle.std.proofs.Common.{◌≡◌, ◌≤◌, ◌+◌, ◌*◌, List, [], ◌∷◌, ◌++◌, Some, None, refl, sym, ap, subst, ◌∙◌, arith, length}
-use Rattle.record_words.specs.Entry.{entry_word}
-use Rattle.record_words.specs.declared.layout.Layout.{Layout}
-use Rattle.publish_laws.specs.Rises.{made_of_leaf, made_of_node}
-use Rattle.record_words.specs.declared.records.Rec.{Rec}
-use Rattle.compound_node.specs.declared.entries.Entry.TheVariants.{Leaf as LeafEntry}
-use Rattle.node_tries.specs.Piece.{Place}
-use Rattle.tries.specs.Affected.{subtrie_forked}
-use Rattle.tries.specs.Keys.{bit}
-use Rattle.version_laws.specs.Writer.{added_change}
+use Rattle.rowex_writing.proofs.Common.{◌≡◌, ◌≤◌, ◌+◌, ◌*◌, List, [], ◌∷◌, ◌++◌, Some, None, refl, sym, ap, subst, ◌∙◌, arith, length, entry_word, Layout, made_of_leaf, made_of_node, Rec, LeafEntry, Place, subtrie_forked, bit, added_change, item}
 use Rattle.rowex_writing.specs.build.Changes.{IsPutChange, MayPublishOnceReady}
 use Rattle.rowex_writing.specs.plan.Counts.{node_steps}
 use Rattle.rowex_writing.specs.build.Walks.{looks_unless, nodes_among}
@@ -25,7 +16,6 @@ use Rattle.version_laws.proofs.Statements.Leaves.{pair_tree}
 use Rattle.rowex_writing.proofs.build.Walks.{walk_begins}
 use Rattle.rowex_writing.specs.declared.plan.Full.TheVariants.{Nodes}
 use Rattle.rowex_writing.proofs.build.deeds.push_leaf_down.Goals as goal
-use Rattle.tries.specs.Content.{item}
 
 -- ---- no leaf record was free
 pub returns-in_default-make_leaf : goal.returns-in_default-make_leaf

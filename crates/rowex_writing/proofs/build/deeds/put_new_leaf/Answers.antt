@@ -2,13 +2,11 @@
 use Rattle.rowex_writing.proofs.build.Counts.{made_one, no_nodes}
 use Rattle.rowex_writing.specs.build.Spare.{by_kept}
 use Rattle.rowex_writing.proofs.build.Spare.{goes_spare, no_list}
-use Rattle.std.proofs.Common.{◌+◌, ◌*◌, None, sym, subst, arith, refl}
-use Rattle.version_laws.specs.Writer.{added_change}
+use Rattle.rowex_writing.proofs.Common.{◌+◌, ◌*◌, None, sym, subst, arith, refl, added_change, item}
 use Rattle.rowex_writing.specs.build.Changes.{MayPublishOnceReady}
 use Rattle.rowex_writing.proofs.build.deeds.Deeds.{just_leaf_gone, no_leaf_free, none_in_table}
 use Rattle.rowex_writing.proofs.build.Putting.{put_len, put_may, put_stored}
 use Rattle.rowex_writing.proofs.build.deeds.put_new_leaf.Goals as goal
-use Rattle.tries.specs.Content.{item}
 
 pub returns-in_default : goal.returns-in_default
 returns-in_default g c = record { done = no_leaf_free c.make_leaf.ensures.goes c.in_default.ensures.made c.make_leaf.ensures.few refl; kind = λ is. cc; spares = λ was. tt }

@@ -1,9 +1,6 @@
 -- The leaf's record, and the rest.
 use Rattle.rowex_writing.proofs.build.Spare.{free_spares}
-use Rattle.std.proofs.Common.{◌-◌, ap, arith, get_or, sym, refl}
-use Rattle.std.proofs.lemmas.Option.{get_or_from_slice_get}
-use Rattle.std.proofs.lemmas.Result.{IfErr-weaker}
-use Rattle.insert_cases.specs.declared.choice.PathNode.{PathNode}
+use Rattle.rowex_writing.proofs.Common.{◌-◌, ap, arith, get_or, sym, refl, get_or_from_slice_get, IfErr-weaker, PathNode}
 use Rattle.rowex_writing.specs.build.Taking.{no_step}
 use Rattle.rowex_writing.proofs.build.deeds.Deeds.{grown_raised, no_leaf_free, none_free_since}
 use Rattle.rowex_writing.proofs.build.growing.Growing.{grow_plan}

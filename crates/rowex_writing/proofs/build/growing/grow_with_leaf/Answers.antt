@@ -1,13 +1,5 @@
 -- The node, and what rises.
-use Rattle.std.proofs.Common.{◌≡◌, ◌≤◌, ◌-◌, ◌*◌, ◌+◌, List, None, Some, if◌then◌else◌, length, map, ap, refl, subst, sym, ◌∙◌, arith}
-use Rattle.std.specs.Prelude.{slice_range}
-use Rattle.std.proofs.lemmas.List.{append-nil}
-use Rattle.insert_cases.specs.declared.choice.PathNode.{PathNode}
-use Rattle.record_words.specs.declared.layout.Layout.{Layout}
-use Rattle.tries.specs.Content.{item}
-use Rattle.version_laws.specs.Writer.{added_change}
-use Rattle.record_words.specs.declared.records.Rec.{Rec}
-use Rattle.record_words.specs.declared.records.Rec.TheVariants.{Node as a_node}
+use Rattle.rowex_writing.proofs.Common.{◌≡◌, ◌≤◌, ◌-◌, ◌*◌, ◌+◌, List, None, Some, if◌then◌else◌, length, map, ap, refl, subst, sym, ◌∙◌, arith, slice_range, append-nil, PathNode, Layout, item, added_change, Rec, a_node}
 use Rattle.rowex_writing.specs.plan.Counts.{level_steps, node_steps}
 use Rattle.rowex_writing.specs.build.Deeds.{MayReplace}
 use Rattle.rowex_writing.specs.build.Growths.{MayGrow}

@@ -1,7 +1,5 @@
 -- The spare record was not free, or there was none; then one of all records is claimed, or none was free.
-use Rattle.std.proofs.Common.{◌∙◌}
-use Rattle.rowex_records.specs.Claims.{IsAnothersTo, count_of, record_of}
-use Rattle.rowex_records.proofs.Claims.{all_earlier, claims_holds, missed_before, more_since}
+use Rattle.rowex_writing.proofs.Common.{◌∙◌, IsAnothersTo, count_of, record_of, all_earlier, claims_holds, missed_before, more_since}
 use Rattle.rowex_writing.proofs.locks.Going.{goes_more, seat_of}
 use Rattle.rowex_writing.proofs.build.Building.{none_on, claim_on, steps_rise}
 use Rattle.rowex_writing.proofs.build.hints.claim_by_hint.Goals as goal

@@ -1,9 +1,6 @@
 -- The spare record was not free, or there was none; then one of all records is claimed, or none was free.
 use Rattle.rowex_writing.proofs.build.Spare.{goes_room, walk_finds}
-use Rattle.std.proofs.Common.{◌∙◌, arith}
-use Rattle.std.proofs.lemmas.List.Elements.{Contains-append_left}
-use Rattle.record_words.specs.declared.records.Rec.TheVariants.{Node as a_node}
-use Rattle.rowex_records.proofs.Claims.{claims_holds, more_since}
+use Rattle.rowex_writing.proofs.Common.{◌∙◌, arith, Contains-append_left, a_node, claims_holds, more_since}
 use Rattle.rowex_writing.proofs.build.Counts.{claims_count, none_count}
 use Rattle.rowex_writing.proofs.locks.Going.{goes_more, seat_of}
 use Rattle.rowex_writing.proofs.build.Building.{none_on, claim_on}

@@ -1,6 +1,5 @@
 -- The record is claimed, or was not free, or there is none of the number.
-use Rattle.std.proofs.Common.{arith}
-use Rattle.rowex_records.specs.Claims.{count_of, record_of}
+use Rattle.rowex_writing.proofs.Common.{arith, count_of, record_of}
 use Rattle.rowex_writing.proofs.locks.Going.{goes_none}
 use Rattle.rowex_writing.proofs.build.Building.{number_on, one_on, one_steps}
 use Rattle.rowex_writing.proofs.build.hints.claim_spare_record.Goals as goal

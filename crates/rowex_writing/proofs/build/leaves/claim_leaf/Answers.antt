@@ -1,10 +1,5 @@
 -- A later record is claimed, or one before those that were passed by, or none was free.
-use Rattle.std.proofs.Common.{◌≡◌, ℕ, ◌+◌, ◌-◌, ◌*◌, ◌<◌, ◌≤◌, ap, subst, ◌∙◌, arith}
-use Rattle.record_words.specs.declared.layout.Layout.{Layout}
-use Rattle.record_words.specs.Layout.{leaf_size}
-use Rattle.record_words.specs.declared.records.Rec.TheVariants.{Leaf as a_leaf}
-use Rattle.rowex_records.specs.Claims.{IsAnothersTo}
-use Rattle.rowex_records.proofs.Claims.{missed_before, more_since}
+use Rattle.rowex_writing.proofs.Common.{◌≡◌, ℕ, ◌+◌, ◌-◌, ◌*◌, ◌<◌, ◌≤◌, ap, subst, ◌∙◌, arith, Layout, leaf_size, a_leaf, IsAnothersTo, missed_before, more_since}
 use Rattle.rowex_writing.specs.build.Classes.{AllMissedBetween}
 use Rattle.rowex_writing.proofs.build.Classes.{missed_all}
 use Rattle.rowex_writing.proofs.locks.Going.{goes_more, seat_of}

@@ -1,8 +1,5 @@
 -- No class yet; one more in which no record is free; and one in which one is.
-use Rattle.std.proofs.Common.{◌+◌, arith, refl, ◌∙◌}
-use Rattle.record_words.specs.declared.records.Rec.TheVariants.{Leaf as a_leaf}
-use Rattle.rowex_records.specs.Claims.{IsAnothersTo}
-use Rattle.rowex_records.proofs.Claims.{missed_before, more_since}
+use Rattle.rowex_writing.proofs.Common.{◌+◌, arith, refl, ◌∙◌, a_leaf, IsAnothersTo, missed_before, more_since}
 use Rattle.rowex_writing.proofs.build.Classes.{missed_more}
 use Rattle.rowex_writing.proofs.locks.Going.{goes_more, goes_none, seat_of}
 use Rattle.rowex_writing.proofs.build.Building.{steps_rise}

@@ -1,6 +1,5 @@
 -- The records before this one are not free.
-use Rattle.std.proofs.Common.{◌≡◌, ◌+◌, ◌-◌, ◌*◌, ◌≤◌}
-use Rattle.rowex_records.specs.Claims.{IsAnothersTo}
+use Rattle.rowex_writing.proofs.Common.{◌≡◌, ◌+◌, ◌-◌, ◌*◌, ◌≤◌, IsAnothersTo}
 use Rattle.rowex_writing.specs.build.Classes.{AllMissedBetween}
 use Rattle.rowex_writing.specs.locks.Going.{WorksOn}
 use Rattle.rowex_writing.proofs.build.leaves.claim_leaf_between.Given as goal

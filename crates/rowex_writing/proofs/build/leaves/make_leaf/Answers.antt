@@ -1,14 +1,10 @@
 -- A claim and its fills are the first record.
-use Rattle.std.proofs.Common.{◌∷◌, [], ◌++◌, subst, sym, ap, ◌∙◌, length, arith, rules}
-use Rattle.record_words.specs.declared.records.Rec.TheVariants.{Leaf as a_leaf}
-use Rattle.rowex_records.specs.Claims.{AllMissedFrom, IsAnothersTo}
-use Rattle.rowex_records.proofs.Claims.{more_is_claimed}
+use Rattle.rowex_writing.proofs.Common.{◌∷◌, [], ◌++◌, subst, sym, ap, ◌∙◌, length, arith, rules, a_leaf, AllMissedFrom, IsAnothersTo, more_is_claimed, item}
 use Rattle.rowex_writing.specs.build.Building.{HasLeafMade, IsBuilding}
 use Rattle.rowex_writing.proofs.build.Classes.{lacks_leaves}
 use Rattle.rowex_writing.proofs.locks.Going.{goes_more, seat_of}
 use Rattle.rowex_writing.proofs.build.Building.{set_some_on, building_leaf, building_none, building_on}
 use Rattle.rowex_writing.proofs.build.leaves.make_leaf.Goals as goal
-use Rattle.tries.specs.Content.{item}
 
 pub fill_leaf-requires-clause-own : goal.fill_leaf-requires-clause-own
 fill_leaf-requires-clause-own g c = seat_of c.args.table.now g.G.Gate.becomes (c.args.seat.now, c.args.gate.now) (c.claim_leaf.new.seat, c.claim_leaf.new.gate) c.claim_leaf.ensures.goes c.requires.own

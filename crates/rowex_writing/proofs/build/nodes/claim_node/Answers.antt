@@ -1,8 +1,6 @@
 -- A record is claimed; or none was free, and those that are made are looked at.
-use Rattle.std.proofs.Common.{ℕ, Option, sym, subst, Contains}
-use Rattle.record_words.specs.declared.records.Rec.{Rec as Record}
-use Rattle.rowex_records.specs.Claims.{HasMissedSince, IsAnothersBut}
-use Rattle.rowex_records.proofs.Claims.{missed_earlier}
+use Rattle.rowex_writing.proofs.Common.{ℕ, Option, sym, subst, Record, HasMissedSince, IsAnothersBut, missed_earlier}
+use Rattle.std.proofs.Common.{Contains}
 use Rattle.rowex_writing.specs.build.Building.{IsBuilding}
 use Rattle.rowex_writing.proofs.build.Changes.{made_alone, made_held}
 use Rattle.rowex_writing.proofs.locks.Going.{goes_more}

@@ -1,7 +1,6 @@
 -- One load, or none.
 use Rattle.rowex_writing.proofs.build.Spare.{look_found}
-use Rattle.std.proofs.lemmas.Bool.{eqb-true}
-use Rattle.std.proofs.Common.{arith, ◌∙◌}
+use Rattle.rowex_writing.proofs.Common.{eqb-true, arith, ◌∙◌}
 use Rattle.rowex_writing.proofs.build.Building.{look_on, look_own, look_steps}
 use Rattle.rowex_writing.proofs.build.nodes.is_last_free.Goals as goal
 

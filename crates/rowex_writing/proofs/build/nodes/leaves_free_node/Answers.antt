@@ -1,10 +1,7 @@
 -- The last spare one, the walk, and those that are made.
 use Rattle.rowex_writing.proofs.build.Spare.{free_found}
-use Rattle.std.proofs.Common.{ℕ, Option, ap, refl, sym, subst, ◌∙◌, arith, Contains, length}
-use Rattle.record_words.specs.declared.records.Rec.{Rec as Record}
-use Rattle.record_words.specs.declared.records.Rec.TheVariants.{Node as a_node}
-use Rattle.rowex_records.specs.Claims.{HasMissedSince, IsAnothersBut}
-use Rattle.rowex_records.proofs.Claims.{missed_earlier}
+use Rattle.rowex_writing.proofs.Common.{ℕ, Option, ap, refl, sym, subst, ◌∙◌, arith, length, Record, a_node, HasMissedSince, IsAnothersBut, missed_earlier}
+use Rattle.std.proofs.Common.{Contains}
 use Rattle.rowex_writing.specs.build.Building.{IsBuilding}
 use Rattle.rowex_writing.proofs.build.Counts.{free_count, none_count}
 use Rattle.rowex_writing.proofs.build.Changes.{made_alone, made_held}

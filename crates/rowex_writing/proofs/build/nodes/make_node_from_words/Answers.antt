@@ -1,11 +1,5 @@
 -- A claim and its fills are one record more.
-use Rattle.std.proofs.Common.{◌∷◌, [], ◌++◌, List, ℕ, length, ap, refl, sym, subst, ◌∙◌, arith}
-use Rattle.std.proofs.lemmas.List.{length-append}
-use Rattle.compound_node.specs.declared.entries.Entry.TheVariants.{Node}
-use Rattle.record_words.specs.declared.records.Rec.TheVariants.{Node as a_node}
-use Rattle.record_words.proofs.Growing.{first_told}
-use Rattle.rowex_records.proofs.Claims.{more_is_claimed}
-use Rattle.publish_laws.specs.Rises.{made_of_node}
+use Rattle.rowex_writing.proofs.Common.{◌∷◌, [], ◌++◌, List, ℕ, length, ap, refl, sym, subst, ◌∙◌, arith, length-append, Node, a_node, first_told, more_is_claimed, made_of_node}
 use Rattle.rowex_writing.specs.build.Building.{IsBuilding}
 use Rattle.rowex_writing.specs.build.Walks.{IsClaimWalk, nodes_among}
 use Rattle.rowex_writing.proofs.build.Counts.{nodes_pushed}

@@ -1,11 +1,6 @@
 -- The words become those of the node with the leaf.
-use Rattle.std.proofs.Common.{◌≡◌, ◌+◌, ◌∙◌, ℕ, List, ap, arith, length, refl, subst, sym, take}
-use Rattle.compound_node.specs.Nodes.{HeadView, NodeView, head_of, piece}
+use Rattle.rowex_writing.proofs.Common.{◌≡◌, ◌+◌, ◌∙◌, ℕ, List, ap, arith, length, refl, subst, sym, take, HeadView, NodeView, head_of, piece, same_count, affected_count, affected_first, InNodesOf, SpellBuilt, head_part, same_head}
 use Rattle.compound_node.specs.declared.entries.Entry.TheVariants.{Leaf}
-use Rattle.compound_node.proofs.Lawful.{same_count}
-use Rattle.node_tries.specs.Growth.{affected_count, affected_first}
-use Rattle.record_words.specs.Node.{InNodesOf, SpellBuilt}
-use Rattle.record_words.proofs.Nodes.{head_part, same_head}
 use Rattle.rowex_writing.specs.build.Remaking.{AwaitsLeaf, subtrie_with_leaf}
 use Rattle.rowex_writing.specs.plan.Planned.{AffectsJust}
 use Rattle.rowex_writing.specs.declared.build.remaking.NewLeaf.{NewLeaf}

@@ -1,6 +1,5 @@
 -- The fork's tree tells what it owes.
-use Rattle.std.proofs.Common.{subst}
-use Rattle.compound_node.specs.Nodes.{IsBuiltFrom, piece}
+use Rattle.rowex_writing.proofs.Common.{subst, IsBuiltFrom, piece}
 use Rattle.rowex_writing.specs.build.Remaking.{subtrie_with_fork}
 use Rattle.rowex_writing.proofs.build.remaking.Remaking.{built_low, fits_fork, fork_low}
 use Rattle.rowex_writing.proofs.build.remaking.add_fork.Goals as goal

@@ -1,8 +1,6 @@
 -- The position affects the range, and the subtrie of the tree tells the rest.
-use Rattle.std.proofs.Common.{subst, arith}
-use Rattle.compound_node.specs.Nodes.{IsBuiltFrom, piece}
+use Rattle.rowex_writing.proofs.Common.{subst, arith, IsBuiltFrom, piece, subtrie_grown}
 use Rattle.compound_node.specs.declared.entries.Entry.TheVariants.{Leaf}
-use Rattle.tries.specs.Affected.{subtrie_grown}
 use Rattle.rowex_writing.proofs.build.remaking.Remaking.{built_low, fits_leaf, just_affected, leads_within, leaf_low, leaf_subtrie}
 use Rattle.rowex_writing.proofs.build.remaking.add_leaf.Goals as goal
 

@@ -1,8 +1,5 @@
 -- The fork's tree tells what it owes.
-use Rattle.std.proofs.Common.{subst}
-use Rattle.compound_node.specs.Nodes.{piece}
-use Rattle.insert_cases.specs.Grown.{IsCutOf}
-use Rattle.insert_cases.specs.declared.growth.Grown.TheVariants.{Two}
+use Rattle.rowex_writing.proofs.Common.{subst, piece, IsCutOf, Two}
 use Rattle.rowex_writing.specs.build.Remaking.{subtrie_with_fork}
 use Rattle.rowex_writing.proofs.build.remaking.Remaking.{grown_low, fits_fork, fork_low}
 use Rattle.rowex_writing.proofs.build.remaking.cut_with_fork.Goals as goal

@@ -1,10 +1,6 @@
 -- The position affects the range, and the subtrie of the tree tells the rest.
-use Rattle.std.proofs.Common.{subst, arith}
-use Rattle.compound_node.specs.Nodes.{piece}
+use Rattle.rowex_writing.proofs.Common.{subst, arith, piece, subtrie_grown, IsCutOf, Two}
 use Rattle.compound_node.specs.declared.entries.Entry.TheVariants.{Leaf}
-use Rattle.tries.specs.Affected.{subtrie_grown}
-use Rattle.insert_cases.specs.Grown.{IsCutOf}
-use Rattle.insert_cases.specs.declared.growth.Grown.TheVariants.{Two}
 use Rattle.rowex_writing.proofs.build.remaking.Remaking.{fits_leaf, grown_low, just_affected, leads_within, leaf_low, leaf_subtrie}
 use Rattle.rowex_writing.proofs.build.remaking.cut_with_leaf.Goals as goal
 

@@ -1,10 +1,6 @@
 -- The fork's tree tells what it owes.
-use Rattle.std.proofs.Common.{◌≡◌, true, false, ◌∙◌, sym, subst, arith}
-use Rattle.compound_node.specs.Nodes.{IsBuiltFrom}
+use Rattle.rowex_writing.proofs.Common.{◌≡◌, true, false, ◌∙◌, sym, subst, arith, IsBuiltFrom, Place, subtrie_forked, bit}
 use Rattle.compound_node.specs.declared.entries.Entry.TheVariants.{Leaf}
-use Rattle.node_tries.specs.Piece.{Place}
-use Rattle.tries.specs.Affected.{subtrie_forked}
-use Rattle.tries.specs.Keys.{bit}
 use Rattle.rowex_writing.proofs.build.remaking.Remaking.{pair_is_lawful}
 use Rattle.rowex_writing.proofs.build.remaking.pair_with_leaf.Goals as goal
 

@@ -1,14 +1,5 @@
 -- The leaf's place in the words is that of the node that they spell.
-use Rattle.std.proofs.Common.{◌≡◌, ◌<◌, ◌∙◌, ℕ, List, ap, length, subst, sym}
-use Rattle.compound_node.specs.Nodes.{NodeView, piece}
-use Rattle.record_words.specs.Node.{SpellLeft}
-use Rattle.versions.specs.Heap.{NodeWords}
-use Rattle.rowex_core.specs.Reading.{node_words_of}
-use Rattle.tries.specs.Keys.{Key}
-use Rattle.tries.specs.Place.{spot, subtrie_without}
-use Rattle.tries.proofs.Tree.Building.{size-piece}
-use Rattle.tries.proofs.Place.{spot_below}
-use Rattle.tries.specs.Tree.{Subtrie}
+use Rattle.rowex_writing.proofs.Common.{◌≡◌, ◌<◌, ◌∙◌, ℕ, List, ap, length, subst, sym, NodeView, piece, SpellLeft, NodeWords, node_words_of, Key, spot, subtrie_without, size-piece, spot_below, Subtrie}
 use Rattle.rowex_writing.specs.locks.Going.{IsNodeOf}
 use Rattle.rowex_writing.proofs.locks.Going.{words_shown}
 use Rattle.rowex_writing.proofs.build.remaking.Remaking.{left_subtrie}

@@ -1,9 +1,6 @@
 -- What is left is a side: an entry alone, or a node whose words are those of a new record.
 use Rattle.rowex_writing.proofs.build.Spare.{goes_room}
-use Rattle.std.proofs.Common.{◌∙◌, [], arith}
-use Rattle.rowex_core.specs.Reading.{node_words_of}
-use Rattle.publish_laws.specs.Rises.{one}
-use Rattle.tries.specs.Place.{subtrie_without}
+use Rattle.rowex_writing.proofs.Common.{◌∙◌, [], arith, node_words_of, one, subtrie_without}
 use Rattle.rowex_writing.proofs.build.rising.Rising.{left_over}
 use Rattle.rowex_writing.proofs.build.Building.{building_on}
 use Rattle.rowex_writing.proofs.build.Walks.{makes_after, makes_none}

@@ -1,7 +1,5 @@
 -- An entry is its own; a fork gets a node.
-use Rattle.std.proofs.Common.{◌∷◌, arith}
-use Rattle.record_words.specs.Node.{HasNodeWords}
-use Rattle.publish_laws.specs.Rises.{made_of_node}
+use Rattle.rowex_writing.proofs.Common.{◌∷◌, arith, HasNodeWords, made_of_node}
 use Rattle.rowex_writing.specs.build.Building.{IsBuilding, HasNotMade}
 use Rattle.rowex_writing.proofs.build.rising.Rising.{risen_fork_is_pair, settled, settled_whole, split_height, whole_height}
 use Rattle.rowex_writing.proofs.build.Walks.{makes_none}

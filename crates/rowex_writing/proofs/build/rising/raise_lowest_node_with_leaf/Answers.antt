@@ -1,7 +1,5 @@
 -- The lowest node gets the leaf.
-use Rattle.std.proofs.Common.{[], ◌∷◌, refl, arith}
-use Rattle.compound_node.specs.declared.entries.Entry.TheVariants.{Node}
-use Rattle.publish_laws.specs.Rises.{made_of_leaf}
+use Rattle.rowex_writing.proofs.Common.{[], ◌∷◌, refl, arith, Node, made_of_leaf}
 use Rattle.rowex_writing.specs.build.Building.{IsBuilding}
 use Rattle.rowex_writing.proofs.locks.Going.{words_shown}
 use Rattle.rowex_writing.proofs.build.rising.Rising.{low_building, low_takes, lowest_made, leaf_level}

@@ -1,10 +1,5 @@
 -- The node above gets the fork: a full node gives its two sides, and another is stored anew with the fork in it.
-use Rattle.std.proofs.Common.{◌≡◌, ◌<◌, ◌∷◌, Some, ap, arith, false, length, refl, true}
-use Rattle.compound_node.specs.Nodes.{height_of}
-use Rattle.compound_node.specs.declared.entries.Entry.TheVariants.{Node}
-use Rattle.insert_cases.specs.declared.growth.Grown.TheVariants.{One as Single, Two}
-use Rattle.insert_cases.specs.declared.raising.Risen.TheVariants.{Whole}
-use Rattle.publish_laws.specs.Rises.{made_of_node}
+use Rattle.rowex_writing.proofs.Common.{◌≡◌, ◌<◌, ◌∷◌, Some, ap, arith, false, length, refl, true, height_of, Node, Single, Two, Whole, made_of_node}
 use Rattle.rowex_writing.specs.build.Building.{IsBuilding}
 use Rattle.rowex_writing.proofs.build.rising.Rising.{lift_tree, lift_zero, lift_one, lift_building, lifted, fork_level}
 use Rattle.rowex_writing.proofs.build.Walks.{makes_after, makes_as, makes_failed}

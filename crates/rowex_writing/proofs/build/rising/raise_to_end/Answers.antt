@@ -1,10 +1,5 @@
 -- One level up, and at the end one entry.
-use Rattle.std.proofs.Common.{◌≡◌, ap, sym, subst, ◌∙◌, arith, refl, rules}
-use Rattle.std.specs.Prelude.{slice_get}
-use Rattle.insert_cases.specs.declared.choice.PathNode.{PathNode}
-use Rattle.insert_cases.proofs.Ways.{some_injective}
-use Rattle.versions.specs.Trades.{IsOneOf}
-use Rattle.rowex_core.specs.Reading.{node_words_of}
+use Rattle.rowex_writing.proofs.Common.{◌≡◌, ap, sym, subst, ◌∙◌, arith, refl, rules, slice_get, PathNode, some_injective, IsOneOf, node_words_of}
 use Rattle.rowex_writing.specs.locks.Going.{HasLocked}
 use Rattle.rowex_writing.proofs.build.rising.Rising.{fits_above, rises_here, rises_then, settled_on, up_below, up_on, up_there, up_within}
 use Rattle.rowex_writing.proofs.build.Walks.{makes_as, makes_failed, makes_none, makes_then}

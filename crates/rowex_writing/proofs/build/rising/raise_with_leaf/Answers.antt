@@ -1,7 +1,5 @@
 -- The lowest node, and then the way up.
-use Rattle.std.proofs.Common.{◌-◌, ◌<◌, sym, subst, arith, rules}
-use Rattle.std.proofs.lemmas.Option.{slice_get_within}
-use Rattle.versions.specs.Trades.{IsOneOf}
+use Rattle.rowex_writing.proofs.Common.{◌-◌, ◌<◌, sym, subst, arith, rules, slice_get_within, IsOneOf}
 use Rattle.rowex_writing.specs.build.Building.{HasRisenTo, gone_unless_whole, gone_with_way, newcomer_of}
 use Rattle.rowex_writing.proofs.build.rising.Rising.{low_at, number_is, up_first}
 use Rattle.rowex_writing.proofs.build.Walks.{makes_as, makes_failed, makes_then, makes_within}

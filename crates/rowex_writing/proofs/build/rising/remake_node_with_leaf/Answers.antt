@@ -1,8 +1,5 @@
 -- A node of leaves alone with room gets the leaf in its words.
-use Rattle.std.proofs.Common.{◌≡◌, false, true, refl, arith}
-use Rattle.compound_node.specs.Nodes.{piece}
-use Rattle.insert_cases.specs.declared.growth.Grown.TheVariants.{One as Single}
-use Rattle.record_words.specs.Node.{CanTakeLeaf}
+use Rattle.rowex_writing.proofs.Common.{◌≡◌, false, true, refl, arith, piece, Single, CanTakeLeaf}
 use Rattle.rowex_writing.specs.build.Remaking.{subtrie_with_leaf}
 use Rattle.rowex_writing.proofs.build.remaking.Remaking.{built_low, leaf_low}
 use Rattle.rowex_writing.proofs.build.Walks.{makes_as, makes_failed, makes_within}

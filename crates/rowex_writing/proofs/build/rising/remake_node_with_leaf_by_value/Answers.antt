@@ -1,6 +1,5 @@
 -- A full node gives its two sides; another is stored anew with the leaf in it.
-use Rattle.std.proofs.Common.{◌≡◌, ◌<◌, false, true, refl, subst, length, arith}
-use Rattle.insert_cases.specs.declared.growth.Grown.TheVariants.{One as Single, Two}
+use Rattle.rowex_writing.proofs.Common.{◌≡◌, ◌<◌, false, true, refl, subst, length, arith, Single, Two}
 use Rattle.rowex_writing.specs.build.Building.{IsMadeFrom}
 use Rattle.rowex_writing.proofs.build.rising.Rising.{grown_for}
 use Rattle.rowex_writing.proofs.build.remaking.Remaking.{takes_read, takes_same}

@@ -1,8 +1,5 @@
 -- The walk begins, and what it claims is all that the pass has.
-use Rattle.std.proofs.Common.{◌≡◌, ◌∷◌, [], ap, arith, length, refl, subst, sym, ◌∙◌}
-use Rattle.record_words.specs.declared.layout.Layout.{Layout}
-use Rattle.record_words.specs.declared.records.Rec.TheVariants.{Node as a_node}
-use Rattle.rowex_core.specs.declared.known.Holding.TheVariants.{Held}
+use Rattle.rowex_writing.proofs.Common.{◌≡◌, ◌∷◌, [], ap, arith, length, refl, subst, sym, ◌∙◌, Layout, a_node, Held}
 use Rattle.rowex_writing.specs.build.Building.{IsBuilding}
 use Rattle.rowex_writing.specs.build.Walks.{nodes_among}
 use Rattle.rowex_writing.proofs.build.taking.Taking.{way_on}

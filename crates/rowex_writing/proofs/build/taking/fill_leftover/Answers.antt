@@ -1,19 +1,10 @@
 -- The record spells what is left, and its entry may take the node's place.
-use Rattle.std.proofs.Common.{◌≡◌, ◌∷◌, [], ◌++◌, List, ℕ, Some, ap, arith, length, refl, subst, sym, ◌∙◌}
-use Rattle.compound_node.specs.declared.entries.Entry.TheVariants.{Node}
-use Rattle.record_words.proofs.Growing.{first_told}
-use Rattle.tries.specs.Content.{item}
-use Rattle.tries.specs.Place.{subtrie_without}
-use Rattle.record_words.specs.declared.records.Rec.TheVariants.{Node as a_node}
-use Rattle.version_laws.specs.Writer.{removed_change}
-use Rattle.rowex_core.specs.Reading.{node_words_of}
-use Rattle.publish_laws.specs.Rises.{IsSide, anew, made_of_node}
+use Rattle.rowex_writing.proofs.Common.{◌≡◌, ◌∷◌, [], ◌++◌, List, ℕ, Some, ap, arith, length, refl, subst, sym, ◌∙◌, Node, first_told, item, subtrie_without, a_node, removed_change, node_words_of, IsSide, anew, made_of_node, later_transitive}
 use Rattle.rowex_writing.specs.build.Building.{IsBuilding}
 use Rattle.rowex_writing.specs.build.Changes.{IsTakeChange}
 use Rattle.rowex_writing.specs.build.Deeds.{MayReplace}
 use Rattle.rowex_writing.specs.build.Taking.{HasHeight, lower}
 use Rattle.rowex_writing.specs.declared.plan.job.Raised.{Raised}
-use Rattle.publish_laws.proofs.Loops.{later_transitive}
 use Rattle.rowex_writing.proofs.locks.Going.{locked_on}
 use Rattle.rowex_writing.proofs.build.Building.{set_all_on}
 use Rattle.rowex_writing.proofs.build.taking.Taking.{word_of, claimed_filled, claimed_held, replaces_alone}

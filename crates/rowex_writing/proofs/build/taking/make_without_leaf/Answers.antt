@@ -1,7 +1,6 @@
 -- The way has one node.
 use Rattle.rowex_writing.proofs.build.Spare.{low_spares}
-use Rattle.std.proofs.Common.{None, refl, arith}
-use Rattle.std.proofs.lemmas.Result.{IfErr-weaker}
+use Rattle.rowex_writing.proofs.Common.{None, refl, arith, IfErr-weaker}
 use Rattle.rowex_writing.specs.locks.Locks.{locks_of}
 use Rattle.rowex_writing.proofs.build.Counts.{deed_least}
 use Rattle.rowex_writing.proofs.build.deeds.Deeds.{nodes_alone, taken_raised}

@@ -1,11 +1,6 @@
 -- What is left of the last node takes its place.
-use Rattle.std.proofs.Common.{rules, ◌≡◌, ◌≤◌, ◌+◌, ◌*◌, [], length, ap, sym, subst, Some, refl, arith, ◌∙◌}
-use Rattle.std.proofs.lemmas.Option.{slice_get_within}
-use Rattle.record_words.specs.Entry.{HasEntryWord}
-use Rattle.record_words.specs.declared.layout.Layout.{Layout}
+use Rattle.rowex_writing.proofs.Common.{rules, ◌≡◌, ◌≤◌, ◌+◌, ◌*◌, [], length, ap, sym, subst, Some, refl, arith, ◌∙◌, slice_get_within, HasEntryWord, Layout, item, removed_change}
 use Rattle.rowex_writing.specs.build.Building.{IsBuilding}
-use Rattle.tries.specs.Content.{item}
-use Rattle.version_laws.specs.Writer.{removed_change}
 use Rattle.rowex_writing.specs.plan.Counts.{level_steps}
 use Rattle.rowex_writing.specs.build.Deeds.{MayReplace}
 use Rattle.rowex_writing.specs.declared.plan.job.Raised.{Raised}

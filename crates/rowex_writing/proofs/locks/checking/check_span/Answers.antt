@@ -1,9 +1,7 @@
 -- The root, and then the nodes.
-use Rattle.std.proofs.Common.{◌∙◌, ap, subst, sym, Some, arith}
-use Rattle.rowex_reading.specs.Ways.{RootWas}
+use Rattle.rowex_writing.proofs.Common.{◌∙◌, ap, subst, sym, Some, arith, RootWas, way_later}
 use Rattle.rowex_writing.proofs.locks.Checks.{since_pinned, span_later}
 use Rattle.rowex_writing.proofs.locks.Going.{reads_more, seat_of}
-use Rattle.rowex_reading.proofs.Ways.{way_later}
 use Rattle.rowex_writing.proofs.locks.checking.check_span.Goals as goal
 
 pub returns-then-job-gt0-clause-checked : goal.returns-then-job-gt0-clause-checked

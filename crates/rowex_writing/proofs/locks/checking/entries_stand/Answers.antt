@@ -1,11 +1,5 @@
 -- One node more.
-use Rattle.std.proofs.Common.{◌≡◌, ◌<◌, ◌≤◌, ◌∙◌, ℕ, List, length, sym, subst, Some, arith, get_or}
-use Rattle.std.specs.Prelude.{slice_get}
-use Rattle.std.proofs.lemmas.Option.{slice_get-get_or, get_or_from_slice_get}
-use Rattle.std.proofs.lemmas.Bool.{false≢true}
-use Rattle.insert_cases.specs.declared.choice.PathNode.{PathNode}
-use Rattle.tries.specs.Place.{entry_at}
-use Rattle.rowex_core.specs.Reading.{node_words_of}
+use Rattle.rowex_writing.proofs.Common.{◌≡◌, ◌<◌, ◌≤◌, ◌∙◌, ℕ, List, length, sym, subst, Some, arith, get_or, slice_get, slice_get-get_or, get_or_from_slice_get, false≢true, PathNode, entry_at, node_words_of}
 use Rattle.rowex_writing.specs.locks.Going.{HasLocked}
 use Rattle.rowex_writing.proofs.locks.Checks.{none_stand, more_stand, step_place, step_read, span_locked}
 use Rattle.rowex_writing.proofs.locks.Going.{locked_on, reads_none, reads_more, seat_of}

@@ -1,7 +1,5 @@
 -- Each node above the index stands as it was found.
-use Rattle.std.proofs.Common.{◌+◌, ◌-◌, ◌≤◌}
-use Rattle.rowex_reading.specs.Possible.{IsPossible}
-use Rattle.rowex_table.specs.Seats.{IsSeatOf}
+use Rattle.rowex_writing.proofs.Common.{◌+◌, ◌-◌, ◌≤◌, IsPossible, IsSeatOf}
 use Rattle.rowex_writing.specs.locks.Going.{ReadsOn}
 use Rattle.rowex_writing.proofs.locks.Checks.{StandBelow}
 use Rattle.rowex_writing.proofs.locks.checking.entries_stand.Given as goal

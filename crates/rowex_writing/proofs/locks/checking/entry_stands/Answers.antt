@@ -1,10 +1,7 @@
 -- The entry of a locked node.
-use Rattle.std.proofs.Common.{sym, ◌∙◌}
-use Rattle.rowex_reading.proofs.Seen.Later.{event_possible}
-use Rattle.rowex_reading.proofs.Possible.Placing.{is_entry, slot_spelled}
+use Rattle.rowex_writing.proofs.Common.{sym, ◌∙◌, event_possible, is_entry, slot_spelled, step_few}
 use Rattle.rowex_writing.proofs.locks.Checks.{entry_is, entry_changed}
 use Rattle.rowex_writing.proofs.locks.Going.{reads_entry}
-use Rattle.rowex_reading.proofs.Counting.{step_few}
 use Rattle.rowex_writing.proofs.locks.checking.entry_stands.Goals as goal
 
 pub load_ref-word-requires-clause-range : goal.load_ref-word-requires-clause-range

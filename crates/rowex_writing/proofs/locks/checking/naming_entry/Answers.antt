@@ -1,9 +1,5 @@
 -- What names a node, by the way's list.
-use Rattle.std.proofs.Common.{◌≡◌, ◌<◌, ◌≤◌, ℕ, zero, suc, List, length, Some, [], ◌∷◌, get_or, refl, arith, sym, ap, ◌∙◌}
-use Rattle.compound_node.specs.declared.entries.Entry.TheVariants.{Node}
-use Rattle.insert_cases.specs.declared.choice.PathNode.{PathNode}
-use Rattle.rowex_reading.specs.Ways.{named, end_of}
-use Rattle.rowex_reading.specs.declared.descent.Found.{Found}
+use Rattle.rowex_writing.proofs.Common.{◌≡◌, ◌<◌, ◌≤◌, ℕ, zero, suc, List, length, Some, [], ◌∷◌, get_or, refl, arith, sym, ap, ◌∙◌, Node, PathNode, named, end_of, Found}
 use Rattle.rowex_writing.proofs.locks.checking.naming_entry.Goals as goal
 
 within : (way : List PathNode) (found : Found) (i : ℕ) (d : PathNode) → i < length way → Some (Node (get_or way i d).number (get_or way i d).height) ≡ named way found i

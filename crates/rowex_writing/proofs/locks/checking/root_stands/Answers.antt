@@ -1,9 +1,7 @@
 -- The root under the anchor's lock.
-use Rattle.std.proofs.Common.{◌∙◌, ap, Some}
-use Rattle.rowex_reading.proofs.Seen.Later.{event_possible}
+use Rattle.rowex_writing.proofs.Common.{◌∙◌, ap, Some, event_possible, step_few}
 use Rattle.rowex_reading.proofs.Seen.Loading.{pinned_by}
 use Rattle.rowex_writing.proofs.locks.Checks.{anchor_is, reads_root, root_changed}
-use Rattle.rowex_reading.proofs.Counting.{step_few}
 use Rattle.rowex_writing.proofs.locks.checking.root_stands.Goals as goal
 
 pub returns-clause-reads : goal.returns-clause-reads

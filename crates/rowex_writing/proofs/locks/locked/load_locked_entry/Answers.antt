@@ -1,9 +1,5 @@
 -- The word of the entry, which one has.
-use Rattle.std.proofs.Common.{Some, ap, sym, subst, ◌∙◌}
-use Rattle.record_words.specs.Entry.{HasEntryWord, entry_word}
-use Rattle.rowex_reading.proofs.Counting.{step_few}
-use Rattle.rowex_reading.proofs.Possible.Placing.{is_entry, slot_some, slot_spelled}
-use Rattle.insert_cases.proofs.Ways.{some_injective}
+use Rattle.rowex_writing.proofs.Common.{Some, ap, sym, subst, ◌∙◌, HasEntryWord, entry_word, step_few, is_entry, slot_some, slot_spelled, some_injective}
 use Rattle.rowex_writing.proofs.locks.Checks.{entry_is, some_of}
 use Rattle.rowex_writing.proofs.locks.Going.{reads_entry}
 use Rattle.rowex_writing.proofs.locks.locked.load_locked_entry.Goals as goal

@@ -1,7 +1,5 @@
 -- The first word, and those behind it.
-use Rattle.std.proofs.Common.{◌∙◌, ap, arith, set, subst, sym}
-use Rattle.record_words.specs.Kinds.{head_size}
-use Rattle.rowex_table.specs.Rule.{record_number}
+use Rattle.rowex_writing.proofs.Common.{◌∙◌, ap, arith, set, subst, sym, head_size, record_number}
 use Rattle.rowex_writing.specs.locks.Loads.{AreRead}
 use Rattle.rowex_writing.proofs.locks.Going.{none_read, one_read, seat_of}
 use Rattle.rowex_writing.proofs.locks.locked.load_locked_head.Given as given

@@ -1,7 +1,6 @@
 -- All words, of the head and then of entries.
-use Rattle.std.proofs.Common.{◌≡◌, ◌≤◌, ◌+◌, ◌%◌, ap, get_or, inl, length, refl, sym, ◌∙◌, subst, arith, ⊎_elim}
+use Rattle.rowex_writing.proofs.Common.{◌≡◌, ◌≤◌, ◌+◌, ◌%◌, ap, get_or, inl, length, refl, sym, ◌∙◌, subst, arith, ⊎_elim, record_number}
 use Rattle.record_words.proofs.Reading.{entries_counted}
-use Rattle.rowex_table.specs.Rule.{record_number}
 use Rattle.rowex_writing.specs.locks.Going.{HasLocked, IsNodeOf}
 use Rattle.rowex_writing.specs.locks.Loads.{AreThose}
 use Rattle.rowex_writing.proofs.locks.Going.{all_read}

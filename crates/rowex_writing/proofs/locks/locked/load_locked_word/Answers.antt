@@ -1,9 +1,6 @@
 -- The word is one of those that the lock keeps.
-use Rattle.std.proofs.Common.{◌+◌, ◌-◌, ◌≤◌, arith}
-use Rattle.rowex_table.specs.Rule.{record_number}
+use Rattle.rowex_writing.proofs.Common.{◌+◌, ◌-◌, ◌≤◌, arith, record_number, step_few, of_kind}
 use Rattle.rowex_writing.proofs.locks.Going.{reads_fixed, reads_entry, locked_spells, fixed_word, entry_word_of}
-use Rattle.rowex_reading.proofs.Counting.{step_few}
-use Rattle.rowex_reading.proofs.Seen.Led.{of_kind}
 use Rattle.rowex_writing.proofs.locks.locked.load_locked_word.Goals as goal
 
 pub load_fixed_at-requires : goal.load_fixed_at-requires

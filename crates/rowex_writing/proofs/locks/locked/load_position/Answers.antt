@@ -1,8 +1,5 @@
 -- Two words of the head have the position.
-use Rattle.std.proofs.Common.{◌∙◌, ap, arith, get_or, sym, subst}
-use Rattle.record_words.specs.Kinds.{mask_index, position_index}
-use Rattle.record_words.proofs.HeadParts.HeadsByKind.{position_within, mask_within}
-use Rattle.rowex_table.specs.Rule.{record_number}
+use Rattle.rowex_writing.proofs.Common.{◌∙◌, ap, arith, get_or, sym, subst, mask_index, position_index, position_within, mask_within, record_number}
 use Rattle.rowex_writing.specs.locks.Going.{HasLocked}
 use Rattle.rowex_writing.proofs.locks.Loads.{head_word}
 use Rattle.rowex_writing.proofs.locks.Going.{locked_on, reads_more, seat_of}

@@ -1,6 +1,5 @@
 -- One word more: it has been loaded, or it is all ones.
-use Rattle.std.proofs.Common.{◌≡◌, arith, subst}
-use Rattle.rowex_table.specs.Rule.{record_number}
+use Rattle.rowex_writing.proofs.Common.{◌≡◌, arith, subst, record_number}
 use Rattle.rowex_writing.specs.locks.Loads.{AreRead}
 use Rattle.rowex_writing.proofs.locks.Going.{one_read, seat_of, unused_read}
 use Rattle.rowex_writing.proofs.locks.locked.load_rest_of_head.Goals as goal

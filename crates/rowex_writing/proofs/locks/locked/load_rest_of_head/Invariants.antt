@@ -1,8 +1,5 @@
 -- Where the first word is here, those so far are.
-use Rattle.std.proofs.Common.{◌≡◌, get_or}
-use Rattle.record_words.specs.Kinds.{head_size, kind_in}
-use Rattle.rowex_table.specs.Seats.{IsSeatOf}
-use Rattle.rowex_table.specs.Rule.{record_number}
+use Rattle.rowex_writing.proofs.Common.{◌≡◌, get_or, head_size, kind_in, IsSeatOf, record_number}
 use Rattle.rowex_writing.specs.locks.Loads.{AreRead}
 use Rattle.rowex_writing.proofs.locks.locked.load_rest_of_head.Given as goal
 

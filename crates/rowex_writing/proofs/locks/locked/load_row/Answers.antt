@@ -1,9 +1,5 @@
 -- A word of the head has the row, and past the last place there is none.
-use Rattle.std.proofs.Common.{◌+◌, ◌/◌, ◌∙◌, ap, arith, get_or, sym}
-use Rattle.std.proofs.lemmas.List.{get_or_past}
-use Rattle.compound_node.proofs.Lawful.{same_count}
-use Rattle.record_words.specs.Kinds.{rows_a_word, rows_from}
-use Rattle.record_words.proofs.HeadParts.HeadsByKind.{row_within}
+use Rattle.rowex_writing.proofs.Common.{◌+◌, ◌/◌, ◌∙◌, ap, arith, get_or, sym, get_or_past, same_count, rows_a_word, rows_from, row_within}
 use Rattle.rowex_writing.proofs.locks.Loads.{head_word}
 use Rattle.rowex_writing.proofs.locks.Going.{reads_none, seat_of}
 use Rattle.rowex_writing.proofs.locks.locked.load_row.Goals as goal

@@ -1,6 +1,5 @@
 -- The rows round the place tell it.
-use Rattle.std.proofs.Common.{◌∙◌, ap, get_or, subst, sym}
-use Rattle.rowex_table.specs.Rule.{record_number}
+use Rattle.rowex_writing.proofs.Common.{◌∙◌, ap, get_or, subst, sym, record_number}
 use Rattle.rowex_writing.specs.locks.Going.{HasLocked}
 use Rattle.rowex_writing.proofs.locks.Going.{locked_on, reads_more}
 use Rattle.rowex_writing.proofs.locks.locked.load_sibling.Goals as goal

@@ -1,7 +1,5 @@
 -- A group of words more has been loaded, or the end was reached before.
-use Rattle.std.proofs.Common.{◌≡◌, ◌+◌, add-zero, arith, inl, refl, subst, sym, ⊎_elim}
-use Rattle.record_words.specs.declared.TheConstants.{SLOT_GROUP}
-use Rattle.rowex_table.specs.Rule.{record_number}
+use Rattle.rowex_writing.proofs.Common.{◌≡◌, ◌+◌, add-zero, arith, inl, refl, subst, sym, ⊎_elim, SLOT_GROUP, record_number}
 use Rattle.rowex_writing.specs.locks.Loads.{AreRead}
 use Rattle.rowex_writing.proofs.locks.Going.{one_read, seat_of}
 use Rattle.rowex_writing.proofs.locks.locked.load_slot_group.Goals as goal

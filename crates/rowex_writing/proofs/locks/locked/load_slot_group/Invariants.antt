@@ -1,7 +1,5 @@
 -- So many words more are those of the lock, where those before them are.
-use Rattle.std.proofs.Common.{◌+◌}
-use Rattle.rowex_table.specs.Seats.{IsSeatOf}
-use Rattle.rowex_table.specs.Rule.{record_number}
+use Rattle.rowex_writing.proofs.Common.{◌+◌, IsSeatOf, record_number}
 use Rattle.rowex_writing.specs.locks.Loads.{AreRead}
 use Rattle.rowex_writing.proofs.locks.locked.load_slot_group.Given as goal
 

@@ -1,7 +1,5 @@
 -- None of those before the index has the number.
-use Rattle.std.proofs.Common.{◌≡◌, ◌≢◌, ◌+◌, ◌<◌, ◌≤◌, ℕ, Some}
-use Rattle.std.specs.Prelude.{slice_get}
-use Rattle.insert_cases.specs.declared.choice.PathNode.{PathNode}
+use Rattle.rowex_writing.proofs.Common.{◌≡◌, ◌≢◌, ◌+◌, ◌<◌, ◌≤◌, ℕ, Some, slice_get, PathNode}
 use Rattle.rowex_writing.proofs.merging.widening.is_near_span.Given as goal
 
 abbrev pub invariant-loop-index : goal.invariant-loop-index

@@ -1,15 +1,6 @@
 -- The node beside, and then what names the upper one.
 use Rattle.rowex_writing.proofs.build.Spare.{works_spare}
-use Rattle.std.proofs.Common.{◌∷◌, ◌-◌, true, false, refl, sym, ap, subst, ◌∙◌}
-use Rattle.versions.specs.Trades.{IsOneOf}
-use Rattle.rowex_reading.specs.Ways.{IsWayOf}
-use Rattle.rowex_reading.proofs.Seen.{later_trans}
-use Rattle.rowex_reading.proofs.Ways.{way_later}
-use Rattle.publish_laws.proofs.Cases.Merging.{beside_may_lock}
-use Rattle.publish_laws.proofs.Loops.{later_if_same}
-use Rattle.rowex_core.specs.declared.event.Target.TheVariants.{Node as NodeTarget}
-use Rattle.rowex_table.specs.Made.{nodes_of}
-use Rattle.rowex_table.specs.Rights.{MayLock}
+use Rattle.rowex_writing.proofs.Common.{◌∷◌, ◌-◌, true, false, refl, sym, ap, subst, ◌∙◌, IsOneOf, IsWayOf, later_trans, way_later, beside_may_lock, later_if_same, NodeTarget, nodes_of, MayLock}
 use Rattle.rowex_writing.specs.locks.Locks.{span_numbers}
 use Rattle.rowex_writing.specs.merging.Merging.{LocksAbove}
 use Rattle.rowex_writing.proofs.merging.Beside.{sibling_range}

@@ -1,7 +1,6 @@
 -- A node of the way is locked, and its entry is looked at.
 use Rattle.rowex_writing.proofs.build.Spare.{goes_spare, works_spare}
-use Rattle.std.proofs.Common.{sym, ◌∙◌}
-use Rattle.publish_laws.proofs.Acts.{led_may_lock}
+use Rattle.rowex_writing.proofs.Common.{sym, ◌∙◌, led_may_lock}
 use Rattle.rowex_writing.proofs.locks.Going.{seat_of}
 use Rattle.rowex_writing.proofs.locks.Onward.{back_later, back_tries, locked_later, locked_tries, run_possible}
 use Rattle.rowex_writing.proofs.locks.Runs.{works_run}

@@ -1,13 +1,7 @@
 -- The anchor is locked, and the root is looked at.
 use Rattle.rowex_writing.proofs.build.Spare.{act_spare, goes_spare, works_spare}
-use Rattle.std.proofs.Common.{sym, subst, ◌∙◌, arith}
+use Rattle.rowex_writing.proofs.Common.{sym, subst, ◌∙◌, arith, Unlock, Anchor, silent, unlock_anchor_gives, unlocks_anchor, step_few}
 use Rattle.std.specs.Prelude.{IsSome}
-use Rattle.rowex_core.specs.declared.event.Act.TheVariants.{Unlock}
-use Rattle.rowex_core.specs.declared.event.Target.TheVariants.{Anchor}
-use Rattle.rowex_table.specs.Runs.{silent}
-use Rattle.rowex_table.proofs.Made.ActsAfter.{unlock_anchor_gives}
-use Rattle.rowex_table.proofs.Rights.{unlocks_anchor}
-use Rattle.rowex_reading.proofs.Counting.{step_few}
 use Rattle.rowex_writing.proofs.locks.Going.{seat_of}
 use Rattle.rowex_writing.proofs.locks.Onward.{back_later, back_tries, locked_later, locked_tries}
 use Rattle.rowex_writing.proofs.locks.Runs.{works_run}

@@ -1,12 +1,8 @@
 -- The anchor, or the node above.
-use Rattle.std.proofs.Common.{◌-◌, get_or, ◌∙◌, arith}
-use Rattle.std.proofs.lemmas.Option.{slice_get-get_or}
+use Rattle.rowex_writing.proofs.Common.{◌-◌, get_or, ◌∙◌, arith, slice_get-get_or, later_if_same, refl, way_later}
 use Rattle.rowex_writing.specs.build.Taking.{no_step}
 use Rattle.rowex_writing.proofs.locks.Checks.{since_pinned, step_place}
-use Rattle.publish_laws.proofs.Loops.{later_if_same}
 use Rattle.rowex_writing.proofs.merging.widening.Widening.{root_above, step_above}
-use Rattle.std.proofs.Common.{refl}
-use Rattle.rowex_reading.proofs.Ways.{way_later}
 use Rattle.rowex_writing.proofs.locks.Onward.{run_possible}
 use Rattle.rowex_writing.proofs.merging.widening.lock_target_above.Goals as goal
 

@@ -1,7 +1,6 @@
 -- What names the upper node, and then the node beside the lower one.
 use Rattle.rowex_writing.proofs.build.Spare.{works_spare}
-use Rattle.std.proofs.Common.{sym, ◌∙◌}
-use Rattle.rowex_reading.proofs.Seen.{later_trans}
+use Rattle.rowex_writing.proofs.Common.{sym, ◌∙◌, later_trans}
 use Rattle.rowex_writing.proofs.build.Changes.{step_nodes}
 use Rattle.rowex_writing.proofs.locks.Runs.{works_run}
 use Rattle.rowex_writing.proofs.locks.Locks.{works_later, works_more, works_seat}

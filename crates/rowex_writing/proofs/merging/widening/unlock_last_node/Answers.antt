@@ -1,8 +1,5 @@
 -- The first lock in the list of locks goes.
-use Rattle.rowex_core.specs.declared.event.Act.TheVariants.{Unlock}
-use Rattle.rowex_core.specs.declared.event.Target.TheVariants.{Node as NodeTarget}
-use Rattle.rowex_table.proofs.Made.ActsLeave.{act_leaves}
-use Rattle.rowex_reading.proofs.Counting.{step_few}
+use Rattle.rowex_writing.proofs.Common.{Unlock, NodeTarget, act_leaves, step_few}
 use Rattle.rowex_writing.proofs.merging.widening.Widening.{last_may, last_unlocked}
 use Rattle.rowex_writing.proofs.locks.Locks.{works_one}
 use Rattle.rowex_writing.proofs.merging.widening.unlock_last_node.Goals as goal

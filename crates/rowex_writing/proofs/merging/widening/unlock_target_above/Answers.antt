@@ -1,14 +1,6 @@
 -- The anchor, or the node above.
-use Rattle.std.proofs.Common.{◌≡◌, ◌-◌, get_or, refl, sym, subst, ◌∙◌, arith}
+use Rattle.rowex_writing.proofs.Common.{◌≡◌, ◌-◌, get_or, refl, sym, subst, ◌∙◌, arith, get_or_from_slice_get, PathNode, Unlock, Anchor, silent, unlock_anchor_gives, unlocks_anchor, step_few}
 use Rattle.std.specs.Prelude.{IsSome}
-use Rattle.std.proofs.lemmas.Option.{get_or_from_slice_get}
-use Rattle.insert_cases.specs.declared.choice.PathNode.{PathNode}
-use Rattle.rowex_core.specs.declared.event.Act.TheVariants.{Unlock}
-use Rattle.rowex_core.specs.declared.event.Target.TheVariants.{Anchor}
-use Rattle.rowex_table.specs.Runs.{silent}
-use Rattle.rowex_table.proofs.Made.ActsAfter.{unlock_anchor_gives}
-use Rattle.rowex_table.proofs.Rights.{unlocks_anchor}
-use Rattle.rowex_reading.proofs.Counting.{step_few}
 use Rattle.rowex_writing.specs.locks.Locks.{LocksLast}
 use Rattle.rowex_writing.specs.build.Taking.{no_step}
 use Rattle.rowex_writing.proofs.merging.widening.Widening.{is_over, no_root}

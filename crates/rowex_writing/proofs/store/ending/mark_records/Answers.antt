@@ -1,10 +1,7 @@
 -- The first of those that are left is marked.
-use Rattle.std.proofs.Common.{inl, refl, ◌∙◌, arith}
-use Rattle.rowex_table.proofs.Made.ActsAfter.{marks_own}
-use Rattle.rowex_table.proofs.Made.ActsLeave.{act_leaves}
+use Rattle.rowex_writing.proofs.Common.{inl, refl, ◌∙◌, arith, marks_own, act_leaves, step_few}
 use Rattle.rowex_writing.proofs.locks.Locks.{works_none, works_one, works_more, works_seat}
 use Rattle.rowex_writing.proofs.store.Retiring.{first_due, none_due, due_less}
-use Rattle.rowex_reading.proofs.Counting.{step_few}
 use Rattle.rowex_writing.proofs.store.ending.mark_records.Goals as goal
 
 pub loop-index-init : goal.loop-index-init

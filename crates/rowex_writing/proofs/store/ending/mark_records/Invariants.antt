@@ -1,6 +1,5 @@
 -- Those from the index on are to be marked.
-use Rattle.std.proofs.Common.{drop, ◌+◌, ◌≤◌}
-use Rattle.rowex_table.specs.Seats.{IsSeatOf}
+use Rattle.rowex_writing.proofs.Common.{drop, ◌+◌, ◌≤◌, IsSeatOf}
 use Rattle.rowex_writing.specs.locks.Locks.{Works}
 use Rattle.rowex_writing.specs.store.Retiring.{HasToMark, KeepsLocks}
 use Rattle.rowex_writing.proofs.store.ending.mark_records.Given as goal

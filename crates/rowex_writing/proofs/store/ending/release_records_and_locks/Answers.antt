@@ -1,10 +1,6 @@
 -- What is held is given up, what is locked is unlocked, and the anchor at last.
-use Rattle.std.proofs.Common.{sym, subst, ◌∙◌, arith}
-use Rattle.std.specs.Prelude.{slice_range}
-use Rattle.rowex_core.specs.declared.event.Act.TheVariants.{Unlock}
-use Rattle.rowex_core.specs.declared.event.Target.TheVariants.{Anchor}
+use Rattle.rowex_writing.proofs.Common.{sym, subst, ◌∙◌, arith, slice_range, Unlock, Anchor, step_few}
 use Rattle.rowex_writing.specs.locks.Locks.{HasJustLocked, numbers_of}
-use Rattle.rowex_reading.proofs.Counting.{step_few}
 use Rattle.rowex_writing.proofs.locks.Spans.{slice_few}
 use Rattle.rowex_writing.proofs.build.Growths.{range_nodes}
 use Rattle.rowex_writing.proofs.build.Changes.{step_nodes}

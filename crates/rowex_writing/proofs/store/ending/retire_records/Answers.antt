@@ -1,9 +1,5 @@
 -- The epoch is loaded, what is unlinked is marked, what stays is unlocked, and the anchor at last.
-use Rattle.std.proofs.Common.{◌∙◌, arith}
-use Rattle.rowex_core.specs.declared.event.Act.TheVariants.{LoadEpoch, Unlock}
-use Rattle.rowex_core.specs.declared.event.Target.TheVariants.{Anchor}
-use Rattle.rowex_table.proofs.Made.ActsLeave.{act_leaves}
-use Rattle.rowex_reading.proofs.Counting.{step_few}
+use Rattle.rowex_writing.proofs.Common.{◌∙◌, arith, LoadEpoch, Unlock, Anchor, act_leaves, step_few}
 use Rattle.rowex_writing.proofs.locks.Locks.{works_one, works_more, works_seat}
 use Rattle.rowex_writing.proofs.locks.Spans.{locked_same}
 use Rattle.rowex_writing.proofs.store.Retiring.{due_first}

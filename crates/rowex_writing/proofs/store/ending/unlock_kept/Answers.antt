@@ -1,9 +1,5 @@
 -- The nodes are unlocked, and the anchor at last.
-use Rattle.std.proofs.Common.{◌∙◌, arith}
-use Rattle.rowex_core.specs.declared.event.Act.TheVariants.{Unlock}
-use Rattle.rowex_core.specs.declared.event.Target.TheVariants.{Anchor}
-use Rattle.rowex_table.proofs.Made.ActsLeave.{act_leaves}
-use Rattle.rowex_reading.proofs.Counting.{step_few}
+use Rattle.rowex_writing.proofs.Common.{◌∙◌, arith, Unlock, Anchor, act_leaves, step_few}
 use Rattle.rowex_writing.proofs.locks.Locks.{works_one, works_more, works_seat}
 use Rattle.rowex_writing.proofs.store.ending.unlock_kept.Goals as goal
 

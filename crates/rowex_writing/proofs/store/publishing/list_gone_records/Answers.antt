@@ -1,9 +1,5 @@
 -- Each node of the steps, and then the leaf.
-use Rattle.std.proofs.Common.{◌≡◌, ◌∙◌, ◌++◌, ◌∷◌, [], ◌+◌, ◌<◌, ◌≤◌, ℕ, List, ap, get_or, length, map, sym, take}
-use Rattle.std.proofs.lemmas.List.{append-nil, map_more, take_all}
-use Rattle.insert_cases.specs.declared.choice.PathNode.{PathNode}
-use Rattle.record_words.specs.declared.records.Rec.{Rec}
-use Rattle.record_words.specs.declared.records.Rec.TheVariants.{Node as a_node, Leaf as a_leaf}
+use Rattle.rowex_writing.proofs.Common.{◌≡◌, ◌∙◌, ◌++◌, ◌∷◌, [], ◌+◌, ◌<◌, ◌≤◌, ℕ, List, ap, get_or, length, map, sym, take, append-nil, map_more, take_all, PathNode, Rec, a_node, a_leaf}
 use Rattle.rowex_writing.specs.build.Deeds.{leaf_gone}
 use Rattle.rowex_writing.proofs.store.publishing.list_gone_records.Goals as goal
 

@@ -1,7 +1,5 @@
 -- Those before the index are listed.
-use Rattle.std.proofs.Common.{◌≡◌, map, take}
-use Rattle.insert_cases.specs.declared.choice.PathNode.{PathNode}
-use Rattle.record_words.specs.declared.records.Rec.TheVariants.{Node as a_node}
+use Rattle.rowex_writing.proofs.Common.{◌≡◌, map, take, PathNode, a_node}
 use Rattle.rowex_writing.proofs.store.publishing.list_gone_records.Given as goal
 
 abbrev pub invariant-loop-index : goal.invariant-loop-index

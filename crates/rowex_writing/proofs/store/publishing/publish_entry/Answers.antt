@@ -1,10 +1,6 @@
 -- Ready, stored, retired.
 use Rattle.rowex_writing.proofs.build.Spare.{store_spares}
-use Rattle.std.proofs.Common.{length, subst, sym, ap, ◌∙◌, arith}
-use Rattle.record_words.specs.Entry.{entry_word}
-use Rattle.rowex_core.specs.declared.event.Act.TheVariants.{Publish}
-use Rattle.rowex_table.specs.Rule.{MayStep}
-use Rattle.rowex_table.proofs.Made.ActsLeave.{act_leaves}
+use Rattle.rowex_writing.proofs.Common.{length, subst, sym, ap, ◌∙◌, arith, entry_word, Publish, MayStep, act_leaves}
 use Rattle.rowex_writing.specs.locks.Locks.{numbers_of}
 use Rattle.rowex_writing.specs.store.Retiring.{HasJustPublished, is_root}
 use Rattle.rowex_writing.specs.build.Putting.{AreInTable}

@@ -1,15 +1,7 @@
 -- One record more is ready.
-use Rattle.std.proofs.Common.{◌≡◌, ◌-◌, ◌<◌, ◌∙◌, List, Some, ℕ, ap, arith, get_or, length, subst, sym, take, ⊎_elim}
-use Rattle.std.specs.Prelude.{slice_get}
-use Rattle.std.proofs.lemmas.Bool.{cases_lt, false≢true}
-use Rattle.std.proofs.lemmas.List.{get_or-take, take-take, take_all}
-use Rattle.std.proofs.lemmas.Option.{get_or_from_slice_get}
+use Rattle.rowex_writing.proofs.Common.{◌≡◌, ◌-◌, ◌<◌, ◌∙◌, List, Some, ℕ, ap, arith, get_or, length, subst, sym, take, ⊎_elim, slice_get, cases_lt, false≢true, get_or-take, take-take, take_all, get_or_from_slice_get, Rec, FitsIn, HasRecord, does_count, IsFilled, Readies, owning}
 use Rattle.rowex_writing.proofs.locks.Going.{goes_none, seat_of}
-use Rattle.record_words.specs.declared.records.Rec.{Rec}
-use Rattle.rowex_core.specs.Cores.{FitsIn, HasRecord}
 use Rattle.rowex_writing.proofs.store.publishing.Publishing.{AreReadied, none_readied, next_rights, readied_goes, readied_more, all_readied}
-use Rattle.rowex_table.proofs.Runs.{does_count}
-use Rattle.rowex_records.specs.Records.{IsFilled, Readies, owning}
 use Rattle.rowex_writing.proofs.store.publishing.ready_records.Goals as goal
 
 -- the last of those that are left

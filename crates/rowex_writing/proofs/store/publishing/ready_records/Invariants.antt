@@ -1,7 +1,5 @@
 -- Those that are left are to be made ready.
-use Rattle.std.proofs.Common.{◌-◌, ◌≡◌, ◌≤◌, List, length, take, drop, ◌+◌}
-use Rattle.rowex_table.specs.Made.{Made, HasReadied}
-use Rattle.rowex_table.specs.Seats.{IsSeatOf}
+use Rattle.rowex_writing.proofs.Common.{◌-◌, ◌≡◌, ◌≤◌, List, length, take, drop, ◌+◌, Made, HasReadied, IsSeatOf}
 use Rattle.rowex_writing.specs.build.Building.{IsBuilding}
 use Rattle.rowex_writing.specs.locks.Going.{WorksOn}
 use Rattle.rowex_writing.proofs.store.publishing.ready_records.Given as goal

@@ -1,8 +1,5 @@
 -- A node's height is in the word.
-use Rattle.std.proofs.Common.{rules, ◌≡◌, ◌<◌, ◌^◌, ap, subst, ◌∙◌, Some}
-use Rattle.compound_node.specs.declared.entries.Entry.TheVariants.{Node}
-use Rattle.record_words.specs.Entry.{HasEntryWord, entry_word}
-use Rattle.record_words.specs.Decoding.{entry_of}
+use Rattle.rowex_writing.proofs.Common.{rules, ◌≡◌, ◌<◌, ◌^◌, ap, subst, ◌∙◌, Some, Node, HasEntryWord, entry_word, entry_of}
 use Rattle.rowex_writing.proofs.store.ending.Ending.{high}
 use Rattle.rowex_writing.proofs.store.publishing.stored_word.Goals as goal
 

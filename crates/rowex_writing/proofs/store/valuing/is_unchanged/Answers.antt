@@ -1,9 +1,5 @@
 -- A leaf with the key is one of the table's; and where it has another value, it has been changed.
-use Rattle.std.proofs.Common.{◌≡◌, ◌≢◌, None, ap, sym, subst, ◌∙◌}
-use Rattle.std.proofs.lemmas.Bool.{eq-eqb, false≢true}
-use Rattle.rowex_table.proofs.Rule.Located.{leaf_at}
-use Rattle.rowex_reading.specs.Ways.{IsFoundAt}
-use Rattle.rowex_reading.specs.declared.descent.Found.TheVariants.{Leaf}
+use Rattle.rowex_writing.proofs.Common.{◌≡◌, ◌≢◌, None, ap, sym, subst, ◌∙◌, eq-eqb, false≢true, leaf_at, IsFoundAt, Leaf}
 use Rattle.rowex_writing.proofs.store.Values.{found_in_table, moved_since, value_reads, of_leaf}
 use Rattle.rowex_writing.proofs.store.valuing.is_unchanged.Given as given
 use Rattle.rowex_writing.proofs.store.valuing.is_unchanged.Goals as goal

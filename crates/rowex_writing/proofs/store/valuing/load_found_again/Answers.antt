@@ -1,8 +1,5 @@
 -- A leaf with the key is one of the table's; and its value, as loaded, is the key's.
-use Rattle.std.proofs.Common.{◌≡◌, None, sym, ap, subst, ◌∙◌}
-use Rattle.rowex_table.proofs.Rule.Located.{leaf_at}
-use Rattle.rowex_reading.specs.Ways.{IsFoundAt}
-use Rattle.rowex_reading.specs.declared.descent.Found.TheVariants.{Leaf}
+use Rattle.rowex_writing.proofs.Common.{◌≡◌, None, sym, ap, subst, ◌∙◌, leaf_at, IsFoundAt, Leaf}
 use Rattle.rowex_writing.specs.store.Values.{revalued}
 use Rattle.rowex_writing.proofs.store.Held.{held_loaded}
 use Rattle.rowex_writing.proofs.store.Values.{found_in_table, found_loaded, found_now, value_reads, of_leaf}

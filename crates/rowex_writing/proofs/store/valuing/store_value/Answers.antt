@@ -1,16 +1,6 @@
 -- The store, and what is unlocked after it.
 use Rattle.rowex_writing.proofs.build.Spare.{value_spares}
-use Rattle.std.proofs.Common.{◌≡◌, ◌<◌, ◌^◌, None, Some, refl, sym, subst, arith, [], ℕ, Option}
-use Rattle.std.specs.Prelude.{slice_range}
-use Rattle.rowex_core.specs.declared.event.Act.TheVariants.{Publish}
-use Rattle.rowex_core.specs.declared.event.Spot.TheVariants.{Value}
-use Rattle.rowex_core.specs.Having.{IsUnlinked}
-use Rattle.rowex_core.proofs.Having.{owns_none}
-use Rattle.rowex_table.specs.Publishes.{HasPublished, Publishes}
-use Rattle.rowex_table.proofs.Made.ActsLeave.{act_leaves}
-use Rattle.rowex_reading.specs.declared.descent.Found.TheVariants.{Leaf}
-use Rattle.version_laws.specs.Writer.{replaced_change}
-use Rattle.tries.specs.Content.{item}
+use Rattle.rowex_writing.proofs.Common.{◌≡◌, ◌<◌, ◌^◌, None, Some, refl, sym, subst, arith, [], ℕ, Option, slice_range, Publish, Value, IsUnlinked, owns_none, HasPublished, Publishes, act_leaves, Leaf, replaced_change, item, IsEvent, silent, SeatView, TableView}
 use Rattle.rowex_writing.specs.build.Changes.{IsPutChange}
 use Rattle.rowex_writing.specs.locks.Checks.{HasTakenPlan}
 use Rattle.rowex_writing.specs.locks.Locks.{HasJustLocked, numbers_of, span_numbers}
@@ -23,9 +13,6 @@ use Rattle.rowex_writing.proofs.build.deeds.Deeds.{span_anchor}
 use Rattle.rowex_writing.proofs.locks.Runs.{run_one, runs_trans, works_fresh, works_run}
 use Rattle.rowex_writing.proofs.store.Values.{all_kept, anchored_on, value_changed}
 use Rattle.rowex_writing.proofs.store.valuing.store_value.Goals as goal
-use Rattle.rowex_core.specs.Knowing.{IsEvent}
-use Rattle.rowex_table.specs.Runs.{silent}
-use Rattle.rowex_table.specs.Seats.{SeatView, TableView}
 use Rattle.rowex_writing.specs.store.Values.{HasLoadedFound}
 use Rattle.rowex_writing.specs.declared.plan.job.Job.{Job}
 use Rattle.rowex_writing.specs.declared.plan.Deed.TheVariants.{Value as ValueDeed}

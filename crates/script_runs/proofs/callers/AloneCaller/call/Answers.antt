@@ -1,7 +1,6 @@
 -- A refusal of a call that doesn't wait is one of a call that does, by the same cause.
-use Rattle.std.proofs.Common.{rules, ◌≡◌, refl, subst}
+use Rattle.script_runs.proofs.Common.{rules, ◌≡◌, refl, subst, Reply}
 use Rattle.core.specs.declared.result.Result.{Result}
-use Rattle.finite_map.specs.declared.Reply.{Reply}
 use Rattle.rowex_writing.specs.declared.attempts.TryFault.{TryFault}
 use Rattle.hot_index_calls.specs.Asked.{last_try}
 use Rattle.hot_index_calls.specs.Calls.{HasCause}
