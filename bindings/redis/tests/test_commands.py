@@ -6,6 +6,26 @@ import redis
 
 from servers import Server
 
+# Of each command its least words, its arity, and its flags.
+COMMANDS: "dict[str, tuple[tuple[object, ...], int, set[str]]]" = {
+    "OM.SET": (("m", "a", 1), -4, {"write", "denyoom", "fast"}),
+    "OM.GET": (("m", "a"), 3, {"readonly", "fast"}),
+    "OM.MGET": (("m", "a"), -3, {"readonly", "fast"}),
+    "OM.DEL": (("m", "a"), -3, {"write", "fast"}),
+    "OM.ADD": (("m", "a", 1), 4, {"write", "denyoom", "fast"}),
+    "OM.CAS": (("m", "a", 1, 2), 5, {"write", "denyoom", "fast"}),
+    "OM.EXISTS": (("m", "a"), 3, {"readonly", "fast"}),
+    "OM.LEN": (("m",), 2, {"readonly", "fast"}),
+    "OM.RANGE": (("m", "-", "+"), -4, {"readonly"}),
+    "OM.PREFIX": (("m", "a"), -3, {"readonly"}),
+    "OM.COUNT": (("m", "-", "+"), 4, {"readonly"}),
+    "OM.SCAN": (("m", 0), -3, {"readonly"}),
+    "OM.POPMIN": (("m",), -2, {"write", "fast"}),
+    "OM.POPMAX": (("m",), -2, {"write", "fast"}),
+    "OM.DELRANGE": (("m", "-", "+"), -4, {"write"}),
+    "OM.STAT": (("m",), 2, {"readonly", "fast"}),
+}
+
 
 class Commands(unittest.TestCase):
     server: Server
@@ -124,9 +144,37 @@ class Commands(unittest.TestCase):
         }
         for words, text in wrong.items():
             self.assertEqual(self.said(*words), text, words)
-        for words in [("OM.SET", "m", "a"), ("OM.GET", "m"), ("OM.MGET", "m"), ("OM.ADD", "m", "a"), ("OM.LEN",), ("OM.RANGE", "m", "-")]:
-            self.assertIn("wrong number of arguments", str(self.said(*words)))
         self.assertEqual(self.said("OM.RANGE", "m", "-", "+", "WITHVALUES"), [b"a", b"1"])
+
+    def test_words(self) -> None:
+        """Each command wants its words and a key that has no other type. A key that isn't there is an empty map, which no read makes."""
+        client = self.server.client
+        client.set("text", "x")
+        for name, (words, arity, _) in COMMANDS.items():
+            wrong = [words[:-1]] + ([(*words, "more")] if arity > 0 else [])
+            for less_or_more in wrong:
+                self.assertIn("wrong number of arguments", str(self.said(name, *less_or_more)), name)
+            self.assertTrue(str(self.said(name, "text", *words[1:])).startswith("WRONGTYPE"), name)
+            self.assertNotIsInstance(self.said(name, *words), str, name)
+            self.assertEqual(client.delete("m"), int(name in ("OM.SET", "OM.ADD")), name)
+        self.assertEqual(client.get("text"), b"x")
+
+    def test_what_is_said_of_commands(self) -> None:
+        """The server knows of each how many words it has, where its key is, and what it does. Redis 7.0 has no categories of a module's commands."""
+        client = self.server.client
+        has_categories = not client.info("server")["redis_version"].startswith("7.0.")
+        for kind in ("read", "write", "fast", "slow"):
+            client.acl_setuser(kind, categories=["-@all", f"+@{kind}"], keys=["*"])
+        for name, (words, arity, flags) in COMMANDS.items():
+            said = client.execute_command("COMMAND", "INFO", name)[name.lower()]
+            self.assertEqual((said["arity"], said["first_key_pos"], said["last_key_pos"], said["step_count"]), (arity, 1, 1, 1), name)
+            self.assertEqual(set(said["flags"]), flags | {"module"}, name)
+            [[key, uses]] = client.execute_command("COMMAND GETKEYSANDFLAGS", name, *words)
+            self.assertEqual((key, b"RW" in uses), (b"m", "write" in flags), name)
+            for kind, is_in in [("write", "write" in flags), ("read", "readonly" in flags), ("fast", "fast" in flags), ("slow", "fast" not in flags)]:
+                allowed = self.server.run("ACL", "DRYRUN", kind, name, *words)
+                self.assertEqual(allowed == b"OK", is_in and has_categories, (name, kind, allowed))
+        client.acl_deluser("read", "write", "fast", "slow")
 
     def test_sizes(self) -> None:
         """A map gets an index with its 257th pair, or with a value too long for a block, and is small again with 128."""

@@ -2,6 +2,7 @@
 
 With ORDERED_MAP_LONG=1 in the environment each takes longer.
 """
+import contextlib
 import os
 import random
 import threading
@@ -51,6 +52,34 @@ class Files(unittest.TestCase):
                 server.start("--appendonly", "yes", "--aof-use-rdb-preamble", form)
                 self.assertEqual(digest(server), before, form)
                 server.client.config_set("appendonly", "no")
+
+    def test_replicated(self) -> None:
+        """A change is replicated as it was written, or by what it came to. One that changed nothing isn't."""
+        changes: "list[tuple[tuple[object, ...], str]]" = [
+            (("OM.SET", "m", "a", 1, "b", 2, "NX"), "OM.SET m a 1 b 2 NX"),
+            (("OM.SET", "m", "a", 5, "NX"), ""),
+            (("OM.ADD", "m", "c", 3), "OM.ADD m c 3"),
+            (("OM.ADD", "m", "c", "x"), ""),
+            (("OM.CAS", "m", "c", 3, 4), "OM.CAS m c 3 4"),
+            (("OM.CAS", "m", "c", 3, 5), ""),
+            (("OM.DEL", "m", "b", "x"), "OM.DEL m b x"),
+            (("OM.DEL", "m", "x"), ""),
+            (("OM.POPMIN", "m"), "om.popmin m 1"),
+            (("OM.POPMAX", "m", 0), ""),
+            (("OM.SET", "m", "d", 1, "e", 2, "f", 3), "OM.SET m d 1 e 2 f 3"),
+            (("OM.POPMAX", "m", 1), "om.popmax m 1"),
+            (("OM.DELRANGE", "m", "[d", "(f", "LIMIT", 1), "om.delrange m [d (f LIMIT 1"),
+            (("OM.DELRANGE", "m", "[x", "+"), ""),
+            (("OM.RANGE", "m", "-", "+"), ""),
+            (("OM.POPMIN", "m", 1_000), "om.popmin m 2"),
+        ]
+        with Server("--appendonly", "yes", "--appendfsync", "always") as server:
+            for words, _ in changes:
+                with contextlib.suppress(redis.ResponseError):
+                    server.run(*words)
+            [file] = server.folder.glob("appendonlydir/*.incr.aof")
+            said = [line for line in file.read_bytes().decode().split("\r\n") if line[:1] not in ("*", "$")]
+        self.assertEqual(" ".join(said).split(), " ".join(["SELECT 0", *(text for _, text in changes)]).split())
 
     def test_saved_beside_changes(self) -> None:
         """A background save has the pairs of one moment, while changes, a growth and a read by a job go on."""
