@@ -168,6 +168,7 @@ pub fn can_take_leaf(words: &[u64; NODE_FIELDS]) -> bool
 /// Changes `words`, those of a node with leaves alone and room for one more, to those of the node with the leaf of record `leaf`. A new
 /// fork at `position` stands over the affected slots `first` to `last`, of which no fork has that position. The leaf stands straight after
 /// them if `bit` is true, else straight before.
+#[inline(always)]
 pub fn add_leaf(
     words: &mut [u64; NODE_FIELDS],
     first: u8,
@@ -193,6 +194,7 @@ pub fn add_leaf(
 
 /// Changes the words of the head to those with a new fork at `position` over the slots from `first` to `last`. The leaf's slot follows from
 /// `bit`, as in `add_leaf`. The words of the entries stay. Mostly `position` is a column already, and the words of the positions stay too.
+#[inline(always)]
 fn add_fork(words: &mut [u64; NODE_FIELDS], first: u8, last: u8, position: u16, bit: bool)
     requires growing { (node : NodeView) × CanGrowAt words.old node position first last }
     requires below { position < 65535 }
@@ -205,8 +207,8 @@ fn add_fork(words: &mut [u64; NODE_FIELDS], first: u8, last: u8, position: u16, 
     let weight = 1 << (31 - count_below(positions, position));
     let rows = rows_in(&words[..HEAD_WORDS]);
     let rows = fork_rows(rows, first as usize, last as usize, weight, bit);
-    words[0] += 1;
     let kind = read_numbers(words[0]).kind;
+    words[0] += 1;
     put_rows(words, kind, rows);
 }
 

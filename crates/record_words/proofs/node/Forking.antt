@@ -58,15 +58,15 @@ module _ {words : List ℕ} {node : NodeView} {position first last : ℕ} (growi
   one_more : get_or words 0 0 + 1 ≡ numbers_of (length node.rows + 1)
   one_more = omega (arith, numbers_are)
 
-  next_told : Tells (length node.rows + 1) 1 node.columns (get_or words 0 0 + 1)
-  next_told = first_tells (length node.rows + 1) 1 node.columns (get_or words 0 0 + 1) (omega (arith, room)) (let few = growing.has.lawful.positions.few in omega (arith, few)) (omega arith) one_more
+  told : Tells (length node.rows) 1 node.columns (get_or words 0 0)
+  told = first_tells (length node.rows) 1 node.columns (get_or words 0 0) (omega (arith, room)) (let few = growing.has.lawful.positions.few in omega (arith, few)) (omega arith) numbers_are
 
   pub few_numbers : get_or words 0 0 + 1 < 2 ^ 64
   few_numbers = omega (arith, one_more, few_part node.columns, room, growing.has.lawful.positions.few)
 
-  -- with one entry more the word tells the same kind
-  pub kind_stays : kind_in (get_or words 0 0 + 1) ≡ kind_of node.columns
-  kind_stays = next_told.kind_told
+  -- the word tells the kind
+  pub kind_told : kind_in (get_or words 0 0) ≡ kind_of node.columns
+  kind_told = told.kind_told
 
   -- ---- the lanes with the positions
   module _ (lanes : List ℕ) (lanes_are : lanes ≡ node.columns ++ replicate (32 - length node.columns) 65535) where

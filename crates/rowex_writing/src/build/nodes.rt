@@ -21,13 +21,10 @@ ghost use Rattle.record_words.specs.declared.records.Rec.{Rec as Record};
 
 use crate::build::hints::claim_node_on_walk;
 use crate::build::kept::{Build, MOST_MADE};
-use crate::build::remaking::NewLeaf;
+use crate::build::remaking::{NewLeaf, add_leaf_to_words};
 use compound_node::{Cut, Entry, Half, Node};
 use insert_cases::Risen;
-use record_words::{
-    HEAD_WORDS, NODE_FIELDS, NUMBERS_INDEX, Tag, affected_slots, pack_node, pack_state,
-    read_numbers,
-};
+use record_words::{NODE_FIELDS, NUMBERS_INDEX, Tag, pack_node, pack_state, read_numbers};
 use rowex_core::{Gate, Rec};
 use rowex_records::{RecordKind, fill_node, find_free_record};
 use rowex_table::{HotTable, TableSeat};
@@ -106,9 +103,7 @@ pub(crate) fn make_node_with_leaf<G: Gate>(
         HasNodeWords after × IsBuilding table.now seat.new build.new.made.items (made_of_node number after ∷ news)) }
     ensures same { result ≡ None → (seat.new.known.own ≡ seat.old.known.own) × (build.new.made.items ≡ build.old.made.items) }
 {
-    let bit = new.key.bit(new.position);
-    let (first, last) = affected_slots(&words[..HEAD_WORDS], new.slot, new.position);
-    record_words::add_leaf(words, first, last, new.position, bit, new.number);
+    add_leaf_to_words(words, new);
     make_node_from_words(table, seat, gate, build, words)
 }
 

@@ -3,17 +3,20 @@
 ghost use Rattle.std.specs.Prelude.{◌≡◌, ◌↔◌, ◌<◌, ◌≤◌, IsTrue, length, false};
 ghost use Rattle.node_tries.specs.Changes.{AtRootFork};
 ghost use Rattle.node_tries.specs.Piece.{Place as At};
-ghost use Rattle.compound_node.specs.Nodes.{piece, height_of, IsBuiltFrom};
+ghost use Rattle.compound_node.specs.Nodes.{NodeView, piece, height_of, IsBuiltFrom};
+ghost use Rattle.record_words.specs.Node.{CanTakeLeaf, SpellBuilt};
 ghost use Rattle.tries.specs.Affected.{subtrie_forked};
 ghost use Rattle.tries.specs.Keys.{bit};
 ghost use Rattle.tries.specs.Place.{spot};
 ghost use Rattle.insert_cases.specs.Grown.{IsCutOf, keeps_side};
-ghost use Rattle.rowex_writing.specs.build.Remaking.{IsSubtrieOfTree, AreNoHigher, subtrie_with_fork, subtrie_with_leaf};
+ghost use Rattle.rowex_writing.specs.build.Remaking.{AwaitsLeaf, IsSubtrieOfTree, AreNoHigher, subtrie_with_fork, subtrie_with_leaf};
 
 use compound_node::{Cut, Entry, Node};
 use insert_cases::{grow_full, pull_up_full, put_fork};
 use key_bits::Key;
-use record_words::MAX_ENTRIES;
+use record_words::{
+    HEAD_WORDS, HeadKind, MAX_ENTRIES, NODE_FIELDS, NUMBERS_INDEX, affected_slots, read_numbers,
+};
 
 /// A new leaf for a node, in the leaf record `number`. It goes beside the entries that `position` affects, at which its key first differs
 /// from theirs. One of these is the entry in `slot`, to which the search for its key leads.
@@ -37,6 +40,31 @@ pub(crate) fn add_leaf(node: &mut Node, new: &NewLeaf<'_>)
     let bit = new.key.bit(new.position);
     let (first, last) = node.affected(new.slot, new.position);
     node.add_entry(first, last, new.position, bit, Entry::Leaf(new.number));
+}
+
+/// Changes `words`, those of a node with leaves alone and room for one more, to those of the node with the leaf `new`. The three arms are
+/// alike: each is compiled for its kind of head alone, and reads the columns and the rows once.
+#[inline(never)]
+pub(crate) fn add_leaf_to_words(words: &mut [u64; NODE_FIELDS], new: &NewLeaf<'_>)
+    requires takes { (node : NodeView) × AwaitsLeaf words.old node new.now × CanTakeLeaf node }
+    ensures { (node : NodeView) → AwaitsLeaf words.old node new.now → CanTakeLeaf node → SpellBuilt words.new (subtrie_with_leaf new.now (piece node)) }
+{
+    match read_numbers(words[NUMBERS_INDEX]).kind {
+        HeadKind::Narrow => add_leaf_beside(words, new),
+        HeadKind::Middle => add_leaf_beside(words, new),
+        HeadKind::Wide => add_leaf_beside(words, new),
+    }
+}
+
+/// Does what [`add_leaf_to_words`] does. Inline, so that it is compiled for each kind of head.
+#[inline(always)]
+fn add_leaf_beside(words: &mut [u64; NODE_FIELDS], new: &NewLeaf<'_>)
+    requires takes { (node : NodeView) × AwaitsLeaf words.old node new.now × CanTakeLeaf node }
+    ensures { (node : NodeView) → AwaitsLeaf words.old node new.now → CanTakeLeaf node → SpellBuilt words.new (subtrie_with_leaf new.now (piece node)) }
+{
+    let bit = new.key.bit(new.position);
+    let (first, last) = affected_slots(&words[..HEAD_WORDS], new.slot, new.position);
+    record_words::add_leaf(words, first, last, new.position, bit, new.number);
 }
 
 /// The two sides of the first fork that the full node `node` has with the leaf `new`. One side is `node` as it is, exactly if

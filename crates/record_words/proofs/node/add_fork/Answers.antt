@@ -1,8 +1,7 @@
 -- Where the position is a column, the rows alone change.
-use Rattle.record_words.proofs.Common.{◌≡◌, ◌≤◌, ◌∙◌, ap, arith, get_or-set_other, get_or-set_same, length, rules, sym, true, inl, NodeView, front_below-le, front_below, has}
-use Rattle.record_words.specs.Kinds.{kind_in}
+use Rattle.record_words.proofs.Common.{◌≡◌, ◌≤◌, ◌∙◌, arith, get_or-set_other, get_or-set_same, length, rules, sym, true, inl, NodeView, front_below-le, front_below, has}
 use Rattle.record_words.specs.Node.{CanGrowAt}
-use Rattle.record_words.proofs.node.Forking.{column_found, column_lacks, few_numbers, front_is, has_fork, in_range, kind_stays, ordered, room, some_before_rows}
+use Rattle.record_words.proofs.node.Forking.{column_found, column_lacks, few_numbers, front_is, has_fork, in_range, kind_told, ordered, room, some_before_rows}
 use Rattle.record_words.proofs.Nodes.{head_part}
 use Rattle.record_words.proofs.node.add_fork.Goals as goal
 use Rattle.record_words.proofs.node.add_fork.Goals.{After-count_below}
@@ -41,7 +40,7 @@ returns c = λ node g.
     let column : has node.columns c.args.position ≡ true =
     column_found g c.requires.below c.positions_in-positions.result (c.positions_in-positions.ensures node g.has.lawful (head_part node words g.spells)) (sym c.has_lane.ensures ∙ c.if-not-has_lane.false) in
     has_fork g c.requires.below c.args.bit column at c.rows_in-rows.result c.fork_rows-rows.result (few d) (place d node g)
-    (c.rows_in-rows.ensures node g.has.lawful (head_part node words g.spells)) c.fork_rows-rows.ensures numbers.kind (c.read_numbers-kind.ensures.parts.3 ∙ (ap kind_in (get_or-set_same words 0 _ 0 (omega (arith, long))) ∙ kind_stays g c.requires.below)) out whole
+    (c.rows_in-rows.ensures node g.has.lawful (head_part node words g.spells)) c.fork_rows-rows.ensures numbers.kind (c.read_numbers-kind.ensures.parts.3 ∙ kind_told g c.requires.below) out whole
     (c.put_rows.ensures.others 0 (inl (some_before_rows numbers.kind)) ∙ get_or-set_same words 0 _ 0 (omega (arith, long)))
     (λ k more outside. c.put_rows.ensures.others k outside ∙ get_or-set_other words 0 k _ 0 (λ e. omega (arith, e, more)))
     c.put_rows.ensures.rows
