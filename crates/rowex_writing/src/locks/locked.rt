@@ -168,6 +168,31 @@ pub(crate) fn load_sibling<G: Gate>(
     let node = table.locate(Rec::Node(number));
     let numbers = load_numbers(table, seat, gate, node);
     let loads = NodeLoads { node, numbers };
+    match numbers.kind {
+        HeadKind::Narrow => load_rows_beside(table, seat, gate, loads, slot),
+        HeadKind::Middle => load_rows_beside(table, seat, gate, loads, slot),
+        HeadKind::Wide => load_rows_beside(table, seat, gate, loads, slot),
+    }
+}
+
+/// Returns the slot beside `slot` of the locked node of `loads`, as [`load_sibling`] does. Inline, so that it is compiled for each kind of
+/// head.
+#[inline(always)]
+fn load_rows_beside<G: Gate>(
+    table: &HotTable,
+    seat: &mut TableSeat,
+    gate: &mut G,
+    loads: NodeLoads,
+    slot: u8,
+) -> Option<(u8, u8)>
+    requires own { IsSeatOf table.now seat.old }
+    requires node { IsNodeRecordAt table.now.layout loads.node }
+    requires place { slot < MAX_ENTRIES }
+    ensures reads { ReadsOn table.now G.becomes (seat.old, gate.old) (seat.new, gate.new) }
+    ensures beside { (node : NodeView) → HasLockedNode seat.old.known (record_number loads.node.rec) node → AreNumbersOf loads.numbers node →
+        slot < length node.entries → IsBesideIn node slot result }
+    ensures few { seat.new.known.steps ≤ seat.old.known.steps + 4 }
+{
     let before = load_row(table, seat, gate, loads, slot.saturating_sub(1));
     let own = load_row(table, seat, gate, loads, slot);
     let after = load_row(table, seat, gate, loads, slot + 1);

@@ -1,31 +1,41 @@
--- The rows round the place tell it.
-use Rattle.rowex_writing.proofs.Common.{◌∙◌, ap, get_or, subst, sym, record_number}
-use Rattle.rowex_writing.specs.locks.Going.{HasLocked}
+-- The numbers and the rows round the place tell it, in a head of each kind.
+use Rattle.rowex_writing.proofs.Common.{ap, subst, sym, NodeView, record_number}
+use Rattle.record_words.specs.HeadParts.{AreNumbersOf}
+use Rattle.rowex_writing.specs.locks.Going.{HasLocked, HasLockedNode}
 use Rattle.rowex_writing.proofs.locks.Going.{locked_on, reads_more}
+use Rattle.rowex_writing.proofs.locks.locked.load_sibling.Given as given
 use Rattle.rowex_writing.proofs.locks.locked.load_sibling.Goals as goal
+use Rattle.rowex_writing.proofs.locks.locked.load_sibling.Goals.{After-load_numbers-numbers}
 
-pub returns-clause-reads : goal.returns-clause-reads
-returns-clause-reads g c =
-    let more = reads_more c.args.table.now g.G.Gate.becomes (c.args.seat.now, c.args.gate.now) in
-    more (c.load_row-after.new.seat, c.load_row-after.new.gate) (c.load_row-second.new.seat, c.load_row-second.new.gate)
-    (more (c.load_row-own.new.seat, c.load_row-own.new.gate) (c.load_row-after.new.seat, c.load_row-after.new.gate)
-    (more (c.load_row-before.new.seat, c.load_row-before.new.gate) (c.load_row-own.new.seat, c.load_row-own.new.gate)
-    (more (c.load_numbers-numbers.new.seat, c.load_numbers-numbers.new.gate) (c.load_row-before.new.seat, c.load_row-before.new.gate) c.load_numbers-numbers.ensures.reads c.load_row-before.ensures.reads)
-    c.load_row-own.ensures.reads)
-    c.load_row-after.ensures.reads) c.load_row-second.ensures.reads
+module _ (g : given.Over) (c : After-load_numbers-numbers g) where
+  -- the node stays as it is, and the numbers are its own
+  told : (node : NodeView) → HasLockedNode c.args.seat.now.known c.args.number node →
+      HasLockedNode c.load_numbers-numbers.new.seat.known (record_number c.locate-node.result.rec) node × AreNumbersOf c.load_numbers-numbers.result node
+  told node (words, h, is) =
+      let n = record_number c.locate-node.result.rec in
+      let there = subst (λ q. HasLocked c.args.seat.now.known q words) (sym (ap record_number c.locate-node.ensures.rec)) h in
+      ((words, locked_on c.args.seat.now.known c.load_numbers-numbers.new.seat.known n words c.load_numbers-numbers.ensures.reads.goes.stays.1 there, is), c.load_numbers-numbers.ensures.numbers node (words, there, is))
 
-pub returns-clause-beside : goal.returns-clause-beside
-returns-clause-beside g c = λ node (words, h, is) inside.
-    let n = record_number c.locate-node.result.rec in
-    let there = subst (λ q. HasLocked c.args.seat.now.known q words) (sym (ap record_number c.locate-node.ensures.rec)) h in
-    let told = c.load_numbers-numbers.ensures.numbers node (words, there, is) in
-    let before = locked_on c.args.seat.now.known c.load_numbers-numbers.new.seat.known n words c.load_numbers-numbers.ensures.reads.goes.stays.1 there in
-    let own = locked_on c.load_numbers-numbers.new.seat.known c.load_row-before.new.seat.known n words c.load_row-before.ensures.reads.goes.stays.1 before in
-    let after = locked_on c.load_row-before.new.seat.known c.load_row-own.new.seat.known n words c.load_row-own.ensures.reads.goes.stays.1 own in
-    let second = locked_on c.load_row-own.new.seat.known c.load_row-after.new.seat.known n words c.load_row-after.ensures.reads.goes.stays.1 after in
-    c.find_sibling.ensures node is.has.lawful inside (record {
-      before_is = c.load_row-before.ensures.row node (words, before, is) told ∙ ap (λ k. get_or node.rows k 4294967295) c.saturating_sub.ensures;
-      own_is = c.load_row-own.ensures.row node (words, own, is) told;
-      after_is = c.load_row-after.ensures.row node (words, after, is) told;
-      second_is = c.load_row-second.ensures.row node (words, second, is) told;
-    })
+pub returns-in-Narrow-clause-reads : goal.returns-in-Narrow-clause-reads
+returns-in-Narrow-clause-reads g c =
+    reads_more c.args.table.now g.G.Gate.becomes (c.args.seat.now, c.args.gate.now) (c.load_numbers-numbers.new.seat, c.load_numbers-numbers.new.gate) (c.load_rows_beside.new.seat, c.load_rows_beside.new.gate) c.load_numbers-numbers.ensures.reads c.load_rows_beside.ensures.reads
+
+pub returns-in-Middle-clause-reads : goal.returns-in-Middle-clause-reads
+returns-in-Middle-clause-reads g c =
+    reads_more c.args.table.now g.G.Gate.becomes (c.args.seat.now, c.args.gate.now) (c.load_numbers-numbers.new.seat, c.load_numbers-numbers.new.gate) (c.load_rows_beside-in-Middle.new.seat, c.load_rows_beside-in-Middle.new.gate) c.load_numbers-numbers.ensures.reads c.load_rows_beside-in-Middle.ensures.reads
+
+pub returns-in-Wide-clause-reads : goal.returns-in-Wide-clause-reads
+returns-in-Wide-clause-reads g c =
+    reads_more c.args.table.now g.G.Gate.becomes (c.args.seat.now, c.args.gate.now) (c.load_numbers-numbers.new.seat, c.load_numbers-numbers.new.gate) (c.load_rows_beside-in-Wide.new.seat, c.load_rows_beside-in-Wide.new.gate) c.load_numbers-numbers.ensures.reads c.load_rows_beside-in-Wide.ensures.reads
+
+pub returns-in-Narrow-clause-beside : goal.returns-in-Narrow-clause-beside
+returns-in-Narrow-clause-beside g c = λ node is inside.
+    let (there, numbers) = told g (goal.at.returns-in-Narrow-clause-beside g c).After-load_numbers-numbers node is in c.load_rows_beside.ensures.beside node there numbers inside
+
+pub returns-in-Middle-clause-beside : goal.returns-in-Middle-clause-beside
+returns-in-Middle-clause-beside g c = λ node is inside.
+    let (there, numbers) = told g (goal.at.returns-in-Middle-clause-beside g c).After-load_numbers-numbers node is in c.load_rows_beside-in-Middle.ensures.beside node there numbers inside
+
+pub returns-in-Wide-clause-beside : goal.returns-in-Wide-clause-beside
+returns-in-Wide-clause-beside g c = λ node is inside.
+    let (there, numbers) = told g (goal.at.returns-in-Wide-clause-beside g c).After-load_numbers-numbers node is in c.load_rows_beside-in-Wide.ensures.beside node there numbers inside
