@@ -89,6 +89,42 @@ pub(crate) fn load_entries_ahead<G: Gate, S: Tallies>(
     ensures ahead { (m : ℕ) → HasPlaces scan.now.range.now.direction seat.old.known m top.now →
         HasSeenAhead scan.now.range.now.direction seat.new.known m top.now result }
 {
+    if scan.origins.layout.leaves < LEAST_LEAVES {
+        load_entries(scan, seat, gate, top, sink, starts, false)
+    } else {
+        load_entries(scan, seat, gate, top, sink, starts, true)
+    }
+}
+
+/// Does what [`load_entries_ahead`] does. The sink asks for the lines of leaves if `touches` says so: what is compiled for one value of it
+/// has a loop without that question.
+#[inline(always)]
+fn load_entries<G: Gate, S: Tallies>(
+    scan: &Scan,
+    seat: &mut TableSeat,
+    gate: &mut G,
+    top: &PathNode,
+    sink: &S,
+    starts: &mut [usize; MOST_AHEAD as usize],
+    touches: bool,
+) -> Ahead
+    requires reader { IsReader scan.now.table.now seat.old }
+    requires origins { scan.now.origins.now.layout ≡ scan.now.table.now.layout }
+    requires fits { top.now.slot ≤ top.now.count }
+    requires come { 0 < to_come_of scan.now.range.now.direction top.now.count top.now.slot }
+    requires limit { (S.tally sink.now).size ≤ scan.now.range.now.limit }
+    requires places { (m : ℕ) × HasPlaces scan.now.range.now.direction seat.old.known m top.now }
+    ensures reads { (n : ℕ) × (n ≤ entries_ahead result + result.count) ×
+        Reads scan.now.table.now G.becomes (entries_ahead result) n (seat.old, gate.old) (seat.new, gate.new) }
+    ensures some { 0 < entries_ahead result }
+    ensures come { entries_ahead result ≤ to_come_of scan.now.range.now.direction top.now.count top.now.slot }
+    ensures most { (result.count ≤ MOST_AHEAD) × (length result.leaves ≡ MOST_AHEAD) }
+    ensures wide { length starts.new ≡ MOST_AHEAD }
+    ensures starts { FirstLeavesBeginAt scan.now.table.now.layout result.count result.leaves starts.new }
+    ensures few { (S.tally sink.now).size + entries_ahead result ≤ scan.now.range.now.limit + 1 }
+    ensures ahead { (m : ℕ) → HasPlaces scan.now.range.now.direction seat.old.known m top.now →
+        HasSeenAhead scan.now.range.now.direction seat.new.known m top.now result }
+{
     let count = entries_to_come(scan.range.direction, top).min(most_slots(
         scan.range.limit,
         sink.size(),
@@ -110,7 +146,7 @@ pub(crate) fn load_entries_ahead<G: Gate, S: Tallies>(
             }
             Entry::Leaf(number) => {
                 let leaf = RecordAt::find(scan.origins, Rec::Leaf(number));
-                sink.touch_leaf(scan, seat, leaf);
+                sink.touch_leaf(scan, seat, leaf, touches);
                 starts[index as usize] = leaf.start;
                 leaves[index as usize] = number;
             }
@@ -123,16 +159,15 @@ pub(crate) fn load_entries_ahead<G: Gate, S: Tallies>(
     }
 }
 
-/// Asks for the first cache lines of `leaf`, which is read soon, so that those of several leaves come side by side. In an index of few
-/// leaves it asks for none, since they are there mostly.
+/// Asks for the first cache lines of `leaf`, which is read soon, if `touches` says so. So those of several leaves come side by side.
 #[inline(always)]
-pub(crate) fn touch_leaf(scan: &Scan, seat: &mut TableSeat, leaf: RecordAt)
+pub(crate) fn touch_leaf(scan: &Scan, seat: &mut TableSeat, leaf: RecordAt, touches: bool)
     requires own { IsSeatOf scan.now.table.now seat.old }
     requires origins { scan.now.origins.now.layout ≡ scan.now.table.now.layout }
     requires leaf { IsLeafRecordAt scan.now.table.now.layout leaf }
     ensures { HasTouched 2 seat.old seat.new }
 {
-    if scan.origins.layout.leaves < LEAST_LEAVES {
+    if !touches {
         return;
     }
     let last = scan.origins.layout.leaf_size(leaf.number()) - 1;

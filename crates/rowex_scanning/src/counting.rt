@@ -43,7 +43,7 @@ impl Tallies for Number {
     ghost may_refuse = { ⊥ };
 
     #[inline(always)]
-    fn touch_leaf(&self, _scan: &Scan, _seat: &mut TableSeat, _leaf: RecordAt) {}
+    fn touch_leaf(&self, _scan: &Scan, _seat: &mut TableSeat, _leaf: RecordAt, _touches: bool) {}
 
     #[inline(always)]
     fn size(&self) -> usize {

@@ -35,15 +35,16 @@ pub(crate) trait Tallies {
     /// Whether memory may be refused for a pair.
     ghost may_refuse: { Type 0 };
 
-    /// Asks for the cache lines of `leaf`, which comes next on the walk. A sink that doesn't read each leaf asks for none.
+    /// Asks for the cache lines of `leaf`, which comes next on the walk, if `touches` says so. A sink that doesn't read each leaf asks for
+    /// none.
     #[inline(always)]
-    fn touch_leaf(&self, scan: &Scan, seat: &mut TableSeat, leaf: RecordAt)
+    fn touch_leaf(&self, scan: &Scan, seat: &mut TableSeat, leaf: RecordAt, touches: bool)
         requires own { IsSeatOf scan.now.table.now seat.old }
         requires origins { scan.now.origins.now.layout ≡ scan.now.table.now.layout }
         requires leaf { IsLeafRecordAt scan.now.table.now.layout leaf }
         ensures { HasTouched 2 seat.old seat.new }
     {
-        touch_leaf(scan, seat, leaf);
+        touch_leaf(scan, seat, leaf, touches);
     }
 
     /// How many pairs were taken.

@@ -20,8 +20,8 @@ touch-requires-2-clause-range g =
     word_there g.args.scan.now.table.now.layout g.args.scan.now.origins.now.layout g.requires.origins g.number.result _ g.args.leaf (g.requires.leaf.0 ∙ ap a_leaf (sym g.number.ensures)) (omega (arith, e.size, e.few, g.min.ensures))
 
 -- None is touched, or both are.
-pub returns-then-scan-lt-LEAST_LEAVES : goal.returns-then-scan-lt-LEAST_LEAVES
-returns-then-scan-lt-LEAST_LEAVES g = (0, omega arith, touched_none _)
+pub returns-then-not-touches : goal.returns-then-not-touches
+returns-then-not-touches g = (0, omega arith, touched_none _)
 
 pub returns : goal.returns
 returns g = (2, omega arith, touched_on 1 1 _ _ _ g.touch.ensures g.touch-2.ensures)

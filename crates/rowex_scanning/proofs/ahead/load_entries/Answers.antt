@@ -4,9 +4,9 @@ use Rattle.rowex_reading.proofs.Seen.Naming.{entry_told, node_place}
 use Rattle.rowex_scanning.specs.Ahead.{AreSlots, HasPlaces}
 use Rattle.rowex_scanning.proofs.ahead.Begins.{begins_there, leaf_begins, leaf_there, node_begins, node_there}
 use Rattle.rowex_scanning.proofs.taking.Passing.{ahead_later, ahead_more, loaded_at, places_later, starts_more}
-use Rattle.rowex_scanning.proofs.ahead.load_entries_ahead.Given as given
-use Rattle.rowex_scanning.proofs.ahead.load_entries_ahead.Goals as goal
-use Rattle.rowex_scanning.proofs.ahead.load_entries_ahead.Goals.{After-next_slot-slot, In-Leaf}
+use Rattle.rowex_scanning.proofs.ahead.load_entries.Given as given
+use Rattle.rowex_scanning.proofs.ahead.load_entries.Goals as goal
+use Rattle.rowex_scanning.proofs.ahead.load_entries.Goals.{After-next_slot-slot, In-Leaf}
 
 -- The slot is that of the next entry, and the slots go on behind it.
 slot_told : (g : given.Over) (c : After-next_slot-slot g) → (c.next_slot-slot.result ≡ place_ahead c.args.scan.now.range.now.direction c.args.top.now.slot c.loop-index.index) ×

@@ -2,7 +2,7 @@
 use Rattle.rowex_scanning.proofs.Common.{◌≡◌, ℕ, ◌≤◌, length, IsReader, Reads}
 use Rattle.rowex_scanning.specs.Ahead.{AreAhead, AreSlots, FirstLeavesBeginAt, HasPlaces}
 use Rattle.rowex_scanning.specs.declared.ahead.TheConstants.{MOST_AHEAD}
-use Rattle.rowex_scanning.proofs.ahead.load_entries_ahead.Given as goal
+use Rattle.rowex_scanning.proofs.ahead.load_entries.Given as goal
 
 abbrev pub invariant-loop-index : goal.invariant-loop-index
 invariant-loop-index g l = record {
