@@ -281,9 +281,10 @@ static void check_part(hot_handle *handle, const part *of, size_t limit) {
 }
 
 /* Each range of these keys, whose end comes inside a group of leaves that the walk reads together, at its end or behind it; with ends that are
- * keys, and with ends that lie between two; with a limit of one less than it has, as many, and one more; and its number. */
-static void test_groups(void) {
-    static const uint32_t each[5] = {SIDE_BY_SIDE, SIDE_BY_SIDE, SIDE_BY_SIDE, SIDE_BY_SIDE, SIDE_BY_SIDE};
+ * keys, and with ends that lie between two; with a limit of one less than it has, as many, and one more; and its number. The table has so
+ * many leaves of each class: the walk touches what comes next where all are many. */
+static void test_groups(uint32_t leaves) {
+    const uint32_t each[5] = {leaves, leaves, leaves, leaves, leaves};
     hot_handle handle = HOT_HANDLE;
     hot_stock stock;
     part of;
@@ -464,7 +465,8 @@ int main(void) {
     test_scan();
     test_packed();
     test_large_scan();
-    test_groups();
+    test_groups(SIDE_BY_SIDE);
+    test_groups(8000);
     test_each();
     test_scan_reverse();
     test_scan_last();
