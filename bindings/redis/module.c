@@ -12,6 +12,7 @@
 #include "server.h"
 #include "type.h"
 #include <limits.h>
+#include <sys/prctl.h>
 
 enum { MODULE_VERSION = 1, INTERFACE_VERSION = 1, MOST_THREADS = 64 };
 
@@ -47,6 +48,12 @@ static void write_info(RedisModuleInfoCtx *ctx, int for_crash_report) {
     RedisModule_InfoAddFieldULongLong(ctx, "most_pairs_at_once", most_at_once);
 }
 
+/* An insertion that puts 2 MiB into a huge page would keep the main thread for milliseconds, as would the first change of one beside a
+ * child. So the server does this itself where all memory has such pages. */
+static void give_up_huge_pages(void) {
+    prctl(PR_SET_THP_DISABLE, 1, 0, 0, 0);
+}
+
 static int refuse(RedisModuleCtx *ctx, const char *why) {
     RedisModule_Log(ctx, "warning", "ordered_map is not loaded: %s", why);
     return REDISMODULE_ERR;
@@ -75,6 +82,7 @@ int RedisModule_OnLoad(RedisModuleCtx *ctx, RedisModuleString **argv, int argc) 
     if (configure(ctx) != REDISMODULE_OK || type_make(ctx) != REDISMODULE_OK || commands_make(ctx) != REDISMODULE_OK ||
         RedisModule_RegisterInfoFunc(ctx, write_info) != REDISMODULE_OK)
         return refuse(ctx, "the server refused a part of it");
+    give_up_huge_pages();
     jobs_start();
     return REDISMODULE_OK;
 }
