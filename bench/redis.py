@@ -16,18 +16,15 @@ import tempfile
 import time
 from pathlib import Path
 
+sys.path.insert(0, str(Path(__file__).resolve().parent.parent / "bindings/redis/tests"))
+from plain import Plain, packed
+
 FIELDS = "fields of 15 bytes"
 KINDS = {"map": "map", "HASH": "hash", "ZSET": "zset"}
 SET = {"map": b"OM.SET", "HASH": b"HSET", "ZSET": b"ZADD"}
 GET = {"map": b"OM.GET", "HASH": b"HGET", "ZSET": b"ZSCORE"}
 WHOLE = {"map": [b"OM.RANGE", b"map", b"-", b"+", b"WITHVALUES"], "ZSET": [b"ZRANGEBYLEX", b"zset", b"-", b"+"]}
-UNDER_WAY = 64
 ROUNDS = 5
-
-
-def packed(*words: bytes) -> bytes:
-    """A command as it is sent."""
-    return b"".join([b"*%d\r\n" % len(words), *(b"$%d\r\n%s\r\n" % (len(word), word) for word in words)])
 
 
 def field_of(at: int) -> bytes:
@@ -53,7 +50,7 @@ class Server:
         words = ["redis-server", "--port", str(self.port), "--bind", "127.0.0.1", "--dir", self.folder.name, "--save", ""]
         words += ["--enable-debug-command", "local", "--logfile", "log", "--loadmodule", module]
         self.process = subprocess.Popen(words)
-        self.client = Client(self.port)
+        self.client = Plain(self.port)
 
     def __enter__(self) -> "Server":
         return self
@@ -89,48 +86,6 @@ class Server:
     def saved(self) -> int:
         self.client.run(b"SAVE")
         return os.path.getsize(Path(self.folder.name) / "dump.rdb")
-
-
-class Client:
-    """Sends commands, and reads replies without a look at what they are: behind them it asks for a word, and waits until that comes back."""
-
-    MARK = b"$11\r\nthat is all\r\n"
-
-    def __init__(self, port: int):
-        end = time.monotonic() + 20
-        while True:
-            try:
-                self.socket = socket.create_connection(("127.0.0.1", port))
-                break
-            except OSError:
-                if time.monotonic() > end:
-                    raise
-                time.sleep(0.05)
-        self.socket.setsockopt(socket.IPPROTO_TCP, socket.TCP_NODELAY, 1)
-
-    def send(self, words: bytes) -> bytes:
-        """What is sent back, or the last part of it."""
-        self.socket.sendall(words + packed(b"ECHO", b"that is all"))
-        said = b""
-        while not said.endswith(self.MARK):
-            more = self.socket.recv(1 << 20)
-            if not more:
-                raise OSError("the server has ended")
-            said = (said + more)[-(1 << 16) :] if len(said) > 1 << 20 else said + more
-        if said.startswith(b"-"):
-            raise ValueError(said[:200])
-        return said
-
-    def run(self, *words: bytes) -> bytes:
-        return self.send(packed(*words))
-
-    def run_all(self, commands: "list[bytes]") -> None:
-        for at in range(0, len(commands), UNDER_WAY):
-            self.send(b"".join(commands[at : at + UNDER_WAY]))
-
-    def run_one(self, command: bytes) -> None:
-        self.socket.sendall(command)
-        self.socket.recv(1 << 16)
 
 
 def tell(what: str, count: int, figure: float) -> None:
@@ -226,7 +181,7 @@ def measure_waits(server: Server, count: int, seconds: float) -> None:
 
 
 def scan(port: int) -> None:
-    client = Client(port)
+    client = Plain(port)
     while True:
         client.run(*WHOLE["map"])
 
