@@ -76,9 +76,9 @@ pub(crate) struct Builder {
     tips: Vec<Tip>,
     pieces: Vec<StackedPiece>,
     /// How many node records are taken: those with the lowest numbers.
-    nodes: u32,
+    pub(crate) nodes: u32,
     /// The number of the first leaf record of each class that is not taken, or of where that would be.
-    leaves: [u32; LEAF_CLASSES],
+    pub(crate) leaves: [u32; LEAF_CLASSES],
 }
 
 impl Builder {

@@ -2,7 +2,7 @@
 
 use crate::builder::{Builder, LoadFault};
 use key_bits::Key;
-use record_words::Layout;
+use record_words::{LEAF_CLASSES, Layout};
 use std::alloc::{AllocError, Global};
 use std::marker::Model;
 
@@ -50,6 +50,16 @@ impl Loader {
         ensures { result ≡ self.now.layout }
     {
         self.builder.layout
+    }
+
+    /// The number of the first node record that is not taken so far.
+    pub fn first_free_node(&self) -> u32 {
+        self.builder.nodes
+    }
+
+    /// The number of the first leaf record of each class that is not taken, or of where that would be.
+    pub fn first_free_leaves(&self) -> [u32; LEAF_CLASSES] {
+        self.builder.leaves
     }
 
     /// Takes `key` with `value`, as the last pair. The key must be above the last one: `NotRising` says that it isn't. `LeavesFull` comes

@@ -46,7 +46,7 @@ impl ClosedPass {
         ensures opened { IfOk result (λ pass. pass ≡ self) }
         ensures kept { IfErr result (λ refused. refused.value ≡ self) }
     {
-        match new_scratch(alloc, index.table.layout(), self.seat.number()) {
+        match new_scratch(alloc, index.table.layout(), self.seat.number(), index.free) {
             Ok(scratch) => Ok(Pass {
                 seat: self.seat,
                 scratch,

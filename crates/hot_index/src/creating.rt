@@ -11,6 +11,7 @@ ghost use Rattle.hot_index.specs.Passes.{AreSettled};
 use crate::closed::ClosedPass;
 use crate::index::{Index, Pass};
 use crate::key_counts::KeyCount;
+use hot_index_calls::FirstFree;
 use record_words::{Layout, LayoutFault, Stock};
 use rowex_table::{HotTable, TableSeat};
 use std::alloc::{AllocError, Global};
@@ -172,7 +173,8 @@ fn make_index(alloc: Global, layout: Layout) -> Result<(Index, Vec<ClosedPass>),
     let (table, seats) = HotTable::new(alloc, layout)?;
     let count = KeyCount::new();
     let passes = make_closed_passes(alloc, seats, count)?;
-    Ok((Index { table }, passes))
+    let free = FirstFree::of(layout);
+    Ok((Index { table, free }, passes))
 }
 
 /// The closed passes of `seats`, in their order; an error if memory is refused. The first has the count `first`, and each other one that of

@@ -20,8 +20,8 @@ use crate::key_counts::KeyCount;
 use epochs::{Given, collect_round, pin};
 use finite_map::{Call, Reply};
 use hot_index_calls::{
-    RecordCounts, Refusal, Scratch, count_records, end_get, end_gets, retry_change, try_and_count,
-    try_change,
+    FirstFree, RecordCounts, Refusal, Scratch, count_records, end_get, end_gets, retry_change,
+    try_and_count, try_change,
 };
 use key_bits::Key;
 use rowex_core::{Gate, NoGate};
@@ -35,6 +35,7 @@ use std::sync::Wait;
 #[derive(Drop)]
 pub struct Index {
     pub(crate) table: HotTable,
+    pub(crate) free: FirstFree,
 }
 
 impl Model for Index {

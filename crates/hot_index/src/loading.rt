@@ -16,6 +16,7 @@ use crate::index::Index;
 use crate::key_counts::KeyCount;
 use bulk_load::{LoadFault, Loader};
 use finite_map::Reply;
+use hot_index_calls::FirstFree;
 use key_bits::Key;
 use record_words::{Layout, LayoutFault, Stock, count_leaf_words};
 use rowex_table::HotTable;
@@ -117,9 +118,13 @@ impl Load {
             loader,
             count,
         } = self;
+        let free = FirstFree {
+            node: loader.first_free_node(),
+            leaves: loader.first_free_leaves(),
+        };
         let words = loader.finish();
         let (table, seats) = HotTable::new_loaded(alloc, layout, words)?;
         let passes = make_closed_passes(alloc, seats, count)?;
-        Ok((Index { table }, passes))
+        Ok((Index { table, free }, passes))
     }
 }

@@ -28,4 +28,4 @@ pub use census::{RecordCounts, StateCounts, count_records};
 pub use changing::{retry_change, try_and_count, try_change};
 pub use gets::{end_get, end_gets};
 pub use refusals::Refusal;
-pub use scratch::{Scratch, new_scratch};
+pub use scratch::{FirstFree, Scratch, new_scratch};

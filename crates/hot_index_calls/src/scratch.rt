@@ -17,6 +17,32 @@ use std::alloc::{AllocError, Global};
 /// The records that a pass claims first of a kind or class have so many words at most: 128 KiB.
 const FIRST_WORDS: u32 = 16_384;
 
+/// The first records of a new table that no load has taken, of the nodes and of each class of leaves. These are plain numbers, which promise
+/// nothing.
+#[derive(Clone, Copy)]
+pub struct FirstFree {
+    /// The number of a node record.
+    pub node: u32,
+    /// The number of a leaf record of each class, the smallest first.
+    pub leaves: [u32; LEAF_CLASSES],
+}
+
+impl FirstFree {
+    /// The first records of a table of `layout` that has no keys.
+    pub fn of(layout: Layout) -> FirstFree {
+        FirstFree {
+            node: 0,
+            leaves: [
+                0,
+                layout.medium_from,
+                layout.large_from,
+                layout.wide_from,
+                layout.long_from,
+            ],
+        }
+    }
+}
+
 /// What a pass claims of the records of one kind or class. These are plain numbers, which promise nothing.
 ///
 /// A pass has a part of its own, so that two that claim many records don't try for the same ones. But it begins with a small part. Those of
@@ -25,6 +51,9 @@ const FIRST_WORDS: u32 = 16_384;
 struct Share {
     /// How many records there are.
     records: u32,
+    /// How many of them, the first ones, a load has taken. Claims begin behind these, and count them as claimed: where enough of them was
+    /// given back, the pass claims there again.
+    loaded: u32,
     /// The number of the first record of the small part.
     first: u32,
     /// The number behind its last one; the greatest one, once the pass has left it.
@@ -34,14 +63,16 @@ struct Share {
 }
 
 impl Share {
-    /// The parts of `records` records in which pass `number` of `passes` claims. A small part has at most `most`.
-    fn of(number: u16, passes: u32, records: u32, most: u32) -> Share {
+    /// The parts of `records` records in which pass `number` of `passes` claims, where the first `loaded` have a loaded key each. A small part
+    /// has at most `most`.
+    fn of(number: u16, passes: u32, records: u32, loaded: u32, most: u32) -> Share {
         let number = u32::from(number);
         let share = records.checked_div(passes).unwrap_or(0);
         let small = share.min(most);
         let first = number.saturating_mul(small);
         Share {
             records,
+            loaded,
             first,
             end: first.saturating_add(if share > most { small } else { u32::MAX }),
             own: (passes.saturating_mul(small)).saturating_add(number.saturating_mul(
@@ -51,8 +82,12 @@ impl Share {
     }
 
     /// A hint whose claims begin with the small part; an error if memory is refused.
-    fn begin_claims(&self, alloc: Global) -> Result<Hint, AllocError> {
-        Hint::begin_at(alloc, self.first, self.records)
+    fn begin_claims(&self, alloc: Global) -> Result<Hint, AllocError>
+        ensures { IfOk result (λ hint. hint.spare.items ≡ []) }
+    {
+        let mut hint = Hint::begin_at(alloc, self.first, self.records)?;
+        hint.stretch = Stretch::between(self.first, self.loaded);
+        Ok(hint)
     }
 
     /// Lets the claims of `hint` go on in the pass's own part, if they have come by the small one. Returns what is to stand here then.
@@ -60,7 +95,7 @@ impl Share {
         if hint.stretch.start() < self.end {
             return self;
         }
-        hint.stretch = Stretch::begin_at(self.own);
+        hint.stretch = Stretch::between(self.own, self.loaded);
         Share {
             end: u32::MAX,
             ..self
@@ -157,18 +192,28 @@ fn first_leaf_of_class(layout: Layout, number: u32) -> u32 {
     }
 }
 
-/// The parts of each class of leaf records in which pass `number` claims, in a table with this layout.
-fn share_leaves(layout: Layout, number: u16) -> [Share; LEAF_CLASSES] {
-    let share = |from: u32, upto: u32, words: u32| {
+/// The parts of each class of leaf records in which pass `number` claims, in a table with this layout where the records from `free` on
+/// weren't loaded.
+fn share_leaves(layout: Layout, number: u16, free: FirstFree) -> [Share; LEAF_CLASSES] {
+    let share = |place: usize, from: u32, upto: u32, words: u32| {
+        let (records, loaded) = (
+            upto.saturating_sub(from),
+            free.leaves[place].saturating_sub(from),
+        );
         let most = FIRST_WORDS.checked_div(words).unwrap_or(0);
-        Share::of(number, layout.passes, upto.saturating_sub(from), most)
+        Share::of(number, layout.passes, records, loaded, most)
     };
     [
-        share(0, layout.medium_from, SHORT_WORDS as u32),
-        share(layout.medium_from, layout.large_from, MEDIUM_WORDS as u32),
-        share(layout.large_from, layout.wide_from, LARGE_WORDS as u32),
-        share(layout.wide_from, layout.long_from, WIDE_WORDS as u32),
-        share(layout.long_from, layout.leaves, LEAF_WORDS as u32),
+        share(0, 0, layout.medium_from, SHORT_WORDS as u32),
+        share(
+            1,
+            layout.medium_from,
+            layout.large_from,
+            MEDIUM_WORDS as u32,
+        ),
+        share(2, layout.large_from, layout.wide_from, LARGE_WORDS as u32),
+        share(3, layout.wide_from, layout.long_from, WIDE_WORDS as u32),
+        share(4, layout.long_from, layout.leaves, LEAF_WORDS as u32),
     ]
 }
 
@@ -196,17 +241,24 @@ fn new_build(
     })
 }
 
-/// Empty scratch lists for pass `number` of a table with this layout; an error if memory is refused.
-pub fn new_scratch(alloc: Global, layout: Layout, number: u16) -> Result<Box<Scratch>, AllocError>
+/// Empty scratch lists for pass `number` of a table with this layout where the records from `free` on weren't loaded; an error if memory is
+/// refused.
+pub fn new_scratch(
+    alloc: Global,
+    layout: Layout,
+    number: u16,
+    free: FirstFree,
+) -> Result<Box<Scratch>, AllocError>
     ensures { IfOk result (λ scratch. (scratch.value.way.items ≡ []) × (scratch.value.build.made.items ≡ []) × (scratch.value.build.gone.items ≡ [])) }
 {
     let nodes = Share::of(
         number,
         layout.passes,
         layout.nodes,
+        free.node,
         FIRST_WORDS / NODE_WORDS as u32,
     );
-    let leaves = share_leaves(layout, number);
+    let leaves = share_leaves(layout, number, free);
     let scratch = Scratch {
         way: BoundedVec::new(alloc)?,
         build: new_build(alloc, layout, nodes, leaves)?,

@@ -100,6 +100,18 @@ impl Stretch {
         }
     }
 
+    /// A stretch from the number `first` on, up to `end` if that is behind it, of which nothing was given back.
+    pub fn between(first: u32, end: u32) -> Stretch
+        ensures { (result.first ≡ first) × (result.again ≡ first) × (result.given ≡ 0) }
+    {
+        Stretch {
+            first,
+            end: first.max(end),
+            again: first,
+            given: 0,
+        }
+    }
+
     /// The number with which the next claim begins: one of the stretch, if enough of it was given back, else the one behind it.
     pub fn start(&self) -> u32
         ensures { (result ≡ self.now.again) ⊎ (result ≡ self.now.end) }
