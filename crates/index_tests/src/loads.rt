@@ -165,6 +165,28 @@ fn a_loaded_index_is_as_after_insertions(rt: HostRuntime) {
     expect_same_pairs(&rt, rt.alloc(), &mut first, &map);
 }
 
+/// Inserts `key`, which is new. Returns how many steps that took.
+fn count_insertion(rt: &impl Abort, guest: &mut Guest, key: &Key) -> u64 {
+    let mut counter = Counter { steps: 0 };
+    let (index, pass) = (guest.index, &mut guest.pass);
+    let told = index.try_insert_with(pass, key, 1, &mut counter);
+    assert!(rt; matches!(told, Ok(Reply::Inserted)));
+    counter.steps
+}
+
+/// The first insertion of a pass into a loaded index goes past no record that has a loaded key.
+#[test]
+fn insertions_go_past_no_loaded_record(rt: HostRuntime) {
+    let map = make_map(&rt, rt.alloc());
+    let mut load = begin_load(&rt, rt.alloc(), 2, STOCK);
+    push_map(&rt, rt.alloc(), &mut load, &map);
+    let (index, mut passes) = finish_load(&rt, rt.alloc(), load);
+    let mut second = open_last_handle(&rt, rt.alloc(), &index, &mut passes);
+    let mut first = open_last_handle(&rt, rt.alloc(), &index, &mut passes);
+    assert!(rt; count_insertion(&rt, &mut second, &key(&rt, &[255; 8])) < 300);
+    assert!(rt; count_insertion(&rt, &mut first, &key(&rt, &[255; 7])) < 300);
+}
+
 /// Makes the index of `load`, of one pass. Asserts that it has just the pairs of `map`, also once one key more is inserted and removed, if
 /// there is room for it.
 fn expect_pairs_of_map(rt: &(impl Abort + Wait), alloc: Global, load: Load, map: &PlainIndex) {

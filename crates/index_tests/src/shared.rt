@@ -3,9 +3,25 @@
 ghost use Rattle.std.specs.Prelude.{All};
 ghost use Rattle.hot_index_calls.specs.Passes.{Owns};
 
-use hot_index::{ClosedHandle, ClosedPass, Handle, Index, IndexFault, Key, Pass, create};
+use hot_index::{
+    ClosedHandle, ClosedPass, Event, Gate, Handle, Index, IndexFault, Key, Pass, create,
+};
 use std::alloc::Global;
 use std::process::Abort;
+
+/// A gate that counts steps.
+#[derive(Drop)]
+pub struct Counter {
+    pub steps: u64,
+}
+
+impl Gate for Counter {
+    ghost becomes = { λ _ _ _. Unit {0} };
+
+    fn at(&mut self, _event: &Event) {
+        self.steps = self.steps.wrapping_add(1);
+    }
+}
 
 /// The key with the bytes `bytes`; panics if they are more than 240.
 pub fn key(rt: &impl Abort, bytes: &[u8]) -> Key {

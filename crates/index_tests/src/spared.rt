@@ -15,20 +15,6 @@ const LEAVES: u32 = 3;
 /// A handle: a pass with a reference to its index.
 type Guest<'a> = Handle<&'a Index>;
 
-/// A gate that counts steps.
-#[derive(Drop)]
-struct Counter {
-    steps: u64,
-}
-
-impl Gate for Counter {
-    ghost becomes = { λ _ _ _. Unit {0} };
-
-    fn at(&mut self, _event: &Event) {
-        self.steps = self.steps.wrapping_add(1);
-    }
-}
-
 /// A gate that lets another pass make three tries to insert `key` once its own pass is pinned, and then remove `held`.
 #[derive(Drop)]
 struct Stopper<'a> {
