@@ -119,16 +119,13 @@ class Stalls(unittest.TestCase):
         self.watch("100 removals a command", fields("OM.DEL", 100), 4)
 
     def test_large_maps(self) -> None:
-        """A work that took longer is done again: something else may have been at the processor's caches. A growth of a large map is told alone:
-        once for each table an insertion goes past all records that were loaded, before it finds one free."""
+        """A work that took longer is done again: something else may have been at the processor's caches."""
         for _ in range(3):
             self.work()
-            growth = self.least["growth"][0]
-            work, (used, _) = max(self.least.items(), key=lambda it: it[1] if it[0] != "growth" or not IS_LONG else (0, 0))
+            work, (used, _) = max(self.least.items(), key=lambda it: it[1])
             if used <= MOST:
                 break
         self.assertLessEqual(used, MOST, self.least)
-        print(f"\ngrowth: {growth * 1000:.0f} us of a processor at most in one go", end=" ")
         print(f"\nlongest stay of the main thread: {used * 1000:.0f} us of a processor ({work})", end=" ")
 
 
