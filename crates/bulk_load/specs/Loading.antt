@@ -38,7 +38,7 @@ greatest_key (leaf number key value) = key
 greatest_key (node number fixed body) = greatest_key body
 greatest_key (fork position left right) = greatest_key right
 
--- The builder's words and tips show the tree, which is a lawful one. Its nodes are those that were taken.
+-- The builder's words and tips show the tree, which is a lawful one. Its nodes are among those that were taken.
 pub record IsTreeOf (builder : Builder) (tree : Tree) : Type 0 where
   pub table : HoldsTree builder.layout builder.words.items (Some tree)
   pub ordered : IsLocal tree

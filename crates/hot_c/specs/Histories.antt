@@ -83,8 +83,9 @@ pub record HasSeenAnother (old new leader led : Opened) : Type 0 where
   pub steps : SeesSteps (Some old) (Some new) (Some leader) (Some led)
 
 -- The handle with pass q of the index has come to this, and its calls have told so much since its pass was new: of each call that asked the
--- map, what it asked, with the reply that its status and value tell; nothing of one that was refused. A look-up is never refused as busy
--- (`hot_get`).
+-- map, what it asked, with the reply that its status and value tell; nothing of one that was refused. It was opened with a new pass, or with
+-- the loader's, which has inserted each pair. It asked for one key, in a look-up never refused as busy (`hot_get`), or looked up many. Calls
+-- that ask the map nothing went on. It saw what another handle had seen, or another saw what it had seen.
 pub data HaveTold (index : TableView) : ℕ → List (List (Call × Reply)) → HandleView → Type 0 where
   opened : {q : ℕ} {h : HandleView} → IsNewPass q h.pass → IsAt index h → HaveTold index q [] h
   loaded : {q : ℕ} {h : HandleView} → q ≡ 0 → (pairs : List (Key × ℕ)) → IsLoaderPass index pairs h.pass → IsAt index h → HaveTold index q (loaded_each pairs ∷ []) h

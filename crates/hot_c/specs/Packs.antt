@@ -41,14 +41,14 @@ pub record IsListedByParts (IsMade : Answer) (layout : Layout) (old new : PassVi
   pub parts : (n : ℕ) → n < length pairs → IsMade layout old new (limited range n) (take n pairs) true
 
 -- a packed scan of as many pairs as there is room for heads
-abbrev pub ListsPackedBy : Answer → List ℕ → List ℕ → Option Opened → Option Opened → Packing → Packing → ℕ → Type 0
+abbrev pub ListsPackedBy : Answer → (from upto : List ℕ) → (old new : Option Opened) → (before after : Packing) → (status : ℕ) → Type 0
 ListsPackedBy IsMade from upto old new before after status =
     ListsInto IsPackListed (IsListedByParts IsMade) (range_from from upto (length before.heads)) old new before after status
 
 -- a packed scan upwards, from the first key of the range on
-abbrev pub ListsPacked : List ℕ → List ℕ → Option Opened → Option Opened → Packing → Packing → ℕ → Type 0
+abbrev pub ListsPacked : (from upto : List ℕ) → (old new : Option Opened) → (before after : Packing) → (status : ℕ) → Type 0
 ListsPacked = ListsPackedBy IsListed
 
 -- a packed scan downwards, from the last key of the range on
-abbrev pub ListsPackedReverse : List ℕ → List ℕ → Option Opened → Option Opened → Packing → Packing → ℕ → Type 0
+abbrev pub ListsPackedReverse : (from upto : List ℕ) → (old new : Option Opened) → (before after : Packing) → (status : ℕ) → Type 0
 ListsPackedReverse = ListsPackedBy IsReverseListed

@@ -120,7 +120,7 @@ pub struct Scratch {
 }
 
 impl Scratch {
-    /// Moves the records that the last attempt has unlinked, if any, to the end of the limbo list.
+    /// Empties the list of what the last attempt has unlinked into limbo, as far as that has room. Full rounds find the others.
     pub fn move_unlinked_to_limbo(&mut self)
         ensures gone { self.new.build.gone.items ≡ [] }
         ensures made { self.new.build.made.items ≡ self.old.build.made.items }

@@ -65,7 +65,7 @@ pub record IsShownSteps (layout : Layout) (run : List Event) (old new : SeatView
   pub more : BeginsWith front old.known.front
   pub begins : RunBeginsWith run new.trace
 
--- A pass of the index makes a stamp (`HasStamped`), so it is shown what it knows.
+-- A pass of the index makes a stamp (`HasStamped`): that is its own front. What it knows and its trace stay the same.
 pub record IsShownItself (layout : Layout) (q : ℕ) (old new : SeatView) (front : List Change) : Type 0 where
   pub pass : q < layout.passes
   pub known : new.known ≡ old.known

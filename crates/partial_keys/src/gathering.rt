@@ -139,8 +139,8 @@ fn extract_by_windows(lanes: u16x32, count: u8, key: &Key) -> u32
     mark_zeros(missing)
 }
 
-/// For each lane 0 exactly if `key` has a 1 at its position, in one of the sixteen bytes from `from` on. Past byte `MAX_BYTES - 16`, the
-/// last sixteen of `MAX_BYTES` count instead.
+/// A lane is 0 exactly if `key` has a 1 at its position, in the window of sixteen bytes that begins at `from`, or at `MAX_BYTES - 16` if
+/// that is less.
 #[inline(always)]
 fn find_missing_bits_from(lanes: u16x32, from: usize, key: &Key) -> u8x32
     requires lanes { length lanes ≡ 32 }
@@ -158,6 +158,7 @@ fn find_missing_bits_from(lanes: u16x32, from: usize, key: &Key) -> u8x32
         first as u8,
         last as u8,
     );
+    // A byte before the window counts as missed.
     missed | distances_below(bytes, first as u8)
 }
 

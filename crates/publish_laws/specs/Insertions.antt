@@ -61,7 +61,8 @@ Overflow =
     IsSpotOf known held newcomer.item.key newcomer.mismatch n (Node m view.height) at → IsWord (Node m view.height) word →
     Publishes layout known at word (added_change known.pass newcomer.item) None (a_node n ∷ [])
 
--- An insertion above a full node that stays whole may store a node of it and the new leaf. No node is unlinked.
+-- Let a new key part from those below a node before the node's first fork. Then a new node of that one and the new leaf may be stored
+-- in its place. No node is unlinked.
 abbrev pub StaysWhole : Type 0
 StaysWhole =
     (layout : Layout) (known : Known) (held : List Locked) (newcomer : Newcomer) (fresh : List ℕ) →

@@ -46,7 +46,7 @@ pub record GrowsBy (tree : Tree) (old new : Linked) : Type 0 where
   pub leaves_are : (n : ℕ) →
       (slice_index_or new.leaves.items n false ≡ true) ↔ ((slice_index_or old.leaves.items n false ≡ true) ⊎ Links tree (a_leaf n))
 
--- A tree with the property was read exactly if there is one. What is told has grown by it.
+-- Whether there is a tree with the property. If so, it was read, and what is told has grown by it.
 abbrev pub IsTreeRead : (Tree → Type 0) → Bool → Linked → Linked → Type 0
 IsTreeRead shows true old new = (tree : Tree) × shows tree × GrowsBy tree old new
 IsTreeRead shows false old new = (tree : Tree) → ¬ (shows tree)

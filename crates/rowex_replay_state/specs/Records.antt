@@ -26,7 +26,7 @@ pub record RecordsView : Type 0 where
   pub leaf_fates : List Stored
   pub locks : List (Option ℕ)
 
--- what is stored of a record, where the table has it
+-- ---- what is stored of a record, where the table has it
 
 -- the words of a record, if the table has it
 abbrev pub words_in : RecordsView → Rec → Option (List ℕ)

@@ -23,8 +23,7 @@ use std::alloc::AllocError;
 impl State {
     /// Stores `word` at `spot`. Returns whether that is legal. At the root or a slot `pass` has locked the word there, `word` spells an
     /// entry or none, and what the words show then is a lawful next version. Of a value it has locked what names the leaf. If not, nothing
-    /// changes. An error, which changes nothing either, if
-    /// memory is refused. That can only be where `pass` has the lock.
+    /// changes. An error, which changes nothing either, if memory is refused. That can only be where `pass` has the lock.
     pub(crate) fn publish(&mut self, pass: u16, spot: Spot, word: u64) -> Result<bool, AllocError>
         ensures ok { IfOk result (λ made. IsStepped made self.old self.new pass (Publish spot word)) }
         ensures err { OnErr result (self.new ≡ self.old) }

@@ -71,7 +71,7 @@ opening_of pass = record {
   round = record { epoch = 0; version = 0; bound = 0; seen = [] };
 }
 
--- the load of these words of a table
+-- the bulk load of these words into a table; where they lay says nothing
 abbrev pub load_of : List ℕ → Act
 load_of words = Load (record { ref_ptr = (0, 0); now = words })
 

@@ -114,7 +114,8 @@ GetEnds =
     ((key ≡ (state.heap.leaves n).key) × IsHeldSince state.past since key (state.heap.leaves n).value) ⊎
     ((key ≢ (state.heap.leaves n).key) × WasAbsentSince state.past since key)
 
--- A scan in this direction is lawful in the fronts, whether it came to its end or was cut at the limit.
+-- Let the changes of two fronts, of which one begins the other, be those of the versions, and let a walk since the first have found these
+-- pairs. Then a scan of them is lawful from the one front to the other, whether it came to its end or was cut at the limit.
 abbrev pub ScanIsLawful : Type 0
 ScanIsLawful =
     (direction : Direction) (more : Bool) (past : Past) (before rest : List Change) (m : ℕ) → KeepsFixedWordsSince past m →

@@ -81,8 +81,8 @@ fn load_locked_head<G: Gate>(
     }
 }
 
-/// Loads the words of the locked node `node` behind the first and before index `size` into `words`. The others of the head become all ones.
-/// Inline, so that each index is known when it is compiled.
+/// Loads the words 1 to `size` - 1 of the head of `node` into `words`, and sets the others of the head to all ones. Inline, so that each
+/// index is known when it is compiled.
 #[inline(always)]
 fn load_rest_of_head<G: Gate>(
     table: &HotTable,
