@@ -81,7 +81,7 @@ pub record IsStackOf (builder : Builder) (xs : List Item) : Type 0 where
   pub low : builder.nodes ≡ 0 → All IsOfLeaves builder.pieces.items
   pub bare : length xs ≤ 32 → builder.nodes ≡ 0
 
--- the builder has these leaves, and one that pieces from the last of them at this position belongs beside the top piece
+-- the builder has these leaves, and one that parts from the last of them at this position belongs beside the top piece
 pub record IsStackBehind (builder : Builder) (xs : List Item) (position : ℕ) : Type 0 where
   pub stack : IsStackOf builder xs
   pub above : IsAbove position stack.top
@@ -174,7 +174,7 @@ pub record IsPiece (builder : Builder) (ls : List LeftPiece) (z : Tree) (right :
   pub behind_is : behind ≡ size_right right
 
 -- ---- a new leaf
--- A key that pieces from the last one at this position may be taken next. No leaf was taken yet, or the new one belongs beside the top
+-- A key that parts from the last one at this position may be taken next. No leaf was taken yet, or the new one belongs beside the top
 -- piece.
 abbrev pub MayTakeNext : Builder → List Item → ℕ → Key → Type 0
 MayTakeNext builder xs p key = (HasTakenNone builder xs × (p ≡ 0)) ⊎ (IsStackBehind builder xs p × IsParted p builder.last key)
@@ -187,7 +187,7 @@ pub record IsJoined (builder : Builder) (xs : List Item) (before : List LeftPiec
   pub were : before ≡ joint ∷ stack.levels
   pub above : (position : ℕ) → position < joint.position → IsAbove position stack.top
 
--- the builder's top piece may stand beside a leaf that pieces from the last one at this position
+-- the builder's top piece may stand beside a leaf that parts from the last one at this position
 pub record MayStandBeside (builder : Builder) (xs : List Item) (position : ℕ) : Type 0 where
   pub stack : IsStackOf builder xs
   pub above : IsAbove position stack.top
@@ -197,6 +197,6 @@ pub record MayStandBeside (builder : Builder) (xs : List Item) (position : ℕ) 
 abbrev pub CanJoin : Builder → List Item → ℕ → Type 0
 CanJoin builder xs p = HasTakenNone builder xs ⊎ MayStandBeside builder xs p
 
--- the builder's pieces are joined as far as a leaf that pieces at this position needs
+-- the builder's pieces are joined as far as a leaf that parts at this position needs
 abbrev pub CanPart : Builder → List Item → ℕ → Type 0
 CanPart builder xs p = HasTakenNone builder xs ⊎ IsStackBehind builder xs p

@@ -9,7 +9,7 @@ use Rattle.hot_c.specs.declared.status.TheConstants.{CLOSED, DONE}
 
 -- both handles, if they are open, are at the same index
 abbrev pub AreAtOneIndex : Option Opened → Option Opened → Type 0
-AreAtOneIndex one other = (old new : Opened) → one ≡ Some old → other ≡ Some new → new.handle.index ≡ old.handle.index
+AreAtOneIndex one other = (first second : Opened) → one ≡ Some first → other ≡ Some second → second.handle.index ≡ first.handle.index
 
 -- All that calls tell of the pass is as it was: its number, its front, its answered calls, and its steps.
 abbrev pub IsAsTold : PassView → PassView → Type 0

@@ -21,16 +21,16 @@ TakesNone call k j = (m : PassView) → BeginsWith j.front m.front → ¬ (MayTa
 
 -- A call that is alone is refused only for want of a record.
 pub record AloneCallsEnd {G : Type 0} (becomes : G → Event → G → Type 0) : Type 0 where
-  -- before call that is alone is never busy
+  -- a call that is alone is never busy
   pub busy : (layout : Layout) (key : Key) (k j : PassView) → RunsAlone layout j.number k.seat j.seat → ¬ (IsCause layout key k j Busy)
-  -- A call that is alone gets its reply if it may take no record. Such are an exchange, an addition, before new value of before key that
-  -- was held all the while, and the removal of one that was absent all the while.
+  -- A call that is alone gets its reply if it may take no record. Such are an exchange, an addition, a new value of a key that was held all
+  -- the while, and the removal of one that was absent all the while.
   pub reply : (index : TableView) (call : Call) (result : Result Reply TryFault) (k j : PassView) → IsOutcome call result index k j → HasCause call result index k j →
       RunsAlone index.layout j.number k.seat j.seat → ¬ (MayTake call k j) → IsOk result
   -- if it waits, it makes one try then, and no other
-  pub once : (index : TableView) (call : Call) (result : Result Reply Full) (before later : PassView ×
-      G) (tries : MakesTries call result index becomes before later) →
+  pub once : (index : TableView) (call : Call) (result : Result Reply Full) (before later : PassView × G)
+      (tries : MakesTries call result index becomes before later) →
       RunsAlone index.layout before.0.number before.0.seat later.0.seat → TakesNone call before.0 later.0 → (tries.refusals ≡ []) × IsOk result
-  -- the first call of before new index is alone, if its pass alone makes steps
+  -- the first call of a new index is alone, if its pass alone makes steps
   pub first : (layout : Layout) (q : ℕ) (p : PassView) (seat : SeatView) → IsNewPass q p → All (λ x. x.pass ≡ q) seat.trace →
       RunsAlone layout q p.seat seat

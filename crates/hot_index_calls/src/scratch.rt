@@ -17,8 +17,8 @@ use std::alloc::{AllocError, Global};
 /// The records that a pass claims first of a kind or class have so many words at most: 128 KiB.
 const FIRST_WORDS: u32 = 16_384;
 
-/// The first records of a new table that no load has taken, of the nodes and of each class of leaves. These are plain numbers, which promise
-/// nothing.
+/// The first records of a new table that no load has taken, of the nodes and of each class of leaves. A load takes its last few nodes behind
+/// that number. These are plain numbers, which promise nothing.
 #[derive(Clone, Copy)]
 pub struct FirstFree {
     /// The number of a node record.

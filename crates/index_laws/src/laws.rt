@@ -31,7 +31,7 @@ pub fn allowed_steps_are_legal()
 {}
 
 /// Let a configuration of a run have the core that shows the table's state. Let it know of a pass what its seat knows, and have its call
-/// pending. Then a step that the pass may make is a step of the run, to a time of which the same is true in the table's next state.
+/// pending. Then a step that the pass may make is a step of the run, to a configuration of which the same is true in the table's next state.
 pub fn allowed_steps_are_steps_of_the_run()
     ensures { StepsAreMoments }
 {}

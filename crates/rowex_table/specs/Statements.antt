@@ -53,6 +53,6 @@ CallStepsAreInOneRun {G = G} becomes = (table : TableView) (acts : List Act) (ac
 -- contract shows the state of a table. By contracts two passes have one run if they meet, or one follows the other's stamp.
 abbrev pub TracesAreOfOneRun : Type 0
 TracesAreOfOneRun =
-    (layout : Layout) (s : State (Unit {0}) TracedView) → Ruled layout s → (i j : ℕ) (k l : Known) (old new : Trace) →
-    get_elem? s.views i ≡ some (Pass k old) → get_elem? s.views j ≡ some (Pass l new) →
-    (one other : List Event) → RunBeginsWith old.events one → RunBeginsWith new.events other → RunBeginsWith other one ⊎ RunBeginsWith one other
+    (layout : Layout) (s : State (Unit {0}) TracedView) → Ruled layout s → (i j : ℕ) (k l : Known) (first second : Trace) →
+    get_elem? s.views i ≡ some (Pass k first) → get_elem? s.views j ≡ some (Pass l second) →
+    (one other : List Event) → RunBeginsWith first.events one → RunBeginsWith second.events other → RunBeginsWith other one ⊎ RunBeginsWith one other

@@ -92,7 +92,7 @@ finding Found st m told m' = (m'.1 ≡ m.1) × Finds (Found st.word told) m.0 m'
 abbrev pub found_moments : (word told : ℕ) → SectionKnowledge → List SectionEvent → Type 0
 found_moments word told knowledge run = (told ≡ moments_in run) × (told ≤ MOST_MOMENTS)
 
--- the word that was found is a extent: no section of that number or a higher one was ever entered
+-- the word that was found is an extent: no section of that number or a higher one was ever entered
 abbrev pub found_extent : (word told : ℕ) → SectionKnowledge → List SectionEvent → Type 0
 found_extent word told knowledge run = (told ≤ knowledge.count) × ((section : ℕ) → told ≤ section → HasNoneOf section run)
 

@@ -22,7 +22,7 @@ ends_agree p (leaf n k v) i a q l = refl
 ends_agree p (node n x b) i a q l = ends_agree p b i a q l
 ends_agree p (fork r a b) i h q l = i.2 (first a) (greatest_key b) (inl (has_first a)) (inr (has_last b)) q (omega (arith, h, l))
 
--- what pieces from its last key pieces from its first one
+-- what parts from its last key parts from its first one
 parted_first : (p : ℕ) (t : Tree) (k : Key) → IsTrie t → IsAbove p t → IsParted p (greatest_key t) k → IsParted p (first t) k
 parted_first p t k i a h =
     (λ q l. ends_agree p t i a q (omega (arith, l)) ∙ h.0 q l, ends_agree p t i a p (omega arith) ∙ h.1, h.2)
