@@ -2,9 +2,9 @@
 use Rattle.std.specs.Prelude.{ℕ, ◌-◌, ◌/◌, ◌%◌, ◌<◌, ◌≡◌, ◌≢◌, Bool, ◌&&◌, ◌||◌, nat_lt, List, length, slice_index, eqb}
 use Rattle.std.specs.Int.{bit_at}
 
--- The key's bit at position p. Byte i gives nine bits, at 9i to 9i+8: a 1, and then the bits of the byte, the highest first. All other bits
--- are 0.
-abbrev pub bit_of : List ℕ → ℕ → Bool
+-- The key's bit at this position. Byte i gives nine bits, at 9i to 9i+8: a 1, and then the bits of the byte, the highest first. All other
+-- bits are 0.
+abbrev pub bit_of : (key : List ℕ) → (position : ℕ) → Bool
 bit_of key p = nat_lt (p / 9) (length key) && (eqb (p % 9) 0 || eqb (bit_at (slice_index key (p / 9)) (8 - p % 9)) 1)
 
 -- the keys differ at p and agree at each position before

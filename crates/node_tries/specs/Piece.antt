@@ -30,7 +30,7 @@ module _ {A : Type 0} where
   leads_to bit (Fork p a b) = cond (bit p) (size a + leads_to bit b) (leads_to bit a)
 
   -- along each path the positions rise strictly, from `low` on
-  abbrev pub RisesFrom : ℕ → Piece A → Type 0
+  abbrev pub RisesFrom : (low : ℕ) → (piece : Piece A) → Type 0
   RisesFrom low (Place x) = Unit {0}
   RisesFrom low (Fork p a b) = (low < p + 1) × RisesFrom (p + 1) a × RisesFrom (p + 1) b
 
@@ -40,7 +40,7 @@ module _ {A : Type 0} where
   UsesOnly ps (Fork p a b) = (has ps p ≡ true) × UsesOnly ps a × UsesOnly ps b
 
   -- some fork has this position
-  abbrev pub uses : Piece A → ℕ → Bool
+  abbrev pub uses : (piece : Piece A) → (position : ℕ) → Bool
   uses (Place x) q = false
   uses (Fork p a b) q = eqb p q || (uses a q || uses b q)
 

@@ -5,14 +5,14 @@ use Rattle.partial_keys.specs.Shows.{ShowsPiece}
 use Rattle.node_tries.specs.Highest.{highest}
 use Rattle.node_tries.specs.Piece.{Piece, leads_to}
 
--- Index i is where the forks lead by the dense key, in each piece whose rows these words are, filled up by unused ones.
-abbrev pub IsPlaceForDense : List ℕ → ℕ → ℕ → Type 0
+-- The forks lead to this slot by the dense key, in each piece that has these rows, filled up by unused ones.
+abbrev pub IsPlaceForDense : (padded_rows : List ℕ) → (dense slot : ℕ) → Type 0
 IsPlaceForDense padded_rows dense i =
     (columns rows entries : List ℕ) (piece : Piece ℕ) → ShowsPiece columns rows entries piece → padded_rows ≡ with_unused rows →
     i ≡ leads_to (dense_bit columns dense) piece
 
--- Index i is where the forks lead by a key's bits, in each piece whose rows these words are. The dense key was gathered from these bits.
-abbrev pub IsPlaceForKey : List ℕ → ℕ → ℕ → Type 0
+-- The forks lead to this slot by a key's bits, in each piece that has these rows. The dense key was gathered from these bits.
+abbrev pub IsPlaceForKey : (padded_rows : List ℕ) → (dense slot : ℕ) → Type 0
 IsPlaceForKey padded_rows dense i =
     (columns rows entries : List ℕ) (piece : Piece ℕ) (bit : ℕ → Bool) → ShowsPiece columns rows entries piece → padded_rows ≡ with_unused rows →
     dense ≡ dense_of columns bit → i ≡ leads_to bit piece

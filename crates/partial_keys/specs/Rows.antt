@@ -10,7 +10,7 @@ abbrev pub dense_of : List ℕ → (ℕ → Bool) → ℕ
 dense_of columns bit = gathered bit columns
 
 -- the row of a path: a 1 exactly in the columns at which the path takes the 1 side
-abbrev pub row_of : List ℕ → List ℕ → ℕ
+abbrev pub row_of : (columns path : List ℕ) → ℕ
 row_of columns path = gathered (has path) columns
 
 -- the rows of a piece, one for each path, in order
@@ -32,5 +32,5 @@ abbrev pub with_unused : List ℕ → List ℕ
 with_unused rows = rows ++ replicate (32 - length rows) 4294967295
 
 -- the bit that a dense key has for a position: for column j that is bit 31-j
-abbrev pub dense_bit : List ℕ → ℕ → ℕ → Bool
+abbrev pub dense_bit : (columns : List ℕ) → (dense position : ℕ) → Bool
 dense_bit columns dense p = eqb (bit_at dense (31 - front_below p columns)) 1

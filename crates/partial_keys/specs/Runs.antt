@@ -1,8 +1,8 @@
 -- The entries round one that agree with it in the columns below a position.
 use Rattle.std.specs.Prelude.{Bool, List, false, length, nat_eq, slice_index, true, ℕ, ◌+◌, ◌-◌, ◌/◌, ◌<◌, ◌^◌, ◌≡◌, ◌≤◌}
 
--- two rows agree in the first n columns
-abbrev pub agree_in : ℕ → ℕ → ℕ → Bool
+-- the two rows agree in so many first columns
+abbrev pub agree_in : (columns row other : ℕ) → Bool
 agree_in n a b = nat_eq (a / 2 ^ (32 - n)) (b / 2 ^ (32 - n))
 
 -- `first` is the first row of the run around a found one that agrees with it in the first n columns

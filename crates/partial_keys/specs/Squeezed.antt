@@ -4,8 +4,8 @@ use Rattle.std.specs.Prelude.{Bool, List, [], bit_or, eqb, length, suc, zero, �
 use Rattle.key_bits.specs.Gather.{code}
 use Rattle.node_tries.specs.Kept.{kept}
 
--- the w lowest bits of a number, the highest first
-abbrev pub bits_of : ℕ → ℕ → List Bool
+-- the `width` lowest bits of a number, the highest first
+abbrev pub bits_of : (width number : ℕ) → List Bool
 bits_of zero n = []
 bits_of (suc w) n = eqb (bit_at n w) 1 ∷ bits_of w n
 
@@ -17,15 +17,15 @@ used_bits used = bits_of 32 used
 abbrev pub squeezed : (used row : ℕ) → ℕ
 squeezed used row = code 32 (kept (bits_of 32 used) (bits_of 32 row))
 
--- the bits that one of the rows has, at least
+-- the bits that at least one of the rows has
 abbrev pub or_all : List ℕ → ℕ
 or_all [] = 0
 or_all (row ∷ rows) = bit_or row (or_all rows)
 
--- a row without column j: the later columns have moved up by one
-abbrev pub closed_row : ℕ → ℕ → ℕ
+-- a row without the column of this index: the later columns have moved up by one
+abbrev pub closed_row : (column row : ℕ) → ℕ
 closed_row j row = row / 2 ^ (32 - j) * 2 ^ (32 - j) + row % 2 ^ (31 - j) * 2
 
--- a row over n columns, so its bits behind them are 0
-abbrev pub IsRowOver : ℕ → ℕ → Type 0
+-- a row over so many columns: its bits behind them are 0
+abbrev pub IsRowOver : (columns row : ℕ) → Type 0
 IsRowOver n row = (bits : List Bool) × (length bits ≡ n) × (row ≡ code 32 bits)

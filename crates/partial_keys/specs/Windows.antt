@@ -12,7 +12,7 @@ abbrev pub mask_lane : ℕ → ℕ
 mask_lane p = slice_index MASKS (p * 7282 % 65536 / 4096)
 
 -- what a lane misses: its mask where the key's bit is 0, and some bits where its byte is past the window
-abbrev pub missed_lane : List ℕ → ℕ → ℕ → ℕ → ℕ → ℕ → ℕ
+abbrev pub missed_lane : (window : List ℕ) → (first last lane byte mask : ℕ) → ℕ
 missed_lane window first last i byte mask =
     bit_or (bit_and mask (255 - slice_index window (16 * (i / 16) + (byte + 256 - first) % 16))) (byte - last)
 
