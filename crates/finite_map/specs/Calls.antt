@@ -27,8 +27,8 @@ effect_of _ _ = None
 abbrev pub is_change : Note → Bool
 is_change note = is_some (effect_of note.call note.reply)
 
--- the change that a note of pass q tells of, if its call changed the map
-abbrev pub change_of : ℕ → Note → Option Change
+-- the change that a note of the pass tells of, if its call changed the map
+abbrev pub change_of : (pass : ℕ) → (note : Note) → Option Change
 change_of q note =
     option_map (λ effect. record { pass = q; key = key_of note.call; value = effect.1; kind = effect.0 }) (effect_of note.call note.reply)
 
@@ -43,17 +43,17 @@ pub record StandsIn (front : List Change) (pass : ℕ) (note : Note) : Type 0 wh
   pub reply : note.reply ≡ reply_of (map_of (take note.place front)) note.call
   pub change : (c : Change) → change_of pass note ≡ Some c → slice_get front note.place ≡ Some c
 
--- the notes' places begin at `low` at least, never fall, and rise after a call that changed the map
-abbrev pub RisesFrom : ℕ → List Note → Type 0
+-- the notes' places are from `low` on, never fall, and rise after a call that changed the map
+abbrev pub RisesFrom : (low : ℕ) → (notes : List Note) → Type 0
 RisesFrom low [] = Unit {0}
 RisesFrom low (n ∷ ns) = (low ≤ n.place) × RisesFrom (place_after n) ns
 
--- the changes that notes of pass q tell of, in order
-abbrev pub changes_of : ℕ → List Note → List Change
+-- the changes that the pass's notes tell of, in order
+abbrev pub changes_of : (pass : ℕ) → (notes : List Note) → List Change
 changes_of q notes = filter_map (change_of q) notes
 
--- the changes of a front that are pass q's, in order
-abbrev pub own_changes : ℕ → List Change → List Change
+-- the changes of a front that the pass has made, in order
+abbrev pub own_changes : (pass : ℕ) → (front : List Change) → List Change
 own_changes pass front = filter (λ c. nat_eq c.pass pass) front
 
 -- The answered calls of pass q are legal in the front.

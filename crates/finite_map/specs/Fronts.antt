@@ -6,7 +6,7 @@ use Rattle.finite_map.specs.declared.Kind.TheVariants.{Added, Replaced, Removed}
 use Rattle.finite_map.specs.Maps.{Map, value_at, with_value, without}
 
 -- what a change of this kind makes of a map
-abbrev pub changed_by : Kind → Map → List ℕ → ℕ → Map
+abbrev pub changed_by : (kind : Kind) → (pairs : Map) → (key : List ℕ) → (value : ℕ) → Map
 changed_by Added pairs key value = with_value pairs key value
 changed_by Replaced pairs key value = with_value pairs key value
 changed_by Removed pairs key value = without pairs key
@@ -19,9 +19,9 @@ changed pairs change = changed_by change.kind pairs change.key change.value
 abbrev pub map_of : List Change → Map
 map_of front = fold changed [] front
 
--- A change of this kind is legal where this value, or none, is held. Only an absent key is added, a held one is replaced, and the held
--- value is removed.
-abbrev pub FitsKind : Kind → Option ℕ → ℕ → Type 0
+-- A change of this kind is legal on a map that holds this value for the key, or none. Only an absent key is added, a held one is replaced,
+-- and the held value is removed.
+abbrev pub FitsKind : (kind : Kind) → (held : Option ℕ) → (value : ℕ) → Type 0
 FitsKind Added held value = held ≡ None
 FitsKind Replaced held value = IsSome held
 FitsKind Removed held value = held ≡ Some value
@@ -30,7 +30,7 @@ FitsKind Removed held value = held ≡ Some value
 abbrev pub Fits : Map → Change → Type 0
 Fits pairs change = FitsKind change.kind (value_at pairs change.key) change.value
 
--- each change is legal on the map that those before it lead to, from the map m
+-- each change is legal on the map that those before it lead to, from this map on
 abbrev pub LegalFrom : Map → List Change → Type 0
 LegalFrom m [] = Unit {0}
 LegalFrom m (c ∷ cs) = Fits m c × LegalFrom (changed m c) cs
@@ -40,9 +40,9 @@ abbrev pub LegalFront : List Change → Type 0
 LegalFront front = LegalFrom [] front
 
 -- the later front begins with the earlier one
-abbrev pub BeginsWith : List Change → List Change → Type 0
+abbrev pub BeginsWith : (later earlier : List Change) → Type 0
 BeginsWith later earlier = (more : List Change) × (later ≡ earlier ++ more)
 
--- the front goes on by changes of other passes than q alone
-abbrev pub OthersGoOn : ℕ → List Change → List Change → Type 0
+-- the later front goes on from the earlier one by changes of other passes than this one
+abbrev pub OthersGoOn : (pass : ℕ) → (earlier later : List Change) → Type 0
 OthersGoOn q earlier later = (more : List Change) × (later ≡ earlier ++ more) × All (λ c. c.pass ≢ q) more

@@ -12,7 +12,7 @@ use Rattle.finite_map.specs.declared.Reply.{Reply}
 use Rattle.finite_map.specs.declared.Reply.TheVariants.{Inserted, Exists, New, Was, Exchanged, Differs, Value, Absent, Removed}
 
 -- the order of keys: by bytes, a prefix first
-abbrev pub key_order : List ℕ → List ℕ → Ordering
+abbrev pub key_order : (first second : List ℕ) → Ordering
 key_order = slice_cmp nat_cmp
 
 -- a map: its keys with their values, in the order of the keys
@@ -28,7 +28,7 @@ abbrev pub value_at : Map → List ℕ → Option ℕ
 value_at pairs key = lookup (is_at (key_order key)) pairs
 
 -- the map in which the key has the value
-abbrev pub with_value : Map → List ℕ → ℕ → Map
+abbrev pub with_value : (pairs : Map) → (key : List ℕ) → (value : ℕ) → Map
 with_value pairs key value = insert_entry key_order pairs key value
 
 -- the map in which the key is absent
@@ -49,13 +49,14 @@ key_of (RemoveIf key expected) = key
 abbrev pub wrapped_sum : (held delta : ℕ) → ℕ
 wrapped_sum held delta = (held + delta) % 2 ^ 64
 
--- What a call that expects a value makes of a map and replies, if its key has that value. If it has another, the map stays.
-abbrev pub step_if : Bool → Map → ℕ → Map × Reply → Map × Reply
+-- What a call that expects a value makes of a map, and its reply. If the value is the expected one, they are `expected`. Else the map
+-- stays, and the reply tells the value held.
+abbrev pub step_if : (is_expected : Bool) → (pairs : Map) → (held : ℕ) → (expected : Map × Reply) → Map × Reply
 step_if true pairs held expected = expected
 step_if false pairs held expected = (pairs, Differs held)
 
--- a call on a map which holds this value for its key, or none: the map after it, and the reply
-abbrev pub step_where : Option ℕ → Map → Call → Map × Reply
+-- a call on a map which holds the value `held` for its key, or none: the map after it, and the reply
+abbrev pub step_where : (held : Option ℕ) → (pairs : Map) → (call : Call) → Map × Reply
 step_where None pairs (Insert key value) = (with_value pairs key value, Inserted)
 step_where (Some held) pairs (Insert key value) = (pairs, Exists held)
 step_where None pairs (Upsert key value) = (with_value pairs key value, New)

@@ -11,7 +11,7 @@ use Rattle.finite_map.specs.Maps.{Map, key_order}
 use Rattle.finite_map.specs.Scans.{range_of, IsLawfulScanWith, ScanOrder}
 
 -- the order of keys, turned round
-abbrev pub falling_order : List ℕ → List ℕ → Ordering
+abbrev pub falling_order : (first second : List ℕ) → Ordering
 falling_order a b = key_order b a
 
 -- each key is above those after it
@@ -36,5 +36,5 @@ abbrev pub falling_scan : ScanOrder
 falling_scan = record { ordered = HasFallingKeys; reached = IsDownToLast; beyond = IsBelowLast }
 
 -- a lawful scan from `upto` down to `from`, while the front grew
-abbrev pub IsLawfulReverseScan : List Change → List Change → List ℕ → List ℕ → ℕ → Scan → Type 0
+abbrev pub IsLawfulReverseScan : (before after : List Change) → (from upto : List ℕ) → (limit : ℕ) → (scan : Scan) → Type 0
 IsLawfulReverseScan = IsLawfulScanWith falling_scan

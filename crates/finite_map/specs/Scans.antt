@@ -11,11 +11,11 @@ use Rattle.finite_map.specs.Maps.{Map, key_order, IsRising, value_at}
 use Rattle.finite_map.specs.Fronts.{map_of, BeginsWith}
 
 -- whether the key is neither below `from` nor above `upto`
-abbrev pub is_within : List ℕ → List ℕ → List ℕ → Bool
+abbrev pub is_within : (from upto key : List ℕ) → Bool
 is_within from upto key = range_contains key_order (Included from) (Included upto) key
 
 -- the part of the map in the range
-abbrev pub range_of : Map → List ℕ → List ℕ → Map
+abbrev pub range_of : (pairs : Map) → (from upto : List ℕ) → Map
 range_of pairs from upto = filter (λ e. is_within from upto e.0) pairs
 
 -- The scan gives the first `limit` pairs of the map in the range. It says `more` exactly where there is a further one.
@@ -23,12 +23,13 @@ pub record IsScanOf (m : Map) (from upto : List ℕ) (limit : ℕ) (scan : Scan)
   pub pairs : scan.pairs.items ≡ take limit (range_of m from upto)
   pub more : IsTrue scan.more ↔ (limit < length (range_of m from upto))
 
--- the key has the value after the first n changes of `after`, for some n from the length of `before` to that of `after`
-abbrev pub IsHeldBetween : List Change → List Change → List ℕ → ℕ → Type 0
+-- At some moment between the two fronts the key has the value. That is after the first n changes of `after`, where n is at least the length
+-- of `before` and at most that of `after`.
+abbrev pub IsHeldBetween : (before after : List Change) → (key : List ℕ) → (value : ℕ) → Type 0
 IsHeldBetween before after key value = (n : ℕ) × (length before ≤ n) × (n ≤ length after) × (value_at (map_of (take n after)) key ≡ Some value)
 
--- the key is in the map of `before`, and no change of `after` beyond it removes the key
-abbrev pub IsHeldThroughout : List Change → List Change → List ℕ → Type 0
+-- the map of the front `before` has the key, and no change of `after` behind that front removes the key
+abbrev pub IsHeldThroughout : (before after : List Change) → (key : List ℕ) → Type 0
 IsHeldThroughout before after key = IsSome (value_at (map_of before) key) × All (λ c. c.kind ≡ Removed → c.key ≢ key) (drop (length before) after)
 
 -- the key is at most that of the last pair, the keys rising
@@ -53,7 +54,8 @@ pub record IsLawfulScanWith (order : ScanOrder) (before after : List Change) (fr
   pub short : length scan.pairs.items ≤ limit
   pub held : All (λ e. IsHeldBetween before after e.0 e.1) scan.pairs.items
   -- without `more`, each key of the range that was there all along is listed
-  pub whole : scan.more ≡ false → (key : List ℕ) → IsTrue (is_within from upto key) → IsHeldThroughout before after key → Contains (keys_of scan.pairs.items) key
+  pub whole : scan.more ≡ false → (key : List ℕ) → IsTrue (is_within from upto key) → IsHeldThroughout before after key →
+      Contains (keys_of scan.pairs.items) key
   -- with `more`, each such key as far as the last pair's is listed
   pub part : scan.more ≡ true → (key : List ℕ) → IsTrue (is_within from upto key) → IsHeldThroughout before after key → order.reached scan.pairs.items key →
       Contains (keys_of scan.pairs.items) key
@@ -67,5 +69,5 @@ abbrev pub rising_scan : ScanOrder
 rising_scan = record { ordered = IsRising; reached = IsUpToLast; beyond = IsPastLast }
 
 -- a lawful scan from `from` up to `upto`, while the front grew
-abbrev pub IsLawfulScan : List Change → List Change → List ℕ → List ℕ → ℕ → Scan → Type 0
+abbrev pub IsLawfulScan : (before after : List Change) → (from upto : List ℕ) → (limit : ℕ) → (scan : Scan) → Type 0
 IsLawfulScan = IsLawfulScanWith rising_scan

@@ -14,11 +14,11 @@ pub data Event : Type 0 where
   only : Change → Event
 
 -- the notes of this place whose calls changed nothing
-abbrev pub quiet_at : ℕ → List Note → List Note
+abbrev pub quiet_at : (place : ℕ) → (notes : List Note) → List Note
 quiet_at place notes = filter (λ n. nat_eq n.place place && not (is_change n)) notes
 
 -- the notes of this place whose calls changed the map
-abbrev pub changing_at : ℕ → List Note → List Note
+abbrev pub changing_at : (place : ℕ) → (notes : List Note) → List Note
 changing_at place notes = filter (λ n. nat_eq n.place place && is_change n) notes
 
 -- the calls of notes, in their order
@@ -30,8 +30,9 @@ abbrev pub made_by : Change → List Note → List Event
 made_by change [] = only change ∷ []
 made_by change (n ∷ ns) = calls_of (n ∷ ns)
 
--- The changes as a history, the first of number `place`. Before each stand the calls of its place that changed nothing.
-abbrev pub weave_from : ℕ → List Change → List Note → List Event
+-- The history of these changes, the first of which has the number `place`. Before each change stand the calls of its place that changed
+-- nothing.
+abbrev pub weave_from : (place : ℕ) → (front : List Change) → (notes : List Note) → List Event
 weave_from place [] notes = calls_of (quiet_at place notes)
 weave_from place (c ∷ cs) notes = calls_of (quiet_at place notes) ++ (made_by c (changing_at place notes) ++ weave_from (place + 1) cs notes)
 

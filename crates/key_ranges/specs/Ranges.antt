@@ -22,7 +22,7 @@ pub record IsPreviousKey (key previous : List ℕ) : Type 0 where
   pub greatest : (other : List ℕ) → IsKey other → key_order other key ≡ Less → key_order other previous ≢ Greater
 
 -- the key begins with the prefix
-abbrev pub HasPrefix : List ℕ → List ℕ → Type 0
+abbrev pub HasPrefix : (prefix key : List ℕ) → Type 0
 HasPrefix prefix key = (rest : List ℕ) × (key ≡ prefix ++ rest)
 
 -- the last key with the prefix

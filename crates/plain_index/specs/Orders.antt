@@ -9,13 +9,13 @@ calls_in [] = []
 calls_in (answered call reply ∷ es) = answered call reply ∷ calls_in es
 calls_in (only c ∷ es) = calls_in es
 
--- A list that two lists make together: it has each element of both once. Those of each list stand in their order.
+-- The third list has each element of the first two once. Those of each list stand in their order.
 pub data AreWoven : List Event → List Event → List Event → Type 0 where
   empty : AreWoven [] [] []
   of_first : {x : Event} {xs ys zs : List Event} → AreWoven xs ys zs → AreWoven (x ∷ xs) ys (x ∷ zs)
   of_second : {y : Event} {xs ys zs : List Event} → AreWoven xs ys zs → AreWoven xs (y ∷ ys) (y ∷ zs)
 
--- a list that the calls of any number of passes make together, those of each pass in their order
+-- the list has each call of these passes once, those of each pass in their order
 abbrev pub CallsAreWoven : List (ℕ × List Note) → List Event → Type 0
 CallsAreWoven [] es = es ≡ []
 CallsAreWoven (pass ∷ passes) es = (others : List Event) × CallsAreWoven passes others × AreWoven (calls_of pass.1) others es

@@ -30,7 +30,8 @@ WeaveOfTwoIsLegal =
 
 -- The weave of the calls of several passes has each call once. Those of each pass stand in the order in which it made them.
 abbrev pub WeaveOfPassesKeepsCalls : Type 0
-WeaveOfPassesKeepsCalls = (front : List Change) (passes : List (ℕ × List Note)) → AllLegal front passes → CallsAreWoven passes (calls_in (weave front (notes_of passes)))
+WeaveOfPassesKeepsCalls =
+    (front : List Change) (passes : List (ℕ × List Note)) → AllLegal front passes → CallsAreWoven passes (calls_in (weave front (notes_of passes)))
 
 -- The weave of the calls of two passes has each call once. Those of each pass stand in the order in which it made them.
 abbrev pub WeaveOfTwoKeepsCalls : Type 0
@@ -50,7 +51,8 @@ WeavePutsReturnedFirst =
 -- A scan of the map of a front is lawful where the front stays as it is.
 abbrev pub FirstPairsAreAStillScan : Type 0
 FirstPairsAreAStillScan =
-    (front : List Change) (from upto : List ℕ) (limit : ℕ) (scan : Scan) → IsScanOf (map_of front) from upto limit scan → IsLawfulScan front front from upto limit scan
+    (front : List Change) (from upto : List ℕ) (limit : ℕ) (scan : Scan) → IsScanOf (map_of front) from upto limit scan →
+    IsLawfulScan front front from upto limit scan
 
 -- The weave of one pass's legal calls has each of them once, in the order in which the pass made them.
 abbrev pub WeaveKeepsCalls : Type 0
@@ -59,7 +61,8 @@ WeaveKeepsCalls = (front : List Change) (pass : ℕ) (notes : List Note) → Leg
 -- A scan of a front that stays as it is gives the first pairs of its map's range. It says whether there is a further one.
 abbrev pub StillScanGivesFirstPairs : Type 0
 StillScanGivesFirstPairs =
-    (front : List Change) (from upto : List ℕ) (limit : ℕ) (scan : Scan) → IsLawfulScan front front from upto limit scan → IsScanOf (map_of front) from upto limit scan
+    (front : List Change) (from upto : List ℕ) (limit : ℕ) (scan : Scan) → IsLawfulScan front front from upto limit scan →
+    IsScanOf (map_of front) from upto limit scan
 
 -- If a pass made all changes of the front, its legal calls are a run of the finite map, from the empty one on.
 abbrev pub LoneCallsAreARun : Type 0

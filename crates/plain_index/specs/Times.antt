@@ -7,8 +7,8 @@ use Rattle.finite_map.specs.Calls.{place_after}
 abbrev pub noted : List (ℕ × Note) → List Note
 noted calls = map (λ x. x.1) calls
 
--- Let `before` say of two labels that the first one's call had returned when the second's began. Then the second's place is no earlier, and
--- later than the first one's change.
+-- Let `before` say of two labels that the call of the first had returned when that of the second began. Then the second call's place is no
+-- earlier, and is behind the change that the first made.
 abbrev pub FitsPlaces : (ℕ → ℕ → Bool) → List (ℕ × Note) → Type 0
 FitsPlaces before calls = (x y : ℕ × Note) → Contains calls x → Contains calls y → before x.0 y.0 ≡ true → place_after x.1 ≤ y.1.place
 
