@@ -23,7 +23,7 @@ IsEntry (Leaf number) = Unit {0}
 IsEntry (Node number height) = (0 < height) × (height < 65535)
 
 -- an entry that a node of this height may have
-abbrev pub StandsBelow : ℕ → Entry → Type 0
+abbrev pub StandsBelow : (height : ℕ) → (entry : Entry) → Type 0
 StandsBelow height entry = IsEntry entry × (height_of entry < height)
 
 -- the greatest height among the entries, or 0
@@ -68,13 +68,14 @@ pub record IsBuiltFrom (node : NodeView) (shown : Piece Entry) : Type 0 where
   pub shows_it : piece node ≡ shown
   pub height_is : node.height ≡ 1 + greatest_height node.entries
 
--- the entries in slots i and k have the same bit in each column whose position is below this one
-abbrev pub AgreeBefore : NodeView → ℕ → ℕ → ℕ → Type 0
+-- the entries in the two slots have the same bit in each column whose position is below this one
+abbrev pub AgreeBefore : (node : NodeView) → (position slot other_slot : ℕ) → Type 0
 AgreeBefore node position i k =
-    (j : ℕ) → j < length node.columns → slice_index node.columns j < position → bit_at (slice_index node.rows i) (31 - j) ≡ bit_at (slice_index node.rows k) (31 - j)
+    (j : ℕ) → j < length node.columns → slice_index node.columns j < position →
+    bit_at (slice_index node.rows i) (31 - j) ≡ bit_at (slice_index node.rows k) (31 - j)
 
--- the node of these fields, without the rows behind those of its entries
-abbrev pub node_from : ℕ → List ℕ → List ℕ → List Entry → NodeView
+-- the node of these fields, without the unused rows behind those of its entries
+abbrev pub node_from : (height : ℕ) → (columns padded_rows : List ℕ) → (entries : List Entry) → NodeView
 node_from height columns padded_rows entries = record { height = height; columns = columns; rows = take (length entries) padded_rows; entries = entries }
 
 -- the fields are those of a lawful node, with 4,294,967,295 as each unused row
@@ -101,8 +102,8 @@ InEachNode head IsSo = (node : NodeView) → IsLawfulNode node → head_of node 
 abbrev pub node_of : HeadView → List Entry → NodeView
 node_of head entries = record { height = head.height; columns = head.columns; rows = head.rows; entries = entries }
 
--- some node of so many entries has this head
-abbrev pub IsHead : (count height : ℕ) → List ℕ → List ℕ → Type 0
+-- some node with `count` entries has this height, these columns and these rows, filled up by unused ones
+abbrev pub IsHead : (count height : ℕ) → (columns padded_rows : List ℕ) → Type 0
 IsHead count height columns padded_rows = (entries : List Entry) × (length entries ≡ count) × IsNode height columns padded_rows entries
 
 -- so many leaves, as entries whose numbers don't matter

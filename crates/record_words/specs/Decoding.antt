@@ -17,7 +17,8 @@ use Rattle.record_words.specs.declared.TheConstants.{FIRST_KEY_WORD, FIRST_MIDDL
 -- the entry that a word spells
 unfoldable pub entry_of : ℕ → Option Entry
 entry_of word =
-    if nat_eq word (entry_word None) then None else (if nat_eq (word % 4) 1 then Some (Leaf (word / 4)) else Some (Node (word / 4 % 2 ^ 32) (word / 2 ^ HEIGHT_BIT)))
+    if nat_eq word (entry_word None) then None else
+    (if nat_eq (word % 4) 1 then Some (Leaf (word / 4)) else Some (Node (word / 4 % 2 ^ 32) (word / 2 ^ HEIGHT_BIT)))
 
 -- ---- the words of a head
 -- the number of entries that the first word tells
@@ -40,24 +41,24 @@ first_byte_in word = word / 2 ^ 32 % 2 ^ 8
 abbrev pub numbers_in : List ℕ → ℕ
 numbers_in head = get_or head NUMBERS_INDEX 0
 
--- the byte for column j in a word of a near head
-abbrev pub column_byte : ℕ → ℕ → ℕ
+-- the byte for this column in a word of a near head
+abbrev pub column_byte : (column word : ℕ) → ℕ
 column_byte j word = word / 2 ^ (8 * (7 - j % 8)) % 2 ^ 8
 
--- the position of column j in a near head, from the index of its byte and the mask of its bit
-abbrev pub near_column_in : HeadKind → List ℕ → ℕ → ℕ
+-- the position of this column in a near head, from the index of its byte and the mask of its bit
+abbrev pub near_column_in : (kind : HeadKind) → (head : List ℕ) → (column : ℕ) → ℕ
 near_column_in kind head j =
     9 * (first_byte_in (numbers_in head) + column_byte j (get_or head (position_index kind j) 0)) +
     1 + count_leading_zeros 8 (column_byte j (get_or head (mask_index kind j) 0))
 
--- the position of column j in the words of a head of this kind; a wide one has it in 16 bits
-abbrev pub column_in : HeadKind → List ℕ → ℕ → ℕ
+-- the position of this column in the words of a head of this kind; a wide head has it in 16 bits
+abbrev pub column_in : (kind : HeadKind) → (head : List ℕ) → (column : ℕ) → ℕ
 column_in Wide head j = get_or head (FIRST_POSITIONS + j / 4) 0 / 2 ^ (16 * (j % 4)) % 2 ^ 16
 column_in Narrow head j = near_column_in Narrow head j
 column_in Middle head j = near_column_in Middle head j
 
--- Row i in the words of a head of this kind. A narrow or middle head has its highest 8 or 16 bits, a wide one all 32.
-abbrev pub row_in : HeadKind → List ℕ → ℕ → ℕ
+-- The row of this number in the words of a head of this kind. A narrow or middle head has its highest 8 or 16 bits, a wide one all 32.
+abbrev pub row_in : (kind : HeadKind) → (head : List ℕ) → (row : ℕ) → ℕ
 row_in Wide head i = get_or head (FIRST_ROWS + i / 2) 0 / 2 ^ (32 * (i % 2)) % 2 ^ 32
 row_in Narrow head i = get_or head (FIRST_NARROW_ROWS + i / 8) 0 / 2 ^ (8 * (i % 8)) % 2 ^ 8 * 2 ^ 24
 row_in Middle head i = get_or head (FIRST_MIDDLE_ROWS + i / 4) 0 / 2 ^ (16 * (i % 4)) % 2 ^ 16 * 2 ^ 16
@@ -72,7 +73,7 @@ rows_in head = map (row_in (kind_in (numbers_in head)) head) (range_with_len 0 (
 
 -- ---- the words of entries
 -- the first `count` entries in the words of a node's entries
-abbrev pub entries_of : ℕ → List ℕ → List Entry
+abbrev pub entries_of : (count : ℕ) → (tail : List ℕ) → List Entry
 entries_of count tail = take count (map (λ w. unwrap_or (entry_of w) (Leaf 0)) tail)
 
 -- ---- the words of a leaf

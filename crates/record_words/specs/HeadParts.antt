@@ -13,7 +13,7 @@ abbrev pub HasHeadOf : HeadKind → HeadView → Type 0
 HasHeadOf kind head = HasHeadWords head × (kind_of head.columns ≡ kind)
 
 -- each node whose head is of this kind, and has these words in this part, has the property
-abbrev pub InNodesOfKind : HeadKind → (HeadView → List ℕ) → List ℕ → (NodeView → Type 0) → Type 0
+abbrev pub InNodesOfKind : (kind : HeadKind) → (part : HeadView → List ℕ) → (words : List ℕ) → (IsSo : NodeView → Type 0) → Type 0
 InNodesOfKind kind part words IsSo = (node : NodeView) → IsLawfulNode node → kind_of node.columns ≡ kind → part (head_of node) ≡ words → IsSo node
 
 -- the words of a wide head with the numbers and the positions
@@ -42,4 +42,5 @@ pub record AreNumbersOf (numbers : HeadNumbers) (node : NodeView) : Type 0 where
 
 -- each node whose head has these numbers, and this word at this index, has the property
 abbrev pub InNodesWith : HeadNumbers → (index word : ℕ) → (NodeView → Type 0) → Type 0
-InNodesWith numbers index word IsSo = (node : NodeView) → IsLawfulNode node → AreNumbersOf numbers node → slice_index (head_words (head_of node)) index ≡ word → IsSo node
+InNodesWith numbers index word IsSo =
+    (node : NodeView) → IsLawfulNode node → AreNumbersOf numbers node → slice_index (head_words (head_of node)) index ≡ word → IsSo node

@@ -13,8 +13,8 @@ use Rattle.record_words.specs.declared.TheConstants.{FIRST_MIDDLE_ROWS, FIRST_NA
 abbrev pub first_byte : List ℕ → ℕ
 first_byte columns = slice_index columns 0 / 9
 
--- the position is of a bit of one of the sixteen bytes from `first` on, and not the 1 before a byte
-abbrev pub is_near : ℕ → ℕ → Bool
+-- the position is of a bit of one of the sixteen bytes from `first_byte` on, and not the 1 before a byte
+abbrev pub is_near : (first_byte position : ℕ) → Bool
 is_near first p = not (eqb (p % 9) 0) && nat_lt (p / 9) (first + WINDOW_BYTES)
 
 -- the bits at all columns are in sixteen bytes that lie within MAX_BYTES
@@ -54,28 +54,28 @@ abbrev pub kind_in : ℕ → HeadKind
 kind_in word = cond (eqb (word / 2 ^ 40) 1) Narrow (cond (eqb (word / 2 ^ 40) 2) Middle Wide)
 
 -- the index of the word with the position of a column, or with the index of its byte
-abbrev pub position_index : HeadKind → ℕ → ℕ
+abbrev pub position_index : (kind : HeadKind) → (column : ℕ) → ℕ
 position_index Wide column = FIRST_POSITIONS + column / 4
 position_index Narrow column = FIRST_POSITIONS
 position_index Middle column = cond (nat_lt column 8) (FIRST_POSITIONS + 1) FIRST_POSITIONS
 
 -- the index of the word with the mask of a column; for a wide head, that of its position
-abbrev pub mask_index : HeadKind → ℕ → ℕ
+abbrev pub mask_index : (kind : HeadKind) → (column : ℕ) → ℕ
 mask_index Wide column = position_index Wide column
 mask_index Narrow column = position_index Narrow column + 1
 mask_index Middle column = position_index Middle column + 2
 
--- `count` words of these lanes of w bits each, the first lane in the lowest bits of the first word
-unfoldable pub lane_words : ℕ → ℕ → List ℕ → List ℕ
+-- `count` words of lanes of `width` bits each, the first lane in the lowest bits of the first word
+unfoldable pub lane_words : (width count : ℕ) → (lanes : List ℕ) → List ℕ
 lane_words w count lanes = digits_l (2 ^ 64) count (number_l (2 ^ w) lanes)
 
 -- the mask of a position in its byte; 0 for the 1 before a byte
 abbrev pub bit_mask : ℕ → ℕ
 bit_mask p = cond (eqb (p % 9) 0) 0 (2 ^ (8 - p % 9))
 
--- The position that lane i of a near head has: that of column 15 - i. So comparing the lanes gives the highest bits of a dense key. A lane
--- past the last column has the first of the nine bits of the first byte.
-abbrev pub near_position : List ℕ → ℕ → ℕ
+-- The position that a lane of a near head has. Lane i has that of column 15 - i, so that comparing the lanes gives the highest bits of a
+-- dense key. A lane past the last column has the first of the nine bits of the first byte.
+abbrev pub near_position : (columns : List ℕ) → (lane : ℕ) → ℕ
 near_position columns i = slice_index_or columns (15 - i) (9 * first_byte columns)
 
 -- for each lane of a near head, how many bytes behind the first one its byte is
@@ -86,8 +86,8 @@ index_lanes columns = map (λ i. near_position columns i / 9 - first_byte column
 abbrev pub mask_lanes : List ℕ → List ℕ
 mask_lanes columns = map (λ i. bit_mask (near_position columns i)) (range_with_len 0 16)
 
--- How far a position is behind the first of a byte's nine bits, in 16 bits. It is 0 for 65,535, which stands for no column.
-abbrev pub distance_from : ℕ → ℕ → ℕ
+-- How far a position is behind the first of the nine bits of `first_byte`, in 16 bits. It is 0 for 65,535, which stands for no column.
+abbrev pub distance_from : (first_byte position : ℕ) → ℕ
 distance_from first p = cond (eqb p 65535) 0 ((p + (2 ^ 16 - 9 * first % 2 ^ 16)) % 2 ^ 16)
 
 -- the columns can be spelled by the lanes of a near head

@@ -11,7 +11,7 @@ use Rattle.record_words.specs.declared.TheConstants.{EPOCH_WORD, ROOT_WORD, ANCH
 use Rattle.record_words.specs.Leaf.{words_for}
 
 -- The first word of a node record. These records follow the pins, one after another.
-abbrev pub node_start : Layout → ℕ → ℕ
+abbrev pub node_start : (layout : Layout) → (node : ℕ) → ℕ
 node_start layout n = FIRST_PIN + LINE_WORDS * layout.passes + NODE_WORDS * n
 
 -- how many words a leaf record of a class has
@@ -24,13 +24,13 @@ class_size Long = LEAF_WORDS
 
 -- How many words a leaf record has, which its number tells. The short ones come first, then the medium, the large, the wide and the long
 -- ones.
-abbrev pub leaf_size : Layout → ℕ → ℕ
+abbrev pub leaf_size : (layout : Layout) → (leaf : ℕ) → ℕ
 leaf_size layout n =
     if nat_lt n layout.medium_from then SHORT_WORDS else (if nat_lt n layout.large_from then MEDIUM_WORDS else
     (if nat_lt n layout.wide_from then LARGE_WORDS else (if nat_lt n layout.long_from then WIDE_WORDS else LEAF_WORDS)))
 
 -- How many words the leaf records below this number have together. Each has a short one's words, and more from where its class begins.
-abbrev pub words_below : Layout → ℕ → ℕ
+abbrev pub words_below : (layout : Layout) → (leaf : ℕ) → ℕ
 words_below layout n =
     SHORT_WORDS * n + (MEDIUM_WORDS - SHORT_WORDS) * (n - layout.medium_from) + (LARGE_WORDS - MEDIUM_WORDS) * (n - layout.large_from) +
     (WIDE_WORDS - LARGE_WORDS) * (n - layout.wide_from) + (LEAF_WORDS - WIDE_WORDS) * (n - layout.long_from)
@@ -57,7 +57,8 @@ spare_for count = if nat_le count FEW_KEYS then FEW_SPARE else min (LEAST_SPARE 
 -- The stock for so many keys of at most so many bytes. It has a node record for KEYS_A_NODE keys, a leaf record for each key, and one more
 -- for KEYS_A_SPARE_LEAF keys. The spare records are added, but no more leaf records than a table may have.
 abbrev pub stock_for : (count bytes : ℕ) → Stock
-stock_for count bytes = stock_of (count / KEYS_A_NODE + spare_for count) (class_for bytes) (min (count + count / KEYS_A_SPARE_LEAF + spare_for count) (2 ^ 32 - 1))
+stock_for count bytes =
+    stock_of (count / KEYS_A_NODE + spare_for count) (class_for bytes) (min (count + count / KEYS_A_SPARE_LEAF + spare_for count) (2 ^ 32 - 1))
 
 -- How many node records a change claims at most, for keys of at most so many bytes. They are two for each node on its path, and one above.
 -- Each node of a path has a fork, at one of nine positions for each byte.
@@ -67,7 +68,8 @@ most_claims bytes = 18 * min bytes MAX_BYTES + 1
 -- The stock that is enough for any keys of at most so many bytes. It has a node record and a leaf record for each key, and for each pass
 -- those that a change claims. It has no more than a table may have.
 abbrev pub stock_for_any : (count bytes passes : ℕ) → Stock
-stock_for_any count bytes passes = stock_of (min (count + passes * most_claims bytes) (2 ^ 32 - 1)) (class_for bytes) (min (count + passes) (2 ^ 32 - 1))
+stock_for_any count bytes passes =
+    stock_of (min (count + passes * most_claims bytes) (2 ^ 32 - 1)) (class_for bytes) (min (count + passes) (2 ^ 32 - 1))
 
 -- how many leaf records a stock has, of all classes
 abbrev pub leaves_of : Stock → ℕ
@@ -83,7 +85,7 @@ pub record HasStock (layout : Layout) (stock : Stock) : Type 0 where
   pub long : layout.leaves ≡ layout.long_from + stock.long
 
 -- The first word of a leaf record. These records follow the nodes, one after another.
-abbrev pub leaf_start : Layout → ℕ → ℕ
+abbrev pub leaf_start : (layout : Layout) → (leaf : ℕ) → ℕ
 leaf_start layout n = node_start layout layout.nodes + words_below layout n
 
 -- how many words a table has
@@ -115,6 +117,6 @@ pub record IsOnlyAt (layout : Layout) (word : ℕ) (location : Location) : Type 
   pub only : (other : Location) → IsInTable layout other → address layout other ≡ word → other ≡ location
 
 -- the location that stands at this word, and none where none does
-abbrev pub IsLocationOf : Layout → ℕ → Option Location → Type 0
+abbrev pub IsLocationOf : (layout : Layout) → (word : ℕ) → (location : Option Location) → Type 0
 IsLocationOf layout word (Some location) = IsOnlyAt layout word location
 IsLocationOf layout word None = (location : Location) → IsInTable layout location → address layout location ≢ word

@@ -20,8 +20,9 @@ abbrev pub words_for : ℕ → ℕ
 words_for n = KEY_OFFSET + words_of_key n
 
 -- the word at an offset of a leaf record, behind its state
-abbrev pub leaf_word : List ℕ × ℕ → ℕ → ℕ
-leaf_word (key, value) offset = cond (nat_eq offset VALUE_OFFSET) value (cond (nat_eq offset LENGTH_OFFSET) (length key) (key_word key (offset - KEY_OFFSET)))
+abbrev pub leaf_word : (leaf : List ℕ × ℕ) → (offset : ℕ) → ℕ
+leaf_word (key, value) offset =
+    cond (nat_eq offset VALUE_OFFSET) value (cond (nat_eq offset LENGTH_OFFSET) (length key) (key_word key (offset - KEY_OFFSET)))
 
 -- the words of a leaf record behind its state, at offsets 1 to LEAF_FIELDS
 unfoldable pub leaf_words : List ℕ × ℕ → List ℕ
@@ -29,7 +30,8 @@ leaf_words leaf = map (leaf_word leaf) (range_with_len FIELDS_OFFSET LEAF_FIELDS
 
 -- The words of a leaf record without its state, as far as they belong to the leaf. Those behind its key count as 0.
 unfoldable pub up_to_key : List ℕ → List ℕ
-up_to_key words = map (λ i. if nat_lt i (FIRST_KEY_WORD + words_of_key (key_length_in words)) then get_or words i 0 else 0) (range_with_len 0 LEAF_FIELDS)
+up_to_key words =
+    map (λ i. if nat_lt i (FIRST_KEY_WORD + words_of_key (key_length_in words)) then get_or words i 0 else 0) (range_with_len 0 LEAF_FIELDS)
 
 -- the leaf has words: its key is one, and its value has 64 bits
 pub record HasLeafWords (leaf : List ℕ × ℕ) : Type 0 where

@@ -80,7 +80,7 @@ pub record CanCloseAt (words : List ℕ) (node : NodeView) (at sibling : ℕ) (e
   pub is_beside : beside at (piece node) ≡ Some (sibling, position)
   pub stands : StandsBelow node.height entry
 
--- What is left of a node shows this piece: one entry, or a node built anew, which the words spell.
-abbrev pub SpellLeft : List ℕ → Option Entry → Piece Entry → Type 0
+-- What is left of a node shows this piece. It is one entry, `left`, or a node built anew, which the words spell.
+abbrev pub SpellLeft : (words : List ℕ) → (left : Option Entry) → (shown : Piece Entry) → Type 0
 SpellLeft words (Some entry) shown = (shown ≡ Place entry) × IsEntry entry
 SpellLeft words None shown = SpellBuilt words shown

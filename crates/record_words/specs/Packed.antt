@@ -11,17 +11,18 @@ use Rattle.record_words.specs.declared.TheConstants.{HEAD_WORDS}
 abbrev pub meta_word : (count columns height : ℕ) → ℕ
 meta_word count columns height = count + 256 * columns + 65536 * height
 
--- the position of column i, and 65,535 past the last one
-abbrev pub position_at : List ℕ → ℕ → ℕ
+-- the position of this column, and 65,535 past the last one
+abbrev pub position_at : (columns : List ℕ) → (column : ℕ) → ℕ
 position_at columns i = slice_index_or columns i 65535
 
 -- word j of the positions: four of them, from the lowest bits up
 unfoldable pub position_word : List ℕ → ℕ → ℕ
 position_word columns j =
-    position_at columns (4 * j) + 2 ^ 16 * position_at columns (4 * j + 1) + 2 ^ 32 * position_at columns (4 * j + 2) + 2 ^ 48 * position_at columns (4 * j + 3)
+    position_at columns (4 * j) + 2 ^ 16 * position_at columns (4 * j + 1) +
+    2 ^ 32 * position_at columns (4 * j + 2) + 2 ^ 48 * position_at columns (4 * j + 3)
 
--- row i, and 4,294,967,295 past the last one
-abbrev pub row_at : List ℕ → ℕ → ℕ
+-- the row of this number, and 4,294,967,295 past the last one
+abbrev pub row_at : (rows : List ℕ) → (row : ℕ) → ℕ
 row_at rows i = slice_index_or rows i 4294967295
 
 -- word j of the rows in a wide head: two of them, the first in the low half
@@ -35,7 +36,7 @@ column_words Narrow columns = lane_words 8 1 (drop 8 (index_lanes columns)) ++ l
 column_words Middle columns = lane_words 8 2 (index_lanes columns) ++ lane_words 8 2 (mask_lanes columns)
 
 -- the bits of each row above the lowest `low`, as lanes
-abbrev pub row_lanes : ℕ → List ℕ → List ℕ
+abbrev pub row_lanes : (low : ℕ) → (rows : List ℕ) → List ℕ
 row_lanes low rows = map (λ i. row_at rows i / 2 ^ low) (range_with_len 0 MAX_ENTRIES)
 
 -- the words of a head's rows, by its kind
@@ -52,10 +53,11 @@ numbers_word kind count height columns = meta_word count (length columns) height
 abbrev pub unused_words : HeadKind → List ℕ
 unused_words kind = replicate (HEAD_WORDS - head_size kind) (2 ^ 64 - 1)
 
--- the words of a head of this kind
-abbrev pub kind_words : HeadKind → (count height : ℕ) → List ℕ → List ℕ → List ℕ
-kind_words kind count height columns rows = numbers_word kind count height columns ∷ (column_words kind columns ++ (row_words kind rows ++ unused_words kind))
+-- the words of a head of this kind, by its numbers, columns and rows
+abbrev pub kind_words : (kind : HeadKind) → (count height : ℕ) → (columns rows : List ℕ) → List ℕ
+kind_words kind count height columns rows =
+    numbers_word kind count height columns ∷ (column_words kind columns ++ (row_words kind rows ++ unused_words kind))
 
 -- the words of the head with these fields, in the kind that its columns ask for
-unfoldable pub fixed_words : ℕ → ℕ → List ℕ → List ℕ → List ℕ
+unfoldable pub fixed_words : (count height : ℕ) → (columns rows : List ℕ) → List ℕ
 fixed_words count height columns rows = kind_words (kind_of columns) count height columns rows

@@ -2,7 +2,7 @@
 use Rattle.std.specs.Prelude.{◌≡◌, Result, Ok, IfOk}
 
 -- some value of this sort has the spelling `words`
-abbrev pub IsSpelling : {A W : Type 0} → (A → Type 0) → (A → W) → W → Type 0
+abbrev pub IsSpelling : {A W : Type 0} → (IsValue : A → Type 0) → (spelled : A → W) → (words : W) → Type 0
 IsSpelling {A} IsValue spelled words = (x : A) × IsValue x × (spelled x ≡ words)
 
 -- the value is the only one of its sort that has the spelling `words`
