@@ -12,18 +12,18 @@ use Rattle.node_tries.specs.Changes.{AtRootFork}
 use Rattle.insert_cases.specs.declared.growth.Grown.{Grown}
 use Rattle.insert_cases.specs.declared.growth.Grown.TheVariants.{One as Whole, Two}
 
--- the two sides of a cut show these pieces: halves made anew, or the old node as it stands and an entry
-abbrev pub SidesShow : NodeView → Half → Half → Piece Entry → Piece Entry → Type 0
+-- The two sides of a cut show the pieces `zero` and `one`. They are halves made anew, or the old node as it stands beside one entry.
+abbrev pub SidesShow : (old : NodeView) → (first second : Half) → (zero one : Piece Entry) → Type 0
 SidesShow old Same (One entry) zero one = (zero ≡ piece old) × (one ≡ Place entry) × IsEntry entry
 SidesShow old (One entry) Same zero one = (zero ≡ Place entry) × (one ≡ piece old) × IsEntry entry
 SidesShow old first second zero one = HalfShows first zero × HalfShows second one
 
 -- the cut's position is that of the piece's root fork, and its halves show the two sides
-abbrev pub IsCutOf : NodeView → Cut → Piece Entry → Type 0
+abbrev pub IsCutOf : (old : NodeView) → (cut : Cut) → (shown : Piece Entry) → Type 0
 IsCutOf old cut shown = AtRootFork (λ p zero one. (cut.position ≡ p) × SidesShow old cut.zero cut.one zero one) shown
 
 -- what a node has grown to shows this piece: one node built for it, or the two halves of a cut
-abbrev pub GrownShows : NodeView → Grown → Piece Entry → Type 0
+abbrev pub GrownShows : (old : NodeView) → (grown : Grown) → (shown : Piece Entry) → Type 0
 GrownShows old (Whole node) shown = IsBuiltFrom node shown
 GrownShows old (Two cut) shown = IsCutOf old cut shown
 

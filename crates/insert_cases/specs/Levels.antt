@@ -27,5 +27,7 @@ IsPullUp child parent = parent ≡ child + 1
 -- chain below the end is full, and its parent is one higher. The end is topmost, or has room, or its parent is higher still.
 pub record IsChainEnd (way : List PathNode) (level end : ℕ) : Type 0 where
   pub upto : end ≤ level
-  pub pulls : (l : ℕ) (s u : PathNode) → end ≤ l → l < level → slice_get way (l + 1) ≡ Some s → slice_get way l ≡ Some u → (s.count ≡ 32) × IsPullUp s.height u.height
-  pub stops : (l : ℕ) (s u : PathNode) → l + 1 ≡ end → slice_get way end ≡ Some s → slice_get way l ≡ Some u → s.count ≡ 32 → IsPullUp s.height u.height → ⊥
+  pub pulls : (l : ℕ) (s u : PathNode) → end ≤ l → l < level → slice_get way (l + 1) ≡ Some s → slice_get way l ≡ Some u →
+      (s.count ≡ 32) × IsPullUp s.height u.height
+  pub stops : (l : ℕ) (s u : PathNode) → l + 1 ≡ end → slice_get way end ≡ Some s → slice_get way l ≡ Some u →
+      s.count ≡ 32 → IsPullUp s.height u.height → ⊥

@@ -19,8 +19,8 @@ below key (leaf number own_key value) = leaf number own_key value
 below key (node number fixed b) = child key b
 below key (fork position left right) = fork position left right
 
--- the tree to which a key's search has come after so many nodes
-abbrev pub stage : Key → Tree → ℕ → Tree
+-- the tree to which a key's search has come after `nodes` nodes
+abbrev pub stage : (key : Key) → (tree : Tree) → (nodes : ℕ) → Tree
 stage key tree zero = tree
 stage key tree (suc l) = stage key (below key tree) l
 
@@ -33,7 +33,7 @@ pub record IsStep (key : Key) (path_node : PathNode) (n : ℕ) (fixed : Fixed) (
   pub at : path_node.slot ≡ spot key (subtrie tree)
 
 -- the tree begins with a node, and the step tells of it
-abbrev pub IsStepAtTopNode : Key → PathNode → Tree → Type 0
+abbrev pub IsStepAtTopNode : (key : Key) → (path_node : PathNode) → (tree : Tree) → Type 0
 IsStepAtTopNode key path_node (leaf number own_key value) = ⊥
 IsStepAtTopNode key path_node (node number fixed b) = IsStep key path_node number fixed b
 IsStepAtTopNode key path_node (fork position left right) = ⊥
@@ -45,12 +45,12 @@ IsLeaf (node number fixed b) = ⊥
 IsLeaf (fork position left right) = ⊥
 
 -- the steps of a key's search through a tree, down to a leaf
-abbrev pub IsWay : Key → Tree → List PathNode → Type 0
+abbrev pub IsWay : (key : Key) → (tree : Tree) → (way : List PathNode) → Type 0
 IsWay key tree [] = IsLeaf tree
 IsWay key tree (s ∷ ss) = IsStepAtTopNode key s tree × IsWay key (below key tree) ss
 
--- Each fork on the key's path through a body has a lower position than p. Nodes that are entries of the body are not entered.
-abbrev pub WayBelow : ℕ → Key → Tree → Type 0
+-- Each fork on the key's path through a body is at a lower position than this one. Nodes that are entries of the body are not entered.
+abbrev pub WayBelow : (position : ℕ) → (key : Key) → (tree : Tree) → Type 0
 WayBelow p key (leaf number own_key value) = Unit {0}
 WayBelow p key (node number fixed b) = Unit {0}
 WayBelow p key (fork position left right) = (position < p) × MatchBool (bit key position) (WayBelow p key right) (WayBelow p key left)

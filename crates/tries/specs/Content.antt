@@ -11,7 +11,7 @@ pub record Item : Type 0 where
   pub value : ℕ
 
 -- the leaf of this number, key and value
-abbrev pub item : ℕ → Key → ℕ → Item
+abbrev pub item : (number : ℕ) → (key : Key) → (value : ℕ) → Item
 item n key v = record { number = n; key = key; value = v }
 
 -- the leaves of a tree, in order
@@ -46,7 +46,7 @@ pub data IsExchange (x y : Item) : List Item → List Item → Type 0 where
   past_one : {z : Item} {xs ys : List Item} → IsExchange x y xs ys → IsExchange x y (z ∷ xs) (z ∷ ys)
 
 -- The tree's first fork is above the position; a leaf has none, so its stem has no end.
-abbrev pub IsAbove : ℕ → Tree → Type 0
+abbrev pub IsAbove : (position : ℕ) → (tree : Tree) → Type 0
 IsAbove position (leaf number key value) = Unit {0}
 IsAbove position (node number fixed body) = IsAbove position body
 IsAbove position (fork q left right) = position < q

@@ -11,17 +11,17 @@ unfoldable pub bit : Key → ℕ → Bool
 bit key position = bit_of key position
 
 -- The two keys have the same bits before this position.
-abbrev pub AgreeBelow : ℕ → Key → Key → Type 0
+abbrev pub AgreeBelow : (position : ℕ) → (key other : Key) → Type 0
 AgreeBelow position key other = (q : ℕ) → q < position → bit key q ≡ bit other q
 
 -- The two keys part at this position: the first has 0 there, the second 1.
-abbrev pub IsParted : ℕ → Key → Key → Type 0
+abbrev pub IsParted : (position : ℕ) → (key other : Key) → Type 0
 IsParted position key other = AgreeBelow position key other × (bit key position ≡ false) × (bit other position ≡ true)
 
--- The first key comes before the second: where they part, it has 0.
-abbrev pub IsBefore : Key → Key → Type 0
+-- The first key comes before the second: where they first differ, the first has 0.
+abbrev pub IsBefore : (key other : Key) → Type 0
 IsBefore key other = (p : ℕ) × IsParted p key other
 
 -- the first key is the second or comes before it
-abbrev pub IsAtMost : Key → Key → Type 0
+abbrev pub IsAtMost : (key other : Key) → Type 0
 IsAtMost key other = (key ≡ other) ⊎ IsBefore key other

@@ -5,13 +5,13 @@ use Rattle.node_tries.specs.Piece.{Place, Fork}
 use Rattle.tries.specs.Tree.{Fixed, Subtrie, Tree, node, fork}
 
 -- a fork of two trees, if both are there
-abbrev pub join_fork : ℕ → Option Tree → Option Tree → Option Tree
+abbrev pub join_fork : (position : ℕ) → (left right : Option Tree) → Option Tree
 join_fork position (Some a) (Some b) = Some (fork position a b)
 join_fork p (Some tree) None = None
 join_fork p None tree = None
 
--- a node around a body, if it is there
-abbrev pub join_node : ℕ → Fixed → Option Tree → Option Tree
+-- a node around a body, if the body is there
+abbrev pub join_node : (number : ℕ) → (fixed : Fixed) → (body : Option Tree) → Option Tree
 join_node n fixed (Some tree) = Some (node n fixed tree)
 join_node n fixed None = None
 

@@ -35,15 +35,15 @@ pub data Kin : Tree → Tree → Type 0 where
   forks : {p : ℕ} {a b c d : Tree} → ((key other : Key) → Has a key ⊎ Has b key → Has c other ⊎ Has d other → AgreeBelow p key other) →
       Kin a c → Kin b d → Kin (fork p a b) (fork p c d)
 
--- The position of the fork between slots i and j of a subtrie, i below j.
-abbrev pub between : Subtrie → ℕ → ℕ → ℕ
+-- The position of the fork between two slots of a subtrie, the first below the second.
+abbrev pub between : (trie : Subtrie) → (first second : ℕ) → ℕ
 between (Place entry) i j = 0
 between (Fork position left right) i j =
     if nat_lt j (size left) then between left i j
     else (if nat_lt i (size left) then position else between right (i - size left) (j - size left))
 
--- The key is below entry `i` of the body.
-abbrev pub IsUnder : Tree → ℕ → Key → Type 0
+-- The key is in the tree that stands in this slot of the body.
+abbrev pub IsUnder : (tree : Tree) → (slot : ℕ) → (key : Key) → Type 0
 IsUnder (leaf number own_key value) i key = (i ≡ 0) × Has (leaf number own_key value) key
 IsUnder (node number fixed body) i key = (i ≡ 0) × Has (node number fixed body) key
 IsUnder (fork position left right) i key = IsUnder left i key ⊎ ((j : ℕ) × (i ≡ size (subtrie left) + j) × IsUnder right j key)

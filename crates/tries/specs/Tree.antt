@@ -37,7 +37,7 @@ Has (node number fixed body) key = Has body key
 Has (fork position left right) key = Has left key ⊎ Has right key
 
 -- A leaf of the tree has the key and the value.
-abbrev pub Holds : Tree → Key → ℕ → Type 0
+abbrev pub Holds : (tree : Tree) → (key : Key) → (value : ℕ) → Type 0
 Holds (leaf number own_key value) key w = (key ≡ own_key) × (w ≡ value)
 Holds (node number fixed body) key w = Holds body key w
 Holds (fork position left right) key w = Holds left key w ⊎ Holds right key w
@@ -57,8 +57,8 @@ abbrev pub IsFork : Tree → Type 0
 IsFork (fork position left right) = Unit {0}
 IsFork tree = ⊥
 
--- The heights of the entries are below `h`, a leaf counting 0.
-abbrev pub IsLower : ℕ → Tree → Type 0
+-- The heights of the entries are below this one, a leaf counting 0.
+abbrev pub IsLower : (height : ℕ) → (tree : Tree) → Type 0
 IsLower h (leaf number key value) = 0 < h
 IsLower height (node number fixed body) = fixed.height < height
 IsLower h (fork position left right) = IsLower h left × IsLower h right
