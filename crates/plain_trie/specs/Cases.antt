@@ -8,12 +8,12 @@ use Rattle.plain_trie_records.specs.Cases.{AddsByCase, IsNewNode}
 use Rattle.plain_trie.specs.Views.{PlainView, shown_tree}
 
 -- where a fork rises from the root, the new root is a new node
-abbrev pub MakesRoot : PlainView → PlainView → Bool → Type 0
+abbrev pub MakesRoot : (old new : PlainView) → (up : Bool) → Type 0
 MakesRoot old new up = up ≡ true → MatchOption new.top ⊥ (IsNewNode (length old.nodes))
 
--- An absent key was added, whose search ended at a leaf. It has the next leaf record. The nodes were changed as the case of the node that
--- it affects says, up to the root.
-abbrev pub TakesCase : PlainView → PlainView → Key → Type 0
+-- An absent key was added, and has the next leaf record. The nodes were changed up to the root, as the case of the node that the key
+-- affects says.
+abbrev pub TakesCase : (old new : PlainView) → (key : Key) → Type 0
 TakesCase old new key =
     (tree : Tree) → shown_tree old ≡ Some tree →
     (p : ℕ) × IsFirstDifference key (found key tree).key p ×

@@ -25,17 +25,17 @@ abbrev pub LacksRoom : PlainView → Type 0
 LacksRoom plain = IsAtLimit plain ⊎ MustGrow plain
 
 -- no vector has less room than before
-abbrev pub KeepsRoom : PlainView → PlainView → Type 0
+abbrev pub KeepsRoom : (old new : PlainView) → Type 0
 KeepsRoom old new = (old.node_capacity ≤ new.node_capacity) × (old.leaf_capacity ≤ new.leaf_capacity)
 
 -- nothing has changed but that the vector of the leaves may have got more room
-abbrev pub IsUnchanged : PlainView → PlainView → Type 0
+abbrev pub IsUnchanged : (old new : PlainView) → Type 0
 IsUnchanged old new = new ≡ record old { leaf_capacity = new.leaf_capacity }
 
 -- the call was answered as on the finite map, and the trie is the map after it
-abbrev pub IsTrieAnswer : Call → PlainView → PlainView → Reply → Type 0
+abbrev pub IsTrieAnswer : (call : Call) → (old new : PlainView) → (reply : Reply) → Type 0
 IsTrieAnswer call old new reply = (reply ≡ reply_of (trie_map old) call) × (trie_map new ≡ map_after (trie_map old) call)
 
 -- the call would have added its key, for which there was no room, and the trie is unchanged
-abbrev pub IsOutOfMemory : Call → PlainView → PlainView → Type 0
+abbrev pub IsOutOfMemory : (call : Call) → (old new : PlainView) → Type 0
 IsOutOfMemory call old new = AddsKey (trie_map old) call × LacksRoom old × IsUnchanged old new

@@ -56,6 +56,6 @@ pub record EndsAt (plain : PlainView) (entry : Entry) (key : Key) (n : ℕ) : Ty
   pub number : (found key tree).number ≡ n
   pub at : slice_get plain.leaves n ≡ Some (item_record (found key tree))
 
--- the key's search ends at leaf record n, which has the key
-abbrev pub IsHeldInLeaf : PlainView → Key → ℕ → Type 0
+-- the key's search ends at the leaf record of this number, which has the key
+abbrev pub IsHeldInLeaf : (plain : PlainView) → (key : Key) → (number : ℕ) → Type 0
 IsHeldInLeaf plain key n = (entry : Entry) × (end : EndsAt plain entry key n) × ((found key end.tree).key ≡ key)

@@ -24,15 +24,15 @@ use Rattle.plain_trie_records.specs.Heights.{Remains}
 abbrev pub IsOneSide : NodeView → Subtrie → Type 0
 IsOneSide view shown = AtRootFork (λ p zero one. (piece view ≡ zero) ⊎ (piece view ≡ one)) shown
 
--- What became of the affected node in its record, where with the leaf it would show this subtrie. In a leaf pushdown a new node over leaves
--- stands in place of its one affected leaf. In the other cases it has the leaf itself, or it was cut, and one side is left.
-abbrev pub IsCaseDone : Case → NodeView → NodeView → ℕ → Subtrie → Type 0
+-- What became of the affected node, which with the leaf would show the subtrie `shown`. In a leaf pushdown a new node over leaves stands in
+-- place of its one affected leaf. In the other cases it has the leaf itself, or it was cut, and one side is left.
+abbrev pub IsCaseDone : (case : Case) → (old new : NodeView) → (first : ℕ) → (shown : Subtrie) → Type 0
 IsCaseDone LeafPushdown old new first shown = (number : ℕ) × (new ≡ record old { entries = slice_set old.entries first (Node number 1) })
 IsCaseDone NormalInsert old new first shown = IsBuiltFrom new shown
 IsCaseDone Overflow old new first shown = IsOneSide new shown
 
--- the record of this number has what became of the affected node in this case
-abbrev pub DoesCase : List NodeView → ℕ → Case → NodeView → ℕ → Subtrie → Type 0
+-- The record of this number has what became of the affected node, as `IsCaseDone` says.
+abbrev pub DoesCase : (nodes : List NodeView) → (number : ℕ) → (case : Case) → (old : NodeView) → (first : ℕ) → (shown : Subtrie) → Type 0
 DoesCase nodes n case old first shown = (new : NodeView) × (slice_get nodes n ≡ Some new) × IsCaseDone case old new first shown
 
 -- ---- above the affected node
@@ -57,14 +57,15 @@ pub record TakesFork (old new : NodeView) (at : ℕ) (up : Bool) : Type 0 where
   pub full : length old.entries ≡ 32 → IsOneSide new (grafted at (Fork position (Place zero_entry) (Place one_entry)) (piece old)) × (up ≡ true)
 
 -- the node has a node in slot `at`, and is otherwise as it was
-abbrev pub HasNodeAt : NodeView → NodeView → ℕ → Type 0
+abbrev pub HasNodeAt : (old new : NodeView) → (at : ℕ) → Type 0
 HasNodeAt old new at = (number : ℕ) × (height : ℕ) × (new ≡ record old { entries = slice_set old.entries at (Node number height) })
 
 -- What becomes of a node above a child of this height. A fork that rose goes into it if that is a pull up. Otherwise a new node in the
 -- child's slot has the fork, and nothing goes up. If none rose, at most one slot has another entry.
-abbrev pub IsLevelDone : (low : ℕ) → Bool → NodeView → NodeView → (at : ℕ) → Bool → Type 0
+abbrev pub IsLevelDone : (low : ℕ) → (rose : Bool) → (old new : NodeView) → (at : ℕ) → (up : Bool) → Type 0
 IsLevelDone low false old new at up = Remains old new × (up ≡ false)
-IsLevelDone low true old new at up = (IsPullUp low old.height → TakesFork old new at up) × ((IsPullUp low old.height → ⊥) → HasNodeAt old new at × (up ≡ false))
+IsLevelDone low true old new at up =
+    (IsPullUp low old.height → TakesFork old new at up) × ((IsPullUp low old.height → ⊥) → HasNodeAt old new at × (up ≡ false))
 
 -- the record of this number has what becomes of a node at one level above the affected one
 pub record DoesLevel (old new : List NodeView) (n low at : ℕ) (rose up : Bool) : Type 0 where
@@ -74,9 +75,9 @@ pub record DoesLevel (old new : List NodeView) (n low at : ℕ) (rose up : Bool)
   pub new_at : slice_get new n ≡ Some after
   pub does : IsLevelDone low rose before after at up
 
--- Each node on the key's path has become what its level asks, from so many levels below t up to t. `low` says whether a fork rose to the
--- lowest, `up` whether one rises from t.
-abbrev pub DoesLevels : List NodeView → List NodeView → Key → ℕ → Tree → Bool → Bool → Type 0
+-- Each node on the key's path has become what its level asks, up to the tree's top, from so many levels below it. `low` says whether a fork
+-- rose to the lowest of these nodes, `up` whether one rises from the top.
+abbrev pub DoesLevels : (old new : List NodeView) → (key : Key) → (levels : ℕ) → (tree : Tree) → (low up : Bool) → Type 0
 DoesLevels old new key zero t low up = up ≡ low
 DoesLevels old new key (suc l) (leaf number own_key value) low up = ⊥
 DoesLevels old new key (suc l) (node number fixed body) low up =
@@ -95,15 +96,15 @@ pub record IsByCase (old new : List NodeView) (key : Key) (position number : ℕ
   pub does : DoesCase new affected.number choice.case view choice.first (grown position (bit key position) (Leaf number) choice.first (piece view))
   pub rises : DoesLevels old new key choice.level t (is_overflow choice.case) up
 
--- The records before and after a new leaf was added below t, by the case of the node that it affects. A leaf alone gives way to a fork of
--- itself and the new one.
-abbrev pub AddsByCase : List NodeView → List NodeView → Key → ℕ → ℕ → Tree → Bool → Type 0
+-- The records before and after a new leaf was added to the tree, by the case of the node that it affects. `up` says whether a fork rises
+-- from the top. A leaf alone gives way to a fork of itself and the new one.
+abbrev pub AddsByCase : (old new : List NodeView) → (key : Key) → (position number : ℕ) → (tree : Tree) → (up : Bool) → Type 0
 AddsByCase old new key p number (leaf n own_key value) up = up ≡ true
 AddsByCase old new key p number (node n fixed body) up = IsByCase old new key p number (node n fixed body) up
 AddsByCase old new key p number (fork position left right) up = Unit {0}
 
 -- the entry is a node whose number is `count` or more
-abbrev pub IsNewNode : ℕ → Entry → Type 0
+abbrev pub IsNewNode : (count : ℕ) → (entry : Entry) → Type 0
 IsNewNode count (Leaf number) = ⊥
 IsNewNode count (Node number height) = count ≤ number
 

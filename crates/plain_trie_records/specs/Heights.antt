@@ -8,7 +8,7 @@ use Rattle.insert_cases.specs.declared.growth.Grown.{Grown}
 use Rattle.insert_cases.specs.declared.growth.Grown.TheVariants.{One as Whole, Two}
 
 -- the node is as it was, or has another entry in one slot; its stored height is the same
-abbrev pub Remains : NodeView → NodeView → Type 0
+abbrev pub Remains : (old new : NodeView) → Type 0
 Remains old new = (new ≡ old) ⊎ ((place : ℕ) × (entry : Entry) × (new ≡ record old { entries = slice_set old.entries place entry }))
 
 -- the stored height of a node at the time when it is built: one above the greatest of its entries, a leaf counting 0
@@ -16,7 +16,7 @@ abbrev pub HasHeightAnew : NodeView → Type 0
 HasHeightAnew node = node.height ≡ 1 + greatest_height node.entries
 
 -- a node with the same forks has the same stored height
-abbrev pub KeepsHeight : NodeView → NodeView → Type 0
+abbrev pub KeepsHeight : (old new : NodeView) → Type 0
 KeepsHeight old new = new.columns ≡ old.columns → new.rows ≡ old.rows → new.height ≡ old.height
 
 -- No record goes away. Each has a node that remains, or one that was built. Where its forks are as before, so is its stored height.

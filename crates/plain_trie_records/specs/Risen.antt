@@ -19,23 +19,24 @@ pub record IsNamed (nodes : List NodeView) (old : NodeView) (entry : Entry) (sho
   pub is : entry ≡ Node number view.height
   pub lawful : IsLawfulNode view
   pub shows : piece view ≡ shown
-  pub height : (view.height ≡ 1 + greatest_height (places shown)) ⊎ ((view.height ≡ old.height) × (first_position (piece view) ≡ first_position (piece old)))
+  pub height : (view.height ≡ 1 + greatest_height (places shown)) ⊎
+      ((view.height ≡ old.height) × (first_position (piece view) ≡ first_position (piece old)))
 
 -- the entry stands for the subtrie: it is the subtrie itself, or names a node that shows it
-abbrev pub IsFor : List NodeView → NodeView → Entry → Subtrie → Type 0
+abbrev pub IsFor : (nodes : List NodeView) → (old : NodeView) → (entry : Entry) → (shown : Subtrie) → Type 0
 IsFor nodes old entry shown = (shown ≡ Place entry) ⊎ IsNamed nodes old entry shown
 
 -- what has risen shows this subtrie: one entry, or two sides of a fork
-abbrev pub RisenShows : List NodeView → NodeView → Risen → Subtrie → Type 0
+abbrev pub RisenShows : (nodes : List NodeView) → (old : NodeView) → (risen : Risen) → (shown : Subtrie) → Type 0
 RisenShows nodes old (Whole entry) shown = IsNamed nodes old entry shown
 RisenShows nodes old (Split position zero one) shown = AtRootFork (λ p a b. (position ≡ p) × IsFor nodes old zero a × IsFor nodes old one b) shown
 
--- all nodes but one stay, and new ones may come
-abbrev pub OthersStay : List NodeView → List NodeView → ℕ → Type 0
+-- all nodes but that of this number stay, and new ones may come
+abbrev pub OthersStay : (old new : List NodeView) → (number : ℕ) → Type 0
 OthersStay old new n = (m : ℕ) (view : NodeView) → n ≢ m → slice_get old m ≡ Some view → slice_get new m ≡ Some view
 
 -- all nodes stay, and new ones may come
-abbrev pub AllStay : List NodeView → List NodeView → Type 0
+abbrev pub AllStay : (old new : List NodeView) → Type 0
 AllStay old new = (m : ℕ) (view : NodeView) → slice_get old m ≡ Some view → slice_get new m ≡ Some view
 
 -- the nodes with a half behind them; none is added for an entry alone
@@ -45,19 +46,19 @@ pushed_nodes nodes (Many node) = nodes ++ node ∷ []
 pushed_nodes nodes Same = nodes
 
 -- the entry of a half that was added as the node of this number
-abbrev pub pushed_entry : ℕ → Entry → Half → Entry
+abbrev pub pushed_entry : (number : ℕ) → (old : Entry) → (half : Half) → Entry
 pushed_entry number old (One entry) = entry
 pushed_entry number old (Many node) = Node number node.height
 pushed_entry number old Same = old
 
 -- the nodes with a half in place of node `number`
-abbrev pub kept_nodes : List NodeView → ℕ → Half → List NodeView
+abbrev pub kept_nodes : (nodes : List NodeView) → (number : ℕ) → (half : Half) → List NodeView
 kept_nodes nodes number (One entry) = nodes
 kept_nodes nodes number (Many node) = slice_set nodes number node
 kept_nodes nodes number Same = nodes
 
 -- the entry of a half that took the place of the node of this number
-abbrev pub kept_entry : ℕ → Entry → Half → Entry
+abbrev pub kept_entry : (number : ℕ) → (old : Entry) → (half : Half) → Entry
 kept_entry number old (One entry) = entry
 kept_entry number old (Many node) = Node number node.height
 kept_entry number old Same = old

@@ -16,13 +16,13 @@ use Rattle.plain_trie_records.specs.Store.{ShowsTree, item_record}
 use Rattle.insert_cases.specs.Ways.{WayBelow}
 
 -- no node of the tree has this number
-abbrev pub NoNode : ℕ → Tree → Type 0
+abbrev pub NoNode : (number : ℕ) → (tree : Tree) → Type 0
 NoNode n (leaf number key value) = Unit {0}
 NoNode n (node number fixed body) = (n ≢ number) × NoNode n body
 NoNode n (fork position left right) = NoNode n left × NoNode n right
 
--- the nodes whose numbers don't stand in the tree stay
-abbrev pub StaysStored : List NodeView → List NodeView → Tree → Type 0
+-- each node whose number doesn't stand in the tree stays as it was
+abbrev pub StaysStored : (old new : List NodeView) → (tree : Tree) → Type 0
 StaysStored old new tree = (n : ℕ) (view : NodeView) → NoNode n tree → slice_get old n ≡ Some view → slice_get new n ≡ Some view
 
 -- In place of s the new nodes show a tree with one leaf more. It begins with this subtrie, and its entries are lower than h. All nodes but
@@ -67,7 +67,8 @@ abbrev pub level : (number height at low : ℕ) → Level
 level number height at low = record { number = number; height = height; at = at; low = low }
 
 -- A new leaf was added below a node of the old records, as far up as the child on the key's path. This subtrie takes the child's place.
-pub record IsLifting (old : Records) (new : List NodeView) (item : Item) (p : ℕ) (l : Level) (fixed : Fixed) (tree : Tree) (head : Subtrie) : Type 0 where
+pub record IsLifting (old : Records) (new : List NodeView) (item : Item) (p : ℕ) (l : Level)
+    (fixed : Fixed) (tree : Tree) (head : Subtrie) : Type 0 where
   pub trie : IsTrie tree
   pub built : IsBuilt (node l.number fixed tree)
   pub shown : ShowsTree old.nodes old.leaves (node l.number fixed tree)

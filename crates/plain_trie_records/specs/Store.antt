@@ -16,18 +16,18 @@ pub record IsNodeStored (nodes : List NodeView) (n : ℕ) (x : Fixed) (trie : Su
   pub shows : piece view ≡ trie
 
 -- the records show the tree
-abbrev pub ShowsTree : List NodeView → List LeafRecord → Tree → Type 0
+abbrev pub ShowsTree : (nodes : List NodeView) → (leaves : List LeafRecord) → (tree : Tree) → Type 0
 ShowsTree nodes leaves (leaf number key value) = slice_get leaves number ≡ Some (record { key = key; value = value })
 ShowsTree nodes leaves (node number fixed body) = IsNodeStored nodes number fixed (subtrie body) × ShowsTree nodes leaves body
 ShowsTree nodes leaves (fork position left right) = ShowsTree nodes leaves left × ShowsTree nodes leaves right
 
--- the tree of a node, read by what its entries show, if it has this height
-abbrev pub read_node : (Entry → Option Tree) → ℕ → ℕ → Option NodeView → Option Tree
+-- the tree of the node of this number, by what its entries show; none, if it has another height
+abbrev pub read_node : (entry_shows : Entry → Option Tree) → (number height : ℕ) → (view : Option NodeView) → Option Tree
 read_node f n h (Some view) = if nat_eq view.height h then join_node n (head_of view) (read_subtrie f (piece view)) else None
 read_node f n h None = None
 
--- the tree that an entry shows in these records, read down to a bounded depth
-abbrev pub entry_tree : List NodeView → List LeafRecord → ℕ → Entry → Option Tree
+-- the tree that an entry shows in these records; none, if one of its paths has more than `depth` nodes
+abbrev pub entry_tree : (nodes : List NodeView) → (leaves : List LeafRecord) → (depth : ℕ) → (entry : Entry) → Option Tree
 entry_tree nodes leaves f (Leaf number) = option_map (λ (l : LeafRecord). leaf number l.key l.value) (slice_get leaves number)
 entry_tree nodes leaves zero (Node number height) = None
 entry_tree nodes leaves (suc f) (Node number height) = read_node (entry_tree nodes leaves f) number height (slice_get nodes number)
