@@ -16,17 +16,17 @@ use Rattle.packed_pairs.specs.declared.direction.Direction.TheVariants.{Upwards,
 -- Places. A walk stands at a gap between the entries of a node, before the first or behind the last: gap i is left of place i.
 
 -- the gap before the entry in slot `place`, in this direction
-abbrev pub gap_before : Direction → ℕ → ℕ
+abbrev pub gap_before : (direction : Direction) → (place : ℕ) → ℕ
 gap_before Upwards place = place
 gap_before Downwards place = suc place
 
 -- the gap behind the entry in slot `place`, in this direction
-abbrev pub gap_behind : Direction → ℕ → ℕ
+abbrev pub gap_behind : (direction : Direction) → (place : ℕ) → ℕ
 gap_behind Upwards place = suc place
 gap_behind Downwards place = place
 
 -- the gap at which a scan enters a node with so many entries
-abbrev pub first_gap : Direction → ℕ → ℕ
+abbrev pub first_gap : (direction : Direction) → (count : ℕ) → ℕ
 first_gap Upwards count = 0
 first_gap Downwards count = count
 
@@ -48,12 +48,12 @@ place_ahead Downwards gap entries = gap - suc entries
 -- Keys
 
 -- a scan comes to the first key before it comes to the second
-abbrev pub IsEarlier : Direction → Key → Key → Type 0
+abbrev pub IsEarlier : (direction : Direction) → (key other : Key) → Type 0
 IsEarlier Upwards key other = IsBefore key other
 IsEarlier Downwards key other = IsBefore other key
 
 -- a scan comes to the first key before the second, or the two are one
-abbrev pub IsNoLater : Direction → Key → Key → Type 0
+abbrev pub IsNoLater : (direction : Direction) → (key other : Key) → Type 0
 IsNoLater Upwards key other = IsAtMost key other
 IsNoLater Downwards key other = IsAtMost other key
 
@@ -81,30 +81,30 @@ WasPassed Downwards gap place = gap ≤ place
 
 -- What a scan knows. In its lowest node, whose frame is the first one, it is at a gap; in the others at the place of an entry.
 
--- the key may stand in a slot of the node that was passed at this gap
-abbrev pub MayStandPassed : Direction → Past → ℕ → ℕ → ℕ → Key → Type 0
+-- the key may stand in a slot of the node that the scan has passed at this gap
+abbrev pub MayStandPassed : (direction : Direction) → (past : Past) → (since node gap : ℕ) → (key : Key) → Type 0
 MayStandPassed direction past m r gap key = (j : ℕ) × WasPassed direction gap j × MayStandAt past m r j key
 
 -- the key may stand before the slot in which the scan is, in the node of one of the frames
-abbrev pub MayStandBeforeFrames : Direction → Past → ℕ → Key → List Frame → Type 0
+abbrev pub MayStandBeforeFrames : (direction : Direction) → (past : Past) → (since : ℕ) → (key : Key) → (frames : List Frame) → Type 0
 MayStandBeforeFrames direction past m key [] = ⊥
 MayStandBeforeFrames direction past m key (f ∷ fs) =
     MayStandPassed direction past m f.number (gap_before direction f.place) key ⊎ MayStandBeforeFrames direction past m key fs
 
 -- the scan has passed a slot in which the key may stand, in the node of one of its frames
-abbrev pub HasPassed : Direction → Past → ℕ → Key → List Frame → Type 0
+abbrev pub HasPassed : (direction : Direction) → (past : Past) → (since : ℕ) → (key : Key) → (frames : List Frame) → Type 0
 HasPassed direction past m key [] = ⊥
 HasPassed direction past m key (f ∷ fs) = MayStandPassed direction past m f.number f.place key ⊎ MayStandBeforeFrames direction past m key fs
 
 -- the node of one of the frames had the key below it, behind the slot in which the scan is
-abbrev pub ComesOnWay : Direction → Past → ℕ → Key → List Frame → Type 0
+abbrev pub ComesOnWay : (direction : Direction) → (past : Past) → (since : ℕ) → (key : Key) → (frames : List Frame) → Type 0
 ComesOnWay direction past m key [] = ⊥
 ComesOnWay direction past m key (f ∷ fs) =
     (HadKeyBelow past m key (a_node f.number) × IsToCome direction (gap_behind direction f.place) (spot key f.shape)) ⊎
     ComesOnWay direction past m key fs
 
 -- the scan has the key still before it, in the node of one of its frames
-abbrev pub Comes : Direction → Past → ℕ → Key → List Frame → Type 0
+abbrev pub Comes : (direction : Direction) → (past : Past) → (since : ℕ) → (key : Key) → (frames : List Frame) → Type 0
 Comes direction past m key [] = ⊥
 Comes direction past m key (f ∷ fs) =
     (HadKeyBelow past m key (a_node f.number) × IsToCome direction f.place (spot key f.shape)) ⊎ ComesOnWay direction past m key fs
@@ -132,8 +132,8 @@ pub record IsComplete (direction : Direction) (past : Past) (m : ℕ) (range : R
   pub short : length xs ≤ range.limit
   pub covered : (key : Key) → IsKeptSince past m key → IsInRange range key → IsKeyListed key xs
 
--- the scan has reached the key: it is that of the newest pair, or earlier
-abbrev pub IsReachedBy : Direction → Key → List Pair → Type 0
+-- The scan has reached the key: it is no later than that of the newest pair, which stands first.
+abbrev pub IsReachedBy : (direction : Direction) → (key : Key) → (taken : List Pair) → Type 0
 IsReachedBy direction key [] = ⊥
 IsReachedBy direction key (x ∷ xs) = IsNoLater direction key x.key
 
@@ -147,18 +147,18 @@ pub record IsCut (direction : Direction) (past : Past) (m : ℕ) (range : Range)
   pub further : (key : Key) × (v : ℕ) × IsInRange range key × IsHeldSince past m key v × Every (λ x. IsEarlier direction x.key key) xs
   pub covered : (key : Key) → IsKeptSince past m key → IsInRange range key → IsReachedBy direction key xs → IsKeyListed key xs
 
--- a scan without `more` is complete, and one with `more` was cut at the limit
-abbrev pub IsAnswer : Direction → Past → ℕ → Range → List Pair → Bool → Type 0
+-- Without `more` the scan is complete, and with `more` it was cut at its limit.
+abbrev pub IsAnswer : (direction : Direction) → (past : Past) → (since : ℕ) → (range : Range) → (taken : List Pair) → (more : Bool) → Type 0
 IsAnswer direction past m range xs false = IsComplete direction past m range xs
 IsAnswer direction past m range xs true = IsCut direction past m range xs
 
--- Each key that may stand behind this gap of the node comes later than `key`. It does so while the past grows.
-abbrev pub IsPastKey : Direction → Past → ℕ → Key → ℕ → ℕ → Type 0
+-- Each key that may stand behind this gap of the node comes later than `key`, and does so however the past grows.
+abbrev pub IsPastKey : (direction : Direction) → (past : Past) → (since : ℕ) → (key : Key) → (node gap : ℕ) → Type 0
 IsPastKey direction old m key r gap =
     (new : Past) → IsGrown old new → KeepsFixedWordsSince new m → (j : ℕ) (z : Key) → IsToCome direction gap j → MayStandAt new m r j z →
     IsEarlier direction key z
 
--- What is said of a scan: of the fronts before and after it, its first and last key, its limit, and what it found.
+-- What is said of a scan. The fronts are those before and after it, and the keys its first and last one.
 abbrev pub ScanLaw : Type 1
 ScanLaw = List Change → List Change → Key → Key → ℕ → Scan → Type 0
 

@@ -23,7 +23,7 @@ pub record IsNewSubtrie (core : BareCore) (q m : ℕ) (fixed : Fixed) (trie : Su
   pub lower : IsLowerSubtrie fixed.height trie
   pub fit : IsFit fixed trie
 
--- The entry for a subtrie: the subtrie itself if it is one entry, or a new node of it.
+-- The entry for a subtrie: the one entry that the subtrie is, or that of a new node that shows the subtrie.
 pub data IsEntryFor (core : BareCore) (pass : ℕ) (trie : Subtrie) : Entry → Type 0 where
   alone : (e : Entry) → trie ≡ Place e → IsEntryFor core pass trie e
   in_node : (m : ℕ) (fixed : Fixed) → IsNewSubtrie core pass m fixed trie → IsEntryFor core pass trie (Node m fixed.height)
@@ -58,7 +58,8 @@ pub data IsRise (core : BareCore) (q : ℕ) (newcomer : Newcomer) : Side → Sub
       IsRise core q newcomer (entry n) (Fork f (Place d) (Place e))
   -- the lowest node stays whole, and the new leaf stands beside it
   stays_whole : (n : ℕ) → IsFoundBelow core q newcomer n → FirstForkIsFrom newcomer.mismatch (core.heap.nodes n).subtrie →
-      IsRise core q newcomer (entry n) (subtrie_forked (bit newcomer.item.key newcomer.mismatch) newcomer.mismatch (Leaf newcomer.item.number) (Place (Node n (core.heap.nodes n).fixed.height)))
+      IsRise core q newcomer (entry n) (subtrie_forked (bit newcomer.item.key newcomer.mismatch) newcomer.mismatch (Leaf newcomer.item.number)
+      (Place (Node n (core.heap.nodes n).fixed.height)))
   -- a fork in a node of its own: an intermediate node, a new root
   wraps : (n : ℕ) (r : Subtrie) (m : ℕ) (fixed : Fixed) → IsRise core q newcomer (entry n) r → IsNewSubtrie core q m fixed r →
       IsRise core q newcomer (entry n) (Place (Node m fixed.height))

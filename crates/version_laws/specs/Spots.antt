@@ -30,9 +30,9 @@ abbrev pub IsLowAt : {c : BareCore} {q : ℕ} {k : Key} {d : Entry} → HoldsSpo
 IsLowAt (by_anchor lock root) entry = Unit {0}
 IsLowAt {c = c} (by_node o locked names) entry = IsLowerSubtrie (c.heap.nodes o).fixed.height (Place entry)
 
--- An insertion affects no more of the subtrie `x` than the entry on the key's path, with the subtrie `r` below it. The first fork of `r` is
--- before `p`, where the key first differs, or one entry of `x` is affected.
-abbrev pub AffectsOne : ℕ → Key → Subtrie → Subtrie → Type 0
+-- An insertion affects no more of a subtrie than the entry on the key's path, with the subtrie `below` it. Either the first fork below is
+-- before the position where the key first differs, or the affected part is one entry.
+abbrev pub AffectsOne : (position : ℕ) → (key : Key) → (trie below : Subtrie) → Type 0
 AffectsOne p key x r = FirstForkIsBefore p r ⊎ IsTipSubtrie (subtrie_affected p key x)
 
 -- What there is below an entry: the subtrie of a node, or the leaf alone.
@@ -40,13 +40,14 @@ abbrev pub subtrie_below : Heap → Entry → Subtrie
 subtrie_below heap (Leaf number) = Place (Leaf number)
 subtrie_below heap (Node number height) = (heap.nodes number).subtrie
 
--- An insertion affects no more of a node than the entry at the spot, where the key first differs at `p`.
-abbrev pub AffectsSpotAloneInCore : {c : BareCore} {q : ℕ} {k : Key} {d : Entry} → HoldsSpot c q k d → ℕ → Type 0
+-- An insertion affects no more of a node than the entry at the spot, where the key first differs at this position.
+abbrev pub AffectsSpotAloneInCore : {c : BareCore} {q : ℕ} {k : Key} {d : Entry} → (spot : HoldsSpot c q k d) → (position : ℕ) → Type 0
 AffectsSpotAloneInCore (by_anchor lock root) p = Unit {0}
 AffectsSpotAloneInCore {c = c} {k = k} {d = d} (by_node o locked names) p = AffectsOne p k (c.heap.nodes o).subtrie (subtrie_below c.heap d)
 
 -- A store of this entry at the spot, and of nothing else, makes this heap and this root.
-abbrev pub IsStoredAt : {c : BareCore} {q : ℕ} {k : Key} {d : Entry} → HoldsSpot c q k d → Heap → Option Entry → Entry → Type 0
+abbrev pub IsStoredAt : {c : BareCore} {q : ℕ} {k : Key} {d : Entry} →
+    (spot : HoldsSpot c q k d) → (heap : Heap) → (root : Option Entry) → (entry : Entry) → Type 0
 IsStoredAt {c = c} (by_anchor lock root) heap top entry = (heap ≡ c.heap) × (top ≡ Some entry)
 IsStoredAt {c = c} {k = k} (by_node o locked names) heap top entry =
     IsSubtrieStored c.heap heap o (with_entry (c.heap.nodes o).subtrie (spot k (c.heap.nodes o).subtrie) entry) × (top ≡ c.root)

@@ -114,8 +114,8 @@ GetEnds =
     ((key ≡ (state.heap.leaves n).key) × IsHeldSince state.past since key (state.heap.leaves n).value) ⊎
     ((key ≢ (state.heap.leaves n).key) × WasAbsentSince state.past since key)
 
--- Let the changes of two fronts, of which one begins the other, be those of the versions, and let a walk since the first have found these
--- pairs. Then a scan of them is lawful from the one front to the other, whether it came to its end or was cut at the limit.
+-- Let one front begin the other, and let their changes be those of the versions. Let a walk since the first front have found these pairs.
+-- Then a scan of them is lawful from the one front to the other. It may have come to its end, or have been cut at the limit.
 abbrev pub ScanIsLawful : Type 0
 ScanIsLawful =
     (direction : Direction) (more : Bool) (past : Past) (before rest : List Change) (m : ℕ) → KeepsFixedWordsSince past m →
@@ -125,24 +125,24 @@ ScanIsLawful =
     IsAnswer direction past (length before) range xs more →
     IsLawfulBy direction before (before ++ rest) range.from range.upto range.limit scan
 
--- A load of the root in a lawful state leaves its fact.
+-- A load of the root in a lawful state tells that the root had the loaded entry, as `IsRooted` says.
 abbrev pub LoadsRoot : Type 0
 LoadsRoot = (state : State) → IsLawfulState state → (m : ℕ) → m ≤ state.now → (e : Entry) → state.root ≡ Some e → IsRooted state.past m e
 
--- A load of an entry of a node in reach leaves its fact.
+-- A load of an entry of a node in reach tells that the node had this entry, as `IsPlaced` says. The entry is lower than the node.
 abbrev pub LoadsPlace : Type 0
 LoadsPlace =
     (state : State) → IsLawfulState state → (since : ℕ) → IsReach state since → (c height : ℕ) → EntryStoodSince state.past since (Node c height) →
     (j : ℕ) → j < size (state.heap.nodes c).subtrie →
     IsPlaced state.past since c j (entry_at (state.heap.nodes c).subtrie j) × (height_of (entry_at (state.heap.nodes c).subtrie j) < height)
 
--- The loads of the head of a node in reach leave their fact.
+-- The loads of the head of a node in reach tell that the node had these forks, as `HadShapeSince` says.
 abbrev pub LoadsShape : Type 0
 LoadsShape =
     (state : State) → IsLawfulState state → (since : ℕ) → IsReach state since → (c height : ℕ) → EntryStoodSince state.past since (Node c height) →
     HadShapeSince state.past since c (shape (state.heap.nodes c).subtrie)
 
--- The loads of the words of a leaf in reach leave their fact.
+-- The loads of the words of a leaf in reach tell that the leaf had this key and value, as `IsRead` says.
 abbrev pub LoadsLeaf : Type 0
 LoadsLeaf =
     (state : State) → IsLawfulState state → (since : ℕ) → IsReach state since → (n : ℕ) → EntryStoodSince state.past since (Leaf n) →

@@ -12,8 +12,9 @@ use Rattle.versions.specs.Frames.{IsGrown}
 use Rattle.version_laws.specs.Scan.{EntryStoodSince, IsRooted, IsBlank, IsPlaced, HadShapeSince, IsRead}
 use Rattle.version_laws.specs.Writer.{BeganAt, IsWayBelow}
 
--- From node `a`, whose first fork is at `r`, a descent has come to the entry. Before `r` the keys there agree with a key that `a` had.
-abbrev pub IsOnWay : Past → ℕ → ℕ → ℕ → Entry → Type 0
+-- A descent from the node `start`, whose first fork is at `first_fork`, has come to the entry. Before that position the keys below the
+-- entry agree with a key that the node had.
+abbrev pub IsOnWay : (past : Past) → (since first_fork start : ℕ) → (entry : Entry) → Type 0
 IsOnWay past m r a entry = (like : Key) × BeganAt past m r like a × StoodWithKeys past m (λ y. AgreeBelow r like y) entry
 
 -- A descent that began at this entry ended at a leaf with this key.
@@ -21,9 +22,9 @@ pub data IsWayFrom (past : Past) (m : ℕ) (key : Key) : Entry → Type 0 where
   from_leaf : (j : ℕ) → StoodWithKeys past m (λ y. y ≡ key) (Leaf j) → IsWayFrom past m key (Leaf j)
   from_node : (a height r : ℕ) (like : Key) → BeganAt past m r like a → AgreeBelow r like key → IsWayFrom past m key (Node a height)
 
--- If no change was made since version `m`, the key's search is at this entry in the newest tree. The entry stands there, and the search
--- below it ends where that of the whole tree does.
-abbrev pub IsStill : Past → ℕ → Key → Entry → Type 0
+-- If no change was made since the version `since`, the key's search is at this entry in the newest tree. The entry stands there, and the
+-- search below it ends where that of the whole tree does.
+abbrev pub IsStill : (past : Past) → (since : ℕ) → (key : Key) → (entry : Entry) → Type 0
 IsStill past m key entry =
     m ≡ past.now → (t : Tree) × (u : Tree) × (past.version m ≡ Some t) × Within u t × (subtrie u ≡ Place entry) × (found key u ≡ found key t)
 

@@ -18,8 +18,8 @@ pub record IsSubtrieStored (old new : Heap) (n : ℕ) (trie : Subtrie) : Type 0 
   pub leaves : (i : ℕ) → old.leaves i ≡ new.leaves i
   pub stored : new.nodes n ≡ record { fixed = (old.nodes n).fixed; subtrie = trie }
 
--- In a version since `m` node `a` stood with its first fork at `r`, and had the key `like`.
-abbrev pub BeganAt : Past → ℕ → ℕ → Key → ℕ → Type 0
+-- In a version from `since` on the node stood in the tree with its first fork at `first_fork`, and had the key `like`.
+abbrev pub BeganAt : (past : Past) → (since first_fork : ℕ) → (like : Key) → (node : ℕ) → Type 0
 BeganAt past m r like a =
     (n : ℕ) × (fixed : Fixed) × (b : Tree) × (d : Tree) × (m ≤ n) × (n ≤ past.now) × Stands past n (a_node a) (node a fixed (fork r b d)) ×
     Has (fork r b d) like

@@ -8,7 +8,8 @@ use Rattle.versions.specs.Heap.{Heap}
 use Rattle.versions.specs.State.{Life, Out, Linked, Retired, Past, State}
 use Rattle.record_words.specs.declared.records.Rec.{Rec}
 
--- What has become of a record. A pass is named where the record is its own.
+-- What has become of a record. It is free, held by a pass that fills it, or ready to be linked by a pass. It is in the tree since a
+-- version, or a pass has unlinked it behind the version `last`. Or it is marked with an epoch, until it is given back.
 pub data Fate : Type 0 where
   Free : Fate
   Held : (by : ℕ) → Fate
@@ -26,8 +27,8 @@ life_of (InTree f) = Linked f
 life_of (Unlinked f l pass) = Retired f l
 life_of (Marked f l s) = Retired f l
 
--- the pass is among those whose pins the round has loaded
-abbrev pub has_seen : List ℕ → ℕ → Bool
+-- whether the pass is among those whose pins a round has loaded
+abbrev pub has_seen : (seen : List ℕ) → (pass : ℕ) → Bool
 has_seen [] i = false
 has_seen (x ∷ xs) i = if nat_eq i x then true else has_seen xs i
 
@@ -55,7 +56,7 @@ abbrev pub pin_version : Option Pin → Option ℕ
 pin_version None = None
 pin_version (Some pin) = Some pin.version
 
--- The core without locks and epochs, as versions see it.
+-- The core without locks and epochs, as the laws of versions see it.
 abbrev pub view : BareCore → State
 view core =
     record { heap = core.heap; root = core.root; past = core.past; life = λ r. life_of (core.fate r); pin = λ pass. pin_version (core.pins pass) }

@@ -32,7 +32,7 @@ IsShown heap (node number fixed body) = (heap.nodes number ≡ record { fixed = 
 IsShown heap (fork position left right) = IsShown heap left × IsShown heap right
 
 -- From one heap to the next, each leaf keeps its key, and each node its fixed words. Each subtrie keeps all entries but one at most.
-abbrev pub KeepsAllButOneEntry : Heap → Heap → Type 0
+abbrev pub KeepsAllButOneEntry : (old new : Heap) → Type 0
 KeepsAllButOneEntry old new =
     ((n : ℕ) → (old.leaves n).key ≡ (new.leaves n).key) × ((n : ℕ) → ((old.nodes n).fixed ≡ (new.nodes n).fixed)) ×
     ((n : ℕ) → ((old.nodes n).subtrie ≡ (new.nodes n).subtrie) ⊎ Swap (old.nodes n).subtrie (new.nodes n).subtrie)

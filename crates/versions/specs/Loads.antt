@@ -11,21 +11,21 @@ use Rattle.versions.specs.Told.{items_of, added_change, added_notes}
 use Rattle.versions.specs.Core.{InTree, Shared}
 use Rattle.versions.specs.Steps.{IsLawfulCore, at_first, is_linked}
 
--- a fork of two trees, or the one that is there
-abbrev pub forked : ℕ → Option Tree → Option Tree → Option Tree
+-- The fork of two trees at this position. If one of them is missing, it is the other one.
+abbrev pub forked : (position : ℕ) → (left right : Option Tree) → Option Tree
 forked p None tree = tree
 forked p (Some tree) None = Some tree
 forked position (Some a) (Some b) = Some (fork position a b)
 
--- the tree of the first i leaves alone, with their forks and without nodes
-abbrev pub first_leaves : Tree → ℕ → Option Tree
+-- the tree of the first `count` leaves alone, with their forks and without nodes
+abbrev pub first_leaves : (tree : Tree) → (count : ℕ) → Option Tree
 first_leaves (leaf number key value) zero = None
 first_leaves (leaf number key value) (suc i) = Some (leaf number key value)
 first_leaves (node number fixed body) i = first_leaves body i
 first_leaves (fork position left right) i = forked position (first_leaves left i) (first_leaves right (i - length (items left)))
 
--- the tree of the first i leaves of a tree, if there is one
-abbrev pub first_leaves_of : Option Tree → ℕ → Option Tree
+-- the tree of the first `count` leaves of a tree, if there is one
+abbrev pub first_leaves_of : (tree : Option Tree) → (count : ℕ) → Option Tree
 first_leaves_of None i = None
 first_leaves_of (Some tree) i = first_leaves tree i
 
@@ -33,8 +33,9 @@ first_leaves_of (Some tree) i = first_leaves tree i
 abbrev pub loaded_past : Option Tree → Past
 loaded_past tree = record { now = length (items_of tree); version = with_version (first_leaves_of tree) (length (items_of tree)) tree }
 
--- What passes share after pass q has loaded the tree. Its records are linked since the last version, and each leaf was added in turn.
-abbrev pub loaded_by : Shared → ℕ → Option Entry → Option Tree → Shared
+-- What passes share after the pass has loaded a tree by a bulk load. The tree's records are linked since the last version, and each of its
+-- leaves was added in turn.
+abbrev pub loaded_by : (shared : Shared) → (pass : ℕ) → (root : Option Entry) → (tree : Option Tree) → Shared
 loaded_by shared q root tree = record shared {
   root = root;
   past = loaded_past tree;

@@ -34,20 +34,20 @@ pub data Life : Type 0 where
   Linked : (since : ℕ) → Life
   Retired : (since last : ℕ) → Life
 
--- The life has version n, where `now` is the newest.
-abbrev pub Spans : ℕ → Life → ℕ → Type 0
+-- The record has this life in this version, where `now` is the newest version.
+abbrev pub Spans : (now : ℕ) → (life : Life) → (version : ℕ) → Type 0
 Spans now Out n = ⊥
 Spans now (Linked since) n = (since ≤ n) × (n ≤ now)
 Spans now (Retired since last) n = (since ≤ n) × (n ≤ last)
 
 -- The last version of a life, where `now` is the newest.
-abbrev pub last_of : ℕ → Life → ℕ
+abbrev pub last_of : (now : ℕ) → (life : Life) → ℕ
 last_of now Out = now
 last_of now (Linked since) = now
 last_of now (Retired since last) = last
 
 -- The last version of a life is no later than `now`.
-abbrev pub IsLived : ℕ → Life → Type 0
+abbrev pub IsLived : (now : ℕ) → (life : Life) → Type 0
 IsLived now Out = Unit {0}
 IsLived now (Linked since) = since ≤ now
 IsLived now (Retired since last) = (since ≤ last) × (last < now)
@@ -73,21 +73,21 @@ pub record Stands (past : Past) (n : ℕ) (rec : Rec) (u : Tree) : Type 0 where
   pub within : Within u tree
   pub is_record : IsRecord rec u
 
--- Two trees of one record: the same fixed words and kin bodies, or the same key.
-abbrev pub IsSameRecord : Tree → Tree → Type 0
+-- Two trees of one record. Leaves have the same key. Nodes have the same fixed words, and bodies that are kin.
+abbrev pub IsSameRecord : (first second : Tree) → Type 0
 IsSameRecord (leaf n k v) (leaf m l w) = k ≡ l
 IsSameRecord (node n h b) (node m i c) = (h ≡ i) × Kin b c
 IsSameRecord s t = ⊥
 
 -- The words show this tree from the root's entry on, or no tree where the root has none.
-abbrev pub IsTop : Heap → Option Entry → Option Tree → Type 0
+abbrev pub IsTop : (heap : Heap) → (root : Option Entry) → (tree : Option Tree) → Type 0
 IsTop heap None None = Unit {0}
 IsTop heap None (Some tree) = ⊥
 IsTop heap (Some entry) None = ⊥
 IsTop heap (Some entry) (Some tree) = (subtrie tree ≡ Place entry) × IsShown heap tree
 
--- Each record that was linked in a version since `m` is still in the life that it had there.
-abbrev pub IsReach : State → ℕ → Type 0
+-- Each record that was linked in a version from `since` on is still in the life that it had there.
+abbrev pub IsReach : (state : State) → (since : ℕ) → Type 0
 IsReach state m = (n : ℕ) → m ≤ n → n ≤ state.now → (rec : Rec) (tree : Tree) → Stands state.past n rec tree → Spans state.now (state.life rec) n
 
 -- What holds in each state of the words, the versions and the lives.
@@ -109,27 +109,27 @@ pub record IsLawfulState (state : State) : Type 0 where
   pub reach : (pass m : ℕ) → state.pin pass ≡ Some m → IsReach state m
 
 -- The key is in no leaf of the version.
-abbrev pub IsAbsent : Past → ℕ → Key → Type 0
+abbrev pub IsAbsent : (past : Past) → (version : ℕ) → (key : Key) → Type 0
 IsAbsent past n key = (tree : Tree) → past.version n ≡ Some tree → Has tree key → ⊥
 
--- The key was absent in a version since `m`.
-abbrev pub WasAbsentSince : Past → ℕ → Key → Type 0
+-- The key was absent in a version from `since` on.
+abbrev pub WasAbsentSince : (past : Past) → (since : ℕ) → (key : Key) → Type 0
 WasAbsentSince past m key = (n : ℕ) × (m ≤ n) × (n ≤ past.now) × IsAbsent past n key
 
 -- What a search for the key knows of an entry that it was led to. The entry's record was linked in a version from `since` on. The key
 -- follows its stem, or was absent since.
-abbrev pub IsLed : Past → ℕ → Key → Entry → Type 0
+abbrev pub IsLed : (past : Past) → (since : ℕ) → (key : Key) → (entry : Entry) → Type 0
 IsLed past since key entry =
     (n : ℕ) × (tree : Tree) × (since ≤ n) × (n ≤ past.now) × Stands past n (rec_of entry) tree × (subtrie tree ≡ Place entry) ×
     (Follows key tree ⊎ WasAbsentSince past since key)
 
--- The subtrie's first fork is at `p` or later.
-abbrev pub FirstForkIsFrom : ℕ → Subtrie → Type 0
+-- The subtrie's first fork is at this position or later.
+abbrev pub FirstForkIsFrom : (position : ℕ) → (trie : Subtrie) → Type 0
 FirstForkIsFrom p (Place entry) = Unit {0}
 FirstForkIsFrom p (Fork position left right) = p ≤ position
 
--- The entry's record was linked in a version since `m`, and all of its keys there have the property.
-abbrev pub StoodWithKeys : Past → ℕ → (Key → Type 0) → Entry → Type 0
+-- The entry's record was linked in a version from `since` on, and all of its keys there have the property P.
+abbrev pub StoodWithKeys : (past : Past) → (since : ℕ) → (P : Key → Type 0) → (entry : Entry) → Type 0
 StoodWithKeys past m P entry =
     (n : ℕ) × (tree : Tree) × (m ≤ n) × (n ≤ past.now) × Stands past n (rec_of entry) tree × (subtrie tree ≡ Place entry) ×
     ((key : Key) → Has tree key → P key)
@@ -139,16 +139,16 @@ abbrev pub IsLinked : Option Tree → Rec → Type 0
 IsLinked None rec = ⊥
 IsLinked (Some tree) rec = Links tree rec
 
--- The versions, with this tree as version n.
-abbrev pub with_version : (ℕ → Option Tree) → ℕ → Option Tree → ℕ → Option Tree
+-- The versions, with this tree as the version of this number.
+abbrev pub with_version : (versions : ℕ → Option Tree) → (number : ℕ) → (tree : Option Tree) → (version : ℕ) → Option Tree
 with_version f n tree i = if nat_eq i n then tree else f i
 
--- The key had the value in a version since `m`.
-abbrev pub IsHeldSince : Past → ℕ → Key → ℕ → Type 0
+-- The key had the value in a version from `since` on.
+abbrev pub IsHeldSince : (past : Past) → (since : ℕ) → (key : Key) → (value : ℕ) → Type 0
 IsHeldSince past m key v = (n : ℕ) × (tree : Tree) × (m ≤ n) × (n ≤ past.now) × (past.version n ≡ Some tree) × Holds tree key v
 
--- The key was held in each version since `m`.
-abbrev pub IsKeptSince : Past → ℕ → Key → Type 0
+-- The key was held in each version from `since` on.
+abbrev pub IsKeptSince : (past : Past) → (since : ℕ) → (key : Key) → Type 0
 IsKeptSince past m key = (n : ℕ) → m ≤ n → n ≤ past.now → (tree : Tree) × (past.version n ≡ Some tree) × Has tree key
 
 -- The records keep their fixed words and stems from version `m` on.

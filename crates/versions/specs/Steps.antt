@@ -16,7 +16,7 @@ use Rattle.versions.specs.declared.Pin.{Pin}
 use Rattle.versions.specs.declared.Round.{Round}
 
 -- whether two records are one
-abbrev pub same_rec : Rec → Rec → Bool
+abbrev pub same_rec : (first second : Rec) → Bool
 same_rec (a_node n) (a_node m) = nat_eq n m
 same_rec (a_node n) (a_leaf m) = false
 same_rec (a_leaf n) (a_node m) = false
@@ -81,15 +81,15 @@ pub record IsVersionPublish (core : BareCore) (pass : ℕ) (heap : Heap) (root :
 -- What steps make of what passes share
 
 -- what passes share, with another fate of this record
-abbrev pub with_fate : Shared → Rec → Fate → Shared
+abbrev pub with_fate : (shared : Shared) → (rec : Rec) → (fate : Fate) → Shared
 with_fate shared rec fate = record shared { fate = λ i. if same_rec i rec then fate else shared.fate i }
 
 -- what passes share, with the anchor locked by this pass, or by none
 abbrev pub with_anchor : Shared → Option ℕ → Shared
 with_anchor shared o = record shared { anchor = o }
 
--- what passes share, with node n locked by this pass, or by none
-abbrev pub with_lock : Shared → ℕ → Option ℕ → Shared
+-- what passes share, with this node locked by the pass `holder`, or by none
+abbrev pub with_lock : (shared : Shared) → (node : ℕ) → (holder : Option ℕ) → Shared
 with_lock shared n o = record shared { lock = λ i. if nat_eq i n then o else shared.lock i }
 
 -- what passes share, with the lock of this record released if it is a node's
@@ -101,44 +101,45 @@ abbrev pub after_mark : Shared → Rec → (since last epoch : ℕ) → Shared
 after_mark shared rec since last epoch = with_fate (unlocked shared rec) rec (Marked since last epoch)
 
 -- what passes share, with this epoch
-abbrev pub with_epoch : Shared → ℕ → Shared
+abbrev pub with_epoch : (shared : Shared) → (epoch : ℕ) → Shared
 with_epoch shared e = record shared { epoch = e }
 
--- what passes share, with this pin of pass q
-abbrev pub with_pin : Shared → ℕ → Option Pin → Shared
+-- what passes share, with this pin of the pass, or with none
+abbrev pub with_pin : (shared : Shared) → (pass : ℕ) → (pin : Option Pin) → Shared
 with_pin shared q pin = record shared { pins = λ i. if nat_eq i q then pin else shared.pins i }
 
--- what passes share, after pass q has set its pin to this word
-abbrev pub after_set_pin : Shared → ℕ → ℕ → Shared
+-- what passes share after the pass has set its pin to this word
+abbrev pub after_set_pin : (shared : Shared) → (pass word : ℕ) → Shared
 after_set_pin shared q word = with_pin shared q (Some (record { word = word; version = shared.past.now; floor = shared.epoch }))
 
--- what passes share, with this round of pass q
-abbrev pub with_round : Shared → ℕ → Round → Shared
+-- what passes share, with this round of the pass
+abbrev pub with_round : (shared : Shared) → (pass : ℕ) → (round : Round) → Shared
 with_round shared q round = record shared { rounds = λ i. if nat_eq i q then round else shared.rounds i }
 
 -- the round that a load of the epoch begins
 abbrev pub begun_round : (epoch now : ℕ) → Round
 begun_round epoch now = record { epoch = epoch; version = now; bound = epoch; seen = [] }
 
--- what passes share, after pass q has loaded the epoch, which begins a round
-abbrev pub after_load_epoch : Shared → ℕ → Shared
+-- what passes share after the pass has loaded the epoch, which begins a round
+abbrev pub after_load_epoch : (shared : Shared) → (pass : ℕ) → Shared
 after_load_epoch shared q = with_round shared q (begun_round shared.epoch shared.past.now)
 
 -- a round's bound, lowered to a pin
-abbrev pub lowered : ℕ → Option Pin → ℕ
+abbrev pub lowered : (bound : ℕ) → (pin : Option Pin) → ℕ
 lowered b None = b
 lowered b (Some pin) = min b pin.word
 
--- the round, after the pin of pass q was loaded in it
-abbrev pub with_seen : Round → ℕ → Option Pin → Round
+-- the round after the pin of this pass was loaded in it
+abbrev pub with_seen : (round : Round) → (pass : ℕ) → (pin : Option Pin) → Round
 with_seen round q pin = record { epoch = round.epoch; version = round.version; bound = lowered round.bound pin; seen = q ∷ round.seen }
 
--- what passes share, after pass q has loaded the pin of pass o for its round
-abbrev pub after_load_pin : Shared → ℕ → ℕ → Shared
+-- what passes share after the pass has loaded the pin of the pass `other` for its round
+abbrev pub after_load_pin : (shared : Shared) → (pass other : ℕ) → Shared
 after_load_pin shared q o = with_round shared q (with_seen (shared.rounds q) o (shared.pins o))
 
--- What passes share after a publish: it adds the change and the version. It changes the fates of what is linked anew or no more.
-abbrev pub published_by : Shared → ℕ → Option Entry → Option Tree → Change → Shared
+-- What passes share after a publish. It adds the change and the version, and changes the fates of the records that it links anew or
+-- unlinks.
+abbrev pub published_by : (shared : Shared) → (pass : ℕ) → (root : Option Entry) → (tree : Option Tree) → (change : Change) → Shared
 published_by shared pass root tree change = record shared {
   root = root;
   past = record { now = suc shared.past.now; version = with_version shared.past.version (suc shared.past.now) tree };
@@ -146,8 +147,8 @@ published_by shared pass root tree change = record shared {
   fate = λ r. next_fate shared.past.now pass (is_linked tree r) (shared.fate r);
 }
 
--- the core after a publish
-abbrev pub after_publish : BareCore → ℕ → Heap → Option Entry → Option Tree → Change → BareCore
+-- The core after a publish: the heap that the words then show, and what passes share then.
+abbrev pub after_publish : (core : BareCore) → (pass : ℕ) → (heap : Heap) → (root : Option Entry) → (tree : Option Tree) → (change : Change) → BareCore
 after_publish core pass heap root tree change = record { heap = heap; shared = published_by core.shared pass root tree change }
 
 -- From one heap to the next, no words but those of this record change.
@@ -186,7 +187,7 @@ pub data IsCoreStep (core : BareCore) (pass : ℕ) : BareCore → Type 0 where
       IsCoreStep core pass (record core { shared = with_fate core.shared rec Free })
 
 -- A node locked by the pass is in the tree, or the pass has unlinked it.
-abbrev pub IsLockable : ℕ → Fate → Type 0
+abbrev pub IsLockable : (pass : ℕ) → (fate : Fate) → Type 0
 IsLockable pass (InTree since) = Unit {0}
 IsLockable pass (Unlinked since last p) = p ≡ pass
 IsLockable pass fate = ⊥

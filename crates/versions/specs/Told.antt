@@ -22,34 +22,34 @@ abbrev pub content : Option Tree → Map
 content tree = pairs (items_of tree)
 
 -- The leaf record of this number, with a change's key and value.
-abbrev pub item_of : ℕ → Change → Item
+abbrev pub item_of : (number : ℕ) → (change : Change) → Item
 item_of n change = record { number = n; key = change.key; value = change.value }
 
 -- The change by which the pass adds this leaf.
-abbrev pub added_change : ℕ → Item → Change
+abbrev pub added_change : (pass : ℕ) → (item : Item) → Change
 added_change pass item = record { pass = pass; key = item.key; value = item.value; kind = Added }
 
 -- the change by which the pass gives a key the value of this leaf
-abbrev pub replaced_change : ℕ → Item → Change
+abbrev pub replaced_change : (pass : ℕ) → (item : Item) → Change
 replaced_change pass item = record { pass = pass; key = item.key; value = item.value; kind = Replaced }
 
 -- the change by which the pass removes this leaf
-abbrev pub removed_change : ℕ → Item → Change
+abbrev pub removed_change : (pass : ℕ) → (item : Item) → Change
 removed_change pass item = record { pass = pass; key = item.key; value = item.value; kind = Removed }
 
--- the notes of answered insertions of these leaves, one after the other, at places from n on
-abbrev pub added_notes : ℕ → List Item → List Note
+-- the notes of answered insertions of these leaves, one after the other, at places from `place` on
+abbrev pub added_notes : (place : ℕ) → (leaves : List Item) → List Note
 added_notes n [] = []
 added_notes n (x ∷ xs) = record { place = n; call = Insert x.key x.value; reply = Inserted } ∷ added_notes (suc n) xs
 
--- What a change of this kind makes of a list of leaves: one more, one for another of the same key, or one less.
-abbrev pub IsChanged : Kind → Item → List Item → List Item → Type 0
+-- What a change of this kind makes of a list of leaves. The list gets the leaf, gets it in place of one with the same key, or loses it.
+abbrev pub IsChanged : (kind : Kind) → (item : Item) → (before after : List Item) → Type 0
 IsChanged Added item xs ys = IsMore item xs ys
 IsChanged Replaced item xs ys = (other : Item) × (other.key ≡ item.key) × IsExchange other item xs ys
 IsChanged Removed item xs ys = IsMore item ys xs
 
 -- From one version to the next one leaf changes, as the change tells.
-abbrev pub IsChange : Option Tree → Change → Option Tree → Type 0
+abbrev pub IsChange : (before : Option Tree) → (change : Change) → (after : Option Tree) → Type 0
 IsChange s change t = (n : ℕ) × IsChanged change.kind (item_of n change) (items_of s) (items_of t)
 
 -- Each number of changes has its version, whose content is the map of so many first changes. Each change is legal on the map of those
