@@ -16,7 +16,7 @@ use Rattle.record_words.specs.Leaf.{words_for}
 use Rattle.versions.specs.Core.{BareCore as Versions, Shared, Fate, Free, Held, Ready, InTree, Unlinked, Marked}
 use Rattle.rowex_core.specs.Reading.{node_words_of, leaf_of, IsPacked}
 
--- All that passes share: the words of each record but its state, and the rest.
+-- All that passes share: the layout, the words of each record but its state, and the rest (`Shared`).
 pub record Core : Type 0 where
   pub layout : Layout
   pub words : Rec → List ℕ
@@ -27,7 +27,7 @@ pub record Core : Type 0 where
 abbrev pub heap_of : (Rec → List ℕ) → Heap
 heap_of words = record { nodes = λ n. node_words_of (words (a_node n)); leaves = λ n. leaf_of (words (a_leaf n)) }
 
--- the core with what its words say in place of the words
+-- the core as versions see it, with what the words say in place of the words
 abbrev pub bare : Core → Versions
 bare core = record { heap = heap_of core.words; shared = core.shared }
 
@@ -42,11 +42,11 @@ size_of layout (a_node n) = NODE_WORDS
 size_of layout (a_leaf n) = leaf_size layout n
 
 -- the record in the table has a word at this offset
-abbrev pub HasWord : Layout → Rec → ℕ → Type 0
+abbrev pub HasWord : (layout : Layout) → (rec : Rec) → (offset : ℕ) → Type 0
 HasWord layout rec offset = offset < size_of layout rec
 
--- the record in the table has room for all words of the key that the leaf's words tell
-abbrev pub FitsIn : Layout → Rec → List ℕ → Type 0
+-- The table has room for the record. For a leaf these are all words up to the end of the key that `words` tell.
+abbrev pub FitsIn : (layout : Layout) → (rec : Rec) → (words : List ℕ) → Type 0
 FitsIn layout (a_node n) words = Unit {0}
 FitsIn layout (a_leaf n) words = words_for (key_length_in words) ≤ leaf_size layout n
 
@@ -56,10 +56,11 @@ word_count_of (a_node n) = NODE_FIELDS
 word_count_of (a_leaf n) = LEAF_FIELDS
 
 -- The words of a record behind its state, taken from the words of a table. A leaf has 0 for those past its record.
-unfoldable pub fields_in : Layout → List ℕ → Rec → List ℕ
+unfoldable pub fields_in : (layout : Layout) → (table : List ℕ) → (rec : Rec) → List ℕ
 fields_in layout table (a_node n) = map (λ i. get_or table (node_start layout n + (FIELDS_OFFSET + i)) 0) (range_with_len 0 NODE_FIELDS)
 fields_in layout table (a_leaf n) =
-    map (λ i. if nat_lt (FIELDS_OFFSET + i) (leaf_size layout n) then get_or table (leaf_start layout n + (FIELDS_OFFSET + i)) 0 else 0) (range_with_len 0 LEAF_FIELDS)
+    map (λ i. if nat_lt (FIELDS_OFFSET + i) (leaf_size layout n) then get_or table (leaf_start layout n + (FIELDS_OFFSET + i)) 0 else 0)
+    (range_with_len 0 LEAF_FIELDS)
 
 -- the record has its number of words, of 64 bits each
 abbrev pub IsSized : Rec → List ℕ → Type 0
@@ -80,7 +81,7 @@ holder_of (InTree since) = None
 holder_of (Unlinked since last pass) = Some pass
 holder_of (Marked since last epoch) = None
 
--- What holds of the records with these words, fates and locks.
+-- What holds of the records of a lawful core, by their words, fates and locks.
 pub record AreRecords (layout : Layout) (words : Rec → List ℕ) (fate : Rec → Fate) (lock : ℕ → Option ℕ) : Type 0 where
   -- each has its number of words, and those of one that is neither free nor held spell a value
   pub sized : (rec : Rec) → IsSized rec (words rec)
@@ -94,7 +95,8 @@ pub record AreRecords (layout : Layout) (words : Rec → List ℕ) (fate : Rec �
   -- only passes of the index have records of their own
   pub holders : (rec : Rec) (pass : ℕ) → holder_of (fate rec) ≡ Some pass → pass < layout.passes
 
--- What holds of the epochs. They are from 1 on and below EPOCHS, and so are pins and marks. Only passes of the index are pinned.
+-- What holds of the epochs of a lawful core. The epoch and each mark are from 1 to EPOCHS - 1, and each pin is from 1 on. Only passes of
+-- the index are pinned.
 pub record AreEpochs (layout : Layout) (epoch : ℕ) (pins : ℕ → Option Pin) (rounds : ℕ → Round) (fate : Rec → Fate) : Type 0 where
   pub now : (1 ≤ epoch) × (epoch < EPOCHS)
   pub loads : (pass : ℕ) → ((rounds pass).version ≡ 0) ⊎ (1 ≤ (rounds pass).epoch)
@@ -106,7 +108,7 @@ pub record AreLockers (layout : Layout) (anchor : Option ℕ) (lock : ℕ → Op
   pub root : (pass : ℕ) → anchor ≡ Some pass → pass < layout.passes
   pub nodes : (n pass : ℕ) → lock n ≡ Some pass → pass < layout.passes
 
--- The whole core is lawful.
+-- The core is lawful in all its parts: versions, records, epochs, root, locks, and who made the changes.
 pub record IsLawful (c : Core) : Type 0 where
   -- versions, lives, paces and locks; the content of each version is the map of the changes before it
   pub core : IsLawfulCore (bare c)

@@ -40,20 +40,20 @@ use Rattle.rowex_core.specs.Words.{lock_tag, state_at, pin_word, record_word}
 
 -- What a step changes
 
--- the records' words, with one word of record r changed
-abbrev pub with_word : (Rec → List ℕ) → Rec → (offset word : ℕ) → Rec → List ℕ
+-- the words of the record `rec_read`, after a store of a word at an offset of the record `rec`
+abbrev pub with_word : (words : Rec → List ℕ) → (rec : Rec) → (offset word : ℕ) → (rec_read : Rec) → List ℕ
 with_word words r offset word i = if same_rec i r then set (words r) (offset - FIELDS_OFFSET) word else words i
 
 -- Publishing: what a word stored at a spot makes
 
 -- The records' words after a store to a spot. An entry and a value are words of a record, the root is none.
-abbrev pub stored_words : Core → Spot → ℕ → Rec → List ℕ
+abbrev pub stored_words : (core : Core) → (spot : Spot) → (word : ℕ) → (rec : Rec) → List ℕ
 stored_words core Root word = core.words
 stored_words core (Slot n j) word = with_word core.words (a_node n) (FIRST_ENTRY + j) word
 stored_words core (Value l) word = with_word core.words (a_leaf l) VALUE_OFFSET word
 
 -- the root after a store to a spot
-abbrev pub stored_root : Core → Spot → ℕ → Option Entry
+abbrev pub stored_root : (core : Core) → (spot : Spot) → (word : ℕ) → Option Entry
 stored_root core Root word = entry_of word
 stored_root core (Slot n j) word = core.root
 stored_root core (Value l) word = core.root
@@ -63,14 +63,15 @@ abbrev pub tree_of : Heap → Option Entry → Option Tree
 tree_of heap None = None
 tree_of heap (Some entry) = read heap (height_of entry) entry
 
--- the change that the first two leaves that differ tell, by the order of their keys
-abbrev pub change_at : ℕ → Ordering → Item → Item → Change
+-- The change from one list of leaves to another, by the first leaves in which they differ: `item` before, and `other` after. `order` is
+-- that of the two keys.
+abbrev pub change_at : (pass : ℕ) → (order : Ordering) → (item other : Item) → Change
 change_at pass Less item other = removed_change pass item
 change_at pass Equal item other = replaced_change pass other
 change_at pass Greater item other = added_change pass other
 
--- the change by which pass q made the first list of leaves the second
-abbrev pub change_between : ℕ → List Item → List Item → Change
+-- the change by which the pass has made the leaves `before` the leaves `after`
+abbrev pub change_between : (pass : ℕ) → (before after : List Item) → Change
 change_between q [] [] = record { pass = q; key = []; value = 0; kind = Removed }
 change_between q [] (y ∷ ys) = added_change q y
 change_between q (x ∷ xs) [] = removed_change q x
@@ -81,16 +82,16 @@ abbrev pub IsOfEntry : Spot → Type 0
 IsOfEntry (Value l) = ⊥
 IsOfEntry spot = Unit {0}
 
--- leaves of both lists that have one number are the same
-abbrev pub AreSame : List Item → List Item → Type 0
+-- leaves of the two lists that have one number are equal
+abbrev pub AreSame : (items others : List Item) → Type 0
 AreSame xs ys = (item other : Item) → IsIn item xs → IsIn other ys → item.number ≡ other.number → item ≡ other
 
 -- the tree after a store to a spot
-abbrev pub next_tree : Core → Spot → ℕ → Option Tree
+abbrev pub next_tree : (core : Core) → (spot : Spot) → (word : ℕ) → Option Tree
 next_tree core spot word = tree_of (heap_of (stored_words core spot word)) (stored_root core spot word)
 
--- the change by which pass q gives the key of leaf l another value
-abbrev pub value_change : Core → ℕ → ℕ → ℕ → Change
+-- the change by which the pass gives the key of a leaf another value
+abbrev pub value_change : (core : Core) → (pass leaf value : ℕ) → Change
 value_change core q l word = record { pass = q; key = (leaf_of (core.words (a_leaf l))).key; value = word; kind = Replaced }
 
 -- the change that a store to a spot makes to the map
@@ -120,32 +121,33 @@ pub record IsLoad (layout : Layout) (words : List ℕ) : Type 0 where
 -- Legality
 
 -- the offset is one of the record's words behind its state
-abbrev pub IsOffset : Rec → ℕ → Type 0
+abbrev pub IsOffset : (rec : Rec) → (offset : ℕ) → Type 0
 IsOffset (a_node n) offset = (FIELDS_OFFSET ≤ offset) × (offset < NODE_WORDS)
 IsOffset (a_leaf n) offset = (FIELDS_OFFSET ≤ offset) × (offset < LEAF_WORDS)
 
 -- the offset is one of the record's words that stay while it lives: no state, entry or value
-abbrev pub IsFixedOffset : Rec → ℕ → Type 0
+abbrev pub IsFixedOffset : (rec : Rec) → (offset : ℕ) → Type 0
 IsFixedOffset (a_node n) offset = (FIELDS_OFFSET ≤ offset) × (offset < FIRST_ENTRY)
 IsFixedOffset (a_leaf n) offset = (VALUE_OFFSET < offset) × (offset < LEAF_WORDS)
 
 -- the node is in the tree
-abbrev pub IsInTree : Core → ℕ → Type 0
+abbrev pub IsInTree : (core : Core) → (node : ℕ) → Type 0
 IsInTree core n = (since : ℕ) × (core.fate (a_node n) ≡ InTree since)
 
--- Pass q has the lock under which the spot's word is stored. For a value, it is that of what names the leaf.
-abbrev pub IsLockedAt : Core → ℕ → Spot → Type 0
+-- The pass has the lock under which the spot's word is stored. For the root it is the anchor's, for a slot the node's, and for a value that
+-- of what names the leaf.
+abbrev pub IsLockedAt : (core : Core) → (pass : ℕ) → (spot : Spot) → Type 0
 IsLockedAt core q Root = core.anchor ≡ Some q
 IsLockedAt core q (Slot n j) = (n < core.layout.nodes) × (j < MAX_ENTRIES) × (core.lock n ≡ Some q)
 IsLockedAt core q (Value l) = (l < core.layout.leaves) × HasLockedNamer (bare core) q l
 
 -- the word may stand at the spot: it spells an entry, or is a value
-abbrev pub IsWordFor : Spot → ℕ → Type 0
+abbrev pub IsWordFor : (spot : Spot) → (word : ℕ) → Type 0
 IsWordFor (Value l) word = word < 2 ^ 64
 IsWordFor spot word = HasEntryWord (entry_of word) × (entry_word (entry_of word) ≡ word)
 
 -- after the store, the words of the node that has the spot still spell a value
-abbrev pub IsPackedAt : Core → Spot → ℕ → Type 0
+abbrev pub IsPackedAt : (core : Core) → (spot : Spot) → (word : ℕ) → Type 0
 IsPackedAt core Root word = Unit {0}
 IsPackedAt core (Value l) word = Unit {0}
 IsPackedAt core (Slot n j) word = IsPacked (a_node n) (stored_words core (Slot n j) word (a_node n))
@@ -156,16 +158,17 @@ pub record IsLegalPublish (core : Core) (pass : ℕ) (spot : Spot) (word : ℕ) 
   pub locked : IsLockedAt core pass spot
   pub entry : IsWordFor spot word
   pub packed : IsPackedAt core spot word
-  pub next : IsNextVersion core.shared pass (heap_of (stored_words core spot word)) (stored_root core spot word) (next_tree core spot word) (next_change core pass spot word)
+  pub next : IsNextVersion core.shared pass (heap_of (stored_words core spot word)) (stored_root core spot word)
+      (next_tree core spot word) (next_change core pass spot word)
   pub open next use *
 
--- Pass q may store the word at the spot. For an entry that is a legal publish; for a value, the pass has locked what names the leaf.
-abbrev pub MayStoreAt : Core → ℕ → Spot → ℕ → Type 0
+-- The pass may store the word at the spot. For an entry the store is a legal publish. For a value the pass has locked what names the leaf.
+abbrev pub MayStoreAt : (core : Core) → (pass : ℕ) → (spot : Spot) → (word : ℕ) → Type 0
 MayStoreAt core q (Value l) word = IsLockedAt core q (Value l) × (word < 2 ^ 64)
 MayStoreAt core q spot word = IsLegalPublish core q spot word
 
--- when a pass may make an act, and what a load or an exchange of it finds
-abbrev pub LegalAct : Core → ℕ → Act → Type 0
+-- The pass may make the act in this core. What a load or an exchange finds is what stands there.
+abbrev pub LegalAct : (core : Core) → (pass : ℕ) → (act : Act) → Type 0
 LegalAct core pass (Claim r found) = HasRecord core.layout r × (found ≡ state_at core r)
 LegalAct core pass (Fill r offset w) =
     HasRecord core.layout r × (core.fate r ≡ Held pass) × IsOffset r offset × (w < 2 ^ 64) × HasWord core.layout r offset
@@ -196,49 +199,49 @@ LegalAct core pass (GiveBack r epoch found) =
     ((o : ℕ) → o < core.layout.passes → has_seen (core.rounds pass).seen o ≡ true)
 LegalAct core pass (Load words) = (core ≡ opening core.layout) × IsLoad core.layout words.now
 
--- the step of pass q is legal: the index has the pass, and the act is legal
-abbrev pub Legal : Core → ℕ → Act → Type 0
+-- the pass's step is legal: the index has the pass, and the act is legal
+abbrev pub Legal : (core : Core) → (pass : ℕ) → (act : Act) → Type 0
 Legal core q act = (q < core.layout.passes) × LegalAct core q act
 
 -- Effect
 
--- what passes share after pass q tried to claim a record of this fate: it succeeds if that is free
-abbrev pub claimed : Shared → ℕ → Rec → Fate → Shared
+-- What passes share after the pass tried to claim a record of this fate. If the record was free, the pass holds it.
+abbrev pub claimed : (shared : Shared) → (pass : ℕ) → (rec : Rec) → (fate : Fate) → Shared
 claimed shared q rec Free = with_fate shared rec (Held q)
 claimed shared q rec fate = shared
 
--- what passes share after a record of this fate was marked, if it was unlinked
-abbrev pub marked : Shared → Rec → ℕ → Fate → Shared
+-- What passes share after a record of this fate was marked with an epoch. Only an unlinked record changes.
+abbrev pub marked : (shared : Shared) → (rec : Rec) → (epoch : ℕ) → (fate : Fate) → Shared
 marked shared rec epoch (Unlinked since last pass) = after_mark shared rec since last epoch
 marked shared rec epoch fate = shared
 
--- what passes share after a record of this fate was given back, if it was marked with this epoch
-abbrev pub given_back : Shared → Rec → ℕ → Fate → Shared
+-- What passes share after a try to give back a record of this fate. If it was marked with this epoch, it is free.
+abbrev pub given_back : (shared : Shared) → (rec : Rec) → (epoch : ℕ) → (fate : Fate) → Shared
 given_back shared rec epoch (Marked since last m) = if nat_eq m epoch then with_fate shared rec Free else shared
 given_back shared rec epoch fate = shared
 
--- what passes share after pass q tried to lock the anchor: it succeeds if no pass had
-abbrev pub anchored : Shared → ℕ → Option ℕ → Shared
+-- What passes share after the pass tried to lock the anchor, which `holder` had locked. If no pass had, the pass has the lock.
+abbrev pub anchored : (shared : Shared) → (pass : ℕ) → (holder : Option ℕ) → Shared
 anchored shared q None = with_anchor shared (Some q)
 anchored shared q (Some p) = shared
 
--- what passes share after pass q tried to lock node n: it succeeds if the state was live
-abbrev pub locked_where : Shared → ℕ → ℕ → ℕ → Shared
+-- What passes share after the pass tried to lock a node and found this state. If the node was live, the pass has the lock.
+abbrev pub locked_where : (shared : Shared) → (node pass found : ℕ) → Shared
 locked_where shared n q found = if nat_eq found (state_word Live) then with_lock shared n (Some q) else shared
 
 -- what passes share after a try to advance the epoch from the expected one
-abbrev pub advanced : Shared → ℕ → Shared
+abbrev pub advanced : (shared : Shared) → (expected : ℕ) → Shared
 advanced shared expected = if nat_eq shared.epoch expected then with_epoch shared (suc shared.epoch) else shared
 
 -- the words of the records after a step
-abbrev pub words_after : Core → Act → Rec → List ℕ
+abbrev pub words_after : (core : Core) → (act : Act) → (rec : Rec) → List ℕ
 words_after core (Fill r offset w) = with_word core.words r offset w
 words_after core (Publish spot w) = stored_words core spot w
 words_after core (Load words) = fields_in core.layout words.now
 words_after core _ = core.words
 
--- what passes share after a step of pass q, but the words
-abbrev pub shared_after : Core → ℕ → Act → Shared
+-- what passes share after an act of the pass, but the words
+abbrev pub shared_after : (core : Core) → (pass : ℕ) → (act : Act) → Shared
 shared_after core q (Claim r found) = claimed core.shared q r (core.fate r)
 shared_after core q (Fill r offset w) = core.shared
 shared_after core q (Ready r) = with_fate core.shared r (ReadyBy q)
@@ -261,7 +264,7 @@ shared_after core q (GiveBack r epoch found) = given_back core.shared r epoch (c
 shared_after core q (Load words) = loaded_by core.shared q (loaded_root words.now) (loaded_tree core.layout words.now)
 
 -- the core after an act of a pass
-abbrev pub after : Core → ℕ → Act → Core
+abbrev pub after : (core : Core) → (pass : ℕ) → (act : Act) → Core
 after core pass act = record { layout = core.layout; words = words_after core act; shared = shared_after core pass act }
 
 -- The act is an atomic step. A bulk load is none, since it changes many words.
@@ -272,7 +275,7 @@ IsAtomic act = Unit {0}
 -- The word of a step: which it is, what the step leaves there, and what its caller is told
 
 -- the location of a record's word at an offset
-abbrev pub word_of : Rec → ℕ → Location
+abbrev pub word_of : (rec : Rec) → (offset : ℕ) → Location
 word_of (a_node n) offset = NodeWord n offset
 word_of (a_leaf n) offset = LeafWord n offset
 
@@ -292,7 +295,7 @@ target_word Anchor = AnchorWord
 target_word (NodeTarget n) = state_of (a_node n)
 
 -- the location that an act loads, stores or exchanges
-abbrev pub location_of : ℕ → Act → Location
+abbrev pub location_of : (pass : ℕ) → (act : Act) → Location
 location_of pass (Claim r found) = state_of r
 location_of pass (Fill r offset w) = word_of r offset
 location_of pass (Ready r) = state_of r
@@ -312,12 +315,12 @@ location_of pass (LoadState r w) = state_of r
 location_of pass (GiveBack r epoch found) = state_of r
 location_of pass (Load words) = RootWord
 
--- what a compare-exchange leaves where w stood
-abbrev pub exchanged : ℕ → ℕ → ℕ → ℕ
+-- what an exchange of `old` for `new` leaves where `word` stood: another word than `old` stays
+abbrev pub exchanged : (word old new : ℕ) → ℕ
 exchanged w old new = if nat_eq w old then new else w
 
--- what an act leaves at its location, where w stood
-abbrev pub writes : Act → ℕ → ℕ
+-- what an act leaves at its location, where `stood` is the word that stood there
+abbrev pub writes : (act : Act) → (stood : ℕ) → ℕ
 writes (Claim r found) w = exchanged w (state_word FreeTag) (state_word HeldTag)
 writes (Fill r offset word) w = word
 writes (Ready r) w = state_word Live

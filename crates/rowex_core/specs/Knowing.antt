@@ -49,13 +49,12 @@ use Rattle.rowex_core.specs.Events.{loaded_tree, Legal, IsLockedAt, stored_words
 abbrev pub StoodBetween : Past → (since at : ℕ) → Rec → Type 0
 StoodBetween past since at rec = (n : ℕ) × (tree : Tree) × (since ≤ n) × (n ≤ at) × Stands past n rec tree
 
--- the record stood in the tree in some version from `since` to `at`, with a tree that has the property
-abbrev pub StoodAs : Past → (since at : ℕ) → Rec → (Tree → Type 0) → Type 0
+-- the record stood in the tree in some version from `since` to `at`, with a tree that has the property P
+abbrev pub StoodAs : (past : Past) → (since at : ℕ) → (rec : Rec) → (P : Tree → Type 0) → Type 0
 StoodAs past since at rec P = (n : ℕ) × (tree : Tree) × (since ≤ n) × (n ≤ at) × Stands past n rec tree × P tree
 
--- If the record stood in a version from m to `at`, it stood in one of these with a tree that has the property. So it is for each m since
--- `since`.
-abbrev pub HoldsIfStood : Past → (since at : ℕ) → Rec → (Tree → Type 0) → Type 0
+-- Let m be `since` or later. If the record stood in a version from m to `at`, it stood in one of these with a tree that has the property P.
+abbrev pub HoldsIfStood : (past : Past) → (since at : ℕ) → (rec : Rec) → (P : Tree → Type 0) → Type 0
 HoldsIfStood past since at rec P = (m : ℕ) → since ≤ m → StoodBetween past m at rec → StoodAs past m at rec P
 
 -- what a fact says of the past
@@ -66,22 +65,22 @@ IsFact past (Fixed since at r offset w) = (at ≤ past.now) × HoldsIfStood past
 IsFact past (Valued since at l v) = (at ≤ past.now) × HoldsIfStood past since at (a_leaf l) (λ u. head_value u ≡ Some v)
 
 -- The leaf still has the value that the pass loaded, if the pass has locked what names the leaf.
-abbrev pub IsStillLoaded : ℕ → Core → Loaded → Type 0
+abbrev pub IsStillLoaded : (pass : ℕ) → (core : Core) → (loaded : Loaded) → Type 0
 IsStillLoaded pass core loaded = IsLockedAt core pass (Value loaded.leaf) → record_word core (a_leaf loaded.leaf) VALUE_OFFSET ≡ loaded.value
 
--- What the pass has seen is true. Others alone have changed the map since. Its last load of the root saw the beginning of that. Its facts
--- are facts of the past.
+-- What a pass has seen is true. Behind the changes `seen` other passes alone have changed the map. At the pass's last load of the root the
+-- changes were `last`, with which `seen` begins. Its facts are true of the past.
 pub record HasSeen (pass : ℕ) (past : Past) (changes : List Change) (seen last : List Change) (known : List Fact) : Type 0 where
   pub front : OthersGoOn pass seen changes
   pub fresh : BeginsWith seen last
   pub facts : All (IsFact past) known
 
--- The steps that the pass remembers came before step number `next`: its last load of the root, and those that failed.
+-- The steps that a pass remembers have numbers below `next`: its last load of the root, and each act that failed.
 pub record AreCounted (next last : ℕ) (failures : List Failed) : Type 0 where
   pub loaded : last < next
   pub failed : All (λ f. f.step < next) failures
 
--- What the pass knows is true of the core. What it knows of its own is all that it has, and its steps are counted.
+-- What the pass knows is true of the core. It knows all that it has, and its steps are counted.
 pub record Knows (core : Core) (known : Known) : Type 0 where
   pub pass : known.pass < core.layout.passes
   pub counted : AreCounted known.steps known.fresh.step known.failed
@@ -96,12 +95,12 @@ pub record Recalls (core : Core) (known : Known) : Type 0 where
   pub facts : All (IsFact core.past) known.facts
   pub pin : core.pins known.pass ≡ known.pin
 
--- the pass has been pinned since version m or longer
-abbrev pub IsPinnedSince : Known → ℕ → Type 0
+-- the pass has been pinned since this version, or since an earlier one
+abbrev pub IsPinnedSince : (known : Known) → (since : ℕ) → Type 0
 IsPinnedSince known m = (pin : Pin) × (known.pin ≡ Some pin) × (pin.version ≤ m)
 
--- none of the changes is by pass q
-abbrev pub NoChangeBy : ℕ → List Change → Type 0
+-- none of the changes is by the pass
+abbrev pub NoChangeBy : (pass : ℕ) → (changes : List Change) → Type 0
 NoChangeBy q changes = All (λ x. x.pass ≢ q) changes
 
 -- the pass has made no change and has nothing, as a new one
@@ -119,8 +118,8 @@ Knowing core (Pair j k) = Knows core j × Knows core k × (j.pass ≢ k.pass)
 Knowing core (Witness front) = BeginsWith core.changes front
 Knowing core (Follower known front) = Knows core known × BeginsWith core.changes front
 
--- the view is that of pass q, or of a dealer that still has it
-abbrev pub IsViewOf : View → ℕ → Type 0
+-- the view is that of the pass, or of a dealer that still has it
+abbrev pub IsViewOf : (view : View) → (pass : ℕ) → Type 0
 IsViewOf Spent q = ⊥
 IsViewOf (Dealer m) q = m ≤ q
 IsViewOf (Founder known m) q = (known.pass ≡ q) ⊎ (m ≤ q)
@@ -131,34 +130,35 @@ IsViewOf (Follower known front) q = known.pass ≡ q
 
 -- What a step teaches its pass, where c is the core before it
 
--- the facts of a pass after a load, which teaches a fact to a pinned pass alone
-abbrev pub facts_with : Option Pin → (ℕ → Fact) → List Fact → List Fact
+-- The facts of a pass after a load. If the pass is pinned, the load teaches the fact for the versions since its pin, and else none.
+abbrev pub facts_with : (pin : Option Pin) → (fact_of : ℕ → Fact) → (facts : List Fact) → List Fact
 facts_with None fact_of facts = facts
 facts_with (Some pin) fact_of facts = fact_of pin.version ∷ facts
 
 -- a pass that remembers one more failed act, of its latest step
-abbrev pub failed_with : Known → FailedAct → Location → ℕ → Known
+abbrev pub failed_with : (known : Known) → (act : FailedAct) → (location : Location) → (word : ℕ) → Known
 failed_with known act location word =
     record known { failed = record { act = act; location = location; word = word; step = known.steps } ∷ known.failed }
 
--- the own record, held in another way if it is record r
-abbrev pub with_holding : Rec → Holding → Owned → Owned
+-- an own record of a pass; if it is the record `rec`, it is now held as `holding` says
+abbrev pub with_holding : (rec : Rec) → (holding : Holding) → (owned : Owned) → Owned
 with_holding r holding owned = if same_rec owned.rec r then record owned { holding = holding } else owned
 
--- the own record, with a word filled if it is record r
+-- an own record of a pass; if it is the record to fill, it has this word at this offset now
 abbrev pub with_filled_word : Rec → (offset word : ℕ) → Owned → Owned
 with_filled_word r offset word owned = if same_rec owned.rec r then record owned { words = set owned.words (offset - FIELDS_OFFSET) word } else owned
 
--- the own records without record r
+-- a pass's own records without this record
 abbrev pub without_record : Rec → List Owned → List Owned
 without_record r own = filter (λ o. not (same_rec o.rec r)) own
 
--- the locks without that of node n
-abbrev pub without_lock : ℕ → List Locked → List Locked
+-- a pass's locks without that of this node
+abbrev pub without_lock : (node : ℕ) → (locks : List Locked) → List Locked
 without_lock n locks = filter (λ l. not (nat_eq l.node n)) locks
 
--- What a claim teaches: the record is now the pass's own, or belongs to another pass or none.
-abbrev pub claim_learned : Core → Rec → ℕ → Fate → Known → Known
+-- What a pass knows after it tried to claim a record of this fate. If the record was free, it is the pass's own. Else the claim has failed,
+-- and the pass knows whose the record is.
+abbrev pub claim_learned : (core : Core) → (rec : Rec) → (found : ℕ) → (fate : Fate) → (known : Known) → Known
 claim_learned core rec found Free known = record known { own = record { rec = rec; holding = Held; words = core.words rec } ∷ known.own }
 claim_learned core rec found fate known = failed_with known (a_claim (holder_of fate)) (state_of rec) found
 
@@ -167,8 +167,9 @@ abbrev pub maker_of : Option Change → Option ℕ
 maker_of None = None
 maker_of (Some change) = Some change.pass
 
--- The pass that stands in the way of a node's lock. It has locked the node; or its change unlinked the node, if that is retired.
-abbrev pub blocking_pass_of : Core → ℕ → Fate → Option ℕ
+-- The pass that stands in the way of a node's lock. It has locked the node. If the node is marked, it is the pass whose change unlinked the
+-- node.
+abbrev pub blocking_pass_of : (core : Core) → (node : ℕ) → (fate : Fate) → Option ℕ
 blocking_pass_of core n (Marked since last epoch) = maker_of (slice_get core.changes last)
 blocking_pass_of core n fate = core.lock n
 
@@ -177,19 +178,22 @@ abbrev pub blocking_pass_at : Core → Target → Option ℕ
 blocking_pass_at core Anchor = core.anchor
 blocking_pass_at core (NodeTarget n) = blocking_pass_of core n (core.fate (a_node n))
 
--- what a try of the anchor's lock teaches
-abbrev pub anchor_learned : Core → ℕ → Option ℕ → Known → Known
+-- What a pass knows after it tried to lock the anchor, which `holder` had locked. If no pass had, the pass knows the root. Else the try has
+-- failed, and the pass knows which pass has the lock.
+abbrev pub anchor_learned : (core : Core) → (found : ℕ) → (holder : Option ℕ) → (known : Known) → Known
 anchor_learned core found None known = record known { anchor = Some core.root; values = [] }
 anchor_learned core found (Some pass) known = failed_with known (a_lock (Some pass)) (target_word Anchor) found
 
--- what a try of a node's lock teaches
-abbrev pub node_learned : Core → ℕ → ℕ → Known → Known
+-- What a pass knows after it tried to lock a node and found this state. If the node was live, the pass knows the node's words. Else the try
+-- has failed, and the pass knows which pass stands in the way.
+abbrev pub node_learned : (core : Core) → (node found : ℕ) → (known : Known) → Known
 node_learned core n found known =
     if nat_eq found (state_word Live) then record known { locks = record { node = n; words = core.words (a_node n) } ∷ known.locks; values = [] }
     else failed_with known (a_lock (blocking_pass_of core n (core.fate (a_node n)))) (target_word (NodeTarget n)) found
 
--- what a load of a record's state teaches, if it finds the record not free
-abbrev pub state_learned : Core → Rec → ℕ → Known → Known
+-- What a pass knows after it loaded a record's state and found this word. If the record isn't free, that counts as a failed act, and the
+-- pass knows whose the record is.
+abbrev pub state_learned : (core : Core) → (rec : Rec) → (word : ℕ) → (known : Known) → Known
 state_learned core rec word known =
     if nat_eq word (state_word FreeTag) then known else failed_with known (a_load (holder_of (core.fate rec))) (state_of rec) word
 
@@ -198,8 +202,9 @@ abbrev pub version_of : Option Pin → ℕ
 version_of None = 0
 version_of (Some pin) = pin.version
 
--- What a load of a spot teaches. The root also shows all changes up to now.
-abbrev pub entry_learned : Core → Spot → Known → Known
+-- What a pass knows after it loaded the word of a spot: all changes up to now, and what stands there, as a fact. A load of the root is kept
+-- as the pass's last one.
+abbrev pub entry_learned : (core : Core) → (spot : Spot) → (known : Known) → Known
 entry_learned core Root known = record known {
   front = core.changes;
   fresh = record { front = core.changes; step = known.steps; pinned = version_of known.pin };
@@ -226,13 +231,14 @@ abbrev pub records_in : Option Tree → List Rec
 records_in None = []
 records_in (Some tree) = records_of tree
 
--- A record that the pass has unlinked, which is its own until it is marked.
-abbrev pub owned_unlinked : Core → Rec → Fate → Owned
+-- A record of this fate that the pass has just unlinked, as its own. It is the pass's own until it is marked.
+abbrev pub owned_unlinked : (core : Core) → (rec : Rec) → (fate : Fate) → Owned
 owned_unlinked core rec (InTree since) = record { rec = rec; holding = Unlinked since core.past.now; words = core.words rec }
 owned_unlinked core rec _ = record { rec = rec; holding = Unlinked 0 0; words = core.words rec }
 
--- The pass's own records after a publish of the tree t. Those that it links have gone, and those that it unlinks have come.
-abbrev pub own_after : Core → Option Tree → List Owned → List Owned
+-- The pass's own records after a publish of this tree. The records that the tree links are gone from them, and those that it unlinks are
+-- among them.
+abbrev pub own_after : (core : Core) → (tree : Option Tree) → (own : List Owned) → List Owned
 own_after core t own =
     map (λ r. owned_unlinked core r (core.fate r)) (filter (λ r. not (is_linked t r)) (records_in (core.past.version core.past.now))) ++
     filter (λ o. not (is_linked t o.rec)) own
@@ -241,18 +247,18 @@ own_after core t own =
 abbrev pub locked_with_words : (Rec → List ℕ) → Locked → Locked
 locked_with_words words lock = record lock { words = words (a_node lock.node) }
 
--- the locks of a pass on nodes in the tree t, with the words that these have then
-abbrev pub locks_after : (Rec → List ℕ) → Option Tree → List Locked → List Locked
+-- the pass's locks on nodes that this tree links, each with the node's words after the publish
+abbrev pub locks_after : (words : Rec → List ℕ) → (tree : Option Tree) → (locks : List Locked) → List Locked
 locks_after words t locks = map (λ l. locked_with_words words l) (filter (λ l. is_linked t (a_node l.node)) locks)
 
 -- the root as the holder of the anchor's lock knows it, after a store to a spot
-abbrev pub anchor_after : Spot → Option Entry → Option (Option Entry) → Option (Option Entry)
+abbrev pub anchor_after : (spot : Spot) → (root : Option Entry) → (anchor : Option (Option Entry)) → Option (Option Entry)
 anchor_after Root root anchor = Some root
 anchor_after (Slot n j) root anchor = anchor
 anchor_after (Value l) root anchor = anchor
 
--- what a publish teaches its pass
-abbrev pub publish_learned : Core → Spot → ℕ → Known → Known
+-- what a pass knows after it published the word at the spot
+abbrev pub publish_learned : (core : Core) → (spot : Spot) → (word : ℕ) → (known : Known) → Known
 publish_learned core spot word known = record known {
   front = core.changes ++ next_change core known.pass spot word ∷ [];
   own = own_after core (next_tree core spot word) known.own;
@@ -261,16 +267,16 @@ publish_learned core spot word known = record known {
   values = [];
 }
 
--- What a bulk load teaches its pass: all leaves of the tree, as if it had loaded the root just before.
-abbrev pub load_learned : Core → Option Tree → Known → Known
+-- What a pass knows after a bulk load of this tree. It has seen each leaf added, as if it had loaded the root just before.
+abbrev pub load_learned : (core : Core) → (tree : Option Tree) → (known : Known) → Known
 load_learned core tree known = record known {
   front = core.changes ++ map (added_change known.pass) (items_of tree);
   fresh = record { front = core.changes; step = known.steps; pinned = version_of known.pin };
   values = [];
 }
 
--- What each act teaches its pass.
-abbrev pub learned_by : Core → Act → Known → Known
+-- What a pass knows after an act of its own. The step is not counted yet.
+abbrev pub learned_by : (core : Core) → (act : Act) → (known : Known) → Known
 learned_by core (Claim r found) known = claim_learned core r found (core.fate r) known
 learned_by core (Fill r offset w) known = record known { own = map (with_filled_word r offset w) known.own }
 learned_by core (Ready r) known = record known { own = map (with_holding r IsReady) known.own }
@@ -294,10 +300,10 @@ learned_by core (GiveBack r epoch found) known = known
 learned_by core (Load words) known = load_learned core (loaded_tree core.layout words.now) known
 
 -- what a pass knows after its step: what the act teaches it, with one step more counted
-abbrev pub learned : Core → Act → Known → Known
+abbrev pub learned : (core : Core) → (act : Act) → (known : Known) → Known
 learned core act known = let j = learned_by core act known in record j { steps = known.steps + 1 }
 
--- One atomic step of a pass, which knew k, and knows j then. `said` are the notes that its caller adds.
+-- One atomic step of a pass, which knew k before, and knows j after. `said` are the notes that its caller adds.
 pub record IsEvent (layout : Layout) (act : Act) (said : Known → List Note) (k j : Known) : Type 0 where
   pub core : Core
   pub lawful : IsLawful core
@@ -306,8 +312,8 @@ pub record IsEvent (layout : Layout) (act : Act) (said : Known → List Note) (k
   pub legal : Legal core k.pass act
   pub learned_is : j ≡ record (learned core act k) { notes = k.notes ++ said (learned core act k) }
 
--- Between knowing k and knowing j the pass has loaded the root. The last time it did so with this knowledge, which was true of a lawful
--- core. That load left it the changes of that core, which begin with those that any pass had seen by then.
+-- Between knowing k and knowing j a pass has loaded the root. At the last such load it knew `at`, which was true of a lawful core. The load
+-- left it all changes of that core. They begin with what any pass had seen by then.
 pub record SeesAllAtRoot (layout : Layout) (k j : Known) : Type 0 where
   pub core : Core
   pub lawful : IsLawful core

@@ -3,7 +3,8 @@
 pub mod Reading
 pub mod Cores
 pub mod Words
--- Then what happens: the core of a new table, when a step is legal and what it makes, whose each thing is, what a pass knows and is taught, and lists of steps.
+-- Then what happens: the core of a new table, when a step is legal and what it makes, what each pass has, what a pass knows and learns, and
+-- lists of steps.
 pub mod Opening
 pub mod Events
 pub mod Sharing

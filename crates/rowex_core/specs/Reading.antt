@@ -22,8 +22,8 @@ use Rattle.versions.specs.Heap.{NodeWords, LeafWords}
 abbrev pub fixed_of : List ℕ → Fixed
 fixed_of head = record { height = height_in (numbers_in head); columns = columns_in head; rows = rows_in head }
 
--- what the words of a head and those of its entries say of a node
-abbrev pub node_words_from : List ℕ → List ℕ → NodeWords
+-- what a node's words say: `head` are those of its head, `tail` those of its entries
+abbrev pub node_words_from : (head tail : List ℕ) → NodeWords
 node_words_from head tail = record {
   fixed = fixed_of head;
   subtrie = piece_of (Leaf 0) (fixed_of head).columns (fixed_of head).rows (entries_of (count_in (numbers_in head)) tail);
@@ -55,8 +55,8 @@ abbrev pub root_of : Option Tree → Option Entry
 root_of None = None
 root_of (Some tree) = head_entry tree
 
--- the entry in slot j of the node with which a tree begins
-abbrev pub entry_in : Tree → ℕ → Option Entry
+-- the entry in this slot of the node with which a tree begins
+abbrev pub entry_in : (tree : Tree) → (slot : ℕ) → Option Entry
 entry_in (leaf number key value) j = None
 entry_in (node number fixed body) j = if nat_lt j (size (subtrie body)) then Some (entry_at (subtrie body) j) else None
 entry_in (fork position left right) j = None

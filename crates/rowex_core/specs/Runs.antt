@@ -6,8 +6,8 @@ use Rattle.rowex_core.specs.Cores.{Core}
 use Rattle.rowex_core.specs.Events.{Legal, after}
 use Rattle.rowex_core.specs.Knowing.{IsViewOf}
 
--- the events are legal one after the other from a core on, and lead to this one
-abbrev pub EventsLead : Core → List Event → Core → Type 0
+-- the events are legal, one after the other, from the core `old` on, and lead to the core `new`
+abbrev pub EventsLead : (old : Core) → (events : List Event) → (new : Core) → Type 0
 EventsLead old [] new = new ≡ old
 EventsLead old (x ∷ xs) new = Legal old x.pass x.act × EventsLead (after old x.pass x.act) xs new
 

@@ -15,8 +15,8 @@ use Rattle.rowex_core.specs.declared.known.Known.{Known}
 use Rattle.rowex_core.specs.Cores.{Core}
 use Rattle.rowex_core.specs.Events.{IsInTree}
 
--- how pass q holds a record of this fate, if it does
-abbrev pub holding_of : ℕ → Fate → Option Holding
+-- how the pass holds a record of this fate, if it does
+abbrev pub holding_of : (pass : ℕ) → (fate : Fate) → Option Holding
 holding_of q (HeldBy p) = if nat_eq p q then Some Held else None
 holding_of q (ReadyBy p) = if nat_eq p q then Some IsReady else None
 holding_of q (UnlinkedBy since last p) = if nat_eq p q then Some (Unlinked since last) else None
@@ -24,8 +24,8 @@ holding_of q Free = None
 holding_of q (InTree since) = None
 holding_of q (Marked since last epoch) = None
 
--- whether pass q has this lock
-abbrev pub is_by : ℕ → Option ℕ → Bool
+-- whether the pass has this lock
+abbrev pub is_by : (pass : ℕ) → (lock : Option ℕ) → Bool
 is_by q None = false
 is_by q (Some p) = nat_eq p q
 
@@ -34,13 +34,13 @@ abbrev pub is_in_tree : Fate → Bool
 is_in_tree (InTree since) = true
 is_in_tree fate = false
 
--- the record as the only one of a list, if the pass holds it
-abbrev pub owned : Rec → List ℕ → Option Holding → List Owned
+-- the record as a list of one, if the pass holds it, and else an empty list
+abbrev pub owned : (rec : Rec) → (words : List ℕ) → (holding : Option Holding) → List Owned
 owned rec words None = []
 owned rec words (Some holding) = record { rec = rec; holding = holding; words = words } ∷ []
 
--- the node as the only one of a list, if the pass has locked it
-abbrev pub locked : ℕ → List ℕ → Bool → List Locked
+-- the node as a list of one, if the pass has locked it, and else an empty list
+abbrev pub locked : (node : ℕ) → (words : List ℕ) → (is_locked : Bool) → List Locked
 locked n words true = record { node = n; words = words } ∷ []
 locked n words false = []
 
@@ -58,8 +58,8 @@ pub record Share : Type 0 where
   pub pin : Option Pin
   pub round : Round
 
--- what pass q has in the core
-abbrev pub share : ℕ → Core → Share
+-- what the pass has in the core
+abbrev pub share : (pass : ℕ) → (core : Core) → Share
 share q core = record {
   own = λ r. owned r (core.words r) (holding_of q (core.fate r));
   locks = λ n. locked n (core.words (a_node n)) (is_in_tree (core.fate (a_node n)) && is_by q (core.lock n));
@@ -68,12 +68,12 @@ share q core = record {
   round = core.rounds q;
 }
 
--- the own records that are record r
+-- those of a pass's own records that are this record
 abbrev pub of_record : Rec → List Owned → List Owned
 of_record r own = filter (λ o. same_rec r o.rec) own
 
--- the locks that are on node n
-abbrev pub of_node : ℕ → List Locked → List Locked
+-- those of a pass's locks that are on this node
+abbrev pub of_node : (node : ℕ) → (locks : List Locked) → List Locked
 of_node n locks = filter (λ l. nat_eq n l.node) locks
 
 -- what a pass has, by what it knows
@@ -98,18 +98,18 @@ nothing = record {
 
 -- In other words: what the pass knows of each record and node by itself
 
--- the fate of a record that pass q holds this way
-abbrev pub fate_of : ℕ → Holding → Fate
+-- the fate of a record that the pass holds in this way
+abbrev pub fate_of : (pass : ℕ) → (holding : Holding) → Fate
 fate_of q Held = HeldBy q
 fate_of q IsReady = ReadyBy q
 fate_of q (Unlinked since last) = UnlinkedBy since last q
 
 -- The record is the pass's own in the way that it knows, and has the words that it knows.
-abbrev pub IsOwned : ℕ → Core → Owned → Type 0
+abbrev pub IsOwned : (pass : ℕ) → (core : Core) → (owned : Owned) → Type 0
 IsOwned pass core o = (core.fate o.rec ≡ fate_of pass o.holding) × (core.words o.rec ≡ o.words)
 
 -- The node is locked by the pass, is in the tree, and has the words that the pass knows.
-abbrev pub IsLocked : ℕ → Core → Locked → Type 0
+abbrev pub IsLocked : (pass : ℕ) → (core : Core) → (lock : Locked) → Type 0
 IsLocked pass core lock = (core.lock lock.node ≡ Some pass) × IsInTree core lock.node × (core.words (a_node lock.node) ≡ lock.words)
 
 -- the pass has what it knows that it has, and no more

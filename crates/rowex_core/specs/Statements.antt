@@ -98,7 +98,7 @@ RunsKeep =
 
 -- What a step does to the changes and the versions. A publish appends one of each, a bulk load one for each leaf. Any other step leaves
 -- both as they are.
-abbrev pub Appends : Act → Core → Core → Type 0
+abbrev pub Appends : (act : Act) → (old new : Core) → Type 0
 Appends (Publish spot w) old new =
     (change : Change) × (new.changes ≡ old.changes ++ change ∷ []) × (new.past.now ≡ suc old.past.now) ×
     ((n : ℕ) → n ≤ old.past.now → new.past.version n ≡ old.past.version n)
@@ -107,7 +107,7 @@ Appends (Load words) old new =
     (new.past ≡ loaded_past (loaded_tree old.layout words.now))
 Appends _ old new = (new.changes ≡ old.changes) × (new.past ≡ old.past)
 
--- Each act appends what it must: a publish one change, a bulk load one for each leaf, any other act none.
+-- Each act appends the changes of its kind. A publish appends one change, a bulk load one for each leaf, and any other act none.
 abbrev pub EachActAppends : Type 0
 EachActAppends = (core : Core) (pass : ℕ) (act : Act) → Appends act core (after core pass act)
 
@@ -150,8 +150,8 @@ EntriesInReach =
     (o : ℕ) × (v : Tree) × (m ≤ o) × StoodLast core.past o (a_node n) v × IsSameRecord u v ×
     ((j : ℕ) → j < MAX_ENTRIES → entry_of (record_word core (a_node n) (FIRST_ENTRY + j)) ≡ entry_in v j)
 
--- a call that makes a change of this kind
-abbrev pub call_of_kind : Kind → Key → ℕ → Call
+-- a call that makes a change of this kind to the key
+abbrev pub call_of_kind : (kind : Kind) → (key : Key) → (value : ℕ) → Call
 call_of_kind Added key value = Upsert key value
 call_of_kind Replaced key value = Upsert key value
 call_of_kind Removed key value = Remove key
@@ -168,7 +168,8 @@ PublishIsAStep =
     ((after core pass (Publish spot word)).changes ≡ core.changes ++ next_change core pass spot word ∷ []) ×
     ((next_change core pass spot word).pass ≡ pass) ×
     Fits (map_of core.changes) (next_change core pass spot word) ×
-    (content ((after core pass (Publish spot word)).past.version (after core pass (Publish spot word)).past.now) ≡ map_after (map_of core.changes) (call_of_change (next_change core pass spot word)))
+    (content ((after core pass (Publish spot word)).past.version (after core pass (Publish spot word)).past.now) ≡
+    map_after (map_of core.changes) (call_of_change (next_change core pass spot word)))
 
 -- Let an entry be stored, and the words show a bit trie of lawful nodes then, or no tree. Let its leaves differ from those before by one
 -- change of the pass. Then the publish makes that change.

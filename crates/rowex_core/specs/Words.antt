@@ -42,12 +42,12 @@ abbrev pub pin_word : Option Pin → ℕ
 pin_word None = NO_PIN
 pin_word (Some pin) = pin.word
 
--- a word of a record by its offset
-abbrev pub record_word : Core → Rec → ℕ → ℕ
+-- the word at an offset of a record; at offset 0 stands its state
+abbrev pub record_word : (core : Core) → (rec : Rec) → (offset : ℕ) → ℕ
 record_word core rec zero = state_at core rec
 record_word core rec (suc offset) = get_or (core.words rec) offset 0
 
--- What stands at a location.
+-- the word that stands at a location
 abbrev pub word_at : Core → Location → ℕ
 word_at core Epoch = core.epoch
 word_at core Root = entry_word core.root

@@ -97,22 +97,31 @@ pub struct Fresh {
 
 /// What a pass knows.
 pub struct Known {
+    /// The number of the pass.
     pub pass: u64,
     /// The changes that it has seen.
     pub front: Listed<Change>,
+    /// What its last load of the root left.
     pub fresh: Fresh,
     /// The pass's answered calls.
     pub notes: Listed<Note>,
     /// The number of its next atomic step; the first is 1.
     pub steps: u64,
+    /// Its failed steps, the latest first.
     pub failed: Listed<Failed>,
+    /// What its loads have told it while it was pinned, the latest first.
     pub facts: Listed<Fact>,
+    /// The records of its own.
     pub own: Listed<Owned>,
+    /// The nodes in the tree that it has locked.
     pub locks: Listed<Locked>,
     /// The root's entry, where it has locked the anchor.
     pub anchor: Option<Option<Entry>>,
+    /// The values that it has loaded since it last locked, unlocked, published or marked.
     pub values: Listed<Loaded>,
+    /// Its pin; `None` if it isn't pinned.
     pub pin: Option<Pin>,
+    /// What it has loaded of the epoch and of pins, from its last load of the epoch on.
     pub round: Round,
 }
 
@@ -124,6 +133,7 @@ pub enum View {
     Dealer(u64),
     /// What a pass knows, which it hands out first, and then the pass numbers from this one on.
     Founder(Known, u64),
+    /// What a pass knows.
     Pass(Known),
     /// What two passes know that have been joined.
     Pair(Known, Known),
