@@ -16,27 +16,29 @@ pub record Made : Type 0 where
   pub rec : Rec
   pub words : List ℕ
 
--- the record as the pass's own, held this way
+-- the new record among a pass's own records, held as `holding` says
 abbrev pub held_as : Holding → Made → Owned
 held_as holding made = record { rec = made.rec; holding = holding; words = made.words }
 
--- the records without their words
+-- the records that a list of new records names, without their words
 abbrev pub recs_of : List Made → List Rec
 recs_of made = map (λ (m : Made). m.rec) made
 
--- the locked nodes without their words
+-- the numbers of the locked nodes, without the nodes' words
 abbrev pub nodes_of : List Locked → List ℕ
 nodes_of locks = map (λ (lock : Locked). lock.node) locks
 
--- the pass's own records are exactly these, claimed and filled
+-- The pass's own records are exactly the records `news`. Each is claimed and filled with its words, and none is listed twice.
 abbrev pub HoldsMade : Known → List Made → Type 0
 HoldsMade known news = (known.own ≡ map (held_as Held) news) × AreApart (recs_of news)
 
--- the pass's own records are exactly these, of which those of `done` are ready
-abbrev pub HasReadied : Known → List Made → List Made → Type 0
+-- The pass's own records are exactly those of `done`, which are ready, and those of `todo`, which are claimed and filled. None is listed
+-- twice.
+abbrev pub HasReadied : (known : Known) → (done todo : List Made) → Type 0
 HasReadied known done todo = (known.own ≡ map (held_as Ready) done ++ map (held_as Held) todo) × AreApart (recs_of (done ++ todo))
 
--- The pass that knew k knows j now. It has the same pin, has seen more changes by others alone, and has forgotten no fact.
+-- What a pass knows has gone on from k to j. The pin is the same, and the front has grown by changes of other passes alone. Where the facts
+-- of j are true, so are those of k.
 pub record IsLater (k j : Known) : Type 0 where
   pub pass : j.pass ≡ k.pass
   pub pin : j.pin ≡ k.pin

@@ -15,8 +15,9 @@ use Rattle.rowex_table.specs.Rule.{MayStep}
 use Rattle.rowex_table.specs.Made.{nodes_of}
 use Rattle.rowex_table.specs.Runs.{silent}
 
--- The pass that knew k has published the change x, and has seen all changes now. Those before x fit it, and `was` is the key's value then.
--- Just the records `gone` are its own, which it has unlinked. Just the nodes `kept` are locked by it, and the anchor if it was before.
+-- A pass that knew k has published the change x, and knows j now. Its front has all changes so far, x as the last. The change x is legal on
+-- the map before it, in which its key has the value `was`. The pass owns just the records `gone`, which it has unlinked. It has locked just
+-- the nodes `kept`, and the anchor if it had before.
 pub record HasPublished (k j : Known) (x : Change) (was : Option ℕ) (gone : List Rec) (kept : List ℕ) : Type 0 where
   pub pass : j.pass ≡ k.pass
   pub pin : j.pin ≡ k.pin
@@ -30,8 +31,8 @@ pub record HasPublished (k j : Known) (x : Change) (was : Option ℕ) (gone : Li
   pub locks : LocksJust j.locks kept
   pub anchor : (k.anchor ≡ None → j.anchor ≡ None) × (IsSome k.anchor → IsSome j.anchor)
 
--- A pass that knows k may publish the change x by a store of the word at the spot. It then knows what `HasPublished` says. `kept` are those
--- of its locked nodes that are not among the records `gone`.
+-- A pass that knows k may publish the change x by a store of the word at the spot. Then it has published the change, as `HasPublished`
+-- says. Of its locked nodes it keeps those that are not among the records `gone`.
 pub record Publishes (layout : Layout) (k : Known) (spot : Spot) (word : ℕ) (x : Change) (was : Option ℕ) (gone : List Rec) : Type 0 where
   pub may : MayStep layout (λ found. Publish spot word) k
   pub gives : (j : Known) (kept : List ℕ) → AreKept (nodes_of k.locks) gone kept → IsEvent layout (Publish spot word) silent k j →

@@ -15,8 +15,8 @@ use Rattle.rowex_core.specs.Words.{state_at}
 use Rattle.rowex_core.specs.Events.{IsInTree}
 use Rattle.rowex_core.specs.Knowing.{Knows}
 
--- the record is the pass's own, held this way, and has these words behind its state
-abbrev pub OwnsAs : Known → Rec → Holding → List ℕ → Type 0
+-- the pass owns the record, holds it as `holding` says, and knows `words` as its words behind the state
+abbrev pub OwnsAs : (known : Known) → (rec : Rec) → (holding : Holding) → (words : List ℕ) → Type 0
 OwnsAs known rec holding words = Contains known.own (record { rec = rec; holding = holding; words = words })
 
 -- the pass has claimed the record, and not made it ready
@@ -24,7 +24,7 @@ abbrev pub IsClaimed : Known → Rec → Type 0
 IsClaimed known rec = (words : List ℕ) × (length words ≡ word_count_of rec) × OwnsAs known rec Held words
 
 -- The pass may lock the target: the anchor always, and a node that it knows to stand in the tree, if it is live.
-abbrev pub MayLock : Layout → Target → Known → Type 0
+abbrev pub MayLock : (layout : Layout) → (target : Target) → (known : Known) → Type 0
 MayLock layout Anchor known = Unit {0}
 MayLock layout (NodeTarget n) known =
     (core : Core) → IsLawful core → core.layout ≡ layout → Knows core known → state_at core (a_node n) ≡ state_word Live → IsInTree core n

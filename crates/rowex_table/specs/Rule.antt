@@ -31,16 +31,16 @@ use Rattle.rowex_table.specs.declared.traces.TracedView.{TracedView}
 use Rattle.rowex_table.specs.declared.traces.TracedView.TheVariants.{Spent, Dealer, Founder, Pass, Pair, Witness, Follower}
 use Rattle.rowex_table.specs.Traces.{HasTraces, IsNextStep, IsShownRun, RunBeginsWith, untraced, view_of}
 
--- some view is of the pass of this number
-abbrev pub IsSomeSeats : List TracedView → ℕ → Type 0
+-- one of the views is that of the pass of this number
+abbrev pub IsSomeSeats : (views : List TracedView) → (pass : ℕ) → Type 0
 IsSomeSeats views pass = (i : ℕ) × (view : TracedView) × (get_elem? views i ≡ some view) × IsViewOf (view_of view) pass
 
--- what a view tells is true of the core, and its traces are of the run
-abbrev pub IsTrueOf : Core → List Event → TracedView → Type 0
+-- what a view says is true of the core, and its traces are beginnings of the run
+abbrev pub IsTrueOf : (core : Core) → (run : List Event) → (view : TracedView) → Type 0
 IsTrueOf core run view = Knowing core (view_of view) × HasTraces run view
 
--- The rule of a table. A run of steps leads from a new table to a lawful core of this layout, which the words show. What each view tells is
--- true of both. No two views have one number, and each number of a pass is in some view.
+-- The rule of a table. A run of steps leads from a new table to a lawful core of this layout, which the words show. What each view says is
+-- true of the core and of the run. No two views are of one pass, and each pass of the layout has a view.
 pub record Ruled {S : Type 0} (layout : Layout) (s : State S TracedView) : Type 0 where
   pub core : Core
   pub lawful : IsLawful core
@@ -71,35 +71,38 @@ opening_of pass = record {
   round = record { epoch = 0; version = 0; bound = 0; seen = [] };
 }
 
--- the bulk load of these words into a table; where they lay says nothing
+-- The bulk load of these words into a table, as an act. The address of the slice is 0, since it says nothing.
 abbrev pub load_of : List ℕ → Act
 load_of words = Load (record { ref_ptr = (0, 0); now = words })
 
--- What pass 0 knows of a table that was made of these words. It has loaded the leaves of the tree that they show, by an insertion of each.
+-- What pass 0 knows of a table that was made of these words by a bulk load. Its notes are those of insertions of the tree's leaves, one by
+-- one.
 abbrev pub loader_of : Layout → List ℕ → Known
-loader_of layout words = record (learned (opening layout) (load_of words) (opening_of 0)) { notes = added_notes 0 (items_of (loaded_tree layout words)) }
+loader_of layout words =
+    record (learned (opening layout) (load_of words) (opening_of 0)) { notes = added_notes 0 (items_of (loaded_tree layout words)) }
 
--- the trace of a pass that has loaded these words, with no other step
+-- the trace of pass 0 of a table that was made of these words: the bulk load alone
 abbrev pub load_trace : List ℕ → Trace
 load_trace words = record { events = record { pass = 0; act = load_of words } ∷ []; asides = 0; touches = 0 }
 
--- the first view of a table of these words, which are loaded pairs or those of a new table
-abbrev pub first_view : Layout → Bool → List ℕ → TracedView
+-- The first view of a table. If `loads` is true, the words are those of loaded pairs, and the view is a founder's. Else the words are those
+-- of a new table, and the view is a dealer's.
+abbrev pub first_view : (layout : Layout) → (loads : Bool) → (words : List ℕ) → TracedView
 first_view layout true words = Founder (loader_of layout words) (load_trace words) 1
 first_view layout false words = Dealer 0
 
--- what the pass of a view knows
+-- what the pass of a view knows; of a view of another kind, what a new pass 0 knows
 abbrev pub known_of : TracedView → Known
 known_of (Pass k t) = k
 known_of _ = opening_of 0
 
--- the trace of the pass of a view; of another view, an empty one
+-- the trace of the pass of a view; of a view of another kind, an empty one
 abbrev pub trace_of : TracedView → Trace
 trace_of (Pass k t) = t
 trace_of _ = untraced
 
 -- the seat is that of the pass of this number, and holds nothing else
-abbrev pub IsOfPass : {S : Type 0} → Me S TracedView → ℕ → Type 0
+abbrev pub IsOfPass : {S : Type 0} → (me : Me S TracedView) → (pass : ℕ) → Type 0
 IsOfPass me pass = (me ≡ (Pass (known_of me.0) (trace_of me.0), [])) × ((known_of me.0).pass ≡ pass)
 
 -- the spot is the root, a value, or one of the slots that a node has
@@ -115,11 +118,11 @@ HasSpot layout (Value l) = l < layout.leaves
 HasSpot layout (Slot n j) = (n < layout.nodes) × (j < MAX_ENTRIES)
 
 -- the location is in the table, at this word
-abbrev pub IsAddressOf : Layout → Location → ℕ → Type 0
+abbrev pub IsAddressOf : (layout : Layout) → (location : Location) → (word : ℕ) → Type 0
 IsAddressOf layout location word = (word ≡ address layout location) × IsInTable layout location
 
 -- the record is in the table, and begins at this word
-abbrev pub IsStartOf : Layout → Rec → ℕ → Type 0
+abbrev pub IsStartOf : (layout : Layout) → (rec : Rec) → (word : ℕ) → Type 0
 IsStartOf layout rec word = HasRecord layout rec × (word ≡ address layout (word_of rec 0))
 
 -- the record's number among those of its kind
@@ -137,8 +140,8 @@ IsLeafRecordAt layout at = (at.rec ≡ a_leaf (record_number at.rec)) × IsStart
 
 -- Events
 
--- The act, as one that finds this word. A store finds none.
-abbrev pub found_by : Act → ℕ → Act
+-- The act, with this word as the one that it finds. An act that finds no word, as a store, stays as it is.
+abbrev pub found_by : (act : Act) → (word : ℕ) → Act
 found_by (Claim r found) word = Claim r word
 found_by (LoadRef spot word) w = LoadRef spot w
 found_by (LoadFixed r offset word) w = LoadFixed r offset w
@@ -150,23 +153,25 @@ found_by (LoadState r word) w = LoadState r w
 found_by (GiveBack r epoch found) word = GiveBack r epoch word
 found_by act word = act
 
--- The pass may make the step at a table of this layout. It is legal in each lawful core of which what the pass knows is true. `act` takes
--- the word that stands there.
-abbrev pub MayStep : Layout → (ℕ → Act) → Known → Type 0
+-- A pass that knows `known` may make the step `act` at a table of this layout. The step is legal in each lawful core of which `known` is
+-- true. `act` takes the word that the step finds.
+abbrev pub MayStep : (layout : Layout) → (act : ℕ → Act) → (known : Known) → Type 0
 MayStep layout act known =
     (core : Core) → IsLawful core → core.layout ≡ layout → Knows core known →
     Legal core known.pass (act (word_at core (location_of known.pass (act 0))))
 
--- The act of a pass happens: it is legal, the pass learns of it, and it is the next step of the table's run.
-abbrev pub Happens : Option Layout → Act → (Known → List Note) → TracedView → TracedView → Type 0
+-- From the view `old` to the view `new` a pass makes the act, with the notes `said`. The act is legal, the pass learns of it, and it is the
+-- next step of the table's run. Without a layout, or for a view of another kind, this says nothing.
+abbrev pub Happens : (layout : Option Layout) → (act : Act) → (said : Known → List Note) → (old new : TracedView) → Type 0
 Happens (Some layout) act said (Pass k t) view =
     (known : Known) × (trace : Trace) × (event : IsEvent layout act said k known) × (view ≡ Pass known trace) ×
     IsNextStep layout k.pass act event.core t.events trace.events × (trace.asides ≡ t.asides) ×
     (trace.touches ≡ t.touches)
 Happens _ act said v view = Unit {0}
 
--- a pass's step, as an event that finds the word which the step tells
-abbrev pub did : {S : Type 0} → Option Layout → Act → (Known → List Note) → Step S → Me S TracedView → ℕ → Me S TracedView → Type 0
+-- A pass's step in the form that a shared table asks for. The act happens, as one that finds the word `told`.
+abbrev pub did : {S : Type 0} → (layout : Option Layout) → (act : Act) → (said : Known → List Note) →
+    (step : Step S) → (old : Me S TracedView) → (told : ℕ) → (new : Me S TracedView) → Type 0
 did layout act said st m told m' = (m'.1 ≡ m.1) × Happens layout (found_by act told) said m.0 m'.0
 
 -- Touches
@@ -176,8 +181,8 @@ abbrev pub touched_once : TracedView → TracedView
 touched_once (Pass k t) = Pass k (record { events = t.events; asides = t.asides; touches = suc t.touches })
 touched_once view = view
 
--- a touch changes nothing but that it is counted
-abbrev pub touching : {S : Type 0} → Step S → Me S TracedView → ℕ → Me S TracedView → Type 0
+-- A touch of a word in the form that a shared table asks for. Nothing of the view changes but the count of touches.
+abbrev pub touching : {S : Type 0} → (step : Step S) → (old : Me S TracedView) → (told : ℕ) → (new : Me S TracedView) → Type 0
 touching st m told m' = (m'.1 ≡ m.1) × (m'.0 ≡ touched_once m.0)
 
 -- Seats dealt, and two that meet
@@ -194,31 +199,31 @@ dealt (Dealer m) = Pass (opening_of m) untraced
 dealt (Founder k t m) = Pass k t
 dealt _ = Spent
 
--- The rule holds of a table of these words with its first view.
-abbrev pub IsRuledAtFirst : Layout → Bool → List ℕ → Type 0
+-- The rule holds of a table that was just made of these words, with its first view.
+abbrev pub IsRuledAtFirst : (layout : Layout) → (loads : Bool) → (words : List ℕ) → Type 0
 IsRuledAtFirst layout loads words = Ruled {S = Unit {0}} layout (first_state words [] (first_view layout loads words))
 
--- the dealer's view once the passes below this number have been dealt, from the table's first view on
-abbrev pub dealer_at : TracedView → ℕ → TracedView
+-- the dealer's view once the first `count` passes have been dealt, from the table's first view on
+abbrev pub dealer_at : (first : TracedView) → (count : ℕ) → TracedView
 dealer_at first zero = first
 dealer_at first (suc pass) = Dealer (suc pass)
 
 -- the view of the pass of this number when it is dealt, by the table's first view
-abbrev pub dealt_at : TracedView → ℕ → TracedView
+abbrev pub dealt_at : (first : TracedView) → (pass : ℕ) → TracedView
 dealt_at first zero = dealt first
 dealt_at first (suc pass) = Pass (opening_of (suc pass)) untraced
 
--- the views of two passes as one
-abbrev pub paired : TracedView → TracedView → TracedView
+-- the views of two passes, as the view of a pair
+abbrev pub paired : (first second : TracedView) → TracedView
 paired (Pass j t) (Pass k u) = Pair j t k u
 paired v w = Spent
 
--- the view of the first of two passes
+-- the view of the first pass of a pair
 abbrev pub first_of_two : TracedView → TracedView
 first_of_two (Pair j t k u) = Pass j t
 first_of_two view = view
 
--- the view of the second of two passes
+-- the view of the second pass of a pair
 abbrev pub second_of_two : TracedView → TracedView
 second_of_two (Pair j t k u) = Pass k u
 second_of_two view = Spent
@@ -227,37 +232,37 @@ second_of_two view = Spent
 abbrev pub with_front : List Change → Known → Known
 with_front front known = record known { front = front }
 
--- Two passes of different numbers, which knew j and k, now know j' and k'. Both have seen one list of legal changes, each by a pass of the
--- table. It begins with what each had seen, and goes on by changes of others.
-abbrev pub SeatsHaveMet : Layout → Known → Known → Known → Known → Type 0
+-- Two passes of different numbers have met. Both have now seen one list of legal changes, each by a pass of the table. The list begins with
+-- what each had seen before, and goes on by changes of others. Nothing else of what they know has changed.
+abbrev pub SeatsHaveMet : (layout : Layout) → (first_before second_before first_after second_after : Known) → Type 0
 SeatsHaveMet layout j k j' k' =
-    (front : List Change) × (j' ≡ with_front front j) × (k' ≡ with_front front k) × LegalFront front × OthersGoOn j.pass j.front front × OthersGoOn k.pass k.front front ×
+    (front : List Change) × (j' ≡ with_front front j) × (k' ≡ with_front front k) × LegalFront front ×
+    OthersGoOn j.pass j.front front × OthersGoOn k.pass k.front front ×
     (j.pass ≢ k.pass) × All (λ x. x.pass < layout.passes) front
 
--- The pass that knew k, and of the steps of t, knows j now, and of the steps of u. It has been shown a run (`IsShownRun`), which is counted
--- as one aside.
-abbrev pub HasBeenShown : Layout → Known → Trace → Known → Trace → Type 0
+-- A pass has been shown a run, as `IsShownRun` says. That counts as one aside, and as no touch.
+abbrev pub HasBeenShown : (layout : Layout) → (before : Known) → (trace_before : Trace) → (after : Known) → (trace_after : Trace) → Type 0
 HasBeenShown layout k t j u = IsShownRun layout k.pass t.events u.events j.front × (u.asides ≡ suc t.asides) × (u.touches ≡ t.touches)
 
 -- Two passes meet: afterwards both know of the same changes and of the same steps.
-abbrev pub Meeting : Option Layout → TracedView → TracedView → Type 0
+abbrev pub Meeting : (layout : Option Layout) → (old new : TracedView) → Type 0
 Meeting (Some layout) (Pair j t k u) view =
     (j' : Known) × (t' : Trace) × (k' : Known) × (u' : Trace) × (view ≡ Pair j' t' k' u') × SeatsHaveMet layout j k j' k' ×
     (t'.events ≡ u'.events) × HasBeenShown layout j t j' t' × HasBeenShown layout k u k' u'
 Meeting _ _ view = Unit {0}
 
--- a step at which two passes meet
-abbrev pub met : {S : Type 0} → Option Layout → Step S → Me S TracedView → ℕ → Me S TracedView → Type 0
+-- A meeting of two passes, in the form that a shared table asks for.
+abbrev pub met : {S : Type 0} → (layout : Option Layout) → (step : Step S) → (old : Me S TracedView) → (told : ℕ) → (new : Me S TracedView) → Type 0
 met layout st m told m' = (m'.1 ≡ m.1) × Meeting layout m.0 m'.0
 
 -- Stamps, and passes that follow them
 
--- the changes that a stamp tells to have been made
+-- the changes that a stamp tells of; of a view of another kind, none
 abbrev pub witnessed : TracedView → List Change
 witnessed (Witness front events) = front
 witnessed view = []
 
--- the steps that a stamp tells to have been made
+-- the steps that a stamp tells of; of a view of another kind, none
 abbrev pub witnessed_steps : TracedView → List Event
 witnessed_steps (Witness front events) = events
 witnessed_steps view = []
@@ -276,25 +281,26 @@ abbrev pub stamping : TracedView → TracedView
 stamping (Pass k t) = Pass k (record { events = t.events; asides = suc t.asides; touches = t.touches })
 stamping view = view
 
--- the view of a pass with that of the stamp that it follows
-abbrev pub following : TracedView → TracedView → TracedView
+-- the view of a pass with that of the stamp that the pass follows
+abbrev pub following : (pass stamp : TracedView) → TracedView
 following (Pass k t) (Witness front events) = Follower k t front events
 following v w = Spent
 
--- The pass that knew k knows j now. It has seen a list of legal changes, each by a pass of the table. The list begins with the stamp's, and
--- with what the pass had seen, and goes on by changes of others.
-abbrev pub HasFollowed : Layout → List Change → Known → Known → Type 0
+-- A pass has followed a stamp. It has now seen a list of legal changes, each by a pass of the table. The list begins with the stamp's
+-- changes, and with those that the pass had seen, and goes on by changes of others.
+abbrev pub HasFollowed : (layout : Layout) → (stamp : List Change) → (before after : Known) → Type 0
 HasFollowed layout stamp k j =
     (front : List Change) × (j ≡ with_front front k) × LegalFront front × OthersGoOn k.pass k.front front × BeginsWith front stamp ×
     All (λ x. x.pass < layout.passes) front
 
--- A pass follows a stamp. It knows of the stamp's changes and steps then, and is shown a run that begins with them.
-abbrev pub Following : Option Layout → TracedView → TracedView → Type 0
+-- A pass follows a stamp. Then it knows of the stamp's changes, and is shown a run that begins with the stamp's steps.
+abbrev pub Following : (layout : Option Layout) → (old new : TracedView) → Type 0
 Following (Some layout) (Follower k t stamp events) view =
     (known : Known) × (trace : Trace) × (view ≡ Pass known trace) × HasFollowed layout stamp k known × HasBeenShown layout k t known trace ×
     RunBeginsWith trace.events events
 Following _ _ view = Unit {0}
 
--- a step at which a pass follows a stamp
-abbrev pub followed : {S : Type 0} → Option Layout → Step S → Me S TracedView → ℕ → Me S TracedView → Type 0
+-- A step at which a pass follows a stamp, in the form that a shared table asks for.
+abbrev pub followed : {S : Type 0} → (layout : Option Layout) → (step : Step S) →
+    (old : Me S TracedView) → (told : ℕ) → (new : Me S TracedView) → Type 0
 followed layout st m told m' = (m'.1 ≡ m.1) × Following layout m.0 m'.0

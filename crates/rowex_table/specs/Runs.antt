@@ -15,21 +15,20 @@ use Rattle.rowex_table.specs.Seats.{TableView, SeatView, MakesNoAside}
 use Rattle.rowex_table.specs.Stays.{LeavesFresh}
 use Rattle.rowex_table.specs.Traces.{IsNextStep, RunBeginsWith, own_acts}
 
--- no notes
+-- no notes, whatever the pass knows
 abbrev pub silent : Known → List Note
 silent known = []
 
--- Told these events, one after the other, the one gate has become the other.
-abbrev pub IsTold : {G : Type 0} → (G → Event → G → Type 0) → List Event → G → G → Type 0
+-- The gate was `before`, is told the events in order, and is `after` then. `becomes` says what one event makes of a gate.
+abbrev pub IsTold : {G : Type 0} → (becomes : G → Event → G → Type 0) → (events : List Event) → (before after : G) → Type 0
 IsTold becomes [] g h = h ≡ g
 IsTold {G = G} becomes (event ∷ events) g h = (f : G) × becomes g event f × IsTold becomes events f h
 
 -- the acts as events of one pass
-abbrev pub events_of : ℕ → List Act → List Event
+abbrev pub events_of : (pass : ℕ) → (acts : List Act) → List Event
 events_of pass acts = map (λ act. record { pass = pass; act = act }) acts
 
--- The most words that a pass touches beside a load of an entry. They are four of the entry's node, and seven of the record to which the
--- entry leads.
+-- The most words that a pass touches beside a load of an entry: four of the entry's node, and seven of the record below.
 abbrev pub entry_touches : ℕ
 entry_touches = 11
 
@@ -42,9 +41,10 @@ most_touches act = 0
 abbrev pub MayTouch : Act → (before after : ℕ) → Type 0
 MayTouch act before after = (before ≤ after) × (after ≤ before + most_touches act)
 
--- The seat's pass makes this one atomic step, with which the notes `said` come, and the gate is told it. It is the next step of a run. The
--- steps before it lead from a new table to its core, and begin with those that the pass knew. It may touch some words beside it.
-pub record StepsWith {G : Type 0} (table : TableView) (becomes : G → Event → G → Type 0) (act : Act) (said : Known → List Note) (old new : SeatView × G) : Type 0 where
+-- The seat's pass makes the atomic step `act`, with the notes `said`, and the gate is told of it. It is the next step of the table's run,
+-- which goes on from the steps that the pass knew. Beside the step the pass may touch some words.
+pub record StepsWith {G : Type 0} (table : TableView) (becomes : G → Event → G → Type 0) (act : Act) (said : Known → List Note)
+    (old new : SeatView × G) : Type 0 where
   pub seat : MakesNoAside old.0 new.0
   pub atomic : IsAtomic act
   pub event : IsEvent table.layout act said old.0.known new.0.known
@@ -52,8 +52,8 @@ pub record StepsWith {G : Type 0} (table : TableView) (becomes : G → Event →
   pub touches : MayTouch act old.0.touches new.0.touches
   pub told : becomes old.1 (record { pass = old.0.known.pass; act = act }) new.1
 
--- the load of the root by pass q that finds this word
-abbrev pub root_load : ℕ → ℕ → Event
+-- the pass's load of the root that finds this word, as an event
+abbrev pub root_load : (pass word : ℕ) → Event
 root_load q word = record { pass = q; act = LoadRef Root word }
 
 -- Between these views of a seat its pass has loaded the root, as `SeesAllAtRoot` says. The steps `run` lead from a new table to the core of
@@ -70,29 +70,31 @@ pub record SeesAllOfRun (layout : Layout) (old new : SeatView) : Type 0 where
   pub until : new.trace ≡ run ++ root_load old.known.pass root ∷ rest
   pub last : All LeavesFresh (own_acts old.known.pass rest)
 
--- The seat's pass makes this one atomic step, with no note, and the gate is told it.
-abbrev pub Steps : {G : Type 0} → TableView → (G → Event → G → Type 0) → Act → SeatView × G → SeatView × G → Type 0
+-- The seat's pass makes the atomic step `act`, with no note, and the gate is told of it.
+abbrev pub Steps : {G : Type 0} → (table : TableView) → (becomes : G → Event → G → Type 0) → (act : Act) → (old new : SeatView × G) → Type 0
 Steps table becomes act old new = StepsWith table becomes act silent old new
 
--- The pass of the seat makes these steps, one after the other, and the gate is told each of them, in order.
-abbrev pub Runs : {G : Type 0} → TableView → (G → Event → G → Type 0) → List Act → SeatView × G → SeatView × G → Type 0
+-- The seat's pass makes the steps `acts`, one after the other. The gate is told of each, in order.
+abbrev pub Runs : {G : Type 0} → (table : TableView) → (becomes : G → Event → G → Type 0) → (acts : List Act) → (old new : SeatView × G) → Type 0
 Runs table becomes [] old new = new ≡ old
 Runs {G = G} table becomes (act ∷ acts) old new = (middle : SeatView × G) × Steps table becomes act old middle × Runs table becomes acts middle new
 
--- The seat's pass makes these steps, one after the other, and then one more with which the notes `said` come. The gate is told each.
-abbrev pub Ends : {G : Type 0} → TableView → (G → Event → G → Type 0) → List Act → Act → (Known → List Note) → SeatView × G → SeatView × G → Type 0
+-- The seat's pass makes the steps `acts`, one after the other, and then the step `last`, with the notes `said`. The gate is told of each,
+-- in order.
+abbrev pub Ends : {G : Type 0} → (table : TableView) → (becomes : G → Event → G → Type 0) → (acts : List Act) →
+    (last : Act) → (said : Known → List Note) → (old new : SeatView × G) → Type 0
 Ends {G = G} table becomes acts act said old new =
     (middle : SeatView × G) × Runs table becomes acts old middle × StepsWith table becomes act said middle new
 
--- The seat's pass makes these steps and no others, and the gate is told each. Of what it knew, `changed` takes what they may change from
--- what it knows after. The rest stays, but that they are counted.
+-- The seat's pass makes the steps `acts` and no others, and the gate is told of each. `changed` takes from the second knowledge what the
+-- steps may change, and the rest from the first. So all else that the pass knew stays, but for the count of its steps.
 pub record Does {G : Type 0} (table : TableView) (becomes : G → Event → G → Type 0) (changed : Known → Known → Known)
     (acts : List Act) (old new : SeatView × G) : Type 0 where
   pub seat : MakesNoAside old.0 new.0
   pub steps : Runs table becomes acts old new
   pub rest : new.0.known ≡ record (changed old.0.known new.0.known) { steps = old.0.known.steps + length acts }
 
--- the acts are those of parts 0 to n - 1, one part after the other
-abbrev pub InTurn : (ℕ → List Act → Type 0) → ℕ → List Act → Type 0
+-- the acts are those of the parts 0 to `count` - 1, one part after the other
+abbrev pub InTurn : (Parts : ℕ → List Act → Type 0) → (count : ℕ) → (acts : List Act) → Type 0
 InTurn Parts zero acts = acts ≡ []
 InTurn Parts (suc n) acts = (before : List Act) × (last : List Act) × InTurn Parts n before × Parts n last × (acts ≡ before ++ last)

@@ -44,23 +44,23 @@ abbrev pub IsPassOf : TableView → SeatView → Type 0
 IsPassOf table seat = IsSeatOf table seat × (seat.known.pass < table.layout.passes)
 
 -- the two views are of one seat of one pass
-abbrev pub IsOneSeat : SeatView → SeatView → Type 0
+abbrev pub IsOneSeat : (old new : SeatView) → Type 0
 IsOneSeat old new = (new.table ≡ old.table) × (new.id ≡ old.id) × (new.known.pass ≡ old.known.pass)
 
 -- The two views are of one seat. Meanwhile its pass has made or followed no stamp, and met no other pass.
-abbrev pub MakesNoAside : SeatView → SeatView → Type 0
+abbrev pub MakesNoAside : (old new : SeatView) → Type 0
 MakesNoAside old new = (new.table ≡ old.table) × (new.id ≡ old.id) × (new.known.pass ≡ old.known.pass) × (new.asides ≡ old.asides)
 
--- the seat, once its pass has touched n words more
-abbrev pub touched : ℕ → SeatView → SeatView
+-- the seat, once its pass has touched so many words more
+abbrev pub touched : (more : ℕ) → (seat : SeatView) → SeatView
 touched n seat = record seat { touches = seat.touches + n }
 
--- The pass has touched some words, at most so many. Nothing else of its seat has changed.
-abbrev pub HasTouched : ℕ → SeatView → SeatView → Type 0
+-- The pass has touched some words, `most` of them at most. Nothing else of its seat has changed.
+abbrev pub HasTouched : (most : ℕ) → (old new : SeatView) → Type 0
 HasTouched most old new = (n : ℕ) × (n ≤ most) × (new ≡ touched n old)
 
--- the seat, as if its pass had touched n words so far
-abbrev pub touched_to : ℕ → SeatView → SeatView
+-- the seat, as if its pass had touched so many words so far
+abbrev pub touched_to : (count : ℕ) → (seat : SeatView) → SeatView
 touched_to n seat = record seat { touches = n }
 
 -- The pass is shown a run, and the changes that were made in it (`IsShownRun`), as where it follows a stamp or meets another pass.
@@ -75,16 +75,16 @@ abbrev pub IsNewSeat : TableView → SeatView → Type 0
 IsNewSeat table seat = IsPassOf table seat × (seat.known ≡ opening_of seat.known.pass) × (seat.trace ≡ []) × (seat.asides ≡ 0)
 
 -- the seat of a new pass of this table, which has this number
-abbrev pub IsNewSeatOf : TableView → ℕ → SeatView → Type 0
+abbrev pub IsNewSeatOf : (table : TableView) → (pass : ℕ) → (seat : SeatView) → Type 0
 IsNewSeatOf table pass seat = IsSeatOf table seat × (seat.known ≡ opening_of pass) × (seat.trace ≡ []) × (seat.asides ≡ 0)
 
--- The seat of pass 0 of a table that was made of these words. It has loaded the leaves of the tree that they show.
-abbrev pub IsLoaderSeat : TableView → List ℕ → SeatView → Type 0
+-- The seat of pass 0 of a table that was made of these words by a bulk load. The load is the one step of its trace.
+abbrev pub IsLoaderSeat : (table : TableView) → (words : List ℕ) → (seat : SeatView) → Type 0
 IsLoaderSeat table words seat =
     IsSeatOf table seat × (seat.known ≡ loader_of table.layout words) × (seat.trace ≡ (load_trace words).events) × (seat.asides ≡ 0)
 
 -- the seat of the pass of this number when it is dealt, by the table's first view
-abbrev pub IsDealtSeat : TableView → TracedView → ℕ → SeatView → Type 0
+abbrev pub IsDealtSeat : (table : TableView) → (first : TracedView) → (pass : ℕ) → (seat : SeatView) → Type 0
 IsDealtSeat table first pass seat =
     IsSeatOf table seat × (seat.known ≡ known_of (dealt_at first pass)) × (seat.trace ≡ (trace_of (dealt_at first pass)).events) ×
     (seat.asides ≡ (trace_of (dealt_at first pass)).asides)

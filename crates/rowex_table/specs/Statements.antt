@@ -24,13 +24,13 @@ abbrev pub GateIsToldEachStep : {G : Type 0} → (G → Event → G → Type 0) 
 GateIsToldEachStep {G = G} becomes = (table : TableView) (acts : List Act) (old new : SeatView × G) → Runs table becomes acts old new →
     IsTold becomes (events_of old.0.known.pass acts) old.1 new.1
 
--- what a pass knows, with its notes and those of `said`
+-- what a pass knows, with the notes `said` behind those that it has
 abbrev pub with_notes : (Known → List Note) → Known → Known
 with_notes said known = record known { notes = known.notes ++ said known }
 
--- From the one view of a seat to the other, its pass has made these acts, in one run of the table. `steps` are those of all passes behind
--- those that it knew: its own among them are exactly these acts. They lead on from the core of the steps before. In the end the pass knows
--- what they have taught it, and these notes.
+-- From the view `old` to the view `new` a seat's pass has made exactly these acts, in one run of the table. `steps` are the run's steps of
+-- all passes, behind those that the pass knew. They lead on from the core of the steps before. In the end the pass knows what they have
+-- taught it, and the notes `said`.
 pub record IsInOneRun (layout : Layout) (acts : List Act) (said : Known → List Note) (old new : SeatView) : Type 0 where
   pub steps : List Event
   pub trace : new.trace ≡ old.trace ++ steps

@@ -81,8 +81,8 @@ KeepsRecall (SetPin w) = ⊥
 KeepsRecall ClearPin = ⊥
 KeepsRecall act = Unit {0}
 
--- From k to j is one step, which is counted, with no note. Each part of what the pass knew is as before, but for the acts that are about
--- it.
+-- One act, which counts as one step and has no note, leads from knowing k to knowing j. Each part of what the pass knew stays as it was,
+-- unless the act is of a kind that changes the part.
 pub record IsNext (act : Act) (k j : Known) : Type 0 where
   pub pass : j.pass ≡ k.pass
   pub steps : j.steps ≡ k.steps + 1

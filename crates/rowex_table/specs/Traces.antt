@@ -19,24 +19,24 @@ use Rattle.rowex_table.specs.declared.traces.TracedView.TheVariants.{Spent, Deal
 -- Lists of steps
 
 -- the later list of steps begins with the earlier one
-abbrev pub RunBeginsWith : List Event → List Event → Type 0
+abbrev pub RunBeginsWith : (later earlier : List Event) → Type 0
 RunBeginsWith later earlier = (more : List Event) × (later ≡ earlier ++ more)
 
--- the later list of steps goes on from the earlier one by steps of other passes than q
-abbrev pub OthersStepOn : ℕ → List Event → List Event → Type 0
+-- the later list of steps goes on from the earlier one by steps of other passes than this one
+abbrev pub OthersStepOn : (pass : ℕ) → (earlier later : List Event) → Type 0
 OthersStepOn q earlier later = (more : List Event) × (later ≡ earlier ++ more) × All (λ x. x.pass ≢ q) more
 
 -- the steps are legal, one after the other, from a new table on
 abbrev pub IsTableRun : Layout → List Event → Type 0
 IsTableRun layout run = (core : Core) × EventsLead (opening layout) run core
 
--- the acts of pass q among these steps
-abbrev pub own_acts : ℕ → List Event → List Act
+-- the acts of one pass among the steps of all
+abbrev pub own_acts : (pass : ℕ) → (steps : List Event) → List Act
 own_acts q [] = []
 own_acts q (x ∷ xs) = if nat_eq x.pass q then x.act ∷ own_acts q xs else own_acts q xs
 
--- What pass q, which knew k in the core c, knows after these steps. Its own steps teach it.
-abbrev pub taught : ℕ → Core → List Event → Known → Known
+-- What a pass knows after these steps of all passes, if it knew `known` in the core before them. Its own steps teach it.
+abbrev pub taught : (pass : ℕ) → (core : Core) → (steps : List Event) → (known : Known) → Known
 taught q c [] k = k
 taught q c (x ∷ xs) k = taught q (after c x.pass x.act) xs (if nat_eq x.pass q then learned c x.act k else k)
 
@@ -46,7 +46,7 @@ taught q c (x ∷ xs) k = taught q (after c x.pass x.act) xs (if nat_eq x.pass q
 abbrev pub untraced : Trace
 untraced = record { events = []; asides = 0; touches = 0 }
 
--- what a view tells, without its traces
+-- the view without its traces
 abbrev pub view_of : TracedView → View
 view_of Spent = a_spent
 view_of (Dealer m) = a_dealer m
@@ -56,8 +56,8 @@ view_of (Pair j t k u) = a_pair j k
 view_of (Witness front events) = a_witness front
 view_of (Follower k t front events) = a_follower k front
 
--- The run goes on from each trace of the view, behind that of a pass by steps of others alone. A pass that is still to be dealt has made
--- none.
+-- The run goes on from each trace of the view. Behind a pass's own trace it has steps of other passes alone. A pass that is still to be
+-- dealt has made no step.
 abbrev pub HasTraces : List Event → TracedView → Type 0
 HasTraces run Spent = Unit {0}
 HasTraces run (Dealer m) = All (λ x. x.pass < m) run

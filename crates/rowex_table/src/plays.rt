@@ -14,9 +14,9 @@ use crate::traces::TracedView;
 use atomic_table::{Join, Play, Split, TableRule};
 use std::marker::{Brand, PhantomData};
 
-/// The rule of a table with a layout. There is a lawful core which its words show, and a list of steps that leads to it from a new table.
-/// Where the table's first words show loaded pairs, the first of these is the load. What each seat knows is true of both, no two seats are
-/// of one pass, and each pass has a seat.
+/// The rule of a table with a layout. There is a lawful core which the table's words show, and a list of steps that leads to that core from
+/// a new table. If the table's first words show loaded pairs, the list begins with the load. What each seat knows is true of the core and
+/// of the list. No two seats are of one pass, and each pass has a seat.
 pub(crate) struct RowexRule;
 
 impl TableRule<(), TracedView, FirstWords> for RowexRule {
@@ -51,6 +51,7 @@ impl<Q: Step> Play<(), TracedView> for Stepping<Q> {
     ghost then = { did Q.layout Q.act Q.said };
 }
 
+/// The meeting of two passes whose seats are joined, at a table of the layout that `Q` names.
 pub(crate) struct Meets<Q> {
     step: PhantomData<Q>,
 }
@@ -66,6 +67,7 @@ impl Play<(), TracedView> for Touching {
     ghost then = { touching };
 }
 
+/// A dealer's seat as two: the dealer's, and that of the pass that it hands out.
 pub(crate) struct Deal;
 
 impl Split<TracedView> for Deal {
@@ -89,6 +91,7 @@ impl Join<TracedView> for Part {
     ghost spent = { Spent };
 }
 
+/// The seat of a pass as two: the pass's, and that of a stamp. Or the seats of a pass and of a stamp as one, to follow the stamp.
 pub(crate) struct Stamping;
 
 impl Split<TracedView> for Stamping {
@@ -103,6 +106,7 @@ impl Join<TracedView> for Stamping {
     ghost spent = { Spent };
 }
 
+/// The step by which a pass follows the stamp whose seat is joined to its own, at a table of the layout that `Q` names.
 pub(crate) struct Follows<Q> {
     step: PhantomData<Q>,
 }

@@ -1,4 +1,5 @@
-//! Steps on the entries of the tree and the values of leaves, and on the locks that guard them. The pass of `seat` makes each, and `gate` is told of it.
+//! Steps on the entries of the tree and the values of leaves, and on the locks that guard them. The pass of `seat` makes each, and `gate`
+//! is told of it.
 
 ghost use Rattle.std.specs.Prelude.{◌≡◌, ◌<◌, ◌+◌};
 ghost use Rattle.record_words.specs.Layout.{IsInTable};

@@ -42,6 +42,7 @@ pub enum TracedView {
     Dealer(u64),
     /// What a pass knows, which it hands out first, and then the pass numbers from this one on.
     Founder(Known, Trace, u64),
+    /// What a pass knows.
     Pass(Known, Trace),
     /// What two passes know that have been joined.
     Pair(Known, Trace, Known, Trace),
