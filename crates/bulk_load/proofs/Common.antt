@@ -30,7 +30,7 @@ pub use Rattle.rowex_core.specs.Opening.{opening, opening_words}
 pub use Rattle.rowex_core.specs.Reading.{leaf_of, node_words_of}
 unfoldable pub use Rattle.rowex_core.specs.Reading.{IsPacked}
 pub use Rattle.rowex_core.specs.Words.{Shows, tag_of, word_at}
-pub use Rattle.std.proofs.Common.{Bool, IsTrue, List, None, Option, Some, [], ap, ap₂, arith, bit_or, cond, div-add-mod', drop, eqb, false, get_or, if◌then◌else◌, inl, inr, length, map, nat_lt, refl, replicate, rules, slice_set, subst, suc, sym, take, true, zero, ℕ, ⊎_elim, ◌%◌, ◌*◌, ◌++◌, ◌+◌, ◌-◌, ◌/◌, ◌<◌, ◌^◌, ◌||◌, ◌∙◌, ◌∷◌, ◌≡◌, ◌≢◌, ◌≤◌, ◌⊎◌}
+pub use Rattle.std.proofs.Common.{Bool, IsTrue, List, None, Option, Some, [], ap, ap₂, arith, bit_or, cond, div-add-mod', drop, eqb, false, get_or, if◌then◌else◌, inl, inr, length, map, nat_lt, refl, replicate, rules, slice_set, subst, suc, sym, take, true, zero, ℕ, ⊎_elim, ◌%◌, ◌*◌, ◌++◌, ◌+◌, ◌-◌, ◌/◌, ◌<◌, ◌^◌, ◌||◌, ◌∙◌, ◌∷◌, ◌≡◌, ◌≢◌, ◌≤◌, ◌⊎◌, ◌↔◌}
 pub use Rattle.std.proofs.Math.ListN.{get_or-append, set}
 pub use Rattle.std.proofs.Math.Nat.{div-div-eq-div-mul, div-lt_iff_lt-mul, mod-eq_of_lt, pow-suc}
 pub use Rattle.std.proofs.lemmas.Bool.{cases_Bool, cases_lt, cases_order, eq-eqb, eqb-true, le-ltb, lt-ltb, ltb-false, ltb-true, ne_eqb, or_left, or_right}

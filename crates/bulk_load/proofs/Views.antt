@@ -1,12 +1,12 @@
 -- The leaves that the tips show are those of the tree.
-use Rattle.bulk_load.proofs.Common.{◌≡◌, ◌≢◌, ◌⊎◌, inl, inr, ℕ, ◌<◌, List, [], ◌∷◌, ◌++◌, Some, length, refl, ap, sym, subst, ◌∙◌, arith, append-nil, append_assoc, Less, Entry, Leaf, Node, key_order, Place, Free, state_word, Item, items, Key, Tree, leaf, node, fork, subtrie, IsBuilt, a_leaf, Heap, IsShown, Links, items_of, leaf_number, leaf_node, linked_cases, some_items, heap_of, fields_in, tree_of}
+use Rattle.bulk_load.proofs.Common.{◌≡◌, ◌≢◌, ◌⊎◌, ◌↔◌, inl, inr, ℕ, ◌<◌, ◌≤◌, List, [], ◌∷◌, ◌++◌, Some, length, refl, ap, sym, subst, ◌∙◌, arith, cases_lt, get_or, append-nil, append_assoc, Less, Entry, Leaf, Node, key_order, Place, Free, state_word, Item, items, Key, Tree, leaf, node, fork, subtrie, IsBuilt, a_leaf, Heap, IsShown, Links, items_of, leaf_number, leaf_node, linked_cases, some_items, heap_of, fields_in, tree_of}
 use Rattle.versions.proofs.Read.{read_exact}
 use Rattle.bulk_load.specs.declared.builder.Builder.{Builder}
 use Rattle.bulk_load.specs.declared.tips.Tip.{Tip}
 use Rattle.bulk_load.specs.Loading.{EndsInLeaf, HasTakenNone, IsLoading, greatest_key, items_in, items_under}
 use Rattle.bulk_load.specs.Tips.{tip, tips_of}
 use Rattle.bulk_load.specs.Stacks.{whole_of}
-use Rattle.bulk_load.specs.Tables.{state_in}
+use Rattle.bulk_load.specs.Tables.{leaf_class, state_in}
 use Rattle.bulk_load.specs.Views.{IsAboveLast, IsTakenLeaf}
 
 under_append : (heap : Heap) (ss ts : List Tip) → items_under heap (ss ++ ts) ≡ items_under heap ss ++ items_under heap ts
@@ -59,6 +59,40 @@ taken_if_used l xs n (inr r) low used =
       | inl h ↦ subst (λ ys. IsTakenLeaf ys n) r.stack.content (taken_if_linked t n h.0)
       | inr h ↦ absurd (used (r.stack.tree.table.free (a_leaf n) low h.0))
     ]
+
+taken_cases : (n : ℕ) (xs ys : List Item) → IsTakenLeaf (xs ++ ys) n → IsTakenLeaf xs n ⊎ IsTakenLeaf ys n
+taken_cases n [] ys h = inr h
+taken_cases n (x ∷ xs) ys (inl e) = inl (inl e)
+taken_cases n (x ∷ xs) ys (inr h) = elim (taken_cases n xs ys h) [ inl l ↦ inl (inr l) | inr r ↦ inr r ]
+
+linked_if_taken : (t : Tree) (n : ℕ) → IsTakenLeaf (items t) n → Links t (a_leaf n)
+linked_if_taken (leaf m k v) n (inl e) = ap (λ i. a_leaf i) e
+linked_if_taken (leaf m k v) n (inr h) = absurd h
+linked_if_taken (node m x b) n h = inr (linked_if_taken b n h)
+linked_if_taken (fork p a b) n h = elim (taken_cases n (items a) (items b) h) [ inl l ↦ inl (linked_if_taken a n l) | inr r ↦ inr (linked_if_taken b n r) ]
+
+-- a record that was taken is not free
+used_if_taken : (l : Builder) (xs : List Item) (n : ℕ) → HasTakenNone l xs ⊎ EndsInLeaf l xs → IsTakenLeaf xs n → state_in l.layout l.words.items (a_leaf n) ≢ state_word Free
+used_if_taken l xs n (inl e) h free = subst (λ ys. IsTakenLeaf ys n) e.none h
+used_if_taken l xs n (inr r) h free =
+    let t = whole_of r.stack.levels r.stack.top in
+    let live = r.stack.tree.table.live (a_leaf n) (linked_if_taken t n (subst (λ ys. IsTakenLeaf ys n) (sym r.stack.content) h)) in omega (arith, live, free)
+
+-- the records below the cursor of their class are those that were taken
+pub taken_below : (l : Builder) (xs : List Item) → IsLoading l xs → (n : ℕ) → n < l.layout.leaves → IsTakenLeaf xs n ↔ (n < get_or l.leaves (leaf_class l.layout n) 0)
+taken_below l xs (c, some) n low =
+    let at = c.1 n low in let next = get_or l.leaves (leaf_class l.layout n) 0 in (
+      λ h. elim (cases_lt n next) [
+        | inl below ↦ below
+        | inr above ↦ absurd (used_if_taken l xs n some h (at.free above).0)
+      ],
+      λ below. taken_if_used l xs n some low (λ free. let above = at.taken free in omega (arith, below, above)),
+    )
+
+-- no more nodes were taken than leaves
+pub nodes_few : (l : Builder) (xs : List Item) → IsLoading l xs → l.nodes ≤ length xs
+nodes_few l xs (c, inl e) = omega (arith, e.no_nodes)
+nodes_few l xs (c, inr r) = omega (arith, r.stack.few)
 
 -- ---- the last key
 above_append : (xs ys : List Item) (k : Key) → 0 < length ys → (IsAboveLast ys k → IsAboveLast (xs ++ ys) k) × (IsAboveLast (xs ++ ys) k → IsAboveLast ys k)

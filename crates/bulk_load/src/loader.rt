@@ -26,7 +26,7 @@ impl Model for Loader {
 }
 
 impl Loader {
-    ghost use Rattle.std.specs.Prelude.{◌≡◌, ◌↔◌, ◌≤◌, ◌<◌, ℕ, Err, IfOk, OnErr, OnOk, length};
+    ghost use Rattle.std.specs.Prelude.{◌≡◌, ◌↔◌, ◌≤◌, ◌<◌, ℕ, Err, IfOk, OnErr, OnOk, get_or, length};
     ghost use Rattle.tries.specs.Content.{item};
     ghost use Rattle.record_words.specs.declared.records.Rec.TheVariants.{Node as a_node};
     ghost use Rattle.versions.specs.State.{IsLinked};
@@ -34,7 +34,8 @@ impl Loader {
     ghost use Rattle.rowex_core.specs.Events.{IsLoad, after, loaded_tree};
     ghost use Rattle.rowex_core.specs.Opening.{opening};
     ghost use Rattle.rowex_core.specs.Words.{Shows};
-    ghost use Rattle.bulk_load.specs.Views.{HasNoRoomFor, IsAboveLast, load_act, no_items, with_item};
+    ghost use Rattle.bulk_load.specs.Tables.{leaf_class};
+    ghost use Rattle.bulk_load.specs.Views.{HasNoRoomFor, IsAboveLast, IsTakenLeaf, load_act, no_items, with_item};
 
     /// A loader that has taken no pair, for a table of `layout`. An error if memory is refused.
     pub fn new(alloc: Global, layout: Layout) -> Result<Loader, AllocError>
@@ -52,13 +53,17 @@ impl Loader {
         self.builder.layout
     }
 
-    /// The number of the first node record that is not taken so far.
-    pub fn first_free_node(&self) -> u32 {
+    /// The number of the first node record that is not taken so far. The pairs have taken fewer nodes than they are.
+    pub fn first_free_node(&self) -> u32
+        ensures { result ≤ length self.now.items }
+    {
         self.builder.nodes
     }
 
-    /// The number of the first leaf record of each class that is not taken, or of where that would be.
-    pub fn first_free_leaves(&self) -> [u32; LEAF_CLASSES] {
+    /// The number of the first leaf record of each class that is not taken, or of where that would be. Those of the class below it are taken.
+    pub fn first_free_leaves(&self) -> [u32; LEAF_CLASSES]
+        ensures { (n : ℕ) → n < self.now.layout.leaves → IsTakenLeaf self.now.items n ↔ (n < get_or result (leaf_class self.now.layout n) 0) }
+    {
         self.builder.leaves
     }
 

@@ -1,6 +1,6 @@
 //! Where a pass builds what it puts into the index.
 
-ghost use Rattle.std.specs.Prelude.{◌≡◌, [], IfOk};
+ghost use Rattle.std.specs.Prelude.{◌≡◌, ◌∷◌, [], IfOk};
 
 use bounded_vec::BoundedVec;
 use epochs::Limbo;
@@ -29,7 +29,10 @@ pub struct FirstFree {
 
 impl FirstFree {
     /// The first records of a table of `layout` that has no keys.
-    pub fn of(layout: Layout) -> FirstFree {
+    pub fn of(layout: Layout) -> FirstFree
+        ensures node { result.node ≡ 0 }
+        ensures leaves { result.leaves ≡ 0 ∷ layout.medium_from ∷ layout.large_from ∷ layout.wide_from ∷ layout.long_from ∷ [] }
+    {
         FirstFree {
             node: 0,
             leaves: [

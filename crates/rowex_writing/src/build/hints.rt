@@ -1,6 +1,6 @@
 //! Where a pass claims records: the hints that it keeps between calls, and the claims that begin with them.
 
-ghost use Rattle.std.specs.Prelude.{◌≡◌, ◌<◌, ◌≤◌, ◌++◌, ◌∷◌, [], length, ◌⊎◌, ◌+◌, ◌-◌, ◌^◌, min, ◌*◌, MatchOption, IfOk, List, ℕ, vec_capacity};
+ghost use Rattle.std.specs.Prelude.{◌≡◌, ◌<◌, ◌≤◌, ◌++◌, ◌∷◌, [], length, ◌⊎◌, ◌+◌, ◌-◌, ◌^◌, max, min, ◌*◌, MatchOption, IfOk, List, ℕ, vec_capacity};
 ghost use Rattle.record_words.specs.declared.records.Rec.TheVariants.{Node as a_node};
 ghost use Rattle.rowex_table.specs.Seats.{IsSeatOf};
 ghost use Rattle.rowex_records.specs.Claims.{AllMissed, HoldsOneMore, IsAnothersTo, IsKindOf, count_of, record_of};
@@ -102,7 +102,7 @@ impl Stretch {
 
     /// A stretch from the number `first` on, up to `end` if that is behind it, of which nothing was given back.
     pub fn between(first: u32, end: u32) -> Stretch
-        ensures { (result.first ≡ first) × (result.again ≡ first) × (result.given ≡ 0) }
+        ensures { (result.first ≡ first) × (result.end ≡ max first end) × (result.again ≡ first) × (result.given ≡ 0) }
     {
         Stretch {
             first,
