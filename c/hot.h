@@ -3,7 +3,8 @@
  * hot_open_index makes an index, and hot_open opens a handle on it. A handle is the right to use the index. Calls with different handles
  * may run at the same time; calls with the same handle may not. So give each thread its own handle, or hand a handle over by a lock, by a
  * thread's start or join, or by a sequentially consistent atomic. A call takes effect for all others at once, or not at all. But these make
- * several calls, one after the other: hot_copy, hot_clear, hot_clear_range, hot_pop_first, hot_pop_last, hot_each and hot_get_packed.
+ * several calls, one after the other: hot_copy, hot_clear, hot_clear_range, hot_pop_first, hot_pop_last, hot_each and, for more than 64 keys,
+ * hot_get_many and hot_get_packed.
  *
  * A key is 0 to HOT_MAX_KEY bytes of any value. Keys are ordered as by memcmp, and a key comes after its own prefixes. The index
  * copies keys: the memory of a key is yours again when the call returns.
@@ -42,7 +43,8 @@
  *
  * A call fails only by its status. None waits for another, except hot_insert, hot_upsert, hot_exchange, hot_remove, hot_remove_if and
  * hot_add; hot_copy, hot_clear, hot_clear_range, hot_pop_first and hot_pop_last, which make such calls; hot_open and hot_stamp, for each
- * other; hot_stamp and hot_follow, too; and hot_grow, hot_trim, hot_grow_begin and hot_grow_step.
+ * other; hot_stamp and hot_follow, too; and hot_grow, hot_trim, hot_grow_begin and hot_grow_step. While an index grows, hot_open, hot_stamp,
+ * hot_bytes and all changes, tries among them, may wait for calls that have a part in that.
  * Each other call ends after a bounded number of steps, whatever other threads do: a step is one atomic access to a word of the index.
  * Each call below that makes steps gives its bound, for the worst tree that there can be. Beside its steps it may touch words, which it loads
  * and ignores: hot_get four at most for each node on the way, hot_get_many, scans and changes eleven for each entry of a node that they load.
@@ -244,11 +246,11 @@ hot_status hot_close_index(hot_index *index);
  * it has, takes the pairs from it while other calls go on, and takes over: no pair is lost or there twice. All calls are as with any other index,
  * but for this. hot_insert, hot_upsert, hot_remove, hot_remove_if, and calls that make them, make the larger table where they find no room or
  * records are held back for long, or wait for who makes it. They return HOT_NO_MEMORY where that fails, and that the index is full where it may
- * not be larger; then it is as it was. hot_try_insert and the like return that it is full. Look-ups and scans never wait. Other changes go on: one
- * may be made twice meanwhile, and ask for memory for its key. Just before the hand-over it may wait, as for another one in its way, for one whose
- * key falls under the same lock of 64, for such a key to be copied, of the few that change then, and for the hand-over. Sections, moments, hot_len
- * and hot_stats are of the index, and go on across growths; hot_census is of the table of now. The old table goes once all calls that ran in it
- * have returned. */
+ * not be larger; then it is as it was. hot_try_insert and the like return that it is full. Look-ups and scans never wait. Other changes go on
+ * meanwhile. One may ask for memory for its key, or be made in both tables. Then a try waits, too, while another change is in its way in the
+ * larger table. Each key has one of 64 locks. Just before the hand-over a change is busy while the lock of its key is taken. Another change has it,
+ * or the copy of a key that was changed late, or the hand-over. Sections, moments, hot_len and hot_stats are of the index, and go on across growths;
+ * hot_census is of the table of now. The old table goes once all calls that ran in it have returned. */
 
 /* Makes an empty index that grows, with room for so many handles, 1 to 1023. Its first table has this stock, or a small one if it is NULL. No
  * table has more than `most` bytes, as hot_stock_bytes counts them; SIZE_MAX is no bound. While the index grows it has two.
@@ -610,7 +612,8 @@ typedef struct hot_memory {
  * count once it was read, as hot_census reads all. What a handle may keep after a scan counts for each that was opened. The system's page
  * tables don't count: they come to a 500th of the table at most. The call makes no steps. It asks the system which pages of the table are
  * there, in calls for 2 MiB each, but not about 2 MiB that were full when it last did: they count as taken from then on. So it takes time for what
- * has not filled of a table, a few tenths of a millisecond for 1 GB. Any thread may make it until the index is closed. */
+ * has not filled of a table, a few tenths of a millisecond for 1 GB. With an index that grows it waits for other such calls. Any thread may make it
+ * until the index is closed. */
 void hot_bytes(const hot_index *index, hot_memory *bytes);
 
 /* Closes a handle of hot_create or hot_create_with, from any thread and in any order. Closing the last one frees the index. A closed
