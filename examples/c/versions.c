@@ -19,7 +19,8 @@ static size_t key_of(const char *name, uint64_t time, uint8_t *key) {
 
 static hot_handle handle = HOT_HANDLE;
 
-/* Who changes names takes a new time for each change, under a lock if there are several. */
+/* Who changes names takes a new time for each change. If there are several, each holds a lock from then until the key is in: else a version
+ * could come behind a reader of its time. */
 static void set(const char *name, uint64_t time, uint64_t value) {
     uint8_t key[HOT_MAX_KEY];
     size_t length = key_of(name, time, key);
