@@ -10,7 +10,7 @@ static size_t rank_of(hot_handle *handle, const uint8_t *key, size_t length) {
     size_t last_length, count;
     if (hot_before(key, length, last, &last_length) != HOT_DONE) /* no key is below the empty one */
         return 0;
-    return hot_count(handle, NULL, 0, last, last_length, &count) == HOT_DONE ? count : 0;
+    return hot_count(handle, (const uint8_t *)"", 0, last, last_length, &count) == HOT_DONE ? count : 0;
 }
 
 /* Scores as keys: eight bytes, the highest first, so that their order is that of the numbers. */

@@ -25,7 +25,7 @@ static void show(void) {
     uint32_t more = 0;
     int shard;
     for (shard = 0; shard < SHARDS && listed < ROOM && !more; shard++, listed += count) {
-        if (hot_scan(&handles[shard], NULL, 0, HOT_TO_END, pairs, ROOM - listed, &count, &more) != HOT_DONE)
+        if (hot_scan(&handles[shard], (const uint8_t *)"", 0, HOT_TO_END, pairs, ROOM - listed, &count, &more) != HOT_DONE)
             return;
         for (at = 0; at < count; at++)
             printf("%d: %.*s %lu\n", shard, (int)pairs[at].length, (const char *)pairs[at].key, (unsigned long)pairs[at].value);
