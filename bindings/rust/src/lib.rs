@@ -80,8 +80,8 @@ impl Stock {
         Ok(ffi::stock_for_any_keys(keys, longest, handles))
     }
 
-    /// How many bytes an index with this stock and so many handles has. A page of it takes memory
-    /// once something is written there.
+    /// How many bytes the records and pins of an index with this stock and so many handles have. A page of them takes memory
+    /// once something is written there. The lists of handles are not counted.
     pub fn bytes(&self, handles: usize) -> Result<usize, Error> {
         let (status, bytes) = ffi::stock_bytes(self, handles);
         Error::check(status).map(|_| bytes)
