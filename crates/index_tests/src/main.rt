@@ -1,9 +1,4 @@
-//! Tests of the index, and of the maps for one thread, by what no contract says: that memory which was refused is asked for again, that
-//! threads which really run at once find each other's keys, tell each other by stamps what they have seen, and lose nothing that they
-//! add. Of handles that are closed for a time, of indexes filled to the last record or made of sorted pairs, and of what a full call
-//! costs. And of steps of the table that no other code makes by a record's number.
-//!
-//! The program makes runs of several passes on small indexes, as cases in files ask for them. Each step is judged by a replay, and what
+//! A program that makes runs of several passes on small indexes, as cases in files ask for them. Each step is judged by a replay, and what
 //! happened is printed. A line of a case is one of these; a task is a call (`insert 61 5`), `scan 9`, `scan_reverse 9` or `collect`, and
 //! commas part tasks.
 //!
@@ -20,32 +15,10 @@
 mod acts;
 mod cases;
 mod chance;
-#[cfg(test)]
-mod claims;
-#[cfg(test)]
-mod closed;
-#[cfg(test)]
-mod full;
 mod guests;
 mod judge;
-#[cfg(test)]
-mod loaded_threads;
-#[cfg(test)]
-mod loads;
-#[cfg(test)]
-mod refused;
-#[cfg(test)]
-mod shared;
-#[cfg(test)]
-mod spared;
-#[cfg(test)]
-mod stamps;
 mod stops;
-#[cfg(test)]
-mod sums;
 mod turns;
-#[cfg(test)]
-mod waiting;
 
 use crate::cases::{TestCase, parse_keys, parse_tasks};
 use std::rt::{Env, Files};

@@ -1,1 +1,2 @@
 pub mod Combs
+pub mod Passes

@@ -1,6 +1,6 @@
 -- The handle stays one of its index.
 use Rattle.std.specs.Prelude.{◌≡◌}
-use Rattle.index_tests.proofs.waiting.wait_for_key.Given as goal
+use Rattle.value_tests.proofs.waiting.wait_for_key.Given as goal
 
 abbrev pub invariant-loop : goal.invariant-loop
 invariant-loop l = l.guest.index ≡ l.fn.guest.index

@@ -2,7 +2,7 @@
 use Rattle.std.proofs.Common.{rules, ◌≡◌, true, arith}
 use Rattle.record_words.specs.declared.records.Rec.TheVariants.{Node as a_node}
 use Rattle.rowex_table.proofs.Rights.{fills}
-use Rattle.index_tests.proofs.claims.fill_node.Goals as goal
+use Rattle.value_tests.proofs.claims.fill_node.Goals as goal
 
 pub fill-requires-clause-may : goal.fill-requires-clause-may
 fill-requires-clause-may g c =

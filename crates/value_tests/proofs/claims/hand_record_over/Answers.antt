@@ -1,7 +1,7 @@
 -- The seat has claimed the record, and may release it.
 use Rattle.std.proofs.Common.{rules, ◌≡◌, true}
 use Rattle.rowex_table.proofs.Rights.{releases}
-use Rattle.index_tests.proofs.claims.hand_record_over.Goals as goal
+use Rattle.value_tests.proofs.claims.hand_record_over.Goals as goal
 
 pub release-requires-clause-may : goal.release-requires-clause-may
 release-requires-clause-may g c =
