@@ -16,9 +16,9 @@ use partial_keys::Columns;
 pub enum HeadKind {
     /// Any columns: 16 bits for each, and rows of 32 bits.
     Wide = 0,
-    /// At most 8 near columns: two bytes for each, and rows of 8 bits.
+    /// At most 8 columns, all near: two bytes for each, and rows of 8 bits.
     Narrow = 1,
-    /// At most 16 near columns: two bytes for each, and rows of 16 bits.
+    /// 9 to 16 columns, all near: two bytes for each, and rows of 16 bits.
     Middle = 2,
 }
 

@@ -9,8 +9,9 @@
 //! ```
 //!
 //! The columns of a node decide the kind of its head ([`kind_of`]). Near columns have their bits in sixteen bytes of a key, from the first
-//! column's byte on, and none is the bit that says that there is a byte; these sixteen end at most at byte 240. A head is narrow if it has at
-//! most 8 near columns, middle if it has at most 16, and else wide. A word of a head in which it has nothing is all ones.
+//! column's byte on, and none is the bit that says that there is a byte; these sixteen end at most at byte 240. A head is narrow if all its
+//! columns are near, and at most 8. It is middle if all are near, and 9 to 16, and else wide. A word of a head in which it has nothing is all
+//! ones.
 //!
 //! ```text
 //! index   narrow (kind 1)            middle (kind 2)              wide (kind 0)
