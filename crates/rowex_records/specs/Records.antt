@@ -21,69 +21,73 @@ use Rattle.rowex_table.specs.Seats.{TableView, SeatView, IsSeatOf}
 use Rattle.versions.specs.Trades.{AreApart}
 
 -- what a pass knew, but for its own records, which may have changed
-abbrev pub owning : Known → Known → Known
+abbrev pub owning : (old new : Known) → Known
 owning old new = record old { own = new.own }
 
 -- The pass has claimed the record and not made it ready. Its words are these, and spell a value.
-abbrev pub IsFilled : Known → Rec → List ℕ → Type 0
+abbrev pub IsFilled : (known : Known) → (rec : Rec) → (words : List ℕ) → Type 0
 IsFilled known rec words = OwnsAs known rec Held words × IsPacked rec words
 
--- an own record, with these words if it is record r
-abbrev pub fill_with : Rec → List ℕ → Owned → Owned
-fill_with r words owned = if same_rec owned.rec r then record owned { words = words } else owned
+-- the own record, with these words if it is the record `rec`
+abbrev pub fill_with : (rec : Rec) → (words : List ℕ) → (owned : Owned) → Owned
+fill_with rec words owned = if same_rec owned.rec rec then record owned { words = words } else owned
 
--- the words of a record of which the first i have been stored
-abbrev pub stored : List ℕ → ℕ → List ℕ → List ℕ
+-- the words of a record of which the first `count` have been stored
+abbrev pub stored : (words : List ℕ) → (count : ℕ) → (old : List ℕ) → List ℕ
 stored words zero old = old
 stored words (suc i) old = set (stored words i old) i (get_or words i 0)
 
--- an own record of which the first i words have been stored
-abbrev pub stored_in : Rec → List ℕ → ℕ → Owned → Owned
-stored_in rec words i owned = if same_rec owned.rec rec then record owned { words = stored words i owned.words } else owned
+-- the own record, of which the first `count` words have been stored if it is the record `rec`
+abbrev pub stored_in : (rec : Rec) → (words : List ℕ) → (count : ℕ) → (owned : Owned) → Owned
+stored_in rec words count owned = if same_rec owned.rec rec then record owned { words = stored words count owned.words } else owned
 
 -- the acts are one store of this word, at this offset of the record
-abbrev pub StoresWord : Rec → (offset word : ℕ) → List Act → Type 0
+abbrev pub StoresWord : (rec : Rec) → (offset word : ℕ) → (acts : List Act) → Type 0
 StoresWord rec offset word acts = acts ≡ Fill rec offset word ∷ []
 
--- The pass stores the first i of the words into its record r, from offset 1 on, one after the other. The record stays claimed, and its
+-- The pass stores the first i of the words into its record, from offset 1 on, one after the other. The record stays claimed, and the pass's
 -- others are as they were.
-pub record SetsSome {G : Type 0} (table : TableView) (becomes : G → Event → G → Type 0) (r : Rec) (words : List ℕ) (i : ℕ) (old new : SeatView × G) : Type 0 where
+pub record SetsSome {G : Type 0} (table : TableView) (becomes : G → Event → G → Type 0) (rec : Rec) (words : List ℕ) (i : ℕ)
+    (old new : SeatView × G) : Type 0 where
   pub acts : List Act
-  pub in_turn : InTurn (λ i. StoresWord r (i + FIELDS_OFFSET) (get_or words i 0)) i acts
+  pub in_turn : InTurn (λ i. StoresWord rec (i + FIELDS_OFFSET) (get_or words i 0)) i acts
   pub does : Does table becomes owning acts old new
   pub later : IsLater old.0.known new.0.known
-  pub held : IsClaimed new.0.known r
-  pub own : new.0.known.own ≡ map (stored_in r words i) old.0.known.own
+  pub held : IsClaimed new.0.known rec
+  pub own : new.0.known.own ≡ map (stored_in rec words i) old.0.known.own
 
--- If the first i words were stored, the next `count` are stored, too. The seat is still one of this table, and the record stays claimed.
-abbrev pub SetsMore : {G : Type 0} → TableView → (G → Event → G → Type 0) → Rec → List ℕ → (i count : ℕ) → SeatView × G → SeatView × G → Type 0
-SetsMore {G = G} table becomes rec words i count old new =
+-- If the first `done` words were stored, the next `count` are stored, too. The seat is still one of this table, and the record stays
+-- claimed.
+abbrev pub SetsMore : {G : Type 0} → (table : TableView) → (becomes : G → Event → G → Type 0) → (rec : Rec) → (words : List ℕ) →
+    (done count : ℕ) → (old new : SeatView × G) → Type 0
+SetsMore {G = G} table becomes rec words done count old new =
     IsSeatOf table new.0 × IsClaimed new.0.known rec ×
-    ((first : SeatView × G) → SetsSome table becomes rec words i first old → SetsSome table becomes rec words (i + count) first new)
+    ((first : SeatView × G) → SetsSome table becomes rec words done first old → SetsSome table becomes rec words (done + count) first new)
 
--- The pass stores the words into its record r, from offset 1 on, one after the other. This one has them then, and its others are as they
--- were.
-pub record SetsAll {G : Type 0} (table : TableView) (becomes : G → Event → G → Type 0) (r : Rec) (words : List ℕ) (old new : SeatView × G) : Type 0 where
-  pub sized : length words ≡ word_count_of r
+-- The pass stores the words into its record, from offset 1 on, one after the other. The record has them then, and the pass's others are as
+-- they were.
+pub record SetsAll {G : Type 0} (table : TableView) (becomes : G → Event → G → Type 0) (rec : Rec) (words : List ℕ)
+    (old new : SeatView × G) : Type 0 where
+  pub sized : length words ≡ word_count_of rec
   pub acts : List Act
-  pub in_turn : InTurn (λ i. StoresWord r (i + FIELDS_OFFSET) (get_or words i 0)) (word_count_of r) acts
+  pub in_turn : InTurn (λ i. StoresWord rec (i + FIELDS_OFFSET) (get_or words i 0)) (word_count_of rec) acts
   pub does : Does table becomes owning acts old new
   pub later : IsLater old.0.known new.0.known
-  pub own : new.0.known.own ≡ map (fill_with r words) old.0.known.own
+  pub own : new.0.known.own ≡ map (fill_with rec words) old.0.known.own
 
 -- The record has the words of this leaf up to the end of its key, and is not yet ready.
-abbrev pub IsFilledLeaf : Known → ℕ → List ℕ × ℕ → Type 0
-IsFilledLeaf known n leaf = (words : List ℕ) × IsFilled known (a_leaf n) words × (leaf_words leaf ≡ up_to_key words)
+abbrev pub IsFilledLeaf : (known : Known) → (number : ℕ) → (leaf : List ℕ × ℕ) → Type 0
+IsFilledLeaf known number leaf = (words : List ℕ) × IsFilled known (a_leaf number) words × (leaf_words leaf ≡ up_to_key words)
 
--- The pass makes its record r ready. Its other records are as they were.
-pub record Readies {G : Type 0} (table : TableView) (becomes : G → Event → G → Type 0) (r : Rec) (old new : SeatView × G) : Type 0 where
-  pub does : Does table becomes owning (Ready r ∷ []) old new
-  pub own : new.0.known.own ≡ map (with_holding r IsReady) old.0.known.own
+-- The pass makes its record ready. Its other records are as they were.
+pub record Readies {G : Type 0} (table : TableView) (becomes : G → Event → G → Type 0) (rec : Rec) (old new : SeatView × G) : Type 0 where
+  pub does : Does table becomes owning (Ready rec ∷ []) old new
+  pub own : new.0.known.own ≡ map (with_holding rec IsReady) old.0.known.own
 
--- The pass releases its record r, which is no more its own. All others are.
-pub record GivesUp {G : Type 0} (table : TableView) (becomes : G → Event → G → Type 0) (r : Rec) (old new : SeatView × G) : Type 0 where
-  pub does : Does table becomes owning (Release r ∷ []) old new
-  pub own : new.0.known.own ≡ without_record r old.0.known.own
+-- The pass releases its record, which is no more its own. All others are.
+pub record GivesUp {G : Type 0} (table : TableView) (becomes : G → Event → G → Type 0) (rec : Rec) (old new : SeatView × G) : Type 0 where
+  pub does : Does table becomes owning (Release rec ∷ []) old new
+  pub own : new.0.known.own ≡ without_record rec old.0.known.own
 
 -- The pass has just these records, each once, all claimed and not made ready.
 pub record HoldsJust (known : Known) (recs : List Rec) : Type 0 where

@@ -6,9 +6,9 @@ use Rattle.rowex_records.specs.declared.claiming.RecordKind.{RecordKind}
 use Rattle.rowex_records.specs.declared.claiming.RecordKind.TheVariants.{Node, Leaf}
 
 -- the word at which record i of a kind begins
-abbrev pub first_word : RecordKind → Layout → ℕ → ℕ
-first_word Node layout i = node_start layout i
-first_word (Leaf first end) layout i = leaf_start layout (first + i)
+abbrev pub first_word : (kind : RecordKind) → (layout : Layout) → (index : ℕ) → ℕ
+first_word Node layout index = node_start layout index
+first_word (Leaf first end) layout index = leaf_start layout (first + index)
 
 -- `count` records of a kind, from `number` on, lie `size` words apart
 abbrev pub IsSpan : RecordKind → Layout → (number count size : ℕ) → Type 0
