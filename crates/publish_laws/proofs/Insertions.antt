@@ -3,7 +3,7 @@ pub mod Inserting
 use Rattle.publish_laws.proofs.Common.{inl, inr, List, [], ◌∷◌, ◌++◌, refl, sym, subst, Node, Item, a_node, of_right, body, entry, Made}
 use Rattle.publish_laws.specs.Stages.{HasLeaf, HasRisen}
 use Rattle.publish_laws.specs.Rises.{made_of_node, made_of_leaf}
-use Rattle.publish_laws.specs.Insertions.{NormalInsert, Overflow, StaysWhole, PullUp, PullUpOverflow}
+use Rattle.publish_laws.specs.Insertions.{NormalInsert, Overflow, MayKeepNodeWhole, PullUp, PullUpOverflow}
 use Rattle.publish_laws.proofs.Rises.{rise_grows, rise_whole, rises_copied, rises_wrapped, rises_pulled, rises_halved}
 use Rattle.publish_laws.proofs.Insertions.Inserting.{insertion}
 
@@ -29,7 +29,7 @@ overflow layout k held x fresh n m w f words view at a b d e us vs has spelled f
     (rises_wrapped layout k held halves (a_node n ∷ []) x has_leaf n words found.locked m view built
     (subst (λ z. HasRisen layout k held halves x (entry n) z (a_node n ∷ [])) (sym shows) split)) (leaf_still (made_of_node m view ∷ []) halves x.item has_leaf) place word
 
-pub stays_as_it_is : StaysWhole
+pub stays_as_it_is : MayKeepNodeWhole
 stays_as_it_is layout k held x fresh n m w words view at has spelled found from built shows place word =
     insertion layout k held (made_of_node m view ∷ made_of_leaf x.item fresh ∷ []) [] has x n w (Node m view.height) at
     (rises_wrapped layout k held (made_of_leaf x.item fresh ∷ []) [] x (fresh, inl refl, spelled) n words found.locked m view built

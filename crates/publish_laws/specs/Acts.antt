@@ -25,22 +25,23 @@ use Rattle.publish_laws.specs.Stages.{IsSure}
 -- A pass may lock a node to which it was led since its pin.
 abbrev pub LedMayLock : Type 0
 LedMayLock =
-    (layout : Layout) (known : Known) (since n height : ℕ) → IsPinnedSince known since →
-    IsSure known (λ past. EntryStoodSince past since (Node n height)) → MayLock layout (NodeTarget n) known
+    (layout : Layout) (known : Known) (since number height : ℕ) → IsPinnedSince known since →
+    IsSure known (λ past. EntryStoodSince past since (Node number height)) → MayLock layout (NodeTarget number) known
 
--- A pass may lock the node beside the key's path in a node that it has locked. It is the one entry on the other side of the last fork.
+-- A pass may lock the node beside the key's path in a node that it has locked. That node's entry is all that the path's last fork has on
+-- its other side.
 abbrev pub BesideMayLock : Type 0
 BesideMayLock =
-    (layout : Layout) (known : Known) (key : Key) (o m position height : ℕ) (words : List ℕ) →
-    IsOneOf (record { node = o; words = words }) known.locks →
-    subtrie_sibling key (node_words_of words).subtrie ≡ Some (position, Place (Node m height)) → MayLock layout (NodeTarget m) known
+    (layout : Layout) (known : Known) (key : Key) (number beside position height : ℕ) (words : List ℕ) →
+    IsOneOf (record { node = number; words = words }) known.locks →
+    subtrie_sibling key (node_words_of words).subtrie ≡ Some (position, Place (Node beside height)) → MayLock layout (NodeTarget beside) known
 
 -- A load from a node that the pass has locked finds the word that the pass knows.
 abbrev pub LoadsOfLocked : Type 0
 LoadsOfLocked =
-    (layout : Layout) (old new : Known) (n : ℕ) (words : List ℕ) → IsOneOf (record { node = n; words = words }) old.locks →
-    ((i word : ℕ) → IsEvent layout (LoadRef (Slot n i) word) silent old new → word ≡ get_or words (HEAD_WORDS + i) 0) ×
-    ((i word : ℕ) → IsEvent layout (LoadFixed (a_node n) (i + FIELDS_OFFSET) word) silent old new → word ≡ get_or words i 0)
+    (layout : Layout) (old new : Known) (number : ℕ) (words : List ℕ) → IsOneOf (record { node = number; words = words }) old.locks →
+    ((index word : ℕ) → IsEvent layout (LoadRef (Slot number index) word) silent old new → word ≡ get_or words (HEAD_WORDS + index) 0) ×
+    ((index word : ℕ) → IsEvent layout (LoadFixed (a_node number) (index + FIELDS_OFFSET) word) silent old new → word ≡ get_or words index 0)
 
 -- After each act but a publish, a pin or an unpin, a pass recalls all that it did before.
 abbrev pub ActGoesOn : Type 0

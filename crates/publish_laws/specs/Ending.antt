@@ -22,8 +22,8 @@ pub record IsEnding (known : Known) (epoch : ℕ) (recs : List Rec) (nodes : Lis
   pub nodes_apart : AreApart nodes
   pub epoch_is : epoch ≡ known.round.epoch
 
--- what the pass has seen is the same, and so is the anchor's lock
-abbrev pub KeepsFrontAndAnchor : Known → Known → Type 0
+-- the pass has seen the same changes as before, and the same of the anchor's lock
+abbrev pub KeepsFrontAndAnchor : (old new : Known) → Type 0
 KeepsFrontAndAnchor old new = (new.front ≡ old.front) × (new.anchor ≡ old.anchor)
 
 -- the pass has no records of its own, and no locks
@@ -37,71 +37,74 @@ abbrev pub KeptAreNotGone : Type 0
 KeptAreNotGone = (held : List ℕ) (gone : List Rec) → AreApart held → AreKept held gone (kept_locks held gone) × AreApart (kept_locks held gone)
 
 -- two lists have the same elements
-abbrev pub HaveSameElements : {X : Type 0} → List X → List X → Type 0
+abbrev pub HaveSameElements : {X : Type 0} → (xs ys : List X) → Type 0
 HaveSameElements {X} xs ys = ((x : X) → IsOneOf x xs → IsOneOf x ys) × ((x : X) → IsOneOf x ys → IsOneOf x xs)
 
--- After a publish, a load of the epoch begins the end.
+-- After a publish, a load of the epoch begins the end of the attempt (`IsEnding`).
 abbrev pub EndBegins : Type 0
 EndBegins =
-    (layout : Layout) (k j i : Known) (change : Change) (was : Option ℕ) (gone : List Rec) (kept : List ℕ) (epoch : ℕ) →
-    HasPublished k j change was gone kept →
-    AreApart kept → IsEvent layout (LoadEpoch epoch) silent j i → IsEnding i epoch gone kept × KeepsFrontAndAnchor j i
+    (layout : Layout) (before old new : Known) (change : Change) (was : Option ℕ) (gone : List Rec) (kept : List ℕ) (epoch : ℕ) →
+    HasPublished before old change was gone kept →
+    AreApart kept → IsEvent layout (LoadEpoch epoch) silent old new → IsEnding new epoch gone kept × KeepsFrontAndAnchor old new
 
--- If a publish has unlinked nothing, the end has begun with it.
+-- A publish that unlinks nothing begins the end of the attempt (`IsEnding`) by itself.
 abbrev pub EndsAtOnce : Type 0
 EndsAtOnce =
     (old new : Known) (change : Change) (was : Option ℕ) (kept : List ℕ) → HasPublished old new change was [] kept → AreApart kept →
     IsEnding new new.round.epoch [] kept
 
--- In the end, the first record may be marked. The others are still to be marked then.
+-- A pass that ends an attempt may mark the first of its records. It is still to mark the others then.
 abbrev pub EndMarks : Type 0
 EndMarks =
-    (layout : Layout) (old : Known) (epoch : ℕ) (rec : Rec) (rs : List Rec) (ns : List ℕ) → IsEnding old epoch (rec ∷ rs) ns →
+    (layout : Layout) (old : Known) (epoch : ℕ) (rec : Rec) (recs : List Rec) (nodes : List ℕ) → IsEnding old epoch (rec ∷ recs) nodes →
     MayStep layout (λ found. Mark rec epoch) old ×
-    ((new : Known) → IsEvent layout (Mark rec epoch) silent old new → IsEnding new epoch rs ns × KeepsFrontAndAnchor old new)
+    ((new : Known) → IsEvent layout (Mark rec epoch) silent old new → IsEnding new epoch recs nodes × KeepsFrontAndAnchor old new)
 
--- In the end, the first node may be unlocked. The others are still locked then.
+-- A pass that ends an attempt may unlock the first of its nodes. The others are still locked then.
 abbrev pub EndUnlocks : Type 0
 EndUnlocks =
-    (layout : Layout) (old : Known) (epoch : ℕ) (rs : List Rec) (n : ℕ) (ns : List ℕ) → IsEnding old epoch rs (n ∷ ns) →
-    MayStep layout (λ found. Unlock (NodeTarget n)) old ×
-    ((new : Known) → IsEvent layout (Unlock (NodeTarget n)) silent old new → IsEnding new epoch rs ns × KeepsFrontAndAnchor old new)
+    (layout : Layout) (old : Known) (epoch : ℕ) (recs : List Rec) (node : ℕ) (nodes : List ℕ) → IsEnding old epoch recs (node ∷ nodes) →
+    MayStep layout (λ found. Unlock (NodeTarget node)) old ×
+    ((new : Known) → IsEvent layout (Unlock (NodeTarget node)) silent old new → IsEnding new epoch recs nodes × KeepsFrontAndAnchor old new)
 
--- In the end, the anchor may be unlocked, if it is locked.
+-- A pass that ends an attempt may unlock the anchor, if it has locked it. Its records and nodes are as before.
 abbrev pub EndUnlocksAnchor : Type 0
 EndUnlocksAnchor =
-    (layout : Layout) (old : Known) (epoch : ℕ) (rs : List Rec) (ns : List ℕ) → IsEnding old epoch rs ns → IsSome old.anchor →
+    (layout : Layout) (old : Known) (epoch : ℕ) (recs : List Rec) (nodes : List ℕ) → IsEnding old epoch recs nodes → IsSome old.anchor →
     MayStep layout (λ found. Unlock Anchor) old ×
-    ((new : Known) → IsEvent layout (Unlock Anchor) silent old new → IsEnding new epoch rs ns × (new.front ≡ old.front) × (new.anchor ≡ None))
+    ((new : Known) → IsEvent layout (Unlock Anchor) silent old new → IsEnding new epoch recs nodes × (new.front ≡ old.front) × (new.anchor ≡ None))
 
--- In the end, records and nodes may be taken in any order.
+-- A pass that ends an attempt may take its records and nodes in any order.
 abbrev pub EndInAnyOrder : Type 0
 EndInAnyOrder =
-    (known : Known) (epoch : ℕ) (rs qs : List Rec) (ns ms : List ℕ) → IsEnding known epoch rs ns → HaveSameElements rs qs → HaveSameElements ns ms →
-    AreApart qs → AreApart ms →
-    IsEnding known epoch qs ms
+    (known : Known) (epoch : ℕ) (recs other_recs : List Rec) (nodes other_nodes : List ℕ) → IsEnding known epoch recs nodes →
+    HaveSameElements recs other_recs → HaveSameElements nodes other_nodes →
+    AreApart other_recs → AreApart other_nodes →
+    IsEnding known epoch other_recs other_nodes
 
--- Once no record is left to mark and nothing is locked, the pass is at rest.
+-- A pass that ends an attempt is at rest once no record is left to mark and nothing is locked.
 abbrev pub EndRests : Type 0
 EndRests = (known : Known) (epoch : ℕ) → IsEnding known epoch [] [] → known.anchor ≡ None → IsAtRest known
 
 -- The loops
 
 -- the pass marks these records in turn, with one epoch
-abbrev pub MarksEach : Layout → ℕ → List Rec → Known → Known → Type 0
+abbrev pub MarksEach : (layout : Layout) → (epoch : ℕ) → (recs : List Rec) → (old new : Known) → Type 0
 MarksEach layout epoch [] old new = new ≡ old
-MarksEach layout epoch (r ∷ rs) old new = (i : Known) × IsEvent layout (Mark r epoch) silent old i × MarksEach layout epoch rs i new
+MarksEach layout epoch (rec ∷ recs) old new = (middle : Known) × IsEvent layout (Mark rec epoch) silent old middle × MarksEach layout epoch recs middle new
 
 -- the pass unlocks these nodes in turn
-abbrev pub UnlocksEach : Layout → List ℕ → Known → Known → Type 0
+abbrev pub UnlocksEach : (layout : Layout) → (nodes : List ℕ) → (old new : Known) → Type 0
 UnlocksEach layout [] old new = new ≡ old
-UnlocksEach layout (n ∷ ns) old new = (i : Known) × IsEvent layout (Unlock (NodeTarget n)) silent old i × UnlocksEach layout ns i new
+UnlocksEach layout (node ∷ nodes) old new =
+    (middle : Known) × IsEvent layout (Unlock (NodeTarget node)) silent old middle × UnlocksEach layout nodes middle new
 
 -- Let a pass publish, load the epoch, mark all that it has unlinked, and unlock all that it keeps. Then it has no records of its own and no
 -- locked node. It has seen its own change last.
 abbrev pub Settles : Type 0
 Settles =
-    (layout : Layout) (k j i h g : Known) (change : Change) (was : Option ℕ) (gone : List Rec) (kept : List ℕ) (epoch : ℕ) →
-    HasPublished k j change was gone kept →
-    AreApart kept → IsEvent layout (LoadEpoch epoch) silent j i → MarksEach layout epoch gone i h → UnlocksEach layout kept h g →
-    (g.own ≡ []) × (g.locks ≡ []) × KeepsFrontAndAnchor j g
+    (layout : Layout) (before published ending marked rested : Known) (change : Change) (was : Option ℕ) (gone : List Rec) (kept : List ℕ) (epoch : ℕ) →
+    HasPublished before published change was gone kept →
+    AreApart kept → IsEvent layout (LoadEpoch epoch) silent published ending → MarksEach layout epoch gone ending marked →
+    UnlocksEach layout kept marked rested →
+    (rested.own ≡ []) × (rested.locks ≡ []) × KeepsFrontAndAnchor published rested

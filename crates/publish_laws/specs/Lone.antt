@@ -29,28 +29,28 @@ IsUnused (Held pass) = Unit {0}
 IsUnused (Ready pass) = Unit {0}
 IsUnused fate = ⊥
 
--- Node record n stands in no tree after the steps that the table's only pass knows.
-abbrev pub IsOutAt : Layout → SeatView → ℕ → Type 0
-IsOutAt layout seat n = (core : Core) → IsLone layout seat core → IsOut (core.fate (a_node n))
+-- This node record stands in no tree after the steps that the table's only pass knows.
+abbrev pub IsOutAt : (layout : Layout) → (seat : SeatView) → (number : ℕ) → Type 0
+IsOutAt layout seat number = (core : Core) → IsLone layout seat core → IsOut (core.fate (a_node number))
 
--- Node record n is free after the steps that the table's only pass knows.
-abbrev pub IsFreeAt : Layout → SeatView → ℕ → Type 0
-IsFreeAt layout seat n = (core : Core) → IsLone layout seat core → core.fate (a_node n) ≡ Free
+-- This node record is free after the steps that the table's only pass knows.
+abbrev pub IsFreeAt : (layout : Layout) → (seat : SeatView) → (number : ℕ) → Type 0
+IsFreeAt layout seat number = (core : Core) → IsLone layout seat core → core.fate (a_node number) ≡ Free
 
 -- Some node record stands in no tree after the steps that the table's only pass knows, so it is spare.
 abbrev pub HasSpare : Layout → SeatView → Type 0
-HasSpare layout seat = (core : Core) → IsLone layout seat core → (n : ℕ) × (n < layout.nodes) × IsOut (core.fate (a_node n))
+HasSpare layout seat = (core : Core) → IsLone layout seat core → (number : ℕ) × (number < layout.nodes) × IsOut (core.fate (a_node number))
 
 -- Some node record is free after the steps that the table's only pass knows.
 abbrev pub HasFree : Layout → SeatView → Type 0
-HasFree layout seat = (n : ℕ) × (n < layout.nodes) × IsFreeAt layout seat n
+HasFree layout seat = (number : ℕ) × (number < layout.nodes) × IsFreeAt layout seat number
 
 -- The table has one pass, and some node record is free.
 abbrev pub HasRoom : Layout → SeatView → Type 0
 HasRoom layout seat = (layout.passes ≡ 1) × HasFree layout seat
 
 -- If a node record was spare before, one still is.
-abbrev pub KeepsSpare : Layout → SeatView → SeatView → Type 0
+abbrev pub KeepsSpare : (layout : Layout) → (old new : SeatView) → Type 0
 KeepsSpare layout old new = HasSpare layout old → HasSpare layout new
 
 -- the step is no publish, and no bulk load
@@ -69,4 +69,4 @@ SpareStays {G = G} becomes =
 abbrev pub FreeStays : {G : Type 0} → (G → Event → G → Type 0) → Type 0
 FreeStays {G = G} becomes =
     (table : TableView) (acts : List Act) (old new : SeatView × G) → All LeavesTree acts → Runs table becomes acts old new → new.0.known.own ≡ [] →
-    (n : ℕ) → IsFreeAt table.layout old.0 n → IsFreeAt table.layout new.0 n
+    (number : ℕ) → IsFreeAt table.layout old.0 number → IsFreeAt table.layout new.0 number

@@ -25,11 +25,11 @@ use Rattle.rowex_core.specs.Knowing.{IsPinnedSince}
 -- New records
 
 -- a new node record with this node's words
-abbrev pub made_of_node : ℕ → NodeView → Made
-made_of_node m view = record { rec = a_node m; words = node_words view }
+abbrev pub made_of_node : (number : ℕ) → (view : NodeView) → Made
+made_of_node number view = record { rec = a_node number; words = node_words view }
 
 -- a new leaf record with these words
-abbrev pub made_of_leaf : Item → List ℕ → Made
+abbrev pub made_of_leaf : (item : Item) → (words : List ℕ) → Made
 made_of_leaf item words = record { rec = a_leaf item.number; words = words }
 
 -- The node was built anew: it has words, and its height is one above the greatest of its entries.
@@ -39,25 +39,26 @@ IsBuiltAnew view = HasNodeWords view × (view.height ≡ 1 + greatest_height vie
 -- The entry for a subtrie, and the records made for it. It is the subtrie itself if that is one entry, or else a new node.
 pub data IsSide (trie : Subtrie) : Entry → List Made → Type 0 where
   one : (entry : Entry) → trie ≡ Place entry → IsSide trie entry []
-  anew : (m : ℕ) (view : NodeView) → IsBuiltAnew view → piece view ≡ trie → IsSide trie (Node m view.height) (made_of_node m view ∷ [])
+  anew : (number : ℕ) (view : NodeView) → IsBuiltAnew view → piece view ≡ trie → IsSide trie (Node number view.height) (made_of_node number view ∷ [])
 
 -- The lowest node
 
--- From the locked node with these words on, the newcomer's search ended as `Newcomer` says. The pass's pin goes back to the newcomer's
--- version.
-pub record HasFoundBelow (known : Known) (held : List Locked) (newcomer : Newcomer) (n : ℕ) (words : List ℕ) : Type 0 where
+-- Below a locked node with these words, the search for the newcomer's key has led to a leaf with the key `newcomer.like`. The two keys
+-- first differ at the newcomer's position. The pass's pin goes back to the newcomer's version.
+pub record HasFoundBelow (known : Known) (held : List Locked) (newcomer : Newcomer) (node : ℕ) (words : List ℕ) : Type 0 where
   pub leaf : HasLeafWords (newcomer.item.key, newcomer.item.value)
   pub pinned : IsPinnedSince known newcomer.since
-  pub locked : IsOneOf (record { node = n; words = words }) held
+  pub locked : IsOneOf (record { node = node; words = words }) held
   pub way : IsSure known (λ past. IsWayBelow past newcomer.since newcomer.item.key (node_words_of words).subtrie newcomer.like)
   pub agree : AgreeBelow newcomer.mismatch newcomer.item.key newcomer.like
   pub differ : bit newcomer.item.key newcomer.mismatch ≢ bit newcomer.like newcomer.mismatch
 
 -- Further up
 
--- If an insertion affects no more of a locked node than its entry for the node below, its own first fork is before p. So the node above
--- needs no other check than that its entry names it.
+-- Let an insertion affect no more of a locked node than its entry for the node below. Then that node's own first fork is before the
+-- insertion's position. So a node above need only be checked to name it.
 abbrev pub AboveGoesOn : Type 0
 AboveGoesOn =
     (layout : Layout) (known : Known) (held : List Locked) (news : List Made) (core : Core) → IsStage layout known held news core →
-    (key : Key) (p o n : ℕ) (a : IsLockedAbove held key p o n) → FirstForkIsBefore p (node_words_of a.upper).subtrie
+    (key : Key) (position above node : ℕ) (names : IsLockedAbove held key position above node) →
+    FirstForkIsBefore position (node_words_of names.upper).subtrie

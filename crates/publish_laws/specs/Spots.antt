@@ -20,8 +20,8 @@ use Rattle.rowex_core.specs.Reading.{node_words_of}
 -- holds that of a node with these words, and d is its entry on the path.
 pub data HoldsAt (known : Known) (held : List Locked) (key : Key) (d : Entry) : Spot → Type 0 where
   at_root : known.anchor ≡ Some (Some d) → HoldsAt known held key d Root
-  in_node : (o slot : ℕ) (words : List ℕ) → IsOneOf (record { node = o; words = words }) held → seek key (node_words_of words).subtrie ≡ d →
-      spot key (node_words_of words).subtrie ≡ slot → HoldsAt known held key d (Slot o slot)
+  in_node : (number slot : ℕ) (words : List ℕ) → IsOneOf (record { node = number; words = words }) held → seek key (node_words_of words).subtrie ≡ d →
+      spot key (node_words_of words).subtrie ≡ slot → HoldsAt known held key d (Slot number slot)
 
 -- The entry may stand at the spot: in a node it is lower than the node.
 abbrev pub FitsAt : {k : Known} {held : List Locked} {key : Key} {d : Entry} {at : Spot} → HoldsAt k held key d at → Entry → Type 0
@@ -29,20 +29,21 @@ FitsAt (at_root root) entry = Unit {0}
 FitsAt (in_node o slot words has names place) entry = IsLowerSubtrie (node_words_of words).fixed.height (Place entry)
 
 -- What there is below an entry: the subtrie of a locked node, or the leaf alone.
-abbrev pub IsSubtrieBelow : List Locked → Entry → Subtrie → Type 0
+abbrev pub IsSubtrieBelow : (held : List Locked) → (below : Entry) → (trie : Subtrie) → Type 0
 IsSubtrieBelow held (Leaf number) trie = trie ≡ Place (Leaf number)
 IsSubtrieBelow held (Node number height) trie =
     (words : List ℕ) × IsOneOf (record { node = number; words = words }) held × (trie ≡ (node_words_of words).subtrie)
 
--- An insertion affects no more of a node than the entry at the spot, where the key first differs at p.
-abbrev pub AffectsSpotAlone : {k : Known} {held : List Locked} {key : Key} {d : Entry} {at : Spot} → HoldsAt k held key d at → ℕ → Type 0
-AffectsSpotAlone (at_root root) p = Unit {0}
-AffectsSpotAlone {held = held} {key = key} {d = d} (in_node o slot words has names place) p =
-    (trie : Subtrie) × IsSubtrieBelow held d trie × AffectsOne p key (node_words_of words).subtrie trie
+-- An insertion of the key at this position affects no more of a node than the entry at the spot.
+abbrev pub AffectsSpotAlone : {k : Known} {held : List Locked} {key : Key} {d : Entry} {at : Spot} → HoldsAt k held key d at →
+    (position : ℕ) → Type 0
+AffectsSpotAlone (at_root root) position = Unit {0}
+AffectsSpotAlone {held = held} {key = key} {d = d} (in_node o slot words has names place) position =
+    (trie : Subtrie) × IsSubtrieBelow held d trie × AffectsOne position key (node_words_of words).subtrie trie
 
--- The spot of the locked node n. In an insertion at p the entry e may take the node's place there.
-pub record IsSpotOf (known : Known) (held : List Locked) (key : Key) (p n : ℕ) (e : Entry) (at : Spot) : Type 0 where
+-- This locked node stands at the spot. In an insertion at the position the entry e may take the node's place there.
+pub record IsSpotOf (known : Known) (held : List Locked) (key : Key) (position node : ℕ) (e : Entry) (at : Spot) : Type 0 where
   pub height : ℕ
-  pub holds : HoldsAt known held key (Node n height) at
-  pub alone : AffectsSpotAlone holds p
+  pub holds : HoldsAt known held key (Node node height) at
+  pub alone : AffectsSpotAlone holds position
   pub fits : FitsAt holds e

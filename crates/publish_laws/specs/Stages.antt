@@ -44,54 +44,56 @@ pub record HasReady (known : Known) (held : List Locked) (news : List Made) : Ty
   pub own : known.own ≡ map (held_as Ready) news
 
 -- the words of a leaf record spell this leaf's key and value
-abbrev pub SpellsLeaf : Item → List ℕ → Type 0
+abbrev pub SpellsLeaf : (item : Item) → (words : List ℕ) → Type 0
 SpellsLeaf item words = HasLeafWords (item.key, item.value) × (leaf_words (item.key, item.value) ≡ up_to_key words)
 
 -- One of the new records is this leaf.
 abbrev pub HasLeaf : List Made → Item → Type 0
 HasLeaf news item = (words : List ℕ) × IsOneOf (record { rec = a_leaf item.number; words = words }) news × SpellsLeaf item words
 
--- In each stage the subtrie is what takes the place of the node's body or entry when the key is added. It links just the records made, the
--- one made last first. It unlinks just the records `gone`.
-abbrev pub HasRisen : Layout → Known → List Locked → List Made → Newcomer → Side → Subtrie → List Rec → Type 0
+-- In each core at which the pass may publish, the subtrie takes the place of the node's body or entry when the key is added. Just the records
+-- made are then linked, the one made last first, and just the records `gone` are unlinked.
+abbrev pub HasRisen : (layout : Layout) → (known : Known) → (held : List Locked) → (news : List Made) → (newcomer : Newcomer) →
+    (side : Side) → (trie : Subtrie) → (gone : List Rec) → Type 0
 HasRisen layout known held news newcomer side trie gone = (core : Core) → IsStage layout known held news core →
     (i : IsRise (bare core) known.pass newcomer side trie) × (linked_by_rise i ≡ recs_of news) × (unlinked_by_rise i ≡ gone)
 
--- By their words, the locked node o's entry on the key's path names the locked node n. An insertion at p affects no more of o than that
--- entry.
-pub record IsLockedAbove (held : List Locked) (key : Key) (p o n : ℕ) : Type 0 where
+-- By the words of two locked nodes, the upper one's entry on the key's path names the lower one. An insertion at the position affects no
+-- more of the upper node than that entry.
+pub record IsLockedAbove (held : List Locked) (key : Key) (position above node : ℕ) : Type 0 where
   pub upper : List ℕ
   pub lower : List ℕ
-  pub has_upper : IsOneOf (record { node = o; words = upper }) held
-  pub has_lower : IsOneOf (record { node = n; words = lower }) held
+  pub has_upper : IsOneOf (record { node = above; words = upper }) held
+  pub has_lower : IsOneOf (record { node = node; words = lower }) held
   pub height : ℕ
-  pub entry : seek key (node_words_of upper).subtrie ≡ Node n height
-  pub path : AffectsOne p key (node_words_of upper).subtrie (node_words_of lower).subtrie
+  pub entry : seek key (node_words_of upper).subtrie ≡ Node node height
+  pub path : AffectsOne position key (node_words_of upper).subtrie (node_words_of lower).subtrie
 
--- The words of three locked nodes tell a merge. On the key's path, node o's entry names node n, and node n's entry names leaf j. The last
--- fork on that path in o has on its other side just the entry of node m.
-pub record AreBeside (held : List Locked) (key : Key) (o n m j : ℕ) : Type 0 where
+-- The words of three locked nodes tell a merge. On the key's path, `above` names `node`, and `node` names the leaf. In `above`, the path's
+-- last fork has just the entry of `beside` on its other side.
+pub record AreBeside (held : List Locked) (key : Key) (above node beside number : ℕ) : Type 0 where
   pub upper : List ℕ
   pub lower : List ℕ
   pub other : List ℕ
-  pub has_upper : IsOneOf (record { node = o; words = upper }) held
-  pub has_lower : IsOneOf (record { node = n; words = lower }) held
-  pub has_other : IsOneOf (record { node = m; words = other }) held
-  pub leaf : seek key (node_words_of lower).subtrie ≡ Leaf j
+  pub has_upper : IsOneOf (record { node = above; words = upper }) held
+  pub has_lower : IsOneOf (record { node = node; words = lower }) held
+  pub has_other : IsOneOf (record { node = beside; words = other }) held
+  pub leaf : seek key (node_words_of lower).subtrie ≡ Leaf number
   pub height : ℕ
-  pub entry : seek key (node_words_of upper).subtrie ≡ Node n height
+  pub entry : seek key (node_words_of upper).subtrie ≡ Node node height
   pub position : ℕ
   pub other_height : ℕ
-  pub sibling : subtrie_sibling key (node_words_of upper).subtrie ≡ Some (position, Place (Node m other_height))
+  pub sibling : subtrie_sibling key (node_words_of upper).subtrie ≡ Some (position, Place (Node beside other_height))
 
--- The subtrie of a merge: what is left of node n without the leaf, and all of node m, below the fork between them.
+-- The subtrie of a merge. It has what is left of the lower node without the leaf, and all of the node beside it, below their fork.
 abbrev pub merged : {held : List Locked} {key : Key} {o n m j : ℕ} → AreBeside held key o n m j → Subtrie
 merged {key = key} b = fork_of (bit key b.position) b.position (subtrie_without key (node_words_of b.lower).subtrie) (node_words_of b.other).subtrie
 
--- In each stage leaf j has this key.
-abbrev pub IsLeafThere : Layout → Known → List Locked → List Made → ℕ → Key → Type 0
-IsLeafThere layout known held news j key = (core : Core) → IsStage layout known held news core → (leaf_of (core.words (a_leaf j))).key ≡ key
+-- In each core at which the pass may publish, this leaf has this key.
+abbrev pub IsLeafThere : (layout : Layout) → (known : Known) → (held : List Locked) → (news : List Made) → (number : ℕ) → (key : Key) →
+    Type 0
+IsLeafThere layout known held news number key = (core : Core) → IsStage layout known held news core → (leaf_of (core.words (a_leaf number))).key ≡ key
 
--- The pass has loaded this value of leaf j. It has neither locked nor unlocked, published or marked since.
-abbrev pub HasLoaded : Known → ℕ → ℕ → Type 0
-HasLoaded known j value = IsOneOf (record { leaf = j; value = value }) known.values
+-- The pass has loaded this value of the leaf. It has neither locked nor unlocked, published or marked since.
+abbrev pub HasLoaded : (known : Known) → (leaf value : ℕ) → Type 0
+HasLoaded known leaf value = IsOneOf (record { leaf = leaf; value = value }) known.values

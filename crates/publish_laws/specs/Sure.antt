@@ -13,13 +13,13 @@ use Rattle.publish_laws.specs.Stages.{IsSure}
 use Rattle.rowex_core.specs.Knowing.{IsPinnedSince}
 use Rattle.publish_laws.specs.Rises.{HasFoundBelow}
 
--- Let a descent from the locked node's entry on the key's path end at a leaf. Its key and the new one first differ at p. Then what an
--- insertion asks of the lowest locked node is known.
+-- Let a descent from the locked node's entry on the key's path end at a leaf. Its key and the newcomer's first differ at the newcomer's
+-- position. Then what an insertion asks of the lowest locked node is known.
 abbrev pub DescentFinds : Type 0
 DescentFinds =
-    (known : Known) (held : List Locked) (newcomer : Newcomer) (n : ℕ) (words : List ℕ) → HasLeafWords (newcomer.item.key, newcomer.item.value) →
+    (known : Known) (held : List Locked) (newcomer : Newcomer) (node : ℕ) (words : List ℕ) → HasLeafWords (newcomer.item.key, newcomer.item.value) →
     IsPinnedSince known newcomer.since →
-    IsOneOf (record { node = n; words = words }) held →
+    IsOneOf (record { node = node; words = words }) held →
     IsSure known (λ past. IsWayFrom past newcomer.since newcomer.like (seek newcomer.item.key (node_words_of words).subtrie)) →
     AgreeBelow newcomer.mismatch newcomer.item.key newcomer.like → bit newcomer.item.key newcomer.mismatch ≢ bit newcomer.like newcomer.mismatch →
-    HasFoundBelow known held newcomer n words
+    HasFoundBelow known held newcomer node words

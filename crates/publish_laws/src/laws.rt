@@ -3,7 +3,7 @@
 ghost use Rattle.publish_laws.specs.Acts.{ActGoesOn, BesideMayLock, LedMayLock, LoadsOfLocked};
 ghost use Rattle.publish_laws.specs.Cases.{MayAddFirstKey, MayMerge, MayPair, MayRemove, MayRemoveLast, MayStoreValue};
 ghost use Rattle.publish_laws.specs.Ending.{EndBegins, EndInAnyOrder, EndMarks, EndRests, EndUnlocks, EndUnlocksAnchor, EndsAtOnce, KeptAreNotGone, Settles};
-ghost use Rattle.publish_laws.specs.Insertions.{Insertion, NormalInsert, Overflow, PullUp, PullUpOverflow, StaysWhole};
+ghost use Rattle.publish_laws.specs.Insertions.{Insertion, NormalInsert, Overflow, PullUp, PullUpOverflow, MayKeepNodeWhole};
 ghost use Rattle.publish_laws.specs.Rises.{AboveGoesOn};
 ghost use Rattle.publish_laws.specs.Sure.{DescentFinds};
 ghost use Rattle.publish_laws.specs.Lone.{FreeStays, SpareStays};
@@ -75,7 +75,7 @@ pub fn overflow_may_be_published()
 /// A pass may publish an overflow in which the old node stays whole, since its first fork isn't before the new leaf's position. A node of
 /// the new leaf and the old node takes the old one's place, and nothing is unlinked.
 pub fn overflow_may_keep_node_whole()
-    ensures { StaysWhole }
+    ensures { MayKeepNodeWhole }
 {}
 
 /// A pass may publish a pull up: what has risen from a node takes its place in a copy of the node above. No more is affected there. The
