@@ -24,7 +24,7 @@ pub record HasSearched {G : Type 0} (table : TableView) (becomes : G → Event �
   pub touched : new.0.touches ≤ old.0.touches + search_touches * nodes
 
 -- What a search for the key found: since the last load of the root the key had the value, or was absent, in some version.
-abbrev pub HasFound : Known → Key → Option ℕ → Type 0
+abbrev pub HasFound : (known : Known) → (key : Key) → (held : Option ℕ) → Type 0
 HasFound known key None = Sure known (λ past. WasAbsentSince past (since known) key)
 HasFound known key (Some value) = Sure known (λ past. IsHeldSince past (since known) key value)
 
@@ -38,6 +38,6 @@ pub record HaveSearched {G : Type 0} (table : TableView) (becomes : G → Event 
   pub looks : Looks table becomes nodes loaded old new
 
 -- what searches for the first of these keys found, each in a version of its own since the last load of the root
-abbrev pub HaveFound : Known → ℕ → List Key → List (Option ℕ) → Type 0
+abbrev pub HaveFound : (known : Known) → (count : ℕ) → (keys : List Key) → (found : List (Option ℕ)) → Type 0
 HaveFound known count keys found =
     (i : ℕ) (key : Key) (o : Option ℕ) → i < count → slice_get keys i ≡ Some key → slice_get found i ≡ Some o → HasFound known key o

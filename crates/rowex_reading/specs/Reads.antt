@@ -30,17 +30,18 @@ loads_entry act = false
 abbrev pub entries_in : List Act → ℕ
 entries_in acts = count_by loads_entry acts
 
--- The pass makes n loads below the root, so many of them of entries, and no other step. The gate is told each.
-pub record Reads {G : Type 0} (table : TableView) (becomes : G → Event → G → Type 0) (entries n : ℕ) (old new : SeatView × G) : Type 0 where
+-- The pass makes `loads` loads below the root, `entries` of them of entries, and no other step. The gate is told each.
+pub record Reads {G : Type 0} (table : TableView) (becomes : G → Event → G → Type 0) (entries loads : ℕ) (old new : SeatView × G) : Type 0 where
   pub acts : List Act
   pub below : All IsBelowRoot acts
-  pub count : length acts ≡ n
+  pub count : length acts ≡ loads
   pub entries_are : entries_in acts ≡ entries
   pub steps : Runs table becomes acts old new
 
--- The pass makes n loads below the root, so many of them of entries, and no other step. On the way it touches at most so many words.
-pub record ReadsAndTouches {G : Type 0} (table : TableView) (becomes : G → Event → G → Type 0) (entries n most : ℕ) (old new : SeatView × G) : Type 0 where
-  pub reads : Reads table becomes entries n old (touched_to old.0.touches new.0, new.1)
+-- The pass makes `loads` loads below the root, `entries` of them of entries, and no other step. On the way it touches at most `most` words.
+pub record ReadsAndTouches {G : Type 0} (table : TableView) (becomes : G → Event → G → Type 0) (entries loads most : ℕ)
+    (old new : SeatView × G) : Type 0 where
+  pub reads : Reads table becomes entries loads old (touched_to old.0.touches new.0, new.1)
   pub rises : old.0.touches ≤ new.0.touches
   pub few : new.0.touches ≤ old.0.touches + most
 
@@ -49,15 +50,15 @@ abbrev pub leaf_loads : Key → ℕ
 leaf_loads key = 2 + words_of_key (length key)
 
 -- the pass makes some number of loads below the root, and no other step
-abbrev pub ReadsSome : {G : Type 0} → TableView → (G → Event → G → Type 0) → SeatView × G → SeatView × G → Type 0
-ReadsSome table becomes old new = (entries n : ℕ) × Reads table becomes entries n old new
+abbrev pub ReadsSome : {G : Type 0} → (table : TableView) → (becomes : G → Event → G → Type 0) → (old new : SeatView × G) → Type 0
+ReadsSome table becomes old new = (entries loads : ℕ) × Reads table becomes entries loads old new
 
 -- the pass loads the root, and makes no other step; the gate is told it
-abbrev pub ReadsRoot : {G : Type 0} → TableView → (G → Event → G → Type 0) → SeatView × G → SeatView × G → Type 0
+abbrev pub ReadsRoot : {G : Type 0} → (table : TableView) → (becomes : G → Event → G → Type 0) → (old new : SeatView × G) → Type 0
 ReadsRoot table becomes old new = (word : ℕ) × Steps table becomes (LoadRef Root word) old new
 
--- The pass loads the root, then n words below it, so many of them entries, and makes no other step. The gate is told each load.
-pub record Looks {G : Type 0} (table : TableView) (becomes : G → Event → G → Type 0) (entries n : ℕ) (old new : SeatView × G) : Type 0 where
+-- The pass loads the root, then `loads` words below it, `entries` of them entries, and makes no other step. The gate is told each load.
+pub record Looks {G : Type 0} (table : TableView) (becomes : G → Event → G → Type 0) (entries loads : ℕ) (old new : SeatView × G) : Type 0 where
   pub at : SeatView × G
   pub root : ReadsRoot table becomes old at
-  pub rest : Reads table becomes entries n at new
+  pub rest : Reads table becomes entries loads at new

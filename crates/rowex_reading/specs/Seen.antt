@@ -42,46 +42,46 @@ RootIs known (Some entry) = Sure known (λ past. IsRooted past (since known) ent
 abbrev pub IsAtRoot : Known → Entry → Type 0
 IsAtRoot known entry = IsPinnedSince known (since known) × Sure known (λ past. IsRooted past (since known) entry)
 
--- since version m, to which its pin goes back, the pass was led to the record that the entry names
-abbrev pub IsLedTo : Known → ℕ → Entry → Type 0
-IsLedTo known m entry = IsPinnedSince known m × Sure known (λ past. EntryStoodSince past m entry)
+-- since this version, to which its pin goes back, the pass was led to the record that the entry names
+abbrev pub IsLedTo : (known : Known) → (version : ℕ) → (entry : Entry) → Type 0
+IsLedTo known version entry = IsPinnedSince known version × Sure known (λ past. EntryStoodSince past version entry)
 
--- in a version since m the node had an entry in slot i
-abbrev pub HasMorePlaces : Past → ℕ → ℕ → ℕ → Type 0
-HasMorePlaces past m n i = (trie : Subtrie) × HadShapeSince past m n trie × (i < size trie)
+-- in a version since this one the node had an entry in this slot
+abbrev pub HasMorePlaces : (past : Past) → (version number slot : ℕ) → Type 0
+HasMorePlaces past version number slot = (trie : Subtrie) × HadShapeSince past version number trie × (slot < size trie)
 
--- the pass was led to the node, which has an entry in slot i
-abbrev pub HasPlace : Known → ℕ → ℕ → ℕ → ℕ → Type 0
-HasPlace known m n height i = IsLedTo known m (Node n height) × Sure known (λ past. HasMorePlaces past m n i)
+-- the pass was led to the node since this version, and the node has an entry in this slot
+abbrev pub HasPlace : (known : Known) → (version number height slot : ℕ) → Type 0
+HasPlace known version number height slot = IsLedTo known version (Node number height) × Sure known (λ past. HasMorePlaces past version number slot)
 
--- The pass has read this head of the node, which has this height. The node has stood with its forks since m.
-pub record IsHeadSeen (known : Known) (m n h : ℕ) (head : HeadView) : Type 0 where
-  pub height : head.height ≡ h
+-- The pass has read this head of the node, which has this height. The node has stood with the head's forks since this version.
+pub record IsHeadSeen (known : Known) (version number its_height : ℕ) (head : HeadView) : Type 0 where
+  pub height : head.height ≡ its_height
   pub lawful : IsLawfulNode (node_of head (leaves (length head.rows)))
-  pub shaped : Sure known (λ past. HadShapeSince past m n (shape_of head))
+  pub shaped : Sure known (λ past. HadShapeSince past version number (shape_of head))
 
 -- The words are those of a head that the pass has read of the node.
-pub record AreHeadWords (known : Known) (m n h : ℕ) (words : List ℕ) : Type 0 where
+pub record AreHeadWords (known : Known) (version number height : ℕ) (words : List ℕ) : Type 0 where
   pub head : HeadView
-  pub seen : IsHeadSeen known m n h head
+  pub seen : IsHeadSeen known version number height head
   pub words_are : head_words head ≡ words
 
--- in a version since m the record stood with this word at this offset
-abbrev pub StoodWithWord : Past → ℕ → Rec → ℕ → ℕ → Type 0
-StoodWithWord past m rec offset word = StoodAs past m past.now rec (λ u. HasWordAt u offset word)
+-- in a version since this one the record stood with this word at this offset
+abbrev pub StoodWithWord : (past : Past) → (version : ℕ) → (rec : Rec) → (offset word : ℕ) → Type 0
+StoodWithWord past version rec offset word = StoodAs past version past.now rec (λ words. HasWordAt words offset word)
 
--- the pass knows that the record stood in a version since m, to which its pin goes back
-abbrev pub IsStood : Known → ℕ → Rec → Type 0
-IsStood known m rec = IsPinnedSince known m × Sure known (λ past. StoodBetween past m past.now rec)
+-- the pass knows that the record stood in a version since this one, to which its pin goes back
+abbrev pub IsStood : (known : Known) → (version : ℕ) → (rec : Rec) → Type 0
+IsStood known version rec = IsPinnedSince known version × Sure known (λ past. StoodBetween past version past.now rec)
 
--- A pass that knew k, and knows j now, has loaded some of these words of the record. Word i is that at the offset before + i + 1. The pass
--- is sure of each if it knew that the record stood.
-pub record AreLoaded (k j : Known) (rec : Rec) (before : ℕ) (IsLoaded : ℕ → Type 0) (words : List ℕ) : Type 0 where
-  pub later : IsLater k j
-  pub each : (m : ℕ) → IsStood k m rec → (i : ℕ) → IsLoaded i →
-      Sure j (λ past. StoodWithWord past m rec (before + i + FIELDS_OFFSET) (get_or words i 0))
+-- From `old` to `new` the pass has loaded some of these words of the record. Word i is that at the offset before + i + 1. The pass is sure
+-- of each loaded word if it knew that the record stood.
+pub record AreLoaded (old new : Known) (rec : Rec) (before : ℕ) (IsLoaded : ℕ → Type 0) (words : List ℕ) : Type 0 where
+  pub later : IsLater old new
+  pub each : (version : ℕ) → IsStood old version rec → (i : ℕ) → IsLoaded i →
+      Sure new (λ past. StoodWithWord past version rec (before + i + FIELDS_OFFSET) (get_or words i 0))
 
--- The leaf stood with this key and this value; or with another key, if there is no value.
-abbrev pub IsCompared : Past → ℕ → ℕ → Key → Option ℕ → Type 0
-IsCompared past m n key (Some value) = IsRead past m n key value
-IsCompared past m n key None = (other : Key) × (value : ℕ) × IsRead past m n other value × (key ≢ other)
+-- In a version since this one the leaf had this key and this value. If there is no value, it had another key.
+abbrev pub IsCompared : (past : Past) → (version number : ℕ) → (key : Key) → (held : Option ℕ) → Type 0
+IsCompared past version number key (Some value) = IsRead past version number key value
+IsCompared past version number key None = (other : Key) × (value : ℕ) × IsRead past version number other value × (key ≢ other)

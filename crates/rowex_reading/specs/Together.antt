@@ -20,13 +20,13 @@ pub record HasComeTo (known : Known) (key : Key) (entry : Entry) : Type 0 where
   pub led : Sure known (λ past. IsLed past (since known) key entry)
 
 -- the search for each key has led to its entry
-abbrev pub HaveComeTo : Known → List Key → List Entry → Type 0
+abbrev pub HaveComeTo : (known : Known) → (keys : List Key) → (tips : List Entry) → Type 0
 HaveComeTo known keys tips =
     (i : ℕ) (key : Key) (entry : Entry) → slice_get keys i ≡ Some key → slice_get tips i ≡ Some entry → HasComeTo known key entry
 
 -- the first of these entries are leaves
-abbrev pub AreLeaves : ℕ → List Entry → Type 0
-AreLeaves count tips = (i : ℕ) (entry : Entry) → i < count → slice_get tips i ≡ Some entry → (n : ℕ) × (entry ≡ Leaf n)
+abbrev pub AreLeaves : (count : ℕ) → (tips : List Entry) → Type 0
+AreLeaves count tips = (i : ℕ) (entry : Entry) → i < count → slice_get tips i ≡ Some entry → (number : ℕ) × (entry ≡ Leaf number)
 
 -- the sum of these entries' heights, which each step to a child lowers
 abbrev pub heights_in : List Entry → ℕ
@@ -34,6 +34,7 @@ heights_in tips = sum_by height_of tips
 
 -- The pass makes the loads of `count` searches from the root's entry on. They are at most 26 for each node on a path, one of them an entry,
 -- and 32 for each leaf.
-abbrev pub ReadsForAll : {G : Type 0} → TableView → (G → Event → G → Type 0) → ℕ → SeatView × G → SeatView × G → Type 0
+abbrev pub ReadsForAll : {G : Type 0} → (table : TableView) → (becomes : G → Event → G → Type 0) → (count : ℕ) → (old new : SeatView × G) →
+    Type 0
 ReadsForAll table becomes count old new =
-    (entries n : ℕ) × (entries ≤ count * (9 * MAX_BYTES)) × (n ≤ 32 * count + 26 * entries) × Reads table becomes entries n old new
+    (entries loads : ℕ) × (entries ≤ count * (9 * MAX_BYTES)) × (loads ≤ 32 * count + 26 * entries) × Reads table becomes entries loads old new

@@ -31,27 +31,28 @@ value_of found = None
 
 -- What names node i of a path: the root's entry, or the entry taken in the node above. Behind the last node, it is what the search ended
 -- at.
-abbrev pub named : List PathNode → Found → ℕ → Option Entry
+abbrev pub named : (way : List PathNode) → (found : Found) → (index : ℕ) → Option Entry
 named [] found i = end_of found
 named (s ∷ way) found zero = Some (Node s.number s.height)
 named (s ∷ way) found (suc i) = named way found i
 
 -- the step of a path at a node with this head, in which the search takes slot `at`
 abbrev pub step_at : HeadView → (number at : ℕ) → PathNode
-step_at head number at = record { number = number; height = head.height; first_position = first_position (shape_of head); count = size (shape_of head); slot = at }
+step_at head number at =
+    record { number = number; height = head.height; first_position = first_position (shape_of head); count = size (shape_of head); slot = at }
 
--- the root's entry, or none, in a version since m
-abbrev pub RootWas : Known → ℕ → Option Entry → Type 0
-RootWas known m None = Sure known (λ past. IsBlank past m)
-RootWas known m (Some entry) = Sure known (λ past. IsRooted past m entry)
+-- in a version since this one the root had this entry, or none
+abbrev pub RootWas : (known : Known) → (version : ℕ) → (root : Option Entry) → Type 0
+RootWas known version None = Sure known (λ past. IsBlank past version)
+RootWas known version (Some entry) = Sure known (λ past. IsRooted past version entry)
 
--- Since version m the pass was led to the node of the step. It has read the node's forks, and this entry in the slot on the key's path.
-pub record IsWayNode (layout : Layout) (known : Known) (m : ℕ) (key : Key) (node : PathNode) (entry : Entry) : Type 0 where
+-- Since this version the pass was led to the node of the step. It has read the node's forks, and this entry in the slot on the key's path.
+pub record IsWayNode (layout : Layout) (known : Known) (version : ℕ) (key : Key) (node : PathNode) (entry : Entry) : Type 0 where
   pub forks : Subtrie
   pub range : node.number < layout.nodes
-  pub seen : Sure known (λ past. EntryStoodSince past m (Node node.number node.height))
-  pub shaped : Sure known (λ past. HadShapeSince past m node.number forks)
-  pub placed : Sure known (λ past. IsPlaced past m node.number node.slot entry)
+  pub seen : Sure known (λ past. EntryStoodSince past version (Node node.number node.height))
+  pub shaped : Sure known (λ past. HadShapeSince past version node.number forks)
+  pub placed : Sure known (λ past. IsPlaced past version node.number node.slot entry)
   pub at : node.slot ≡ spot key forks
   pub below : height_of entry < node.height
   pub count : node.count ≡ size forks
@@ -59,21 +60,22 @@ pub record IsWayNode (layout : Layout) (known : Known) (m : ℕ) (key : Key) (no
   pub first : node.first_position ≡ first_position forks
 
 -- the first position at which the keys differ, or none
-abbrev pub IsMismatch : Key → Key → Option ℕ → Type 0
-IsMismatch key l None = key ≡ l
-IsMismatch key l (Some position) = AgreeBelow position key l × (bit key position ≢ bit l position)
+abbrev pub IsMismatch : (key other : Key) → (mismatch : Option ℕ) → Type 0
+IsMismatch key other None = key ≡ other
+IsMismatch key other (Some position) = AgreeBelow position key other × (bit key position ≢ bit other position)
 
--- the pass has read the leaf that its search found, since version m
-abbrev pub IsFoundAt : Known → ℕ → Key → Found → Type 0
-IsFoundAt known m key Nothing = Unit {0}
-IsFoundAt known m key (Leaf number value mismatch) = (l : Key) × Sure known (λ past. IsRead past m number l value) × IsMismatch key l mismatch
+-- since this version the pass has read the leaf that its search found
+abbrev pub IsFoundAt : (known : Known) → (version : ℕ) → (key : Key) → (found : Found) → Type 0
+IsFoundAt known version key Nothing = Unit {0}
+IsFoundAt known version key (Leaf number value mismatch) =
+    (other : Key) × Sure known (λ past. IsRead past version number other value) × IsMismatch key other mismatch
 
--- What a search for the key has found, which loaded the root at version m: its path and its end.
-pub record IsWayOf (layout : Layout) (known : Known) (m : ℕ) (key : Key) (way : List PathNode) (found : Found) : Type 0 where
+-- A search for the key, which loaded the root at this version, has taken this path and found this end.
+pub record IsWayOf (layout : Layout) (known : Known) (version : ℕ) (key : Key) (way : List PathNode) (found : Found) : Type 0 where
   pub is_key : IsKey key
-  pub since : IsPinnedSince known m
-  pub root : RootWas known m (named way found 0)
+  pub since : IsPinnedSince known version
+  pub root : RootWas known version (named way found 0)
   pub nodes : (i : ℕ) (node : PathNode) → slice_get way i ≡ Some node → (entry : Entry) × (named way found (i + 1) ≡ Some entry) ×
-      IsWayNode layout known m key node entry
-  pub found_at : IsFoundAt known m key found
+      IsWayNode layout known version key node entry
+  pub found_at : IsFoundAt known version key found
   pub depth : length way ≤ 9 * MAX_BYTES
