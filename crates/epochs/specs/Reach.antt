@@ -8,10 +8,10 @@ use Rattle.versions.specs.Core.{Free, Held}
 use Rattle.rowex_core.specs.Cores.{Core}
 
 -- the record stood in the tree in a version since the pin of some pass
-abbrev pub IsInReach : Core → Rec → Type 0
+abbrev pub IsInReach : (core : Core) → (rec : Rec) → Type 0
 IsInReach core rec =
-    (pass : ℕ) × (pin : Pin) × (n : ℕ) × (tree : Tree) × (core.pins pass ≡ Some pin) × (pin.version ≤ n) × (n ≤ core.past.now) ×
-    Stands core.past n rec tree
+    (pass : ℕ) × (pin : Pin) × (version : ℕ) × (tree : Tree) × (core.pins pass ≡ Some pin) × (pin.version ≤ version) × (version ≤ core.past.now) ×
+    Stands core.past version rec tree
 
 -- no record in a pinned pass's reach is free or held
 abbrev pub IsReachKept : Core → Type 0

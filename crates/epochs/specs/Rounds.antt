@@ -20,9 +20,9 @@ use Rattle.epochs.specs.declared.limbo.Visited.TheVariants.{Given}
 abbrev pub advance_steps : (epoch found : ℕ) → List Act
 advance_steps epoch found = if nat_lt (epoch + 1) EPOCHS then Advance epoch found ∷ [] else []
 
--- the act is a load of the pin of pass o, and no other
-abbrev pub LoadsPin : ℕ → List Act → Type 0
-LoadsPin o acts = (word : ℕ) × (acts ≡ LoadPin o word ∷ [])
+-- the act is a load of this pass's pin, and no other
+abbrev pub LoadsPin : (pass : ℕ) → (acts : List Act) → Type 0
+LoadsPin pass acts = (word : ℕ) × (acts ≡ LoadPin pass word ∷ [])
 
 -- A visit of a record: its state is loaded. If that is obsolete in an epoch below the bound, one exchange follows.
 pub data Visits (bound : ℕ) (rec : Rec) : List Act → Type 0 where
@@ -31,9 +31,9 @@ pub data Visits (bound : ℕ) (rec : Rec) : List Act → Type 0 where
       Visits bound rec (LoadState rec (state_word (Obsolete epoch)) ∷ GiveBack rec epoch found ∷ [])
 
 -- the acts are visits of these records, one after the other
-abbrev pub VisitEach : ℕ → List Rec → List Act → Type 0
+abbrev pub VisitEach : (bound : ℕ) → (recs : List Rec) → (acts : List Act) → Type 0
 VisitEach bound [] acts = acts ≡ []
-VisitEach bound (r ∷ recs) acts = (first : List Act) × (rest : List Act) × Visits bound r first × VisitEach bound recs rest × (acts ≡ first ++ rest)
+VisitEach bound (rec ∷ recs) acts = (first : List Act) × (rest : List Act) × Visits bound rec first × VisitEach bound recs rest × (acts ≡ first ++ rest)
 
 -- the step gives a record back: its exchange found the state that it expected
 abbrev pub has_given : Act → Bool
@@ -42,7 +42,8 @@ has_given act = false
 
 -- A round of collection. The pass loads the epoch, raises it, loads it again and loads each pin. The least of that epoch and of the pins
 -- that are set is its bound. Then it visits each record, nodes first, and gives so many nodes and leaves back.
-pub record IsRound {G : Type 0} (table : TableView) (becomes : G → Event → G → Type 0) (old new : SeatView × G) (given_nodes given_leaves : ℕ) : Type 0 where
+pub record IsRound {G : Type 0} (table : TableView) (becomes : G → Event → G → Type 0) (old new : SeatView × G)
+    (given_nodes given_leaves : ℕ) : Type 0 where
   pub epoch : ℕ
   pub found : ℕ
   pub next : ℕ
@@ -56,7 +57,8 @@ pub record IsRound {G : Type 0} (table : TableView) (becomes : G → Event → G
   pub nodes_given : given_nodes ≡ count_by has_given nodes
   pub leaves_given : given_leaves ≡ count_by has_given leaves
 
--- A small round: it begins as a round does, and then the pass visits at most so many records.
+-- A small round of collection. The pass loads the epoch, raises it, and loads it again and each pin, as in a round. Then it visits at most
+-- `most` records.
 pub record IsSmallRound {G : Type 0} (table : TableView) (becomes : G → Event → G → Type 0) (most : ℕ) (old new : SeatView × G) : Type 0 where
   pub epoch : ℕ
   pub found : ℕ
@@ -69,29 +71,30 @@ pub record IsSmallRound {G : Type 0} (table : TableView) (becomes : G → Event 
   pub visits_each : VisitEach new.0.known.round.bound recs visits
   pub few : length recs ≤ most
 
--- A round that is spared: it begins as a round does, and then the pass visits no record.
-abbrev pub IsSparedRound : {G : Type 0} → TableView → (G → Event → G → Type 0) → SeatView × G → SeatView × G → Type 0
+-- A round of collection that visits no record. The pass loads the epoch, raises it, and loads it again and each pin.
+abbrev pub IsSparedRound : {G : Type 0} → (table : TableView) → (becomes : G → Event → G → Type 0) → (old new : SeatView × G) → Type 0
 IsSparedRound table becomes old new = IsSmallRound table becomes 0 old new
 
 -- The parts of a round
 
--- The pass has loaded the first n pins since it last loaded the epoch. The bound is the least of that epoch and of those pins that were
--- set.
-pub record HasBound (n bound : ℕ) (known : Known) : Type 0 where
+-- The pass has loaded the first `count` pins since it last loaded the epoch. The bound is the least of that epoch and of those pins that
+-- were set.
+pub record HasBound (count bound : ℕ) (known : Known) : Type 0 where
   pub least : known.round.bound ≡ bound
-  pub seen : (o : ℕ) → o < n → has_seen known.round.seen o ≡ true
+  pub seen : (pass : ℕ) → pass < count → has_seen known.round.seen pass ≡ true
 
 -- the pass loads the epoch, and raises it by one
-abbrev pub AdvancesEpoch : {G : Type 0} → TableView → (G → Event → G → Type 0) → SeatView × G → SeatView × G → Type 0
+abbrev pub AdvancesEpoch : {G : Type 0} → (table : TableView) → (becomes : G → Event → G → Type 0) → (old new : SeatView × G) → Type 0
 AdvancesEpoch table becomes old new = (epoch : ℕ) × (found : ℕ) × Does table becomes paced (LoadEpoch epoch ∷ advance_steps epoch found) old new
 
--- the pass loads the epoch, and then the first n pins
-abbrev pub FindsBound : {G : Type 0} → TableView → (G → Event → G → Type 0) → ℕ → SeatView × G → SeatView × G → Type 0
-FindsBound table becomes n old new =
-    (next : ℕ) × (pins : List Act) × InTurn LoadsPin n pins × Does table becomes paced (LoadEpoch next ∷ pins) old new
+-- the pass loads the epoch, and then the first `count` pins
+abbrev pub FindsBound : {G : Type 0} → (table : TableView) → (becomes : G → Event → G → Type 0) → (count : ℕ) → (old new : SeatView × G) →
+    Type 0
+FindsBound table becomes count old new =
+    (next : ℕ) × (pins : List Act) × InTurn LoadsPin count pins × Does table becomes paced (LoadEpoch next ∷ pins) old new
 
--- the pass raises the epoch, loads it and then each pin, as each round begins
-abbrev pub BeginsRound : {G : Type 0} → TableView → (G → Event → G → Type 0) → SeatView × G → SeatView × G → Type 0
+-- the pass loads the epoch, raises it, and loads it again and each pin, as each round begins
+abbrev pub BeginsRound : {G : Type 0} → (table : TableView) → (becomes : G → Event → G → Type 0) → (old new : SeatView × G) → Type 0
 BeginsRound {G = G} table becomes old new =
     (middle : SeatView × G) × AdvancesEpoch table becomes old middle × FindsBound table becomes table.layout.passes middle new
 
@@ -100,29 +103,35 @@ abbrev pub is_given : Visited → Bool
 is_given Given = true
 is_given seen = false
 
--- the pass visits a record, and gives it back or not
-abbrev pub VisitsOne : {G : Type 0} → TableView → (G → Event → G → Type 0) → ℕ → Rec → Bool → SeatView × G → SeatView × G → Type 0
+-- the pass visits a record, and gives it back exactly if `given` is true
+abbrev pub VisitsOne : {G : Type 0} → (table : TableView) → (becomes : G → Event → G → Type 0) → (bound : ℕ) → (rec : Rec) →
+    (given : Bool) → (old new : SeatView × G) → Type 0
 VisitsOne table becomes bound rec given old new =
     (acts : List Act) × Visits bound rec acts × Does table becomes collecting acts old new × (count_by has_given acts ≡ if given then 1 else 0)
 
--- the pass visits the first n records of a kind, and gives so many of them back
-abbrev pub VisitsFirst : {G : Type 0} → TableView → (G → Event → G → Type 0) → ℕ → (ℕ → Rec) → ℕ → ℕ → SeatView × G → SeatView × G → Type 0
-VisitsFirst table becomes bound kind n given old new =
-    (acts : List Act) × InTurn (λ m. Visits bound (kind m)) n acts × Does table becomes collecting acts old new × (given ≡ count_by has_given acts)
+-- the pass visits the first `count` records of a kind, and gives `given` of them back
+abbrev pub VisitsFirst : {G : Type 0} → (table : TableView) → (becomes : G → Event → G → Type 0) → (bound : ℕ) → (kind : ℕ → Rec) →
+    (count given : ℕ) → (old new : SeatView × G) → Type 0
+VisitsFirst table becomes bound kind count given old new =
+    (acts : List Act) × InTurn (λ number. Visits bound (kind number)) count acts × Does table becomes collecting acts old new ×
+    (given ≡ count_by has_given acts)
 
--- the pass visits each record of the table, nodes first, and gives so many nodes and so many leaves back
-abbrev pub VisitsTable : {G : Type 0} → TableView → (G → Event → G → Type 0) → (bound given_nodes given_leaves : ℕ) → SeatView × G → SeatView × G → Type 0
+-- the pass visits each record of the table, nodes first, and gives `given_nodes` nodes and `given_leaves` leaves back
+abbrev pub VisitsTable : {G : Type 0} → (table : TableView) → (becomes : G → Event → G → Type 0) → (bound given_nodes given_leaves : ℕ) →
+    (old new : SeatView × G) → Type 0
 VisitsTable {G = G} table becomes bound given_nodes given_leaves old new =
     (middle : SeatView × G) × VisitsFirst table becomes bound a_node table.layout.nodes given_nodes old middle ×
     VisitsFirst table becomes bound a_leaf table.layout.leaves given_leaves middle new
 
 -- If the pass had visited `before.0` records of a kind and given `before.1` back, it has visited `after.0` now and given `after.1` back.
-abbrev pub GoesOnVisiting : {G : Type 0} → TableView → (G → Event → G → Type 0) → ℕ → (ℕ → Rec) → ℕ × ℕ → ℕ × ℕ → SeatView × G → SeatView × G → Type 0
+abbrev pub GoesOnVisiting : {G : Type 0} → (table : TableView) → (becomes : G → Event → G → Type 0) → (bound : ℕ) → (kind : ℕ → Rec) →
+    (before after : ℕ × ℕ) → (old new : SeatView × G) → Type 0
 GoesOnVisiting {G = G} table becomes bound kind before after old new =
     (first : SeatView × G) → VisitsFirst table becomes bound kind before.0 before.1 first old →
     VisitsFirst table becomes bound kind after.0 after.1 first new
 
--- the pass visits some records, at most so many
-abbrev pub VisitsSome : {G : Type 0} → TableView → (G → Event → G → Type 0) → (bound most : ℕ) → SeatView × G → SeatView × G → Type 0
+-- the pass visits at most `most` records
+abbrev pub VisitsSome : {G : Type 0} → (table : TableView) → (becomes : G → Event → G → Type 0) → (bound most : ℕ) →
+    (old new : SeatView × G) → Type 0
 VisitsSome table becomes bound most old new =
     (recs : List Rec) × (acts : List Act) × VisitEach bound recs acts × Does table becomes collecting acts old new × (length recs ≤ most)

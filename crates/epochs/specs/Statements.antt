@@ -27,12 +27,12 @@ KeepsReach table becomes [] a b run = Unit {0}
 KeepsReach table becomes (act ∷ acts) a b run =
     IsReachKept run.1.event.core × IsReachKept (after run.1.event.core a.0.known.pass act) × KeepsReach table becomes acts run.0 b run.2
 
--- each run of steps keeps all records in reach
+-- before and after each step of each run, no record in a pinned pass's reach is free or held
 abbrev pub RunsKeepReach : {G : Type 0} → (G → Event → G → Type 0) → Type 0
 RunsKeepReach {G = G} becomes =
     (table : TableView) (acts : List Act) (old new : SeatView × G) (run : Runs table becomes acts old new) → KeepsReach table becomes acts old new run
 
--- a record that an exchange gives back is then in no pinned pass's reach
+-- a record that a pass gives back, by an exchange that succeeds, is in no pinned pass's reach then
 abbrev pub GivenIsOutOfReach : Type 0
 GivenIsOutOfReach =
     (layout : Layout) (rec : Rec) (epoch : ℕ) (said : Known →
