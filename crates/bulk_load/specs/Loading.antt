@@ -46,18 +46,18 @@ pub record IsTreeOf (builder : Builder) (tree : Tree) : Type 0 where
   pub tips_are : builder.tips.items ≡ tips_of 0 (subtrie tree)
   pub taken : (n : ℕ) → Links tree (a_node n) → n < builder.nodes
 
--- the builder's pieces are these pieces, each with the number of its entries
+-- the builder counts the entries of these pieces and of the tree to their right, at most 32 each
 pub record HasPieces (builder : Builder) (ls : List LeftPiece) (top : Tree) : Type 0 where
   pub counts_are : map (λ (p : StackedPiece). p.count) builder.pieces.items ≡ counts ls top
   pub few : All (λ n. n ≤ 32) (counts ls top)
 
--- No node was taken yet, and one node takes all tips and so many leaves more. Closing takes one record then, and one more is left.
-abbrev pub FitsOneNode : Builder → ℕ → Type 0
+-- No node was taken yet, and one node takes all tips and `more` leaves more. Closing takes one record then, and one is left.
+abbrev pub FitsOneNode : (builder : Builder) → (more : ℕ) → Type 0
 FitsOneNode builder more = (builder.nodes ≡ 0) × (length builder.tips.items + more ≤ 32) × (2 ≤ builder.layout.nodes)
 
--- Node records are left for closing all pieces, once there are so many leaves more. There are two for each piece, or one for each tip, or
+-- Node records are left for closing all pieces, once there are `more` leaves more. There are two for each piece, or one for each tip, or
 -- one for all.
-abbrev pub HasNodesFor : Builder → ℕ → Type 0
+abbrev pub HasNodesFor : (builder : Builder) → (more : ℕ) → Type 0
 HasNodesFor builder more =
     (builder.nodes + 2 * (length builder.pieces.items + more) ≤ builder.layout.nodes) ⊎
     ((builder.nodes + length builder.tips.items + more ≤ builder.layout.nodes) ⊎ FitsOneNode builder more)
@@ -119,14 +119,14 @@ IsLoading builder xs = HasCursors builder × (HasTakenNone builder xs ⊎ EndsIn
 abbrev pub HasSpace : Builder → Type 0
 HasSpace builder = (vec_len builder.tips < vec_capacity builder.tips) × (vec_len builder.pieces < vec_capacity builder.pieces)
 
--- Leaf record n is the next of its class and has room for the key. The leaf belongs behind a fork at this position.
-pub record IsNextLeaf (builder : Builder) (key : Key) (p n : ℕ) : Type 0 where
-  pub inside : n < builder.layout.leaves
-  pub room : words_for (length key) ≤ leaf_size builder.layout n
-  pub free : state_in builder.layout builder.words.items (a_leaf n) ≡ state_word Free
-  pub next : get_or builder.leaves (leaf_class builder.layout n) 0 ≡ n
-  pub first : vec_len builder.pieces ≡ 0 → p ≡ 0
-  pub parted : 0 < vec_len builder.pieces → IsParted p builder.last key
+-- The leaf record is the next of its class and has room for the key. The leaf belongs behind a fork at this position.
+pub record IsNextLeaf (builder : Builder) (key : Key) (position number : ℕ) : Type 0 where
+  pub inside : number < builder.layout.leaves
+  pub room : words_for (length key) ≤ leaf_size builder.layout number
+  pub free : state_in builder.layout builder.words.items (a_leaf number) ≡ state_word Free
+  pub next : get_or builder.leaves (leaf_class builder.layout number) 0 ≡ number
+  pub first : vec_len builder.pieces ≡ 0 → position ≡ 0
+  pub parted : 0 < vec_len builder.pieces → IsParted position builder.last key
   pub nodes : HasNodesFor builder 1
 
 -- the two builders differ in nothing but how much memory their vectors have
@@ -167,7 +167,7 @@ pub record StandsFor (new old : Tree) (count : ℕ) : Type 0 where
   pub same_last : greatest_key new ≡ greatest_key old
   pub above : (position : ℕ) → IsAbove position old → IsAbove position new
 
--- the builder's tree has this piece, of `count` tips, before the last `behind` tips
+-- the builder's tree has the piece `z`, of `count` tips, before the last `behind` tips
 pub record IsPiece (builder : Builder) (ls : List LeftPiece) (z : Tree) (right : Option LeftPiece) (count behind : ℕ) : Type 0 where
   pub tree : IsTreeOf builder (whole_of ls (with_right z right))
   pub count_is : count ≡ size (subtrie z)
@@ -176,8 +176,9 @@ pub record IsPiece (builder : Builder) (ls : List LeftPiece) (z : Tree) (right :
 -- ---- a new leaf
 -- A key that parts from the last one at this position may be taken next. No leaf was taken yet, or the new one belongs beside the top
 -- piece.
-abbrev pub MayTakeNext : Builder → List Item → ℕ → Key → Type 0
-MayTakeNext builder xs p key = (HasTakenNone builder xs × (p ≡ 0)) ⊎ (IsStackBehind builder xs p × IsParted p builder.last key)
+abbrev pub MayTakeNext : (builder : Builder) → (taken : List Item) → (position : ℕ) → (key : Key) → Type 0
+MayTakeNext builder taken position key =
+    (HasTakenNone builder taken × (position ≡ 0)) ⊎ (IsStackBehind builder taken position × IsParted position builder.last key)
 
 -- ---- joining pieces
 -- the builder's last two pieces have become one, at the fork between them
@@ -194,9 +195,9 @@ pub record MayStandBeside (builder : Builder) (xs : List Item) (position : ℕ) 
   pub zero : bit builder.last position ≡ false
 
 -- the builder's pieces may be joined at forks behind this position
-abbrev pub CanJoin : Builder → List Item → ℕ → Type 0
-CanJoin builder xs p = HasTakenNone builder xs ⊎ MayStandBeside builder xs p
+abbrev pub CanJoin : (builder : Builder) → (taken : List Item) → (position : ℕ) → Type 0
+CanJoin builder taken position = HasTakenNone builder taken ⊎ MayStandBeside builder taken position
 
 -- the builder's pieces are joined as far as a leaf that parts at this position needs
-abbrev pub CanPart : Builder → List Item → ℕ → Type 0
-CanPart builder xs p = HasTakenNone builder xs ⊎ IsStackBehind builder xs p
+abbrev pub CanPart : (builder : Builder) → (taken : List Item) → (position : ℕ) → Type 0
+CanPart builder taken position = HasTakenNone builder taken ⊎ IsStackBehind builder taken position

@@ -11,8 +11,8 @@ pub record LeftPiece : Type 0 where
   pub position : ℕ
 
 -- a piece of this tree, left behind at this position
-abbrev pub left_piece : Tree → ℕ → LeftPiece
-left_piece tree p = record { tree = tree; position = p }
+abbrev pub left_piece : (tree : Tree) → (position : ℕ) → LeftPiece
+left_piece tree position = record { tree = tree; position = position }
 
 -- the whole tree: the pieces, from the top one on, and the tree to their right
 abbrev pub whole_of : List LeftPiece → Tree → Tree

@@ -15,18 +15,18 @@ use Rattle.rowex_core.specs.Cores.{heap_of, fields_in, size_of, HasRecord, FitsI
 use Rattle.rowex_core.specs.Reading.{IsPacked}
 
 -- the first word of a record, that of its state
-abbrev pub start_of : Layout → Rec → ℕ
-start_of layout (a_node n) = node_start layout n
-start_of layout (a_leaf n) = leaf_start layout n
+abbrev pub start_of : (layout : Layout) → (rec : Rec) → ℕ
+start_of layout (a_node number) = node_start layout number
+start_of layout (a_leaf number) = leaf_start layout number
 
 -- the class of a leaf record, from 0 for the shortest to 4 for the longest
-abbrev pub leaf_class : Layout → ℕ → ℕ
-leaf_class layout n =
-    if nat_lt n layout.medium_from then 0 else (if nat_lt n layout.large_from then 1 else
-    (if nat_lt n layout.wide_from then 2 else (if nat_lt n layout.long_from then 3 else 4)))
+abbrev pub leaf_class : (layout : Layout) → (number : ℕ) → ℕ
+leaf_class layout number =
+    if nat_lt number layout.medium_from then 0 else (if nat_lt number layout.large_from then 1 else
+    (if nat_lt number layout.wide_from then 2 else (if nat_lt number layout.long_from then 3 else 4)))
 
 -- the state word of a record in a table's words
-abbrev pub state_in : Layout → List ℕ → Rec → ℕ
+abbrev pub state_in : (layout : Layout) → (table : List ℕ) → (rec : Rec) → ℕ
 state_in layout table rec = get_or table (start_of layout rec) 0
 
 -- one record is written and live, and the words of all others are as before
@@ -44,7 +44,7 @@ pub record IsRootless (layout : Layout) (table : List ℕ) : Type 0 where
   pub pins : (pass : ℕ) → pass < layout.passes → get_or table (FIRST_PIN + LINE_WORDS * pass) 0 ≡ NO_PIN
 
 -- the words show the tree
-abbrev pub WordsShow : Layout → List ℕ → Option Tree → Type 0
+abbrev pub WordsShow : (layout : Layout) → (table : List ℕ) → (tree : Option Tree) → Type 0
 WordsShow layout table tree = (u : Tree) → tree ≡ Some u → IsShown (heap_of (fields_in layout table)) u
 
 -- The table holds just the records of the tree. They stand in the table, and their words spell values for which it has room.
@@ -57,10 +57,10 @@ pub record HoldsTree (layout : Layout) (table : List ℕ) (tree : Option Tree) :
   pub shows : WordsShow layout table tree
 
 -- The records of a class that were taken are those below its cursor. The cursor stands in the class as long as one is left.
-pub record IsCursorOf (layout : Layout) (table : List ℕ) (next n : ℕ) : Type 0 where
-  pub taken : state_in layout table (a_leaf n) ≡ state_word Free → next ≤ n
-  pub free : next ≤ n → (state_in layout table (a_leaf n) ≡ state_word Free) × (leaf_class layout next ≡ leaf_class layout n)
+pub record IsCursorOf (layout : Layout) (table : List ℕ) (next number : ℕ) : Type 0 where
+  pub taken : state_in layout table (a_leaf number) ≡ state_word Free → next ≤ number
+  pub free : next ≤ number → (state_in layout table (a_leaf number) ≡ state_word Free) × (leaf_class layout next ≡ leaf_class layout number)
 
 -- each class of leaf records has its cursor in this list
-abbrev pub AreCursors : Layout → List ℕ → List ℕ → Type 0
-AreCursors layout table cursors = (n : ℕ) → n < layout.leaves → IsCursorOf layout table (get_or cursors (leaf_class layout n) 0) n
+abbrev pub AreCursors : (layout : Layout) → (table cursors : List ℕ) → Type 0
+AreCursors layout table cursors = (number : ℕ) → number < layout.leaves → IsCursorOf layout table (get_or cursors (leaf_class layout number) 0) number

@@ -7,13 +7,13 @@ use Rattle.node_tries.specs.Positions.{front_below}
 use Rattle.bulk_load.specs.declared.tips.Tip.{Tip}
 
 -- a tip of this fork and this entry
-abbrev pub tip : ℕ → Entry → Tip
-tip p entry = record { fork = p; entry = entry }
+abbrev pub tip : (position : ℕ) → (entry : Entry) → Tip
+tip position entry = record { fork = position; entry = entry }
 
 -- The entries of a piece as tips, each with the position of the fork before it. The first has the position of the fork before the piece.
-abbrev pub tips_of : ℕ → Piece Entry → List Tip
-tips_of p (Place entry) = tip p entry ∷ []
-tips_of p (Fork position left right) = tips_of p left ++ tips_of position right
+abbrev pub tips_of : (before : ℕ) → (piece : Piece Entry) → List Tip
+tips_of before (Place entry) = tip before entry ∷ []
+tips_of before (Fork position left right) = tips_of before left ++ tips_of position right
 
 -- an entry that a node may have, behind a fork at a position
 abbrev pub MayBeTip : Tip → Type 0
@@ -34,10 +34,10 @@ forks_between tips = drop 1 (map (λ s. s.fork) tips)
 
 -- The row of the entry behind a fork, from the row of the entry before. It has the same bits in the columns before the fork's, a 1 in the
 -- fork's, and 0 behind.
-abbrev pub next_row : List ℕ → ℕ → ℕ → ℕ
-next_row columns row p = let j = front_below p columns in (row / 2 ^ (32 - j) * 2 + 1) * 2 ^ (31 - j)
+abbrev pub next_row : (columns : List ℕ) → (row position : ℕ) → ℕ
+next_row columns row position = let j = front_below position columns in (row / 2 ^ (32 - j) * 2 + 1) * 2 ^ (31 - j)
 
 -- the rows of the entries behind the forks, one after another
-abbrev pub rows_behind : List ℕ → ℕ → List ℕ → List ℕ
+abbrev pub rows_behind : (columns : List ℕ) → (row : ℕ) → (positions : List ℕ) → List ℕ
 rows_behind columns row [] = []
-rows_behind columns row (p ∷ ps) = next_row columns row p ∷ rows_behind columns (next_row columns row p) ps
+rows_behind columns row (position ∷ positions) = next_row columns row position ∷ rows_behind columns (next_row columns row position) positions

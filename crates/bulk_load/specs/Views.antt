@@ -30,14 +30,14 @@ IsAboveLast (x ∷ []) key = key_order x.key key ≡ Less
 IsAboveLast (x ∷ (y ∷ ys)) key = IsAboveLast (y ∷ ys) key
 
 -- the leaf record of this number was taken
-abbrev pub IsTakenLeaf : List Item → ℕ → Type 0
-IsTakenLeaf [] n = ⊥
-IsTakenLeaf (x ∷ xs) n = (n ≡ x.number) ⊎ IsTakenLeaf xs n
+abbrev pub IsTakenLeaf : (items : List Item) → (number : ℕ) → Type 0
+IsTakenLeaf [] number = ⊥
+IsTakenLeaf (item ∷ items) number = (number ≡ item.number) ⊎ IsTakenLeaf items number
 
 -- each leaf record with room for the key was taken
 abbrev pub HasNoRoomFor : LoadView → Key → Type 0
 HasNoRoomFor load key = (n : ℕ) → n < load.layout.leaves → words_for (length key) ≤ leaf_size load.layout n → IsTakenLeaf load.items n
 
 -- the load of these words of a table
-abbrev pub load_act : List ℕ → Act
+abbrev pub load_act : (words : List ℕ) → Act
 load_act words = Load (record { ref_ptr = (0, 0); now = words })
