@@ -32,7 +32,7 @@ ghost use Rattle.record_words.specs.declared.TheConstants.{HEAD_WORDS};
 use crate::build::deeds::carry_out_deed;
 use crate::build::kept::Build;
 use crate::build::rising::load_without_leaf;
-use crate::build::taking::{claim_for_leftover, fill_leftover, put_in_place};
+use crate::build::taking::{claim_for_leftover, fill_leftover, raised_for_leftover};
 use crate::locks::checking::check_span;
 use crate::locks::lock_span;
 use crate::merging::{find_merge, try_merge};
@@ -250,7 +250,14 @@ fn make_removal<G: Gate>(
     };
     if let Some(entry) = load_without_leaf(table, seat, gate, lowest, &mut left.words) {
         build.made.clear();
-        publish_change(table, seat, gate, build, job, put_in_place(job, entry));
+        publish_change(
+            table,
+            seat,
+            gate,
+            build,
+            job,
+            raised_for_leftover(job, entry),
+        );
         return Ok(());
     }
     let Some(number) = claim_for_leftover(table, seat, gate, build, job) else {

@@ -40,8 +40,8 @@ abbrev pub IsOfSearch : Act → Type 0
 IsOfSearch (LoadRef Root word) = Unit {0}
 IsOfSearch act = IsBelowRoot act
 
--- The steps of an attempt, but for its pin: those of its search, which loads one entry in each node on its path, and others. None gives a
--- record back, and each lock is tried once at most. Their number is bounded by those of nodes and locks.
+-- The acts are the steps of one attempt, its pin left out: first those of its search, then the rest. None gives a record back, and no lock
+-- is tried twice. The nodes on the search's path and the locks tried bound their number.
 pub record AreAttemptSteps (layout : Layout) (acts : List Act) : Type 0 where
   pub search : List Act
   pub rest : List Act
@@ -54,21 +54,22 @@ pub record AreAttemptSteps (layout : Layout) (acts : List Act) : Type 0 where
   pub few : length acts ≤ attempt_steps layout (entries_in search) (length (targets_of acts))
 
 -- the pass makes the steps of an attempt, but for its pin, and the gate is told each
-abbrev pub HasAttempted : {G : Type 0} → TableView → (G → Event → G → Type 0) → SeatView × G → SeatView × G → Type 0
+abbrev pub HasAttempted : {G : Type 0} → (table : TableView) → (becomes : G → Event → G → Type 0) → (old new : SeatView × G) → Type 0
 HasAttempted table becomes old new = (acts : List Act) × AreAttemptSteps table.layout acts × Runs table becomes acts old new
 
--- What a call found that changed nothing. Its reply is that of a key with this value, or none, in a version since the last load of the
--- root.
-abbrev pub HasLooked : Known → Call → Reply → Type 0
+-- A call with this reply has only looked. In a version since the pass's last load of the root, its key had a value, or none, to which this
+-- is the reply. The reply stands for no change.
+abbrev pub HasLooked : (known : Known) → (call : Call) → (reply : Reply) → Type 0
 HasLooked known call reply = (held : Option ℕ) × HasFound known (key_of call) held × (reply ≡ reply_to call held) × (effect_of call reply ≡ None)
 
--- the change of a call with this reply, whose key had this value before, or none
-abbrev pub IsChangeOf : ℕ → Call → Reply → Change → Option ℕ → Type 0
+-- a call with this reply makes this change, where `was` is the value that its key had before, or none
+abbrev pub IsChangeOf : (pass : ℕ) → (call : Call) → (reply : Reply) → (change : Change) → (was : Option ℕ) → Type 0
 IsChangeOf pass call reply change was =
     (reply ≡ reply_to call was) × (change_of pass (record { place = 0; call = call; reply = reply }) ≡ Some change)
 
--- Why a planned change was not made: another pass has made one since the search, or no record was free.
-abbrev pub HasFailed : Layout → Job → Known → Known → List Rec → TryFault → Type 0
+-- Why a planned change was not made. Busy: another pass has changed the map since the search, and the pass is at rest. Full: no record of
+-- the kind was free.
+abbrev pub HasFailed : (layout : Layout) → (job : Job) → (old new : Known) → (made : List Rec) → (fault : TryFault) → Type 0
 HasFailed layout job old new made Busy = IsAtRest new × IsLater old new × HasMoved layout job old new
 HasFailed layout job old new made FullNodes = HasNoRoom layout job.key.now old new made Nodes
 HasFailed layout job old new made FullLeaves = HasNoRoom layout job.key.now old new made Leaves
@@ -78,20 +79,21 @@ abbrev pub refusal_of : Full → TryFault
 refusal_of Nodes = FullNodes
 refusal_of Leaves = FullLeaves
 
--- The attempt was answered. It has looked alone, and others have made all changes since. Or it has made just the change of its reply.
-abbrev pub HasAnswered : Known → Known → Call → Reply → Type 0
+-- The attempt has ended with this reply. It has only looked, and all changes since are other passes'. Or the pass has made one change, that
+-- of the reply.
+abbrev pub HasAnswered : (old new : Known) → (call : Call) → (reply : Reply) → Type 0
 HasAnswered old new call reply = (HasLooked new call reply × OthersGoOn old.pass old.front new.front) ⊎
     ((change : Change) × (was : Option ℕ) × IsChangeOf old.pass call reply change was × HasChanged old new change was)
 
--- the result is no refusal for want of a leaf record, if the call removes
-abbrev pub LacksNoLeaf : {F : Type 0} → F → Call → Result Reply F → Type 0
+-- a removal is not refused for want of a leaf record
+abbrev pub LacksNoLeaf : {F : Type 0} → (leaves : F) → (call : Call) → (result : Result Reply F) → Type 0
 LacksNoLeaf leaves (Remove key) result = result ≢ Err leaves
 LacksNoLeaf leaves (RemoveIf key expected) result = result ≢ Err leaves
 LacksNoLeaf leaves call result = Unit {0}
 
 -- Why an attempt was refused. As busy, a lock found its target taken by another pass, or the pass has seen a change since its pin. As full,
 -- no node record was free, or no leaf record with room for the key.
-abbrev pub IsAttemptCause : Layout → Key → Known → Known → List Rec → TryFault → Type 0
+abbrev pub IsAttemptCause : (layout : Layout) → (key : Key) → (old new : Known) → (made : List Rec) → (fault : TryFault) → Type 0
 IsAttemptCause layout key old new made Busy = HasMetLock layout old new ⊎ ((since : ℕ) × IsPinnedSince old since × (since < length new.front))
 IsAttemptCause layout key old new made FullNodes = IsFull layout key old new made Nodes
 IsAttemptCause layout key old new made FullLeaves = IsFull layout key old new made Leaves
@@ -106,11 +108,11 @@ abbrev pub HasSeenKeyAbsent : Known → Key → Type 0
 HasSeenKeyAbsent known key = (since : ℕ) × IsPinnedSince known since × Sure known (λ past. WasAbsentSince past since key)
 
 -- the key had this value in a version since the pass's pin
-abbrev pub HasSeenKeyHeld : Known → Key → ℕ → Type 0
+abbrev pub HasSeenKeyHeld : (known : Known) → (key : Key) → (value : ℕ) → Type 0
 HasSeenKeyHeld known key value = (since : ℕ) × IsPinnedSince known since × Sure known (λ past. IsHeldSince past since key value)
 
--- A call may lack a record. An insertion or an upsert may whose search has not found the key. A removal may whose search has found it, with
--- the value that it expects.
+-- A call may lack a record. It is an insertion or an upsert whose key was absent in a version since the pin. Or it is a removal whose key
+-- was there, with the value that the call expects.
 abbrev pub WantsRecord : Known → Call → Type 0
 WantsRecord known (Insert key value) = HasSeenKeyAbsent known key
 WantsRecord known (Upsert key value) = HasSeenKeyAbsent known key
@@ -118,11 +120,11 @@ WantsRecord known (Remove key) = (value : ℕ) × HasSeenKeyHeld known key value
 WantsRecord known (RemoveIf key expected) = HasSeenKeyHeld known key expected
 WantsRecord known call = ⊥
 
--- the fault is that no record was free only if the call may lack one
-abbrev pub IsFullOnlyIfWanting : Known → Call → TryFault → Type 0
+-- a fault that no record was free comes only to a call that may lack one (`WantsRecord`)
+abbrev pub IsFullOnlyIfWanting : (known : Known) → (call : Call) → (fault : TryFault) → Type 0
 IsFullOnlyIfWanting known call fault = IsFullFault fault → WantsRecord known call
 
--- The attempt was refused, and made no change. Others have made all changes since.
+-- The attempt was refused with this fault, and the pass has made no change. All changes since are other passes'.
 pub record HasRefused (layout : Layout) (key : Key) (old new : Known) (made : List Rec) (fault : TryFault) : Type 0 where
   pub others : OthersGoOn old.pass old.front new.front
   pub cause : IsAttemptCause layout key old new made fault

@@ -48,24 +48,25 @@ abbrev pub AreMadePacked : Layout → List Made → Type 0
 AreMadePacked layout [] = Unit {0}
 AreMadePacked layout (m ∷ news) = (IsPacked m.rec m.words × FitsIn layout m.rec m.words) × AreMadePacked layout news
 
--- The entry for a half, and the records made for it. An entry alone is its own, a node has a new record, and the node that stays whole is
--- named as before.
-abbrev pub IsHalfMade : Entry → Half → Entry → List Made → Type 0
-IsHalfMade old (One alone) e news = (e ≡ alone) × (news ≡ [])
-IsHalfMade old (Many view) e news = (m : ℕ) × (e ≡ Node m view.height) × (news ≡ made_of_node m view ∷ []) × HasNodeWords view
-IsHalfMade old Same e news = (e ≡ old) × (news ≡ [])
+-- `new` is the entry for a half of a cut node, and `news` are the records made for it. An entry alone needs no record, and a node has a new
+-- one. A half that stays whole keeps the old entry.
+abbrev pub IsHalfMade : (old : Entry) → (half : Half) → (new : Entry) → (news : List Made) → Type 0
+IsHalfMade old (One alone) new news = (new ≡ alone) × (news ≡ [])
+IsHalfMade old (Many view) new news = (number : ℕ) × (new ≡ Node number view.height) × (news ≡ made_of_node number view ∷ []) × HasNodeWords view
+IsHalfMade old Same new news = (new ≡ old) × (news ≡ [])
 
--- What rises in place of the old entry's node, and the records made for it, in front of those before. The last one made is first. Of a cut
--- the upper side is made first.
-abbrev pub IsMadeFrom : Entry → Grown → Risen → List Made → List Made → Type 0
-IsMadeFrom old (Single view) (Whole e) before after = (m : ℕ) × (e ≡ Node m view.height) × (after ≡ made_of_node m view ∷ before) × HasNodeWords view
+-- What rises in place of the node that `old` names, once its records are made. `after` lists them in front of those before, the last one
+-- made first. Of a cut the upper half is made first.
+abbrev pub IsMadeFrom : (old : Entry) → (grown : Grown) → (risen : Risen) → (before after : List Made) → Type 0
+IsMadeFrom old (Single view) (Whole e) before after =
+    (number : ℕ) × (e ≡ Node number view.height) × (after ≡ made_of_node number view ∷ before) × HasNodeWords view
 IsMadeFrom old (Two cut) (Split position zero one) before after =
     (lower : List Made) × (upper : List Made) × (position ≡ cut.position) × IsHalfMade old cut.zero zero lower × IsHalfMade old cut.one one upper ×
     (after ≡ lower ++ (upper ++ before))
 IsMadeFrom old grown risen before after = ⊥
 
--- What rises in place of a node that gets the new leaf, and the records made for it. It is one entry if the node has room. The node stays
--- whole only if the leaf's position is before its first fork.
+-- What rises in place of the node `was` that gets the new leaf. It is one entry if the node has room. The node stays whole only if the
+-- leaf's position is before its first fork. The records made stand in `after`, in front of those before.
 pub record IsGrownFrom (old : Entry) (was : NodeView) (new : NewLeaf) (risen : Risen) (stays : Bool) (before after : List Made) : Type 0 where
   pub grown : Grown
   pub shows : GrownShows was grown (subtrie_with_leaf new (piece was))
@@ -75,8 +76,8 @@ pub record IsGrownFrom (old : Entry) (was : NodeView) (new : NewLeaf) (risen : R
   pub low : IsNoHigher was.height grown
   pub made : IsMadeFrom old grown risen before after
 
--- A pass is making a change. These are the records that it has made, the last one first, and it has no others of its own. `made` lists them
--- by number, the first one first.
+-- A pass is making a change. Its own records are just `news`, the last one made first. `made` lists the same records by number, the first
+-- one first.
 pub record IsBuilding (table : TableView) (view : SeatView) (made : List Rec) (news : List Made) : Type 0 where
   pub seat : IsSeatOf table view
   pub possible : IsPossible table.layout view.known
@@ -84,34 +85,37 @@ pub record IsBuilding (table : TableView) (view : SeatView) (made : List Rec) (n
   pub packed : AreMadePacked table.layout news
   pub listed : made ≡ reverse (recs_of news)
 
--- What is left where a record could not be made: the pass has those that it has made so far, and no others of its own.
+-- A record could not be made. The pass's own records are just those that it has made so far.
 pub record HasNotMade (table : TableView) (seat : SeatView) (made : List Rec) : Type 0 where
   pub news : List Made
   pub building : IsBuilding table seat made news
 
--- What rises in place of the loaded node with a new leaf, whether the node stays whole, and the records made. Or a record could not be made.
-abbrev pub MakesGrown : TableView → SeatView × List Rec → SeatView × List Rec → LoadedNode → NewLeaf → Option (Risen × Bool) → Type 0
-MakesGrown table (before, made) (later, built) loaded new result =
-    (news : List Made) (node : NodeView) → AwaitsLeaf loaded.words node new → IsBuilding table before made news →
+-- The result tells what rises in place of the loaded node with the new leaf, and whether the node stays whole. Without a result, a record
+-- could not be made.
+abbrev pub MakesGrown : (table : TableView) → (old new : SeatView × List Rec) → (loaded : LoadedNode) → (leaf : NewLeaf) →
+    (result : Option (Risen × Bool)) → Type 0
+MakesGrown table (before, made) (later, built) loaded leaf result =
+    (news : List Made) (node : NodeView) → AwaitsLeaf loaded.words node leaf → IsBuilding table before made news →
     MatchOption result (HasNotMade table later built)
-    (λ r. (after : List Made) × IsGrownFrom (Node loaded.number node.height) node new r.0 r.1 news after × IsBuilding table later built after)
+    (λ r. (after : List Made) × IsGrownFrom (Node loaded.number node.height) node leaf r.0 r.1 news after × IsBuilding table later built after)
 
--- The record of this leaf is made, and no other.
+-- The pass has made the record of this leaf, and no other.
 pub record HasLeafMade (table : TableView) (seat : SeatView) (made : List Rec) (item : Item) : Type 0 where
   pub fresh : List ℕ
   pub spelled : SpellsLeaf item fresh
   pub building : IsBuilding table seat made (made_of_leaf item fresh ∷ [])
 
 -- ---- on the way up
--- A pass is adding the newcomer, whose record is made. The subtrie takes the place of the node's body or entry, and the records `gone` are
--- to be unlinked.
-pub record IsRaising (table : TableView) (seat : SeatView) (made : List Rec) (gone : List Rec) (newcomer : Newcomer) (side : Side) (trie : Subtrie) : Type 0 where
+-- A pass is adding the newcomer, whose record is made. The subtrie is to take the place of the node's body or entry, as `side` says. The
+-- records `gone` are to be unlinked.
+pub record IsRaising (table : TableView) (seat : SeatView) (made : List Rec) (gone : List Rec) (newcomer : Newcomer) (side : Side)
+    (trie : Subtrie) : Type 0 where
   pub news : List Made
   pub building : IsBuilding table seat made news
   pub leaf : HasLeaf news newcomer.item
   pub risen : HasRisen table.layout seat.known seat.known.locks news newcomer side trie gone
 
--- What has risen takes the place of the entry of this locked node.
+-- What has risen is to take the place of this locked node's entry.
 pub record IsRisenAt (table : TableView) (seat : SeatView) (made : List Rec) (number : ℕ) (risen : Risen) : Type 0 where
   pub gone : List Rec
   pub newcomer : Newcomer
@@ -129,8 +133,8 @@ pub record GetsFork (table : TableView) (seat : SeatView) (made : List Rec) (abo
   pub zero_low : height_of fork.zero < (node_words_of over.upper).fixed.height
   pub one_low : height_of fork.one < (node_words_of over.upper).fixed.height
 
--- what rises is no higher than this
-abbrev pub IsLowRisen : ℕ → Risen → Type 0
+-- each entry that rises has at most this height
+abbrev pub IsLowRisen : (height : ℕ) → (risen : Risen) → Type 0
 IsLowRisen height (Whole e) = height_of e ≤ height
 IsLowRisen height (Split position zero one) = (height_of zero ≤ height) × (height_of one ≤ height)
 
@@ -144,28 +148,28 @@ abbrev pub IsSingle : Risen → Type 0
 IsSingle (Whole e) = Unit {0}
 IsSingle (Split position zero one) = ⊥
 
--- What rises from the node with these words is no higher than it. It is a fork if the node was full, and one entry if it had room.
+-- What rises from the node with these words is no higher than the node. A fork rises if the node was full, and one entry if it had room.
 pub record IsLevelRisen (words : List ℕ) (risen : Risen) : Type 0 where
   pub low : IsLowRisen (node_words_of words).fixed.height risen
   pub split : size (node_words_of words).subtrie ≡ 32 → IsSplit risen
   pub single : size (node_words_of words).subtrie < 32 → IsSingle risen
 
--- The entry is at most one higher than this. It is no higher if what rises is one entry.
-abbrev pub IsAtMostOneHigher : ℕ → Risen → Entry → Type 0
+-- The entry's height is at most one more than this. If what rises is one entry, it is no more than this.
+abbrev pub IsAtMostOneHigher : (height : ℕ) → Risen → Entry → Type 0
 IsAtMostOneHigher height risen e = (height_of e ≤ height + 1) × (IsSingle risen → height_of e ≤ height)
 
--- The entry is at most one higher than the node with these words. It is no higher if that has room.
-abbrev pub FitsAbove : List ℕ → Entry → Type 0
+-- The entry is at most one higher than the node with these words. If the node has room, the entry is no higher.
+abbrev pub FitsAbove : (words : List ℕ) → Entry → Type 0
 FitsAbove words e =
     (height_of e ≤ (node_words_of words).fixed.height + 1) × (size (node_words_of words).subtrie < 32 → height_of e ≤ (node_words_of words).fixed.height)
 
 -- the entry may take the place of the locked node at this index of the path
-abbrev pub FitsOnWay : Known → List PathNode → ℕ → Option Entry → Type 0
+abbrev pub FitsOnWay : (known : Known) → (way : List PathNode) → (end : ℕ) → (answer : Option Entry) → Type 0
 FitsOnWay known way end answer =
     (node : PathNode) (words : List ℕ) → slice_get way end ≡ Some node → HasLocked known node.number words → IfSome answer (FitsAbove words)
 
 -- ---- at the lower end
--- The new leaf is made and no other record. The locked node is where it goes: its search took the entry in the leaf's slot there.
+-- The new leaf's record is made, and no other. The leaf goes into this locked node, at the slot to which its key leads there.
 pub record GetsLeaf (table : TableView) (seat : SeatView) (made : List Rec) (number : ℕ) (new : NewLeaf) : Type 0 where
   pub since : ℕ
   pub item : Item
@@ -179,24 +183,25 @@ pub record GetsLeaf (table : TableView) (seat : SeatView) (made : List Rec) (num
   pub leads : spot item.key (node_words_of words).subtrie ≡ new.slot
 
 -- the newcomer that a locked node gets as its new leaf
-abbrev pub newcomer_of : {table : TableView} {a : SeatView} {made : List Rec} {number : ℕ} {new : NewLeaf} → GetsLeaf table a made number new → Newcomer
+abbrev pub newcomer_of : {table : TableView} {a : SeatView} {made : List Rec} {number : ℕ} {new : NewLeaf} →
+    GetsLeaf table a made number new → Newcomer
 newcomer_of {new = new} low = record { since = low.since; item = low.item; mismatch = new.position; like = low.like }
 
--- the node to unlink, if it doesn't stay whole
-abbrev pub gone_unless_whole : Bool → ℕ → List Rec
-gone_unless_whole stays n = if stays then [] else a_node n ∷ []
+-- the record of the node to unlink, or none if the node stays whole
+abbrev pub gone_unless_whole : (stays : Bool) → (number : ℕ) → List Rec
+gone_unless_whole stays number = if stays then [] else a_node number ∷ []
 
 -- ---- a span
--- Of the locked nodes of the path from `end` to `level`, each is named by the one above it, which is higher. An insertion at p affects no
--- more than that entry there. Those between the two are full.
-pub record IsLockedSpan (nodes : ℕ) (held : List Locked) (way : List PathNode) (key : Key) (p end level : ℕ) : Type 0 where
+-- The nodes of the path from `end` to `level` are locked. Each is named by the one above, which is higher. An insertion at the position
+-- affects no more of the upper one than that entry. The nodes between the ends are full.
+pub record IsLockedSpan (nodes : ℕ) (held : List Locked) (way : List PathNode) (key : Key) (position end level : ℕ) : Type 0 where
   pub there : (i : ℕ) (s : PathNode) → i < level → slice_get way i ≡ Some s → s.number < nodes
   pub above : (i : ℕ) (s u : PathNode) → end ≤ i → i < level → slice_get way i ≡ Some s → slice_get way (i + 1) ≡ Some u →
-      (over : IsLockedAbove held key p s.number u.number) × ((node_words_of over.lower).fixed.height < (node_words_of over.upper).fixed.height)
+      (over : IsLockedAbove held key position s.number u.number) × ((node_words_of over.lower).fixed.height < (node_words_of over.upper).fixed.height)
   pub full : (i : ℕ) (s : PathNode) → end < i → i < level → slice_get way i ≡ Some s →
       (words : List ℕ) → IsOneOf (record { node = s.number; words = words }) held → size (node_words_of words).subtrie ≡ 32
 
--- What has risen takes the place of the node's entry at its level. It is to rise on to `rise.end`.
+-- What has risen takes the place of the entry of the node at `rise.level`. It is to rise on to the node at `rise.end`.
 pub record Rises (table : TableView) (seat : SeatView) (made : List Rec) (way : List PathNode) (rise : Rise) : Type 0 where
   pub step : PathNode
   pub at : slice_get way rise.level ≡ Some step
@@ -208,19 +213,20 @@ pub record Rises (table : TableView) (seat : SeatView) (made : List Rec) (way : 
   pub single : (other : List ℕ) → HasLocked seat.known step.number other → size (node_words_of other).subtrie < 32 → IsSingle rise.risen
   pub chain : IsLockedSpan table.layout.nodes seat.known.locks way here.newcomer.item.key here.newcomer.mismatch rise.end rise.level
 
--- how many nodes are above what has risen, through which it is to rise on
+-- through how many nodes of the path what has risen is still to rise
 abbrev pub levels_above : Rise → ℕ
 levels_above rise = rise.level - rise.end
 
 -- the records to unlink, with the nodes of the path from `end` to before `level`
-abbrev pub gone_with_way : List PathNode → (end level : ℕ) → List Rec → List Rec
+abbrev pub gone_with_way : (way : List PathNode) → (end level : ℕ) → (gone : List Rec) → List Rec
 gone_with_way way end level gone = map (λ (node : PathNode). a_node node.number) (drop end (take level way)) ++ gone
 
--- one entry has risen so far that it takes the place of the entry of the node at `end`
-abbrev pub HasRisenTo : (table : TableView) (seat : SeatView) (made : List Rec) (way : List PathNode) (newcomer : Newcomer) (end : ℕ) (gone : List Rec) (e : Entry) → Type 0
+-- one entry has risen to the node at `end` of the path, and takes the place of that node's entry
+abbrev pub HasRisenTo : (table : TableView) (seat : SeatView) (made : List Rec) (way : List PathNode) (newcomer : Newcomer)
+    (end : ℕ) (gone : List Rec) (e : Entry) → Type 0
 HasRisenTo table a made way x end gone e = (top : PathNode) × (slice_get way end ≡ Some top) × IsRaising table a made gone x (entry top.number) (Place e)
 
--- The lowest node of the span gets the new leaf. What comes of it rises to the span's topmost node.
+-- The lowest node of the span gets the new leaf. What that node becomes is to rise to the span's topmost node.
 pub record IsGrowing (table : TableView) (seat : SeatView) (made : List Rec) (way : List PathNode) (span : Span) (new : NewLeaf) : Type 0 where
   pub step : PathNode
   pub at : slice_get way (span.len - 1) ≡ Some step

@@ -35,20 +35,21 @@ use Rattle.rowex_writing.specs.declared.plan.Full.{Full}
 use Rattle.rowex_writing.specs.declared.plan.Full.TheVariants.{Nodes, Leaves}
 
 -- ---- the plan
--- the job and its deed are planned by a search since some version
-abbrev pub HasPlanned : Layout → Known → Job → Deed → Type 0
+-- the job's span and its deed are planned by what a search for its key has found since some version
+abbrev pub HasPlanned : (layout : Layout) → (known : Known) → (job : Job) → (deed : Deed) → Type 0
 HasPlanned layout known job deed =
     (m : ℕ) × (aim : Aim) × IsJobFrom layout known m job ×
     IsPlanned known m job.key.now job.way.now aim job.found (change job.span.len job.span.end deed)
 
 -- ---- the store
 -- the pass has loaded this value of each leaf among the records
-abbrev pub KnowsWas : Known → List Rec → Option ℕ → Type 0
+abbrev pub KnowsWas : (known : Known) → (gone : List Rec) → (was : Option ℕ) → Type 0
 KnowsWas known gone was = (leaf : ℕ) → IsOneOf (a_leaf leaf) gone → (value : ℕ) × (was ≡ Some value) × HasLoaded known leaf value
 
--- Once the records that it has made are ready, the pass may publish the change by this store. It must have loaded the value of the leaf
--- that is unlinked.
-pub record MayPublishOnceReady (table : TableView) (seat : SeatView) (made : List Rec) (spot : Spot) (word : ℕ) (x : Change) (was : Option ℕ) (gone : List Rec) : Type 0 where
+-- Once the records `made` are ready, the pass may publish the change x by a store of this word at the spot. By then it must know the value
+-- of each leaf that is unlinked.
+pub record MayPublishOnceReady (table : TableView) (seat : SeatView) (made : List Rec) (spot : Spot) (word : ℕ) (x : Change)
+    (was : Option ℕ) (gone : List Rec) : Type 0 where
   pub news : List Made
   pub building : IsBuilding table seat made news
   pub publishes : (known : Known) → IsLater seat.known known → HasReady known seat.known.locks news → known.anchor ≡ seat.known.anchor →
@@ -56,8 +57,8 @@ pub record MayPublishOnceReady (table : TableView) (seat : SeatView) (made : Lis
       Publishes table.layout known spot word x was gone
 
 -- ---- what is left
--- The pass has made the change x, where `was` was the key's value. It is the last change that the pass has seen, and those before are
--- others'. Its last load of the root was before x. The pass has no records of its own and no locks.
+-- The pass has made the change x, and `was` was the key's value. It is the last change that the pass has seen, and others have made those
+-- before. The last load of the root was before x. The pass has no records of its own and no locks.
 pub record HasChanged (old new : Known) (x : Change) (was : Option ℕ) : Type 0 where
   pub rest : IsAtRest new
   pub before : List Change
@@ -67,27 +68,25 @@ pub record HasChanged (old new : Known) (x : Change) (was : Option ℕ) : Type 0
   pub fits : Fits (map_of before) x
   pub was_held : value_at (map_of before) x.key ≡ was
 
--- Pass q lacks a node record beside these of its own: each was found not free, by a failed step since `since`. Its own, each listed once,
--- were found to be so. They were at most two for each node that it had locked, and one. Each locked one was nobody's. Any other was another
--- pass's, or nobody's, and then in the tree or retired.
-pub record LacksNodes (layout : Layout) (q : ℕ) (failed : List Failed) (since : ℕ) (own : List Rec) : Type 0 where
+-- By failed steps since `since` the pass has found each node record not free. Those in `own` were its own: at most two for each node that
+-- it had locked, and one. Each locked one was nobody's. Any other was another pass's, or nobody's, and then in the tree or retired.
+pub record LacksNodes (layout : Layout) (pass : ℕ) (failed : List Failed) (since : ℕ) (own : List Rec) : Type 0 where
   pub locked : List ℕ
   pub few : length own ≤ 2 * length locked + 1
   pub most : length locked ≤ most_nodes
   pub apart : AreApart locked
   pub low : All (λ n. n < layout.nodes) locked
-  pub missed : AllMissed (IsAnothers layout q own locked) a_node layout.nodes failed since
-  pub own_is : All (λ r. HasMissedSince (IsOwnOf q) failed r since) own
+  pub missed : AllMissed (IsAnothers layout pass own locked) a_node layout.nodes failed since
+  pub own_is : All (λ r. HasMissedSince (IsOwnOf pass) failed r since) own
   pub once : AreApart own
 
--- Pass q lacks a leaf record with room for the key: each was found not free, by a failed step since `since`. None was its own. Another pass
--- had it, or nobody, and then it was in the tree or retired.
-abbrev pub LacksLeaves : Layout → Key → ℕ → List Failed → ℕ → Type 0
-LacksLeaves layout key q failed since = AllMissedFrom (IsAnothers layout q [] []) layout (words_for (length key)) failed since
+-- By failed steps since `since` the pass has found each leaf record with room for the key not free. None was its own. Each was another
+-- pass's, or nobody's, and then in the tree or retired.
+abbrev pub LacksLeaves : (layout : Layout) → (key : Key) → (pass : ℕ) → (failed : List Failed) → (since : ℕ) → Type 0
+LacksLeaves layout key pass failed since = AllMissedFrom (IsAnothers layout pass [] []) layout (words_for (length key)) failed since
 
--- No record was free when the pass wanted one. It wanted a node record beside those that it had made, or a leaf record with room for this
--- key.
-abbrev pub IsFull : Layout → Key → Known → Known → List Rec → Full → Type 0
+-- No record was free when the pass wanted one: a node record beside those in `made`, or a leaf record with room for this key.
+abbrev pub IsFull : (layout : Layout) → (key : Key) → (old new : Known) → (made : List Rec) → (full : Full) → Type 0
 IsFull layout key old new made Nodes = LacksNodes layout new.pass new.failed old.steps (nodes_among made)
 IsFull layout key old new made Leaves = LacksLeaves layout key new.pass new.failed old.steps
 
@@ -97,18 +96,19 @@ pub record HasNoRoom (layout : Layout) (key : Key) (old new : Known) (made : Lis
   pub later : IsLater old new
   pub full_of : IsFull layout key old new made full
 
--- the change that gives the key this value, by what its search found
-abbrev pub IsPutChange : (pass : ℕ) → Key → (value : ℕ) → Found → Change → Option ℕ → Type 0
+-- the change that gives the key this value: it replaces the value that the search found, or adds the key
+abbrev pub IsPutChange : (pass : ℕ) → (key : Key) → (value : ℕ) → (found : Found) → (x : Change) → (was : Option ℕ) → Type 0
 IsPutChange pass key value (Leaf number held None) x was = (x ≡ record { pass = pass; key = key; value = value; kind = Replaced }) × (was ≡ Some held)
 IsPutChange pass key value found x was = (x ≡ record { pass = pass; key = key; value = value; kind = Added }) × (was ≡ None)
 
 -- the change that removes the key that its search found
-abbrev pub IsTakeChange : ℕ → Key → Found → Change → Option ℕ → Type 0
+abbrev pub IsTakeChange : (pass : ℕ) → (key : Key) → (found : Found) → (x : Change) → (was : Option ℕ) → Type 0
 IsTakeChange pass key (Leaf number held None) x was = (x ≡ record { pass = pass; key = key; value = held; kind = Removed }) × (was ≡ Some held)
 IsTakeChange pass key found x was = ⊥
 
 -- the change that a deed makes: the key gets the value, or is removed
-abbrev pub IsDeedChange : (pass : ℕ) → Deed → Key → (value : ℕ) → Found → Change → Option ℕ → Type 0
+abbrev pub IsDeedChange : (pass : ℕ) → (deed : Deed) → (key : Key) → (value : ℕ) → (found : Found) → (x : Change) → (was : Option ℕ) →
+    Type 0
 IsDeedChange pass Take key value found x was = IsTakeChange pass key found x was
 IsDeedChange pass TakeTop key value found x was = IsTakeChange pass key found x was
 IsDeedChange pass Empty key value found x was = IsTakeChange pass key found x was

@@ -24,21 +24,22 @@ use Rattle.rowex_writing.specs.declared.plan.Full.{Full}
 use Rattle.rowex_writing.specs.declared.plan.Span.{Span}
 
 -- the leaf record to unlink, if there is one
-abbrev pub leaf_gone : Option ℕ → List Rec
+abbrev pub leaf_gone : (number : Option ℕ) → List Rec
 leaf_gone None = []
 leaf_gone (Some number) = a_leaf number ∷ []
 
 -- the records to unlink: the nodes of the span before `low`, and the leaf
-abbrev pub gone_of_span : List PathNode → Span → Raised → List Rec
+abbrev pub gone_of_span : (way : List PathNode) → (span : Span) → (raised : Raised) → List Rec
 gone_of_span way span raised = map (λ (node : PathNode). a_node node.number) (slice_range way span.end raised.low) ++ leaf_gone raised.leaf
 
 -- the locked nodes that stay: the one above the span, and those of the span from `low` on
-abbrev pub kept_of_span : List PathNode → Span → Raised → List PathNode
+abbrev pub kept_of_span : (way : List PathNode) → (span : Span) → (raised : Raised) → List PathNode
 kept_of_span way span raised = slice_range way (span.end - 1) span.end ++ slice_range way raised.low span.len
 
 -- All nodes of the job's span are to be unlinked, or all but the lowest. Once the records that the pass has made are ready, it may make
 -- this change by a store of what is raised above the span.
-pub record MayReplace (table : TableView) (seat : SeatView) (made : List Rec) (job : Job) (raised : Raised) (change : Change) (was : Option ℕ) : Type 0 where
+pub record MayReplace (table : TableView) (seat : SeatView) (made : List Rec) (job : Job) (raised : Raised) (change : Change)
+    (was : Option ℕ) : Type 0 where
   pub from : job.span.end ≤ raised.low
   pub upto : raised.low ≤ job.span.len
   pub most : job.span.len ≤ raised.low + 1
@@ -49,20 +50,22 @@ pub record MayReplace (table : TableView) (seat : SeatView) (made : List Rec) (j
   -- the leaf that goes is the found one, and the key had its value
   pub takes : (number : ℕ) → raised.leaf ≡ Some number → (value : ℕ) × (job.found ≡ FoundLeaf number value None) × (was ≡ Some value)
 
--- since it knew k, the pass has made the records that the deed asks for
-abbrev pub HasRaised : TableView → Known → SeatView → List Rec → Job → Deed → Raised → Type 0
-HasRaised table k seat made job deed raised =
-    (change : Change) × (was : Option ℕ) × IsDeedChange k.pass deed job.key.now job.value job.found change was ×
+-- The pass has made the records that the deed asks for, since it knew `old`. It may make the deed's change by a store of what is raised
+-- above the job's span.
+abbrev pub HasRaised : (table : TableView) → (old : Known) → (seat : SeatView) → (made : List Rec) → (job : Job) → (deed : Deed) →
+    (raised : Raised) → Type 0
+HasRaised table old seat made job deed raised =
+    (change : Change) × (was : Option ℕ) × IsDeedChange old.pass deed job.key.now job.value job.found change was ×
     MayReplace table seat made job raised change was
 
--- Since the pass knew k, a record was wanted and none was free. The pass has those that it has made so far.
-pub record HasNoneFree (table : TableView) (k : Known) (seat : SeatView) (made : List Rec) (job : Job) (full : Full) : Type 0 where
+-- Since the pass knew `old`, a record was wanted and none was free. The pass has those that it has made so far.
+pub record HasNoneFree (table : TableView) (old : Known) (seat : SeatView) (made : List Rec) (job : Job) (full : Full) : Type 0 where
   pub not_made : HasNotMade table seat made
   pub few : length made ≤ 2 * locks_of job.span
-  pub full_of : IsFull table.layout job.key.now k seat.known made full
+  pub full_of : IsFull table.layout job.key.now old seat.known made full
 
--- The pass has carried out the deed, as far as others don't see it, or no record was free. It took so many steps. `a` and `b` are the seat,
--- the gate and what is built, before and after.
+-- The pass has made what the deed asks for, and linked none of it, or no record was free. The steps are no more than the deed's. `a` and
+-- `b` are the seat, the gate and what is built, before and after.
 pub record CarriesOut {G : Type 0} (table : TableView) (becomes : G → Event → G → Type 0) (a b : (SeatView × G) × Build) (job : Job) (deed : Deed)
     (answer : Result Raised Full) : Type 0 where
   pub goes : WorksOn table becomes a.0 b.0

@@ -23,7 +23,7 @@ HasNumber (Leaf number) = number < 4294967296
 HasNumber (Node number height) = number < 4294967296
 
 -- The new leaf's record is made and no other, under the locks of the job's span. The leaf may rise from the lowest node of the span. What
--- has risen may stand at the spot above the topmost one.
+-- has risen may stand at the spot above the span's topmost node.
 pub record MayGrow (table : TableView) (seat : SeatView) (made : List Rec) (job : Job) (new : NewLeaf) : Type 0 where
   pub within : (job.span.end < job.span.len) × (job.span.len ≤ length job.way.now)
   pub depth : length job.way.now ≤ 9 * MAX_BYTES

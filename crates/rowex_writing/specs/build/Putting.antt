@@ -9,16 +9,16 @@ use Rattle.rowex_core.specs.Cores.{HasRecord}
 use Rattle.rowex_core.specs.declared.known.Known.{Known}
 
 -- The spot above node `end` of the path: the root, or the slot that the search took in the node before.
-abbrev pub IsSpotAbove : List PathNode → ℕ → Spot → Type 0
+abbrev pub IsSpotAbove : (way : List PathNode) → (end : ℕ) → (spot : Spot) → Type 0
 IsSpotAbove way end Root = end ≡ 0
 IsSpotAbove way end (Value l) = ⊥
 IsSpotAbove way end (Slot n i) = (node : PathNode) × (0 < end) × (slice_get way (end - 1) ≡ Some node) × (n ≡ node.number) × (i ≡ node.slot)
 
 -- the table has these records
-abbrev pub AreInTable : Layout → List Rec → Type 0
+abbrev pub AreInTable : (layout : Layout) → (recs : List Rec) → Type 0
 AreInTable layout recs = All (HasRecord layout) recs
 
--- the pass has locked the anchor exactly if the first argument is true
-abbrev pub IsAnchored : Bool → Known → Type 0
+-- the pass has locked the anchor exactly if `locked` is true
+abbrev pub IsAnchored : (locked : Bool) → (known : Known) → Type 0
 IsAnchored true known = IsSome known.anchor
 IsAnchored false known = known.anchor ≡ None

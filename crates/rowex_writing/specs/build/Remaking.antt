@@ -23,8 +23,8 @@ IsSubtrieOfTree shown = (tree : Tree) × (subtrie tree ≡ shown) × IsTrie tree
 abbrev pub subtrie_with_leaf : NewLeaf → Subtrie → Subtrie
 subtrie_with_leaf new shown = subtrie_grown new.position new.key.now (Leaf new.number) shown
 
--- The words spell this node, in which the leaf's search takes the entry in its slot. With the leaf its subtrie is one that a tree begins
--- with.
+-- The words spell this node, and the leaf's key leads to the leaf's slot there. With the leaf in it, the node's subtrie is one that a tree
+-- begins with.
 pub record AwaitsLeaf (words : List ℕ) (node : NodeView) (new : NewLeaf) : Type 0 where
   pub is : IsNodeOf words node
   pub leads : spot new.key.now (piece node) ≡ new.slot
@@ -34,17 +34,17 @@ pub record AwaitsLeaf (words : List ℕ) (node : NodeView) (new : NewLeaf) : Typ
 abbrev pub subtrie_with_fork : Fork → Subtrie → Subtrie
 subtrie_with_fork fork shown = with_subtrie fork.key.now (Branch fork.position (Place fork.zero) (Place fork.one)) shown
 
--- a half of a cut is no higher than this, if it is made anew
-abbrev pub IsLowHalf : ℕ → Half → Type 0
+-- a half of a cut that is made anew has at most this height
+abbrev pub IsLowHalf : (height : ℕ) → (half : Half) → Type 0
 IsLowHalf height (One entry) = height_of entry ≤ height
 IsLowHalf height (Many node) = node.height ≤ height
 IsLowHalf height Same = Unit {0}
 
--- the halves of a cut that are made anew are no higher than this
-abbrev pub AreNoHigher : ℕ → Cut → Type 0
+-- each half of the cut that is made anew has at most this height
+abbrev pub AreNoHigher : (height : ℕ) → (cut : Cut) → Type 0
 AreNoHigher height cut = IsLowHalf height cut.zero × IsLowHalf height cut.one
 
--- what a node has grown to is no higher than this
-abbrev pub IsNoHigher : ℕ → Grown → Type 0
+-- what a node has grown to has at most this height, where it is made anew
+abbrev pub IsNoHigher : (height : ℕ) → (grown : Grown) → Type 0
 IsNoHigher height (Whole node) = node.height ≤ height
 IsNoHigher height (Two cut) = AreNoHigher height cut

@@ -13,19 +13,19 @@ use Rattle.rowex_writing.specs.build.Walks.{nodes_among}
 use Rattle.rowex_writing.specs.declared.plan.job.Job.{Job}
 use Rattle.rowex_writing.specs.declared.plan.job.Raised.{Raised}
 
--- After a store that links the records `made` and unlinks `gone`, a node record stands in no tree. A node record is free before it, or a
--- node is unlinked. Or one stands in no tree before, and no node is linked.
+-- Why a node record stands in no tree after a store that links the records `made` and unlinks `gone`. One is free before. Or a node is
+-- unlinked. Or one stands in no tree before, and no node is linked.
 pub data WillSpare (layout : Layout) (seat : SeatView) (made gone : List Rec) : Type 0 where
   by_free : HasFree layout seat → WillSpare layout seat made gone
   by_gone : (n : ℕ) → IsOneOf (a_node n) gone → WillSpare layout seat made gone
   by_kept : HasSpare layout seat → nodes_among made ≡ [] → WillSpare layout seat made gone
 
 -- after the store of a job, a node record stands in no tree
-abbrev pub WillSpareOne : Layout → SeatView → List Rec → Job → Raised → Type 0
+abbrev pub WillSpareOne : (layout : Layout) → (seat : SeatView) → (made : List Rec) → (job : Job) → (raised : Raised) → Type 0
 WillSpareOne layout seat made job raised = WillSpare layout seat made (gone_of_span job.way.now job.span raised)
 
--- A claim finds a node record, if it may try each. It asks that the table has one pass, which has no record, and that one is free.
-abbrev pub FindsOne : {X : Type 0} → Layout → (left : ℕ) → SeatView → Option X → Type 0
+-- A claim that may try each node record finds one. The table must have one pass, which has no record, and a free node record.
+abbrev pub FindsOne : {X : Type 0} → (layout : Layout) → (left : ℕ) → (seat : SeatView) → (result : Option X) → Type 0
 FindsOne layout left seat result = left ≡ layout.nodes → seat.known.own ≡ [] → HasRoom layout seat → result ≢ None
 
 -- the call removes a key

@@ -37,8 +37,8 @@ pub record HasOnlyLeaf (table : TableView) (view : SeatView) (number : ℕ) (key
   pub read : HasReadLeaf view.known number key value
 
 -- The pass has locked the last node of the job's path, which names the leaf, and what names that node.
-pub record HasLeafBelow (table : TableView) (seat : SeatView) (m : ℕ) (job : Job) (number value : ℕ) : Type 0 where
-  pub taken : HasTakenSpan table seat m job.key.now job.way.now (Leaf number value None) job.span
+pub record HasLeafBelow (table : TableView) (seat : SeatView) (version : ℕ) (job : Job) (number value : ℕ) : Type 0 where
+  pub taken : HasTakenSpan table seat version job.key.now job.way.now (Leaf number value None) job.span
   pub is_found : job.found ≡ Leaf number value None
   pub len : job.span.len ≡ length job.way.now
   pub last : job.span.end + 1 ≡ job.span.len
@@ -66,28 +66,28 @@ pub record IsTaking (table : TableView) (job : Job) : Type 0 where
   pub some : 0 < job.span.end
 
 -- The pass has gone on since it locked the last two nodes of the path. It has these locks, and the values that it had loaded.
-abbrev pub TakesOn : TableView → SeatView → Job → Type 0
+abbrev pub TakesOn : (table : TableView) → (seat : SeatView) → (job : Job) → Type 0
 TakesOn table seat job = (t : IsTaking table job) × IsSeatOf table seat × IsPossible table.layout seat.known × StaysLocked t.before.known seat.known
 
 -- The pass has gone on since it locked the last two nodes of the path, with these locks. It may have lost values that it had loaded.
-abbrev pub TakesStill : TableView → SeatView → Job → Type 0
+abbrev pub TakesStill : (table : TableView) → (seat : SeatView) → (job : Job) → Type 0
 TakesStill table seat job = (t : IsTaking table job) × IsSeatOf table seat × IsPossible table.layout seat.known ×
     IsLater t.before.known seat.known × (seat.known.locks ≡ t.before.known.locks) × (seat.known.anchor ≡ t.before.known.anchor)
 
 -- The pass has claimed this node record, whatever its words, and has no other.
-pub record HasClaimed (table : TableView) (known : Known) (n : ℕ) : Type 0 where
-  pub low : n < table.layout.nodes
+pub record HasClaimed (table : TableView) (known : Known) (number : ℕ) : Type 0 where
+  pub low : number < table.layout.nodes
   pub words : List ℕ
-  pub sized : length words ≡ word_count_of (a_node n)
-  pub own : known.own ≡ record { rec = a_node n; holding = Held; words = words } ∷ []
+  pub sized : length words ≡ word_count_of (a_node number)
+  pub own : known.own ≡ record { rec = a_node number; holding = Held; words = words } ∷ []
 
--- Of the lower node, by the words under its lock, a node is left without the leaf. These words spell it.
+-- Without the leaf of the job's key, the lower node is still a node, by the words under its lock. The words `left` spell what is left.
 pub record IsLeftOfNode (known : Known) (job : Job) (left : List ℕ) : Type 0 where
   pub words : List ℕ
   pub has : HasLocked known (lower job).number words
   pub built : SpellBuilt left (subtrie_without job.key.now (node_words_of words).subtrie)
 
--- the height of the entry's node has a word
+-- if the entry is a node's, the height fits into an entry's word
 abbrev pub HasHeight : Entry → Type 0
 HasHeight (LeafEntry n) = Unit {0}
 HasHeight (Node number height) = (1 ≤ height) × (height < 65536)

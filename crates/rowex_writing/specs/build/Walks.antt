@@ -12,7 +12,7 @@ use Rattle.rowex_writing.specs.locks.Going.{WorksOn}
 use Rattle.rowex_writing.specs.declared.build.kept.Build.{Build}
 
 -- the pass has no other records than these
-abbrev pub HasNoOther : Known → List Rec → Type 0
+abbrev pub HasNoOther : (known : Known) → (made : List Rec) → Type 0
 HasNoOther known made = (rec : Rec) → Contains (records_had known) rec → Contains made rec
 
 -- Since step `since` the pass has tried some node records, each once, from `begin` on. It may try `left` more, from `next` on. Each that it
@@ -28,32 +28,32 @@ pub record IsClaimWalk (layout : Layout) (since : ℕ) (known : Known) (made : L
       HasMissedSince (IsAnothersBut layout known made) known.failed (a_node (wrapped layout.nodes begin i)) since ⊎
       Contains made (a_node (wrapped layout.nodes begin i))
 
--- the pass has tried node records, as a build's walk of claims tells
-abbrev pub HasWalked : Layout → ℕ → Known → Build → Type 0
+-- since that step the pass has tried node records, as the build's walk of claims tells
+abbrev pub HasWalked : (layout : Layout) → (since : ℕ) → (known : Known) → (build : Build) → Type 0
 HasWalked layout since known build = IsClaimWalk layout since known build.made.items build.nodes.next build.left_nodes
 
--- how many steps a walk without a result adds: one for each record made, which it looks at
+-- how many steps a walk without a result adds: a look at each record made
 abbrev pub looks_for : {X : Type 0} → Build → Option X → ℕ
 looks_for after None = length after.made.items
 looks_for after (Some x) = 0
 
--- how many steps a walk adds whose answer is no: one for each record made, which it looks at
-abbrev pub looks_unless : Bool → Build → ℕ
+-- how many steps a walk adds if its answer is no: a look at each record made
+abbrev pub looks_unless : (answer : Bool) → (after : Build) → ℕ
 looks_unless false after = length after.made.items
 looks_unless true after = 0
 
 -- the node records among these
-abbrev pub nodes_among : List Rec → List Rec
+abbrev pub nodes_among : (made : List Rec) → List Rec
 nodes_among [] = []
 nodes_among (a_node n ∷ made) = a_node n ∷ nodes_among made
 nodes_among (a_leaf n ∷ made) = nodes_among made
 
--- A record is this pass's own.
-abbrev pub IsOwnOf : ℕ → Rec → Option ℕ → Type 0
+-- a record that was found not free is this pass's own
+abbrev pub IsOwnOf : (pass : ℕ) → (rec : Rec) → (by : Option ℕ) → Type 0
 IsOwnOf pass rec by = by ≡ Some pass
 
--- Each node record was found not free, by a failed step since `since`. None was the pass's own but these, which it has made. Each of these
--- is listed once, and was found to be its own.
+-- By failed steps since `since` the pass has found each node record not free. None was its own but those in `made`. Each of these is listed
+-- once, and was found to be its own.
 pub record HasMissedEach (layout : Layout) (since : ℕ) (known : Known) (made : List Rec) : Type 0 where
   pub missed : AllMissed (IsAnothersBut layout known made) a_node layout.nodes known.failed since
   pub own : All (λ r. HasMissedSince (IsOwnOf known.pass) known.failed r since) made

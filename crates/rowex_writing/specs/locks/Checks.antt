@@ -19,7 +19,7 @@ use Rattle.rowex_writing.specs.declared.plan.job.Job.{Job}
 use Rattle.rowex_writing.specs.declared.plan.Deed.{Deed}
 
 -- each node locked for the span has, by the words under its lock, the entry that the search took on the key's path
-abbrev pub EntriesStand : Known → Key → List PathNode → Found → Span → Type 0
+abbrev pub EntriesStand : (known : Known) → (key : Key) → (way : List PathNode) → (found : Found) → (span : Span) → Type 0
 EntriesStand known key way found span = (i : ℕ) (node : PathNode) → span.end ≤ i + 1 → i < span.len → slice_get way i ≡ Some node →
     (words : List ℕ) → HasLocked known node.number words → named way found (i + 1) ≡ Some (seek key (node_words_of words).subtrie)
 
@@ -29,18 +29,19 @@ pub record IsChecked (known : Known) (key : Key) (way : List PathNode) (found : 
   pub entries : (i : ℕ) (node : PathNode) → span.end ≤ i + 1 → i < span.len → slice_get way i ≡ Some node →
       (words : List ℕ) → HasLocked known node.number words → named way found (i + 1) ≡ Some (seek key (node_words_of words).subtrie)
 
--- The pass holds the locks of a span of its path, and has nothing else. What it has found still stands.
-pub record HasTakenSpan (table : TableView) (view : SeatView) (m : ℕ) (key : Key) (way : List PathNode) (found : Found) (span : Span) : Type 0 where
+-- The pass holds the locks of a span of its path, and has nothing else. What its search has found still stands.
+pub record HasTakenSpan (table : TableView) (view : SeatView) (version : ℕ) (key : Key) (way : List PathNode) (found : Found)
+    (span : Span) : Type 0 where
   pub seat : IsSeatOf table view
   pub possible : IsPossible table.layout view.known
   pub own : view.known.own ≡ []
   pub within : (span.end ≤ span.len) × (span.len ≤ length way)
-  pub way_of : IsWayOf table.layout view.known m key way found
+  pub way_of : IsWayOf table.layout view.known version key way found
   pub locked : HasLockedSpan view.known way span
   pub checked : IsChecked view.known key way found span
 
 -- the pass has locked and checked the span of a job, as planned for this deed
-abbrev pub HasTakenPlan : TableView → SeatView → Job → Deed → Type 0
+abbrev pub HasTakenPlan : (table : TableView) → (seat : SeatView) → (job : Job) → (deed : Deed) → Type 0
 HasTakenPlan table seat job deed =
-    (m : ℕ) × (aim : Aim) × HasTakenSpan table seat m job.key.now job.way.now job.found job.span ×
-    IsPlanned seat.known m job.key.now job.way.now aim job.found (change job.span.len job.span.end deed)
+    (version : ℕ) × (aim : Aim) × HasTakenSpan table seat version job.key.now job.way.now job.found job.span ×
+    IsPlanned seat.known version job.key.now job.way.now aim job.found (change job.span.len job.span.end deed)

@@ -33,17 +33,17 @@ pub record ReadsOn {G : Type 0} (table : TableView) (becomes : G → Event → G
   pub goes : WorksOn table becomes old new
   pub own : new.0.known.own ≡ old.0.known.own
 
--- the pass has locked the node, which has these words
-abbrev pub HasLocked : Known → ℕ → List ℕ → Type 0
-HasLocked known n words = IsOneOf (record { node = n; words = words }) known.locks
+-- the pass has locked the node of this number, which has these words
+abbrev pub HasLocked : (known : Known) → (number : ℕ) → (words : List ℕ) → Type 0
+HasLocked known number words = IsOneOf (record { node = number; words = words }) known.locks
 
--- in the locked node of this number, the key's search takes the entry in slot `at`
-abbrev pub LeadsLocked : Known → ℕ → Key → ℕ → Type 0
-LeadsLocked known n key at = (words : List ℕ) → HasLocked known n words → spot key (node_words_of words).subtrie ≡ at
+-- in the locked node of this number, the key's search takes the entry in this slot
+abbrev pub LeadsLocked : (known : Known) → (number : ℕ) → (key : Key) → (slot : ℕ) → Type 0
+LeadsLocked known number key slot = (words : List ℕ) → HasLocked known number words → spot key (node_words_of words).subtrie ≡ slot
 
--- the pass has locked node n
-abbrev pub IsLockedBy : Known → ℕ → Type 0
-IsLockedBy known n = (words : List ℕ) × HasLocked known n words
+-- the pass has locked the node of this number
+abbrev pub IsLockedBy : (known : Known) → (number : ℕ) → Type 0
+IsLockedBy known number = (words : List ℕ) × HasLocked known number words
 
 -- the words are those of this node
 pub record IsNodeOf (words : List ℕ) (view : NodeView) : Type 0 where
@@ -51,6 +51,6 @@ pub record IsNodeOf (words : List ℕ) (view : NodeView) : Type 0 where
   pub spells : node_words view ≡ words
   pub shows : node_words_of words ≡ record { fixed = head_of view; subtrie = piece view }
 
--- the pass has locked node n, whose words spell this node
-abbrev pub HasLockedNode : Known → ℕ → NodeView → Type 0
-HasLockedNode known n view = (words : List ℕ) × HasLocked known n words × IsNodeOf words view
+-- the pass has locked the node of this number, whose words spell this node
+abbrev pub HasLockedNode : (known : Known) → (number : ℕ) → (view : NodeView) → Type 0
+HasLockedNode known number view = (words : List ℕ) × HasLocked known number words × IsNodeOf words view

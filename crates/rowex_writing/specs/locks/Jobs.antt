@@ -12,9 +12,9 @@ use Rattle.rowex_writing.specs.declared.plan.job.Job.{Job}
 abbrev pub IsWithinWay : Job → Type 0
 IsWithinWay job = (job.span.end ≤ job.span.len) × (job.span.len ≤ length job.way.now)
 
--- the job's path and its end are those of a search for its key, which loaded the root at version m
-abbrev pub IsJobFrom : Layout → Known → ℕ → Job → Type 0
-IsJobFrom layout known m job = IsWayOf layout known m job.key.now job.way.now job.found
+-- a search for the job's key, which loaded the root at this version, has taken the job's path and found its end
+abbrev pub IsJobFrom : (layout : Layout) → (known : Known) → (version : ℕ) → (job : Job) → Type 0
+IsJobFrom layout known version job = IsWayOf layout known version job.key.now job.way.now job.found
 
 -- The pass has locked the span of the job, on whose path it has searched.
 pub record HoldsSpan (table : TableView) (view : SeatView) (job : Job) : Type 0 where

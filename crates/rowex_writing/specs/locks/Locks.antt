@@ -53,32 +53,37 @@ targets_of (act ∷ acts) = targets_of acts
 abbrev pub TriesLocksOnce : List Act → Type 0
 TriesLocksOnce acts = AreApart (targets_of acts)
 
--- The pass makes steps of this kind, and the gate is told each. They try these locks.
-pub record TriesBy {G : Type 0} (Is : Act → Type 0) (table : TableView) (becomes : G → Event → G → Type 0) (tried : List Target) (old new : SeatView × G) : Type 0 where
+-- The pass makes steps of the kind `Is`, and the gate is told each. They try these locks.
+pub record TriesBy {G : Type 0} (Is : Act → Type 0) (table : TableView) (becomes : G → Event → G → Type 0) (tried : List Target)
+    (old new : SeatView × G) : Type 0 where
   pub acts : List Act
   pub each : All Is acts
   pub tried_are : targets_of acts ≡ tried
   pub steps : Runs table becomes acts old new
 
--- the pass makes steps of this kind, and tries so many locks, each once
-abbrev pub TriesOnceBy : {G : Type 0} → (Act → Type 0) → TableView → (G → Event → G → Type 0) → ℕ → SeatView × G → SeatView × G → Type 0
+-- the pass makes steps of the kind `Is`, which try so many locks, each once
+abbrev pub TriesOnceBy : {G : Type 0} → (Is : Act → Type 0) → (table : TableView) → (becomes : G → Event → G → Type 0) → (locks : ℕ) →
+    (old new : SeatView × G) → Type 0
 TriesOnceBy Is table becomes locks old new =
     (tried : List Target) × (run : TriesBy Is table becomes tried old new) × TriesLocksOnce run.acts × (length tried ≡ locks)
 
 -- The pass makes steps that load no root, and recalls all that it did. They try these locks.
-abbrev pub Tries : {G : Type 0} → TableView → (G → Event → G → Type 0) → List Target → SeatView × G → SeatView × G → Type 0
+abbrev pub Tries : {G : Type 0} → (table : TableView) → (becomes : G → Event → G → Type 0) → (tried : List Target) →
+    (old new : SeatView × G) → Type 0
 Tries table becomes tried old new = TriesBy LoadsNoRoot table becomes tried old new
 
 -- The pass makes steps that load no root and try no lock, and recalls all that it did.
-abbrev pub Works : {G : Type 0} → TableView → (G → Event → G → Type 0) → SeatView × G → SeatView × G → Type 0
+abbrev pub Works : {G : Type 0} → (table : TableView) → (becomes : G → Event → G → Type 0) → (old new : SeatView × G) → Type 0
 Works table becomes old new = Tries table becomes [] old new
 
 -- The pass makes steps that load no root, and recalls all that it did. They try so many locks, each once.
-abbrev pub TriesOnce : {G : Type 0} → TableView → (G → Event → G → Type 0) → ℕ → SeatView × G → SeatView × G → Type 0
+abbrev pub TriesOnce : {G : Type 0} → (table : TableView) → (becomes : G → Event → G → Type 0) → (locks : ℕ) → (old new : SeatView × G) →
+    Type 0
 TriesOnce table becomes locks old new = TriesOnceBy LoadsNoRoot table becomes locks old new
 
--- The pass makes steps of this kind. They try the locks of just these nodes, each once.
-pub record TriesNodesBy {G : Type 0} (Is : Act → Type 0) (table : TableView) (becomes : G → Event → G → Type 0) (nodes : List ℕ) (old new : SeatView × G) : Type 0 where
+-- The pass makes steps of the kind `Is`. They try the locks of just these nodes, each once.
+pub record TriesNodesBy {G : Type 0} (Is : Act → Type 0) (table : TableView) (becomes : G → Event → G → Type 0) (nodes : List ℕ)
+    (old new : SeatView × G) : Type 0 where
   pub tried : List Target
   pub run : TriesBy Is table becomes tried old new
   pub once : TriesLocksOnce run.acts
@@ -86,7 +91,8 @@ pub record TriesNodesBy {G : Type 0} (Is : Act → Type 0) (table : TableView) (
   pub among : (target : Target) → IsOneOf target tried → IsOneOf target (map NodeTarget nodes)
 
 -- The pass makes steps that load no root. They try the locks of just these nodes, each once.
-abbrev pub TriesNodes : {G : Type 0} → TableView → (G → Event → G → Type 0) → List ℕ → SeatView × G → SeatView × G → Type 0
+abbrev pub TriesNodes : {G : Type 0} → (table : TableView) → (becomes : G → Event → G → Type 0) → (nodes : List ℕ) →
+    (old new : SeatView × G) → Type 0
 TriesNodes table becomes nodes old new = TriesNodesBy LoadsNoRoot table becomes nodes old new
 
 -- the pass has locked no node, and not the anchor
@@ -94,7 +100,7 @@ abbrev pub HasNoLock : Known → Type 0
 HasNoLock known = (known.locks ≡ []) × (known.anchor ≡ None)
 
 -- the pass has locked just these nodes, each listed once
-abbrev pub HasJustLocked : Known → List ℕ → Type 0
+abbrev pub HasJustLocked : (known : Known) → (nodes : List ℕ) → Type 0
 HasJustLocked known nodes = LocksJust known.locks nodes × AreApart nodes
 
 -- the numbers of the nodes of a path
@@ -106,13 +112,13 @@ abbrev pub AreNodes : Layout → List PathNode → Type 0
 AreNodes layout steps = All (λ (node : PathNode). node.number < layout.nodes) steps
 
 -- the pass was led to the node of this step, which the table has
-abbrev pub IsLedStep : Layout → Known → PathNode → Type 0
+abbrev pub IsLedStep : (layout : Layout) → (known : Known) → (node : PathNode) → Type 0
 IsLedStep layout known node =
     (node.number < layout.nodes) ×
     ((since : ℕ) × (height : ℕ) × IsPinnedSince known since × IsSure known (λ past. EntryStoodSince past since (Node node.number height)))
 
 -- the pass was led to each node of the path
-abbrev pub AreLed : Layout → Known → List PathNode → Type 0
+abbrev pub AreLed : (layout : Layout) → (known : Known) → (steps : List PathNode) → Type 0
 AreLed layout known steps = All (IsLedStep layout known) steps
 
 -- the nodes to lock for a span of the path: those to remake, and the one above them
@@ -130,30 +136,30 @@ pub record HasLockedSpan (known : Known) (way : List PathNode) (span : Span) : T
   pub below : 0 < span.end → known.anchor ≡ None
 
 -- the state word is that of a node or an anchor that is locked, or of a retired node
-abbrev pub IsTakenWord : ℕ → Type 0
+abbrev pub IsTakenWord : (word : ℕ) → Type 0
 IsTakenWord word = (word ≡ state_word LockedTag) ⊎ ((epoch : ℕ) × (word ≡ state_word (Obsolete epoch)))
 
--- One of these failed steps of pass q, since step `since`, was a lock that found its target taken. Another pass of the index had locked it,
--- or had unlinked the node, if it was retired.
-pub record HasMetTaken (layout : Layout) (q since : ℕ) (tried : List Failed) : Type 0 where
+-- One of these failed steps of the pass, since step `since`, was a lock that found its target taken. Another pass of the index had locked
+-- it, or had unlinked the node, if it was retired.
+pub record HasMetTaken (layout : Layout) (pass since : ℕ) (tried : List Failed) : Type 0 where
   pub target : Target
   pub failed : Failed
   pub is : Contains tried failed
   pub by : ℕ
   pub act : failed.act ≡ a_lock (Some by)
-  pub another : by ≢ q
+  pub another : by ≢ pass
   pub below : by < layout.passes
   pub place : failed.location ≡ target_word target
   pub word : IsTakenWord failed.word
   pub now : since ≤ failed.step
 
--- from k on, a lock of the pass found its target taken by another pass
-abbrev pub HasMetLock : Layout → Known → Known → Type 0
-HasMetLock layout k j = HasMetTaken layout k.pass k.steps j.failed
+-- since the pass knew `old`, one of its locks has found its target taken by another pass
+abbrev pub HasMetLock : (layout : Layout) → (old new : Known) → Type 0
+HasMetLock layout old new = HasMetTaken layout old.pass old.steps new.failed
 
--- no change of the list, from number m on, is by pass q
-abbrev pub NoChangeFrom : ℕ → ℕ → List Change → Type 0
-NoChangeFrom q m changes = (i : ℕ) (change : Change) → m ≤ i → i < length changes → (get_or changes i change).pass ≢ q
+-- from number `first` on, no change of the list is this pass's
+abbrev pub NoChangeFrom : (pass first : ℕ) → (changes : List Change) → Type 0
+NoChangeFrom pass first changes = (i : ℕ) (change : Change) → first ≤ i → i < length changes → (get_or changes i change).pass ≢ pass
 
 -- the pass has made no change since its pin
 abbrev pub HasMadeNoChange : Known → Type 0
@@ -162,26 +168,27 @@ HasMadeNoChange known = (pin : Pin) → known.pin ≡ Some pin → NoChangeFrom 
 -- The parts
 
 -- the pass has locked one node more, listed in front of the others
-abbrev pub LocksOne : ℕ → Known → Known → Type 0
-LocksOne n old new =
-    ((words : List ℕ) × (new.locks ≡ record { node = n; words = words } ∷ old.locks)) × ¬ (IsOneOf n (nodes_of old.locks)) × (new.own ≡ old.own) ×
+abbrev pub LocksOne : (number : ℕ) → (old new : Known) → Type 0
+LocksOne number old new =
+    ((words : List ℕ) × (new.locks ≡ record { node = number; words = words } ∷ old.locks)) × ¬ (IsOneOf number (nodes_of old.locks)) ×
+    (new.own ≡ old.own) ×
     (new.anchor ≡ old.anchor)
 
 -- the pass has locked the node, listed in front of these
-abbrev pub LocksLast : ℕ → List Locked → Known → Type 0
-LocksLast n held known = ((words : List ℕ) × (known.locks ≡ record { node = n; words = words } ∷ held)) × ¬ (IsOneOf n (nodes_of held))
+abbrev pub LocksLast : (number : ℕ) → (held : List Locked) → (known : Known) → Type 0
+LocksLast number held known = ((words : List ℕ) × (known.locks ≡ record { node = number; words = words } ∷ held)) × ¬ (IsOneOf number (nodes_of held))
 
 -- the pass has locked the anchor, and has the same other locks and records
-abbrev pub LocksAnchor : Known → Known → Type 0
+abbrev pub LocksAnchor : (old new : Known) → Type 0
 LocksAnchor old new = IsSome new.anchor × (new.locks ≡ old.locks) × (new.own ≡ old.own)
 
 -- the pass has the same locks and records
-abbrev pub KeepsLocksAndRecords : Known → Known → Type 0
+abbrev pub KeepsLocksAndRecords : (old new : Known) → Type 0
 KeepsLocksAndRecords old new = (new.locks ≡ old.locks) × (new.anchor ≡ old.anchor) × (new.own ≡ old.own)
 
--- Since the pass knew k, it has the same records. Its seat is one of the table's, and what it knows is possible.
-abbrev pub KeepsRecords : TableView → Known → SeatView → Type 0
-KeepsRecords table k seat = IsLater k seat.known × IsSeatOf table seat × IsPossible table.layout seat.known × (seat.known.own ≡ k.own)
+-- The pass has gone on since it knew `old`, and has the same records. Its seat is one of the table's, and what it knows is possible.
+abbrev pub KeepsRecords : (table : TableView) → (old : Known) → (seat : SeatView) → Type 0
+KeepsRecords table old seat = IsLater old seat.known × IsSeatOf table seat × IsPossible table.layout seat.known × (seat.known.own ≡ old.own)
 
 -- The pass was led to the node since its pin, and has made no change since. It has no record, and has not locked the node. So only another
 -- pass may be in the way of the lock.
@@ -194,23 +201,25 @@ pub record HasNotLocked (known : Known) (n : ℕ) : Type 0 where
   pub free : ¬ (IsOneOf n (nodes_of known.locks))
   pub quiet : HasMadeNoChange known
 
--- a lock of the pass was refused, and it has the same locks and records
-abbrev pub IsRefusedLock : Layout → Known → Known → Type 0
+-- a lock of the pass was refused, and the pass has the same locks and records as before
+abbrev pub IsRefusedLock : (layout : Layout) → (old new : Known) → Type 0
 IsRefusedLock layout old new = HasMetLock layout old new × (new.locks ≡ old.locks) × (new.anchor ≡ old.anchor) × (new.own ≡ old.own)
 
--- the pass knows the same of its records, the anchor, the changes, its round and its failed steps
-abbrev pub KnowsSameButLocks : Known → Known → Type 0
+-- the pass knows the same as before of its records, the anchor, the changes, its round and its failed steps
+abbrev pub KnowsSameButLocks : (old new : Known) → Type 0
 KnowsSameButLocks old new =
     (new.own ≡ old.own) × (new.anchor ≡ old.anchor) × (new.front ≡ old.front) × (new.round ≡ old.round) × (new.failed ≡ old.failed)
 
 -- The pass makes steps that neither set nor clear its pin and give no record back. They try these locks.
-abbrev pub HasTried : {G : Type 0} → TableView → (G → Event → G → Type 0) → List Target → SeatView × G → SeatView × G → Type 0
+abbrev pub HasTried : {G : Type 0} → (table : TableView) → (becomes : G → Event → G → Type 0) → (tried : List Target) →
+    (old new : SeatView × G) → Type 0
 HasTried table becomes tried old new = TriesBy IsOfAttempt table becomes tried old new
 
 -- The pass makes steps that neither set nor clear its pin and give no record back. They try no lock.
-abbrev pub HasRun : {G : Type 0} → TableView → (G → Event → G → Type 0) → SeatView × G → SeatView × G → Type 0
+abbrev pub HasRun : {G : Type 0} → (table : TableView) → (becomes : G → Event → G → Type 0) → (old new : SeatView × G) → Type 0
 HasRun table becomes old new = HasTried table becomes [] old new
 
 -- The pass makes steps that neither set nor clear its pin and give no record back. They try so many locks, each once.
-abbrev pub HasTriedOnce : {G : Type 0} → TableView → (G → Event → G → Type 0) → ℕ → SeatView × G → SeatView × G → Type 0
+abbrev pub HasTriedOnce : {G : Type 0} → (table : TableView) → (becomes : G → Event → G → Type 0) → (locks : ℕ) → (old new : SeatView × G) →
+    Type 0
 HasTriedOnce table becomes locks old new = TriesOnceBy IsOfAttempt table becomes locks old new

@@ -12,16 +12,16 @@ use Rattle.rowex_table.specs.Traces.{RunBeginsWith}
 use Rattle.rowex_writing.specs.locks.Locks.{HasMetLock}
 
 -- in this core the pass holds the anchor's lock, or that of a node
-abbrev pub HoldsLock : Core → ℕ → Type 0
-HoldsLock core p = (core.anchor ≡ Some p) ⊎ ((n : ℕ) × (core.lock n ≡ Some p))
+abbrev pub HoldsLock : (core : Core) → (pass : ℕ) → Type 0
+HoldsLock core pass = (core.anchor ≡ Some pass) ⊎ ((number : ℕ) × (core.lock number ≡ Some pass))
 
--- the pass has made one of the changes from number m on
-abbrev pub HasMadeSince : Core → ℕ → ℕ → Type 0
-HasMadeSince core m p = (place : ℕ) × (change : Change) × (m ≤ place) × (slice_get core.changes place ≡ Some change) × (change.pass ≡ p)
+-- the pass has made one of the changes from number `first` on
+abbrev pub HasMadeSince : (core : Core) → (first pass : ℕ) → Type 0
+HasMadeSince core first pass = (place : ℕ) × (change : Change) × (first ≤ place) × (slice_get core.changes place ≡ Some change) × (change.pass ≡ pass)
 
--- At a moment between these views of a seat, another pass of the table held a lock. Or it had made a change from number m on. The steps
--- `run` lead to that moment.
-pub record HasMetOther (layout : Layout) (m : ℕ) (old new : SeatView) : Type 0 where
+-- At a moment between these views of a seat, another pass of the table held a lock. Or it had made a change from number `first` on. The
+-- steps `run` lead to that moment.
+pub record HasMetOther (layout : Layout) (first : ℕ) (old new : SeatView) : Type 0 where
   pub run : List Event
   pub core : Core
   pub led : EventsLead (opening layout) run core
@@ -30,12 +30,12 @@ pub record HasMetOther (layout : Layout) (m : ℕ) (old new : SeatView) : Type 0
   pub by : ℕ
   pub another : by ≢ old.known.pass
   pub below : by < layout.passes
-  pub is : HoldsLock core by ⊎ HasMadeSince core m by
+  pub is : HoldsLock core by ⊎ HasMadeSince core first by
 
 -- A lock of the pass was refused. At a moment another pass held a lock, or had made a change since the pin.
-abbrev pub IsBlocked : Layout → SeatView → SeatView → Type 0
+abbrev pub IsBlocked : (layout : Layout) → (old new : SeatView) → Type 0
 IsBlocked layout old new = HasMetLock layout old.known new.known × HasMetOther layout (version_of old.known.pin) old new
 
 -- At a moment another pass held a lock, or had made a change since the pin. Or the pass has seen such a change.
-abbrev pub IsHindered : Layout → SeatView → SeatView → Type 0
+abbrev pub IsHindered : (layout : Layout) → (old new : SeatView) → Type 0
 IsHindered layout old new = HasMetOther layout (version_of old.known.pin) old new ⊎ (version_of old.known.pin < length new.known.front)

@@ -49,21 +49,22 @@ pub record IsNeighbour (known : Known) (job : Job) (merge : Merge) : Type 0 wher
   pub sibling : subtrie_sibling job.key.now (node_words_of words).subtrie ≡ Some (merge.position, Place (Node merge.number height))
 
 -- In the locked node of the fork, by its words, this one slot is beside the one that the key's search takes. The entry can stand in it.
-abbrev pub ClosesFork : Known → Key → ClosedFork → Type 0
+abbrev pub ClosesFork : (known : Known) → (key : Key) → (fork : ClosedFork) → Type 0
 ClosesFork known key fork = (words : List ℕ) → HasLocked known fork.step.number words → (spot key (node_words_of words).subtrie ≡ fork.step.slot) ×
-    ((position : ℕ) × (beside fork.step.slot (node_words_of words).subtrie ≡ Some (fork.slot, position))) × StandsBelow (node_words_of words).fixed.height fork.entry
+    ((position : ℕ) × (beside fork.step.slot (node_words_of words).subtrie ≡ Some (fork.slot, position))) ×
+    StandsBelow (node_words_of words).fixed.height fork.entry
 
 -- What is left of a node and its sibling can't be one node. An entry alone is left, or they have more than 32 entries together.
-abbrev pub AreNoNode : Subtrie → Subtrie → Type 0
+abbrev pub AreNoNode : (left other : Subtrie) → Type 0
 AreNoNode left other = ((entry : Entry) × (left ≡ Place entry)) ⊎ (32 < size left + size other)
 
 -- ---- wider locks
 -- the number is that of no node of the span, nor of the two above it
-abbrev pub IsFarFromSpan : List PathNode → Span → ℕ → Type 0
-IsFarFromSpan way span n = (node : PathNode) (i : ℕ) → slice_get way i ≡ Some node → span.end ≤ i + 2 → i < span.len → n ≢ node.number
+abbrev pub IsFarFromSpan : (way : List PathNode) → (span : Span) → (number : ℕ) → Type 0
+IsFarFromSpan way span number = (node : PathNode) (i : ℕ) → slice_get way i ≡ Some node → span.end ≤ i + 2 → i < span.len → number ≢ node.number
 
 -- the target is what names node `end` of the path: the anchor, or the node before
-abbrev pub IsTargetAbove : List PathNode → ℕ → Target → Type 0
+abbrev pub IsTargetAbove : (way : List PathNode) → (end : ℕ) → (target : Target) → Type 0
 IsTargetAbove way end Anchor = end ≡ 0
 IsTargetAbove way end (NodeTarget n) = (node : PathNode) × (0 < end) × (slice_get way (end - 1) ≡ Some node) × (n ≡ node.number)
 
@@ -87,27 +88,32 @@ pub record HasWiderLocks (table : TableView) (view : SeatView) (job : Job) (numb
 
 -- If the pass had tried just the locks of these nodes, each once, it has tried at most two more, each once. It has tried two if `both` is
 -- true.
-abbrev pub HasTriedUpToTwoMore : {G : Type 0} → TableView → (G → Event → G → Type 0) → List ℕ → Bool → SeatView × G → SeatView × G → Type 0
+abbrev pub HasTriedUpToTwoMore : {G : Type 0} → (table : TableView) → (becomes : G → Event → G → Type 0) → (nodes : List ℕ) →
+    (both : Bool) → (old new : SeatView × G) → Type 0
 HasTriedUpToTwoMore {G} table becomes nodes both old new = (first : SeatView × G) → TriesNodesBy IsOfAttempt table becomes nodes first old →
     (locks : ℕ) × HasTriedOnce table becomes locks first new × (length nodes ≤ locks) × (locks ≤ length nodes + 2) ×
     (both ≡ true → locks ≡ length nodes + 2)
 
 -- If the pass had tried just the locks of these nodes, it has tried at most two more. Its steps since are bounded by the records that it
 -- may still try, by these locks, and by `more`.
-abbrev pub HasFewStepsAfterTries : {G : Type 0} → TableView → (G → Event → G → Type 0) → List ℕ → (left more : ℕ) → SeatView × G → SeatView × G → Type 0
+abbrev pub HasFewStepsAfterTries : {G : Type 0} → (table : TableView) → (becomes : G → Event → G → Type 0) → (nodes : List ℕ) →
+    (left more : ℕ) → (old new : SeatView × G) → Type 0
 HasFewStepsAfterTries {G} table becomes nodes left more old new = (first : SeatView × G) → TriesNodesBy IsOfAttempt table becomes nodes first old →
     (locks : ℕ) × HasTriedOnce table becomes locks first new × (length nodes ≤ locks) × (locks ≤ length nodes + 2) ×
     (new.0.known.steps ≤ old.0.known.steps + 2 * left + (locks - length nodes) * level_steps + more)
 
 -- If the pass had tried just the locks of these nodes, it has tried at most two more. Its steps since are those of a change under all these
 -- locks, with room for so many more.
-abbrev pub HasChangeStepsAfterTries : {G : Type 0} → TableView → (G → Event → G → Type 0) → List ℕ → ℕ → SeatView × G → SeatView × G → Type 0
+abbrev pub HasChangeStepsAfterTries : {G : Type 0} → (table : TableView) → (becomes : G → Event → G → Type 0) → (nodes : List ℕ) →
+    (room : ℕ) → (old new : SeatView × G) → Type 0
 HasChangeStepsAfterTries {G} table becomes nodes room old new = (first : SeatView × G) → TriesNodesBy IsOfAttempt table becomes nodes first old →
     (locks : ℕ) × HasTriedOnce table becomes locks first new × (length nodes ≤ locks) × (locks ≤ length nodes + 2) ×
     (new.0.known.steps + room ≤ old.0.known.steps + change_steps table.layout locks)
 
--- a change that tries no more locks, or one that tries more beside those of its span
-abbrev pub EndsChange : {G : Type 0} → TableView → (G → Event → G → Type 0) → Job → ℕ → SeatView × G → SeatView × G → Type 0
+-- The change takes no more steps than its locks allow, with room for so many more. It tries no lock beside those of its span. Or its span
+-- is one node below the root's entry, and it tries at most two more.
+abbrev pub EndsChange : {G : Type 0} → (table : TableView) → (becomes : G → Event → G → Type 0) → (job : Job) → (room : ℕ) →
+    (old new : SeatView × G) → Type 0
 EndsChange {G} table becomes job room old new =
     (HasRun table becomes old new × (new.0.known.steps + room ≤ old.0.known.steps + change_steps table.layout (locks_of job.span))) ⊎
     ((0 < job.span.end) × (job.span.end + 1 ≡ job.span.len) × HasChangeStepsAfterTries table becomes (span_numbers job.way.now job.span) room old new)
@@ -118,7 +124,7 @@ abbrev pub merged_gone : Job → (number leaf : ℕ) → List Rec
 merged_gone job number leaf = a_node (upper job).number ∷ a_node (lower job).number ∷ a_node number ∷ a_leaf leaf ∷ []
 
 -- just the records that a merge unlinks are listed, for the leaf that was found
-abbrev pub HasListed : List Rec → Job → ℕ → Type 0
+abbrev pub HasListed : (gone : List Rec) → (job : Job) → (number : ℕ) → Type 0
 HasListed gone job number = (leaf value : ℕ) → job.found ≡ Leaf leaf value None → gone ≡ merged_gone job number leaf
 
 -- Once the records that it has made are ready, the pass may make the removal by a store of the entry above the upper node.

@@ -8,22 +8,22 @@ use Rattle.rowex_writing.specs.declared.plan.asking.Request.{Request}
 use Rattle.rowex_writing.specs.declared.plan.Aim.{Aim}
 use Rattle.rowex_writing.specs.declared.plan.Aim.TheVariants as aim
 
--- The value that a call gives its key, which has this value or none. It is 0 if the call gives it none.
-abbrev pub value_in : Call → Option ℕ → ℕ
+-- The value that a call gives its key, where `held` is the value that the key has, or none. It is 0 if the call gives it none.
+abbrev pub value_in : (call : Call) → (held : Option ℕ) → ℕ
 value_in (Insert key value) held = value
 value_in (Upsert key value) held = value
 value_in (Exchange key expected value) held = value
 value_in (Add key delta) (Some had) = wrapped_sum had delta
 value_in call held = 0
 
--- the aim of a call that expects a value, if its key has it
-abbrev pub aim_where : ℕ → Option ℕ → Aim → Option Aim
+-- the aim of a call that expects a value, if the value found is that one
+abbrev pub aim_where : (expected : ℕ) → (found : Option ℕ) → (aim : Aim) → Option Aim
 aim_where expected None aim = None
 aim_where expected (Some held) aim = if nat_eq held expected then Some aim else None
 
 -- What a call aims at whose key has this value, or none. An exchange and an addition may aim at what an upsert does. A call that only looks
 -- aims at nothing.
-abbrev pub aim_of : Call → Option ℕ → Option Aim
+abbrev pub aim_of : (call : Call) → (held : Option ℕ) → Option Aim
 aim_of (Insert key value) held = Some aim.Insert
 aim_of (Upsert key value) held = Some aim.Upsert
 aim_of (Exchange key expected value) held = aim_where expected held aim.Upsert
@@ -34,9 +34,9 @@ aim_of (Remove key) held = Some aim.Remove
 aim_of (RemoveIf key expected) held = aim_where expected held aim.Remove
 
 -- the request of a call whose key has this value, or none
-abbrev pub IsRequest : Call → Option ℕ → Request → Type 0
+abbrev pub IsRequest : (call : Call) → (held : Option ℕ) → (request : Request) → Type 0
 IsRequest call held request = (aim_of call held ≡ Some request.aim) × (request.value ≡ value_in call held)
 
 -- the reply to a call whose key has this value, or none, whatever else the map holds
-abbrev pub reply_to : Call → Option ℕ → Reply
+abbrev pub reply_to : (call : Call) → (held : Option ℕ) → Reply
 reply_to call held = (step_where held [] call).1

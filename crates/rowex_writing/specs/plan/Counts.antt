@@ -19,12 +19,12 @@ abbrev pub most_locks : ℕ
 most_locks = suc most_nodes
 
 -- How many steps a search makes at most on a path of so many nodes. It makes 1 for the root, 26 for each node, and 32 for the leaf.
-abbrev pub search_steps : ℕ → ℕ
+abbrev pub search_steps : (nodes : ℕ) → ℕ
 search_steps nodes = 1 + 26 * nodes + 32
 
 -- How many steps a span takes at most, from its plan to its check. They are a head's, and for each lock three: its try, a load of what the
 -- node names, and its unlocking. One more is for the anchor.
-abbrev pub span_steps : ℕ → ℕ
+abbrev pub span_steps : (locks : ℕ) → ℕ
 span_steps locks = HEAD_WORDS + 3 * locks + 1
 
 -- How many steps a leaf's record takes at most. Its claims take at most four for each leaf record of the table, and each of its words two.
@@ -41,17 +41,17 @@ abbrev pub level_steps : ℕ
 level_steps = NODE_FIELDS + 2 * node_steps
 
 -- How many steps the nodes take at most that are remade, no more than there are locks. Each node record is tried by two steps.
-abbrev pub all_levels_steps : Layout → ℕ → ℕ
+abbrev pub all_levels_steps : (layout : Layout) → (locks : ℕ) → ℕ
 all_levels_steps layout locks = locks * level_steps + 2 * layout.nodes
 
 -- How many steps it takes at most to undo a change for which no record was free. Each new record, two for a lock, is looked at and given
 -- up, and each lock is given back.
-abbrev pub undo_steps : ℕ → ℕ
+abbrev pub undo_steps : (locks : ℕ) → ℕ
 undo_steps locks = 5 * locks + 1
 
 -- How many steps a deed takes at most: for a leaf's record, and for nodes that are remade. If no record was free, each that was made, two
 -- for a lock, is looked at.
-abbrev pub deed_steps : {X E : Type 0} → Layout → ℕ → Result X E → ℕ
+abbrev pub deed_steps : {X E : Type 0} → (layout : Layout) → (locks : ℕ) → (result : Result X E) → ℕ
 deed_steps layout locks (Ok made) = leaf_steps layout + all_levels_steps layout locks
 deed_steps layout locks (Err full) = leaf_steps layout + all_levels_steps layout locks + 2 * locks
 
@@ -70,11 +70,11 @@ held_loads found = 0
 
 -- How many steps a change takes at most, once its nodes are locked and checked. They are for a leaf's record, for nodes that are remade,
 -- and to undo them.
-abbrev pub change_steps : Layout → ℕ → ℕ
+abbrev pub change_steps : (layout : Layout) → (locks : ℕ) → ℕ
 change_steps layout locks = leaf_steps layout + all_levels_steps layout locks + undo_steps locks
 
 -- how many steps follow the search at most; if no lock is tried, those of a head for the plan
-abbrev pub rest_steps : Layout → ℕ → ℕ
+abbrev pub rest_steps : (layout : Layout) → (locks : ℕ) → ℕ
 rest_steps layout zero = HEAD_WORDS
 rest_steps layout (suc others) = span_steps (suc others) + change_steps layout (suc others)
 

@@ -22,20 +22,22 @@ pub record AffectsJust (key : Key) (position first last : ℕ) (shown : Subtrie)
   pub upto : affected_count position (spot key shown) shown + first ≡ last + 1
 
 -- Of the node that gets a new leaf, the entries in slots `first` to `last` are affected, by the forks that were read.
-abbrev pub AreAffected : Known → ℕ → Key → List PathNode → Found → (first last : ℕ) → Type 0
-AreAffected known m key way (Leaf number value (Some p)) first last =
-    (level : ℕ) (node : PathNode) → IsLevel way p level → slice_get way level ≡ Some node →
-    (forks : Subtrie) × Sure known (λ past. HadShapeSince past m node.number forks) × AffectsJust key p first last forks
-AreAffected known m key way found first last = Unit {0}
+abbrev pub AreAffected : (known : Known) → (version : ℕ) → (key : Key) → (way : List PathNode) → (found : Found) → (first last : ℕ) → Type 0
+AreAffected known version key way (Leaf number value (Some position)) first last =
+    (level : ℕ) (node : PathNode) → IsLevel way position level → slice_get way level ≡ Some node →
+    (forks : Subtrie) × Sure known (λ past. HadShapeSince past version node.number forks) × AffectsJust key position first last forks
+AreAffected known version key way found first last = Unit {0}
 
 -- the plan of a call, by what its search has found and read
-abbrev pub IsPlanned : Known → ℕ → Key → List PathNode → Aim → Found → Plan → Type 0
-IsPlanned known m key way aim found plan =
-    (first : ℕ) × (last : ℕ) × IsPlan way first last aim found plan × AreAffected known m key way found first last
+abbrev pub IsPlanned : (known : Known) → (version : ℕ) → (key : Key) → (way : List PathNode) → (aim : Aim) → (found : Found) →
+    (plan : Plan) → Type 0
+IsPlanned known version key way aim found plan =
+    (first : ℕ) × (last : ℕ) × IsPlan way first last aim found plan × AreAffected known version key way found first last
 
--- the pass has loaded the root since k, and that load's front begins with that of k
-pub record HasLoadedRoot (k j : Known) : Type 0 where
-  pub from : k.steps ≤ j.fresh.step
-  pub upto : j.fresh.step < j.steps
-  pub old : BeginsWith j.fresh.front k.front
-  pub new : BeginsWith j.front j.fresh.front
+-- Between these moments the pass has loaded the root. It had then seen all the changes that it knew of before, and it knows all of those
+-- now.
+pub record HasLoadedRoot (before later : Known) : Type 0 where
+  pub from : before.steps ≤ later.fresh.step
+  pub upto : later.fresh.step < later.steps
+  pub old : BeginsWith later.fresh.front before.front
+  pub new : BeginsWith later.front later.fresh.front

@@ -36,8 +36,8 @@ TakesLeaf Empty = Unit {0}
 TakesLeaf deed = ⊥
 
 -- ---- a new leaf beside affected entries
--- the plan for a new leaf in the chosen node, by its case
-abbrev pub IsCase : List PathNode → ℕ → Choice → Case → Plan → Type 0
+-- the plan for a new leaf in the chosen node, in this case of an insertion
+abbrev pub IsCase : (way : List PathNode) → (position : ℕ) → (chosen : Choice) → (kind : Case) → (plan : Plan) → Type 0
 IsCase way position chosen LeafPushdown plan = plan ≡ change (chosen.level + 1) (chosen.level + 1) (PushDown position)
 IsCase way position chosen NormalInsert plan = plan ≡ change (chosen.level + 1) chosen.level (Grow position)
 IsCase way position chosen Overflow plan = (end : ℕ) × IsChainEnd way chosen.level end × (plan ≡ change (chosen.level + 1) end (Grow position))
@@ -49,11 +49,12 @@ IsBeside way position level first last plan = (chosen : Choice) × IsChosen way 
 -- the plan for a new leaf on this path; with no node on it, the found leaf is at the root
 abbrev pub IsNewLeafPlan : List PathNode → (position first last : ℕ) → Plan → Type 0
 IsNewLeafPlan [] position first last plan = plan ≡ change 0 0 (PushDown position)
-IsNewLeafPlan (step ∷ way) position first last plan = (level : ℕ) × IsLevel (step ∷ way) position level × IsBeside (step ∷ way) position level first last plan
+IsNewLeafPlan (step ∷ way) position first last plan =
+    (level : ℕ) × IsLevel (step ∷ way) position level × IsBeside (step ∷ way) position level first last plan
 
 -- ---- all calls
 -- The plan of a call on this path, where a new leaf affects the entries in slots `first` to `last` at its level.
-abbrev pub IsPlan : List PathNode → (first last : ℕ) → Aim → Found → Plan → Type 0
+abbrev pub IsPlan : (way : List PathNode) → (first last : ℕ) → (aim : Aim) → (found : Found) → (plan : Plan) → Type 0
 -- the first key
 IsPlan way first last Insert Nothing plan = plan ≡ change 0 0 Put
 IsPlan way first last Upsert Nothing plan = plan ≡ change 0 0 Put
@@ -70,17 +71,17 @@ IsPlan way first last Remove (Leaf number value None) plan = plan ≡ change (le
 
 -- ---- before the affected entries are known
 -- The outline of a new leaf. Its plan asks for the affected entries if the path has nodes.
-abbrev pub IsBesideFound : List PathNode → ℕ → Outline → Type 0
+abbrev pub IsBesideFound : (way : List PathNode) → (position : ℕ) → (outline : Outline) → Type 0
 IsBesideFound way position (Known plan) = (first last : ℕ) → IsNewLeafPlan way position first last plan
 IsBesideFound way position (Beside at level) = (at ≡ position) × IsLevel way position level ×
     ((first last : ℕ) (plan : Plan) → IsBeside way position level first last plan → IsNewLeafPlan way position first last plan)
 
 -- the search ended at a leaf, whose key first differs at this position
-abbrev pub DiffersAt : Found → ℕ → Type 0
+abbrev pub DiffersAt : (found : Found) → (position : ℕ) → Type 0
 DiffersAt found position = (number : ℕ) × (value : ℕ) × (found ≡ Leaf number value (Some position))
 
 -- The outline of a call on this path. It is the plan, whichever entries are affected, or the level at which they are to be read.
-abbrev pub IsOutline : List PathNode → Aim → Found → Outline → Type 0
+abbrev pub IsOutline : (way : List PathNode) → (aim : Aim) → (found : Found) → (outline : Outline) → Type 0
 IsOutline way aim found (Known plan) = (first last : ℕ) → IsPlan way first last aim found plan
 IsOutline way aim found (Beside position level) = DiffersAt found position × IsLevel way position level ×
     ((first last : ℕ) (plan : Plan) → IsBeside way position level first last plan → IsPlan way first last aim found plan)

@@ -22,8 +22,8 @@ use Rattle.rowex_writing.specs.build.Putting.{AreInTable, IsAnchored}
 
 -- The pass has published a change, and made no step since. It has unlinked just the records `gone`, and has locked just the nodes `kept`,
 -- each listed once.
-abbrev pub HasJustPublished : Known → List Rec → List ℕ → Type 0
-HasJustPublished j gone kept = (k : Known) × (change : Change) × (was : Option ℕ) × HasPublished k j change was gone kept × AreApart kept
+abbrev pub HasJustPublished : (new : Known) → (gone : List Rec) → (kept : List ℕ) → Type 0
+HasJustPublished new gone kept = (old : Known) × (change : Change) × (was : Option ℕ) × HasPublished old new change was gone kept × AreApart kept
 
 -- Just these records are the pass's own, each listed once. Each was unlinked before the pass last loaded the epoch, and that load found
 -- this one.
@@ -33,7 +33,7 @@ pub record HasToMark (known : Known) (epoch : ℕ) (recs : List Rec) : Type 0 wh
   pub epoch_is : epoch ≡ known.round.epoch
 
 -- the pass has the same locks, and has seen the same changes
-abbrev pub KeepsLocks : Known → Known → Type 0
+abbrev pub KeepsLocks : (old new : Known) → Type 0
 KeepsLocks old new = (new.locks ≡ old.locks) × (new.anchor ≡ old.anchor) × (new.front ≡ old.front)
 
 -- whether the spot is the root

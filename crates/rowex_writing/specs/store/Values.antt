@@ -21,7 +21,7 @@ use Rattle.rowex_writing.specs.build.Changes.{HasChanged, IsDeedChange}
 use Rattle.rowex_writing.specs.declared.plan.Deed.{Deed}
 
 -- the end of a search, with this value of the leaf that has the key
-abbrev pub revalued : Found → ℕ → Found
+abbrev pub revalued : (found : Found) → (now : ℕ) → Found
 revalued (Leaf number value None) now = Leaf number now None
 revalued found now = found
 
@@ -32,7 +32,7 @@ pub record IsFoundAgain (call : Call) (found now : Found) : Type 0 where
   pub aims : (aim : Aim) → aim_of call (value_of found) ≡ Some aim → aim_of call (value_of now) ≡ Some aim
 
 -- if the search found the key, it has this value after the changes that the pass has seen
-abbrev pub HoldsFound : Known → Key → Found → Type 0
+abbrev pub HoldsFound : (known : Known) → (key : Key) → (found : Found) → Type 0
 HoldsFound known key found = (number value : ℕ) → found ≡ Leaf number value None → value_at (map_of known.front) key ≡ Some value
 
 -- Under its locks the pass has found the key with another value, at which the call has nothing to change. The key had it in a version
@@ -49,10 +49,10 @@ abbrev pub HasLoadedFound : Known → Found → Type 0
 HasLoadedFound known found = (number value : ℕ) → found ≡ Leaf number value None → HasLoaded known number value
 
 -- another pass has made a change since the search of the job
-abbrev pub HasMoved : Layout → Job → Known → Known → Type 0
+abbrev pub HasMoved : (layout : Layout) → (job : Job) → (old new : Known) → Type 0
 HasMoved layout job old new = (m : ℕ) → IsJobFrom layout old m job → m < length new.front
 
--- the pass has done the deed at the lower end of a span: the key has the value, or is absent
-abbrev pub HasDoneDeed : Known → Known → Deed → Key → ℕ → Found → Type 0
+-- the pass has made the deed's change: the key has the value, or is absent
+abbrev pub HasDoneDeed : (old new : Known) → (deed : Deed) → (key : Key) → (value : ℕ) → (found : Found) → Type 0
 HasDoneDeed old new deed key value found =
     (change : Change) × (was : Option ℕ) × IsDeedChange old.pass deed key value found change was × HasChanged old new change was

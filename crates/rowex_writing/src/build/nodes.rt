@@ -242,7 +242,7 @@ fn is_last_free<G: Gate>(
     table.load_state(seat, gate, Rec::Node(number)) == pack_state(Tag::Free)
 }
 
-/// Loads the states of the records `made`, which the pass has made, so that each was found not free, and its own.
+/// Loads the states of the records `made`, which the pass has made. Each load is a failed step, which tells that the record is its own.
 fn load_states<G: Gate>(table: &HotTable, seat: &mut TableSeat, gate: &mut G, made: &[Rec])
     requires building { (news : List Made) × IsBuilding table.now seat.old made.now news }
     ensures goes { WorksOn table.now G.becomes (seat.old, gate.old) (seat.new, gate.new) }

@@ -322,8 +322,8 @@ pub(crate) fn raise_with_leaf<G: Gate>(
     Some((entry, stays))
 }
 
-/// Loads the words of the locked node of `step` into `words`, which are 0 before, and takes the leaf in its slot out of them, to which some
-/// key's search leads. Returns the only entry that is left, if it is one; the words are of no use then.
+/// Loads the words of the locked node of `step` into `words`, which are 0 before, and takes the leaf in the step's slot out of them. Some
+/// key's search leads to that leaf. If just one entry is left, returns it, and the words are of no use then.
 pub(crate) fn load_without_leaf<G: Gate>(
     table: &HotTable,
     seat: &mut TableSeat,
@@ -345,8 +345,8 @@ pub(crate) fn load_without_leaf<G: Gate>(
     drop_entry(words, step.slot)
 }
 
-/// The entry for what is left of the locked node of `step` without the leaf in its slot, to which some key's search leads. It is that of a
-/// new record, or the only entry left. `None` if no node record was free: none is made then.
+/// Returns the entry for what is left of the locked node of `step` without the leaf in the step's slot. It is that of a new record, or the
+/// only entry left. `None` if no node record was free: none is made then. Some key's search leads to that leaf.
 pub(crate) fn make_entry_without_leaf<G: Gate>(
     table: &HotTable,
     seat: &mut TableSeat,

@@ -94,7 +94,7 @@ fn remake_without_leaf<G: Gate>(
     let Some(entry) = make_entry_without_leaf(table, seat, gate, build, lowest) else {
         return Err(Full::Nodes);
     };
-    Ok(put_in_place(job, entry))
+    Ok(raised_for_leftover(job, entry))
 }
 
 /// Claims a record for what is left of the lower node of `job`'s span, or for the node that this is merged into. Returns its number. `None`
@@ -145,11 +145,11 @@ pub(crate) fn fill_leftover<G: Gate>(
         number: left.number,
         height: read_numbers(left.words[NUMBERS_INDEX]).height,
     };
-    put_in_place(job, entry)
+    raised_for_leftover(job, entry)
 }
 
 /// What takes the place of the lower node of `job`'s span, if `entry` is all that is left of it without the leaf that the search found.
-pub(crate) fn put_in_place(job: &Job<'_>, entry: Entry) -> Raised
+pub(crate) fn raised_for_leftover(job: &Job<'_>, entry: Entry) -> Raised
     requires found { (leaf value : ℕ) × (job.now.found ≡ FoundLeaf leaf value None) }
     ensures same { (leaf value : ℕ) → job.now.found ≡ FoundLeaf leaf value None →
         result ≡ record { entry = Some entry; low = job.now.span.len; leaf = Some leaf } }

@@ -21,7 +21,7 @@ use rowex_table::{HotTable, TableSeat};
 /// Loads the epoch, straight after the publish of `store`, and marks with it the records `gone`, which that has unlinked. Then it unlocks
 /// the nodes `store.kept`, the first one first, and the anchor, if the root was stored. The pass has no record and no lock then.
 #[inline(always)]
-pub(crate) fn retire_records<G: Gate>(
+pub(crate) fn retire_and_unlock<G: Gate>(
     table: &HotTable,
     seat: &mut TableSeat,
     gate: &mut G,

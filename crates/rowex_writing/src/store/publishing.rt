@@ -24,7 +24,7 @@ use crate::build::kept::{Build, MOST_MADE};
 use crate::plan::Span;
 use crate::plan::job::{Job, Raised};
 use crate::store::Store;
-use crate::store::ending::retire_records;
+use crate::store::ending::retire_and_unlock;
 use arrayvec::ArrayVec;
 use bounded_vec::BoundedVec;
 use compound_node::Entry;
@@ -116,7 +116,7 @@ pub(crate) fn publish_entry<G: Gate>(
 {
     ready_records(table, seat, gate, &mut build.made);
     table.publish(seat, gate, store.spot, stored_word(store.entry));
-    retire_records(table, seat, gate, build.gone.as_slice(), store);
+    retire_and_unlock(table, seat, gate, build.gone.as_slice(), store);
 }
 
 /// Sets `build.gone` to the records that a change unlinks: those of the nodes of `steps`, and leaf record `leaf`, if there is one.

@@ -23,7 +23,7 @@ use Rattle.rowex_writing.proofs.attempts.Attempted.{busy_leafless, busy_roomy, f
 use Rattle.rowex_writing.proofs.merging.widening.Widening.{few_none, removal_changes}
 use Rattle.rowex_writing.proofs.attempts.make_removal.Given as given
 use Rattle.rowex_writing.proofs.attempts.make_removal.Goals as goal
-use Rattle.rowex_writing.proofs.attempts.make_removal.Goals.{After-put_in_place}
+use Rattle.rowex_writing.proofs.attempts.make_removal.Goals.{After-raised_for_leftover}
 
 -- ---- the leaf's node
 pub bounds-job-job : goal.bounds-job-job
@@ -65,13 +65,13 @@ load_without_leaf-requires-clause-place g c =
     (job.key.now, lowest_leads c.args.table.now c.args.seat.now m job number value b _ (low_step c.args.table.now c.args.seat.now m job number value b))
 
 -- ---- one entry is left
-pub put_in_place-requires : goal.put_in_place-requires
-put_in_place-requires g c =
+pub raised_for_leftover-requires : goal.raised_for_leftover-requires
+raised_for_leftover-requires g c =
     let (t, same) = is_taking c.args.table.now c.args.seat.now c.args.job.now c.requires.taken c.requires.some in record { found = (t.number, t.value, t.found) }
 
 -- what takes the place of the node then
-may_replace : (g : given.Over) (c : After-put_in_place g) → (x : Change) × (was : Option ℕ) × IsTakeChange c.args.seat.now.known.pass c.args.job.now.key.now c.args.job.now.found x was ×
-    MayReplace c.args.table.now c.load_without_leaf.new.seat c.clear.new.self.items c.args.job.now c.put_in_place.result x was
+may_replace : (g : given.Over) (c : After-raised_for_leftover g) → (x : Change) × (was : Option ℕ) × IsTakeChange c.args.seat.now.known.pass c.args.job.now.key.now c.args.job.now.found x was ×
+    MayReplace c.args.table.now c.load_without_leaf.new.seat c.clear.new.self.items c.args.job.now c.raised_for_leftover.result x was
 may_replace g c =
     let table = c.args.table.now in
     let job = c.args.job.now in
@@ -85,18 +85,18 @@ may_replace g c =
     (building_none table c.load_without_leaf.new.seat (seat_of table g.G.Gate.becomes (c.args.seat.now, c.args.gate.now) (c.load_without_leaf.new.seat, c.load_without_leaf.new.gate) reads.goes taken.seat)
     (goes_possible table g.G.Gate.becomes (c.args.seat.now, c.args.gate.now) (c.load_without_leaf.new.seat, c.load_without_leaf.new.gate) reads.goes taken.possible) (reads.own ∙ taken.own)) in
     let may = replaces_alone table c.args.seat.now m job number value b c.load_without_leaf.new.seat c.clear.new.self.items [] words h c.in-Some.entry (reads.goes.stays.0, reads.goes.stays.1, reads.goes.stays.2) building
-    (one c.in-Some.entry left.0) (word_of c.in-Some.entry c.put_in_place.ensures.number (entry_height c.in-Some.entry left.1)) (omega (arith, ap length c.clear.ensures)) in
+    (one c.in-Some.entry left.0) (word_of c.in-Some.entry c.raised_for_leftover.ensures.number (entry_height c.in-Some.entry left.1)) (omega (arith, ap length c.clear.ensures)) in
     let change = removed_change c.args.seat.now.known.pass (item number job.key.now value) in (
       change,
       Some value,
       subst (λ f. IsTakeChange c.args.seat.now.known.pass job.key.now f change (Some value)) (sym is) (refl, refl),
-      subst (λ (r : Raised). MayReplace table c.load_without_leaf.new.seat c.clear.new.self.items job r change (Some value)) (sym (c.put_in_place.ensures.same number value is)) may,
+      subst (λ (r : Raised). MayReplace table c.load_without_leaf.new.seat c.clear.new.self.items job r change (Some value)) (sym (c.raised_for_leftover.ensures.same number value is)) may,
     )
 
 pub publish_change-requires : goal.publish_change-requires
 publish_change-requires g c =
     let reads = c.load_without_leaf.ensures.reads in
-    let (x, was, is, may) = may_replace g (goal.at.publish_change-requires g c).After-put_in_place in
+    let (x, was, is, may) = may_replace g (goal.at.publish_change-requires g c).After-raised_for_leftover in
     record {
       held = holds_on c.args.table.now g.G.Gate.becomes (c.args.seat.now, c.args.gate.now) (c.load_without_leaf.new.seat, c.load_without_leaf.new.gate) c.args.job.now Take reads.goes c.requires.taken;
       may = (x, was, may);
@@ -107,7 +107,7 @@ pub returns-in-Some-clause-run : goal.returns-in-Some-clause-run
 returns-in-Some-clause-run g c =
     let table = c.args.table.now in
     let (t, same) = is_taking table c.args.seat.now c.args.job.now c.requires.taken c.requires.some in
-    let gone = ap (λ (r : Raised). length (leaf_gone r.leaf)) (c.put_in_place.ensures.same t.number t.value t.found) in
+    let gone = ap (λ (r : Raised). length (leaf_gone r.leaf)) (c.raised_for_leftover.ensures.same t.number t.value t.found) in
     removal_changes table g.G.Gate.becomes c.args.job.now t 0 NODE_FIELDS 84 (c.args.seat.now, c.args.gate.now) (c.load_without_leaf.new.seat, c.load_without_leaf.new.gate) (c.publish_change.new.seat, c.publish_change.new.gate) (omega arith)
     (goes_run table g.G.Gate.becomes (c.args.seat.now, c.args.gate.now) (c.load_without_leaf.new.seat, c.load_without_leaf.new.gate) c.load_without_leaf.ensures.reads.goes) (omega (arith, c.load_without_leaf.ensures.few))
     (few_none table g.G.Gate.becomes (span_numbers c.args.job.now.way.now c.args.job.now.span) 0 84 (c.load_without_leaf.new.seat, c.load_without_leaf.new.gate) (c.publish_change.new.seat, c.publish_change.new.gate) c.publish_change.ensures.run
@@ -115,14 +115,14 @@ returns-in-Some-clause-run g c =
 
 pub returns-in-Some-clause-done : goal.returns-in-Some-clause-done
 returns-in-Some-clause-done g c = λ ok.
-    let (x, was, is, may) = may_replace g (goal.at.returns-in-Some-clause-done g c).After-put_in_place in
+    let (x, was, is, may) = may_replace g (goal.at.returns-in-Some-clause-done g c).After-raised_for_leftover in
     (x, was, is, changed_since c.args.seat.now.known c.load_without_leaf.new.seat.known c.publish_change.new.seat.known x was c.load_without_leaf.ensures.reads.goes.stays.0 (c.publish_change.ensures.changed x was may))
 
 pub returns-in-Some-clause-spares : goal.returns-in-Some-clause-spares
 returns-in-Some-clause-spares g c = λ had.
     let (t, same) = is_taking c.args.table.now c.args.seat.now c.args.job.now c.requires.taken c.requires.some in
-    let low = ap (λ (r : Raised). r.low) (c.put_in_place.ensures.same t.number t.value t.found) in
-    let (n, at) = gone_node c.args.job.now.way.now c.args.job.now.span c.put_in_place.result (omega (arith, low, t.below.last)) (omega (arith, low)) t.below.taken.within.1 in c.publish_change.ensures.spares (by_gone n at)
+    let low = ap (λ (r : Raised). r.low) (c.raised_for_leftover.ensures.same t.number t.value t.found) in
+    let (n, at) = gone_node c.args.job.now.way.now c.args.job.now.span c.raised_for_leftover.result (omega (arith, low, t.below.last)) (omega (arith, low)) t.below.taken.within.1 in c.publish_change.ensures.spares (by_gone n at)
 
 -- ---- a record is claimed
 pub claim_for_leftover-requires-clause-takes : goal.claim_for_leftover-requires-clause-takes

@@ -22,8 +22,8 @@ fill_node-requires-clause-held g c = claimed_held c.requires.claimed
 pub fill_node-requires-clause-spelling : goal.fill_node-requires-clause-spelling
 fill_node-requires-clause-spelling g c = let left = c.requires.left.built in (left.node, left.has, left.spells)
 
-pub put_in_place-requires : goal.put_in_place-requires
-put_in_place-requires g c = let t = c.requires.still.0 in record { found = (t.number, t.value, t.found) }
+pub raised_for_leftover-requires : goal.raised_for_leftover-requires
+raised_for_leftover-requires g c = let t = c.requires.still.0 in record { found = (t.number, t.value, t.found) }
 
 pub returns-clause-goes : goal.returns-clause-goes
 returns-clause-goes g c = set_all_on c.args.table.now g.G.Gate.becomes _ _ _ _ c.fill_node.ensures.fills
@@ -48,12 +48,12 @@ returns-clause-may g c =
     let x = removed_change t.before.known.pass (item t.number job.key.now t.value) in
     let may = replaces_alone table t.before t.since job t.number t.value t.below c.fill_node.new.seat c.push.new.self.items (made_of_node n left.node ∷ []) c.requires.left.words
     (locked_on c.args.seat.now.known t.before.known (lower job).number c.requires.left.words (sym locks) c.requires.left.has) (Node n c.read_numbers.result.height) (later_transitive t.before.known c.args.seat.now.known c.fill_node.new.seat.known later goes.stays.0, goes.stays.1 ∙ locks, goes.stays.2 ∙ anchor) building side
-    (word_of (Node n c.read_numbers.result.height) c.put_in_place.ensures.number tall) (omega (arith, ap length made)) in (
+    (word_of (Node n c.read_numbers.result.height) c.raised_for_leftover.ensures.number tall) (omega (arith, ap length made)) in (
       x,
       Some t.value,
       subst (λ f. IsTakeChange c.args.seat.now.known.pass job.key.now f x (Some t.value)) (sym t.found) (ap (λ q. removed_change q (item t.number job.key.now t.value)) (sym later.pass), refl),
-      subst (λ (r : Raised). MayReplace table c.fill_node.new.seat c.push.new.self.items job r x (Some t.value)) (sym (c.put_in_place.ensures.same t.number t.value t.found)) may,
+      subst (λ (r : Raised). MayReplace table c.fill_node.new.seat c.push.new.self.items job r x (Some t.value)) (sym (c.raised_for_leftover.ensures.same t.number t.value t.found)) may,
     )
 
 pub returns-clause-low : goal.returns-clause-low
-returns-clause-low g c = let t = c.requires.still.0 in ap (λ (r : Raised). r.low) (c.put_in_place.ensures.same t.number t.value t.found)
+returns-clause-low g c = let t = c.requires.still.0 in ap (λ (r : Raised). r.low) (c.raised_for_leftover.ensures.same t.number t.value t.found)

@@ -56,15 +56,15 @@ returns-clause-raised g c = λ m number value b.
     let low : IsRaised c.in-Some.entry = left_raised table.layout c.args.seat.now.known _ words job.key.now c.in-Some.entry news b.taken.possible h side in
     let word : HasEntryWord (Some c.in-Some.entry) = search (rules, low) in
     subst (λ r. MayReplace table c.make_entry_without_leaf.new.seat c.make_entry_without_leaf.new.build.made.items job r (removed_change c.args.seat.now.known.pass (item number job.key.now value)) (Some value))
-    (sym (c.put_in_place.ensures.same number value b.is_found))
+    (sym (c.raised_for_leftover.ensures.same number value b.is_found))
     (replaces_alone table c.args.seat.now m job number value b c.make_entry_without_leaf.new.seat c.make_entry_without_leaf.new.build.made.items news words h c.in-Some.entry (let stays = c.make_entry_without_leaf.ensures.makes.goes.stays in (stays.0, stays.1, stays.2)) building side word
     (omega (arith, ap length none, c.make_entry_without_leaf.ensures.makes.more)))
 
-pub put_in_place-requires : goal.put_in_place-requires
-put_in_place-requires g c = let (m, number, value, b) = c.requires.below in record { found = (number, value, b.is_found) }
+pub raised_for_leftover-requires : goal.raised_for_leftover-requires
+raised_for_leftover-requires g c = let (m, number, value, b) = c.requires.below in record { found = (number, value, b.is_found) }
 
 pub returns-clause-lowest : goal.returns-clause-lowest
-returns-clause-lowest g c = let (m, number, value, b) = c.requires.below in ap (λ (r : Raised). r.low) (c.put_in_place.ensures.same number value b.is_found)
+returns-clause-lowest g c = let (m, number, value, b) = c.requires.below in ap (λ (r : Raised). r.low) (c.raised_for_leftover.ensures.same number value b.is_found)
 
 pub make_entry_without_leaf-requires-clause-building : goal.make_entry_without_leaf-requires-clause-building
 make_entry_without_leaf-requires-clause-building g c =

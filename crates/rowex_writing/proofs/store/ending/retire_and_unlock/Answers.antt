@@ -3,7 +3,7 @@ use Rattle.rowex_writing.proofs.Common.{◌∙◌, arith, LoadEpoch, Unlock, Anc
 use Rattle.rowex_writing.proofs.locks.Locks.{works_one, works_more, works_seat}
 use Rattle.rowex_writing.proofs.locks.Spans.{locked_same}
 use Rattle.rowex_writing.proofs.store.Retiring.{due_first}
-use Rattle.rowex_writing.proofs.store.ending.retire_records.Goals as goal
+use Rattle.rowex_writing.proofs.store.ending.retire_and_unlock.Goals as goal
 
 pub mark_records-requires-clause-due : goal.mark_records-requires-clause-due
 mark_records-requires-clause-due g c =
