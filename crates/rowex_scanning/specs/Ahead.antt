@@ -21,11 +21,11 @@ use Rattle.rowex_scanning.specs.declared.scan.Verdict.{Verdict}
 use Rattle.rowex_scanning.specs.declared.scan.Verdict.TheVariants.{Further, Past as IsPast, Full}
 
 -- the node has entries in all slots that are to come
-abbrev pub HasPlaces : Direction → Known → ℕ → PathNode → Type 0
-HasPlaces direction known m top =
-    (i : ℕ) → i < to_come direction top.count top.slot → HasPlace known m top.number top.height (place_ahead direction top.slot i)
+abbrev pub HasPlaces : (direction : Direction) → (known : Known) → (version : ℕ) → (top : PathNode) → Type 0
+HasPlaces direction known version top =
+    (i : ℕ) → i < to_come direction top.count top.slot → HasPlace known version top.number top.height (place_ahead direction top.slot i)
 
--- What leads from a slot to the next one in a direction, modulo 256.
+-- what is added to a slot, modulo 256, to come to the next one in this direction
 abbrev pub slot_step : Direction → ℕ
 slot_step Upwards = 1
 slot_step Downwards = 255
@@ -41,48 +41,53 @@ abbrev pub entries_ahead : Ahead → ℕ
 entries_ahead ahead = ahead.count + length (option_to_list ahead.node)
 
 -- the pass is sure that the first `count` of these leaves stood in the next slots, in this order
-abbrev pub AreAhead : Direction → Known → ℕ → PathNode → ℕ → List ℕ → Type 0
-AreAhead direction known m top count leaves =
-    (i : ℕ) → i < count → Sure known (λ past. IsPlaced past m top.number (place_ahead direction top.slot i) (Leaf (slice_index leaves i)))
+abbrev pub AreAhead : (direction : Direction) → (known : Known) → (version : ℕ) → (top : PathNode) → (count : ℕ) → (leaves : List ℕ) →
+    Type 0
+AreAhead direction known version top count leaves =
+    (i : ℕ) → i < count → Sure known (λ past. IsPlaced past version top.number (place_ahead direction top.slot i) (Leaf (slice_index leaves i)))
 
 -- the pass is sure that this node, which is lower, stood in the slot behind the next `count`
-abbrev pub IsNodeAhead : Direction → Known → ℕ → PathNode → ℕ → ℕ → Type 0
-IsNodeAhead direction known m top count n =
-    (height : ℕ) × (height < top.height) × Sure known (λ past. IsPlaced past m top.number (place_ahead direction top.slot count) (Node n height))
+abbrev pub IsNodeAhead : (direction : Direction) → (known : Known) → (version : ℕ) → (top : PathNode) → (count number : ℕ) → Type 0
+IsNodeAhead direction known version top count number =
+    (height : ℕ) × (height < top.height) ×
+    Sure known (λ past. IsPlaced past version top.number (place_ahead direction top.slot count) (Node number height))
 
 -- the records of the first `count` leaves begin at these words
-abbrev pub FirstLeavesBeginAt : Layout → ℕ → List ℕ → List ℕ → Type 0
+abbrev pub FirstLeavesBeginAt : (layout : Layout) → (count : ℕ) → (leaves starts : List ℕ) → Type 0
 FirstLeavesBeginAt layout count leaves starts = (i : ℕ) → i < count → IsStartOf layout (a_leaf (slice_index leaves i)) (slice_index starts i)
 
 -- the records of all leaves begin at these words
-abbrev pub LeavesBeginAt : Layout → List ℕ → List ℕ → Type 0
+abbrev pub LeavesBeginAt : (layout : Layout) → (leaves starts : List ℕ) → Type 0
 LeavesBeginAt layout leaves starts = (length starts ≡ length leaves) × FirstLeavesBeginAt layout (length leaves) leaves starts
 
 -- The pass is sure of the entries in the next slots: those of the leaves, and then of the node, if there is one.
-pub record HasSeenAhead (direction : Direction) (known : Known) (m : ℕ) (top : PathNode) (ahead : Ahead) : Type 0 where
-  pub first : AreAhead direction known m top ahead.count ahead.leaves
-  pub node : IfSome ahead.node (IsNodeAhead direction known m top ahead.count)
+pub record HasSeenAhead (direction : Direction) (known : Known) (version : ℕ) (top : PathNode) (ahead : Ahead) : Type 0 where
+  pub first : AreAhead direction known version top ahead.count ahead.leaves
+  pub node : IfSome ahead.node (IsNodeAhead direction known version top ahead.count)
 
 -- From a gap of this node, with `size` pairs so far, the walk has passed `count` leaves. It stands behind them, with their pairs.
-pub record HavePassed (known : Known) (m : ℕ) (request : Request) (frames : List PathNode) (top : PathNode) (size count : ℕ) (tally : Tally) : Type 0 where
+pub record HavePassed (known : Known) (version : ℕ) (request : Request) (frames : List PathNode) (top : PathNode) (size count : ℕ)
+    (tally : Tally) : Type 0 where
   pub more : tally.size ≡ size + count
-  pub walk : IsWalk known m request (record top { slot = gap_after request.0 top.slot count }) frames tally
-  pub bound : IsBound request.0 known m (first_key request.0 request.1) (record top { slot = gap_after request.0 top.slot count }) frames
+  pub walk : IsWalk known version request (record top { slot = gap_after request.0 top.slot count }) frames tally
+  pub bound : IsBound request.0 known version (first_key request.0 request.1) (record top { slot = gap_after request.0 top.slot count }) frames
 
 -- What became of a scan at some leaves. It has passed all of them, or has ended at one, and there is a further key or not.
-abbrev pub AreTaken : Type 0 → (Bool → Type 0) → Verdict → Type 0
+abbrev pub AreTaken : (Passed : Type 0) → (Ended : Bool → Type 0) → (verdict : Verdict) → Type 0
 AreTaken Passed Ended Further = Passed
 AreTaken Passed Ended IsPast = Ended false
 AreTaken Passed Ended Full = Ended true
 
--- A walk is at a gap of this node on this path, with such pairs so far. These leaves come next in the node.
+-- A walk is at a gap of the node `top`, to which this path leads, and the tally tells its pairs so far. These leaves come next in the node.
 pub record AreNext (known : Known) (request : Request) (top : PathNode) (frames : List PathNode) (tally : Tally) (leaves : List ℕ) : Type 0 where
   pub bound : IsBoundWalk known (since known) request top frames tally
   pub ahead : AreAhead request.0 known (since known) top (length leaves) leaves
   pub come : length leaves ≤ to_come request.0 top.count top.slot
 
--- What became of these leaves on each path on which they came next, since the last load of the root.
-abbrev pub AreTakenOnWays : Known → Known → Request → Tally → List ℕ → Tally → Verdict → Type 0
+-- What became of these leaves on each path on which they came next. The walk has passed all of them, or the scan has ended, as the verdict
+-- says.
+abbrev pub AreTakenOnWays : (old new : Known) → (request : Request) → (before : Tally) → (leaves : List ℕ) → (later : Tally) →
+    (verdict : Verdict) → Type 0
 AreTakenOnWays old new request before leaves later verdict =
     (top : PathNode) (frames : List PathNode) → AreNext old request top frames before leaves →
     AreTaken (HavePassed new (since old) request frames top before.size (length leaves) later) (HasTaken request.0 new request.1 later) verdict
@@ -95,21 +100,21 @@ pub record AreBehindGap (known : Known) (request : Request) (top : PathNode) (le
   pub come : length leaves ≤ to_come request.0 top.count top.slot
 
 -- the pass is sure that the keys of the first `count` leaves belong to the range, whatever they are
-abbrev pub AreWithin : Known → ℕ → Range → List ℕ → ℕ → Type 0
-AreWithin known m range leaves count =
-    (i : ℕ) → i < count → Sure known (λ past. (key : Key) (value : ℕ) → IsRead past m (slice_index leaves i) key value → IsInRange range key)
+abbrev pub AreWithin : (known : Known) → (version : ℕ) → (range : Range) → (leaves : List ℕ) → (count : ℕ) → Type 0
+AreWithin known version range leaves count =
+    (i : ℕ) → i < count → Sure known (λ past. (key : Key) (value : ℕ) → IsRead past version (slice_index leaves i) key value → IsInRange range key)
 
 -- the pass is sure that the leaf's key is past the range
-abbrev pub IsLeafPast : Known → ℕ → Request → ℕ → Type 0
-IsLeafPast known m request number =
-    Sure known (λ past. (key : Key) × (value : ℕ) × IsRead past m number key value × IsEarlier request.0 (last_key request.0 request.1) key)
+abbrev pub IsLeafPast : (known : Known) → (version : ℕ) → (request : Request) → (number : ℕ) → Type 0
+IsLeafPast known version request number =
+    Sure known (λ past. (key : Key) × (value : ℕ) × IsRead past version number key value × IsEarlier request.0 (last_key request.0 request.1) key)
 
 -- the pass is sure that the leaf's key isn't past the range
-abbrev pub IsLeafNotPast : Known → ℕ → Request → ℕ → Type 0
-IsLeafNotPast known m request number =
-    Sure known (λ past. (key : Key) × (value : ℕ) × IsRead past m number key value × IsNoLater request.0 key (last_key request.0 request.1))
+abbrev pub IsLeafNotPast : (known : Known) → (version : ℕ) → (request : Request) → (number : ℕ) → Type 0
+IsLeafNotPast known version request number =
+    Sure known (λ past. (key : Key) × (value : ℕ) × IsRead past version number key value × IsNoLater request.0 key (last_key request.0 request.1))
 
 -- The first `count` of these leaves belong to the range. The next one, if there is one, is past it.
-pub record AreParted (known : Known) (m : ℕ) (request : Request) (leaves : List ℕ) (count : ℕ) : Type 0 where
-  pub within : AreWithin known m request.1 leaves count
-  pub past : count < length leaves → IsLeafPast known m request (slice_index leaves count)
+pub record AreParted (known : Known) (version : ℕ) (request : Request) (leaves : List ℕ) (count : ℕ) : Type 0 where
+  pub within : AreWithin known version request.1 leaves count
+  pub past : count < length leaves → IsLeafPast known version request (slice_index leaves count)

@@ -9,7 +9,7 @@ use Rattle.rowex_scanning.specs.declared.ahead.TheConstants.{MOST_AHEAD}
 
 -- How many entries the walk of a scan loads at most: one for each node that it enters, and for each leaf that it reads. A node has two
 -- entries or more. So it enters as many nodes as it reads leaves, and at most two more for each node on its path.
-abbrev pub walk_entries : ℕ → ℕ
+abbrev pub walk_entries : (limit : ℕ) → ℕ
 walk_entries limit = 2 * (9 * MAX_BYTES) + 2 * limit + 1
 
 -- How many loads a walk makes, of which so many are of entries. They are at most 26 for each entry, with the head of the node to which it
@@ -19,11 +19,12 @@ pub record AreWalkLoads (beside limit entries loads : ℕ) : Type 0 where
   pub few : loads ≤ beside + 26 * entries + 8 * (limit + 1)
 
 -- the pass makes the loads of a walk with this limit, and `beside` others
-abbrev pub Walks : {G : Type 0} → TableView → (G → Event → G → Type 0) → (beside limit : ℕ) → SeatView × G → SeatView × G → Type 0
+abbrev pub Walks : {G : Type 0} → (table : TableView) → (becomes : G → Event → G → Type 0) → (beside limit : ℕ) → (old new : SeatView × G) →
+    Type 0
 Walks table becomes beside limit old new = (loads entries : ℕ) × AreWalkLoads beside limit entries loads × Reads table becomes entries loads old new
 
 -- how many entries a scan loads at most: one in each node on the path of its search, and those of its walk
-abbrev pub scan_entries : ℕ → ℕ
+abbrev pub scan_entries : (limit : ℕ) → ℕ
 scan_entries limit = 9 * MAX_BYTES + walk_entries limit
 
 -- How many loads a scan makes below the root at most, by the entries that it loads. Beside those of its walk, its search has read a leaf,
@@ -37,11 +38,11 @@ pub record AreScanLoads (limit entries loads : ℕ) : Type 0 where
   pub few : loads ≤ loads_by limit entries
 
 -- the pass loads the root, and makes no more loads below it than a scan with this limit may
-abbrev pub Scans : {G : Type 0} → TableView → (G → Event → G → Type 0) → ℕ → SeatView × G → SeatView × G → Type 0
+abbrev pub Scans : {G : Type 0} → (table : TableView) → (becomes : G → Event → G → Type 0) → (limit : ℕ) → (old new : SeatView × G) → Type 0
 Scans table becomes limit old new = (loads entries : ℕ) × AreScanLoads limit entries loads × Looks table becomes entries loads old new
 
 -- how many loads a scan with this limit makes below the root at most, whatever it finds
-abbrev pub scan_loads : ℕ → ℕ
+abbrev pub scan_loads : (limit : ℕ) → ℕ
 scan_loads limit = loads_by limit (scan_entries limit)
 
 -- The limit that bounds the loads of a walk that took so many pairs. It has looked at 16 leaves more at most.

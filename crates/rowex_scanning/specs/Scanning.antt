@@ -39,59 +39,60 @@ first_key_of asked = first_key asked.direction (asked_range asked)
 abbrev pub last_key_of : Asked → Key
 last_key_of asked = last_key asked.direction (asked_range asked)
 
--- The pass is sure that a scan gives pairs that the tally tells, since its last load of the root. It is sure whether there is a further
--- one.
-abbrev pub HasTaken : Direction → Known → Range → Tally → Bool → Type 0
+-- The pass is sure that a scan of the range gives pairs that the tally tells, since its last load of the root. It is sure, too, whether a
+-- further pair follows, as `more` says.
+abbrev pub HasTaken : (direction : Direction) → (known : Known) → (range : Range) → (tally : Tally) → (more : Bool) → Type 0
 HasTaken direction known range tally more =
     Sure known (λ past. (taken : List Pair) × AreTallied tally taken × IsAnswer direction past (since known) range taken more)
 
 -- the range with another limit
-abbrev pub limited : Range → ℕ → Range
+abbrev pub limited : (range : Range) → (limit : ℕ) → Range
 limited range limit = record range { limit = limit }
 
 -- Memory was refused. The pairs are fewer than the limit, and the pass is sure of them as of a scan that was cut at their number.
-abbrev pub HasTakenPart : Direction → Known → Range → Tally → Type 0
+abbrev pub HasTakenPart : (direction : Direction) → (known : Known) → (range : Range) → (tally : Tally) → Type 0
 HasTakenPart direction known range tally = (tally.size < range.limit) × HasTaken direction known (limited range tally.size) tally true
 
--- The pass is sure that a scan gives these pairs, since its last load of the root. It is sure whether there is a further one.
+-- The pass is sure that a scan of the range gives these pairs, since its last load of the root. It is sure, too, whether a further pair
+-- follows, as `more` says.
 pub record HasScanned (direction : Direction) (known : Known) (range : Range) (pairs : List (Key × ℕ)) (more : Bool) : Type 0 where
   pub taken : List Pair
   pub pairs_are : pairs ≡ in_order_taken taken
   pub answer : Sure known (λ past. IsAnswer direction past (since known) range taken more)
 
 -- A scan was cut at the number of these pairs, which is below its limit. It has listed them, and there were more.
-abbrev pub HasScannedPart : Direction → Known → Range → List (Key × ℕ) → Type 0
+abbrev pub HasScannedPart : (direction : Direction) → (known : Known) → (range : Range) → (pairs : List (Key × ℕ)) → Type 0
 HasScannedPart direction known range pairs = (length pairs < range.limit) × HasScanned direction known (limited range (length pairs)) pairs true
 
--- What became of a pair with this key and value that doesn't come before the range. It belonged to the range, or was past it, or belonged
--- to it and there was no room.
-abbrev pub IsPairTaken : Request → Tally → Key → ℕ → Tally → Verdict → Type 0
-IsPairTaken (d, g) old key v new Further = IsInRange g key × (old.size ≢ g.limit) × IsOneMore old key v new
-IsPairTaken (d, g) old key v new IsPast = IsEarlier d (last_key d g) key × IsKept old new
-IsPairTaken (d, g) old key v new Full = IsInRange g key × (old.size ≡ g.limit) × IsKept old new
+-- The verdict on a pair that does not come before the range. Further: the pair is in the range, and the tally tells it now. Past: the pair
+-- is past the range. Full: the pair is in the range, and the limit is reached.
+abbrev pub IsPairTaken : (request : Request) → (old : Tally) → (key : Key) → (value : ℕ) → (new : Tally) → (verdict : Verdict) → Type 0
+IsPairTaken (direction, range) old key value new Further = IsInRange range key × (old.size ≢ range.limit) × IsOneMore old key value new
+IsPairTaken (direction, range) old key value new IsPast = IsEarlier direction (last_key direction range) key × IsKept old new
+IsPairTaken (direction, range) old key value new Full = IsInRange range key × (old.size ≡ range.limit) × IsKept old new
 
 -- The leaf has been read, and its pair was taken or not as the verdict says.
 pub record IsLeafTaken (old new : Known) (request : Request) (number : ℕ) (before later : Tally) (verdict : Verdict) : Type 0 where
   pub key : Key
   pub value : ℕ
-  pub read : (m : ℕ) → IsLedTo old m (Leaf number) → Sure new (λ past. IsRead past m number key value)
+  pub read : (version : ℕ) → IsLedTo old version (Leaf number) → Sure new (λ past. IsRead past version number key value)
   pub taken : IsPairTaken request before key value later verdict
 
 -- Memory was refused for a pair with this key, which belonged to the range. By the limit there was room for it.
-abbrev pub IsPairRefused : Range → Tally → Key → Tally → Type 0
+abbrev pub IsPairRefused : (range : Range) → (old : Tally) → (key : Key) → (new : Tally) → Type 0
 IsPairRefused range old key new = IsInRange range key × (old.size ≢ range.limit) × IsKept old new
 
 -- The leaf has been read, and memory was refused for its pair.
 pub record IsLeafRefused (old new : Known) (range : Range) (number : ℕ) (before later : Tally) : Type 0 where
   pub key : Key
   pub value : ℕ
-  pub read : (m : ℕ) → IsLedTo old m (Leaf number) → Sure new (λ past. IsRead past m number key value)
+  pub read : (version : ℕ) → IsLedTo old version (Leaf number) → Sure new (λ past. IsRead past version number key value)
   pub refused : IsPairRefused range before key later
 
 -- The leaf's key, whenever the pass reads it, does not come before `first`.
-abbrev pub IsReached : Direction → Layout → Known → ℕ → Key → ℕ → Type 0
-IsReached direction layout old m first number =
-    (new : Known) → IsLater old new → IsPossible layout new → (key : Key) (value : ℕ) → Sure new (λ past. IsRead past m number key value) →
+abbrev pub IsReached : (direction : Direction) → (layout : Layout) → (old : Known) → (version : ℕ) → (first : Key) → (number : ℕ) → Type 0
+IsReached direction layout old version first number =
+    (new : Known) → IsLater old new → IsPossible layout new → (key : Key) (value : ℕ) → Sure new (λ past. IsRead past version number key value) →
     IsNoLater direction first key
 
 -- a node on the path of a walk, without its forks
@@ -104,19 +105,20 @@ frames_of [] = []
 frames_of (f ∷ fs) = frames_of fs ++ frame f ∷ []
 
 -- The pass went to a node of this height. It has read the node's forks, and all entries are to come.
-pub record IsEntered (direction : Direction) (known : Known) (m : ℕ) (n h : ℕ) (top : PathNode) : Type 0 where
+pub record IsEntered (direction : Direction) (known : Known) (version : ℕ) (number height : ℕ) (top : PathNode) : Type 0 where
   pub forks : Subtrie
-  pub top_is : top ≡ frame (record { number = n; height = h; shape = forks; place = first_gap direction (size forks) })
+  pub top_is : top ≡ frame (record { number = number; height = height; shape = forks; place = first_gap direction (size forks) })
   pub room : size forks ≤ 32
-  pub shaped : Sure known (λ past. HadShapeSince past m n forks)
+  pub shaped : Sure known (λ past. HadShapeSince past version number forks)
 
 -- each node of the path has at most 32 entries, and the scan is at one of them
 abbrev pub AreInside : List Stage → Type 0
 AreInside [] = Unit {0}
 AreInside (f ∷ fs) = (f.place < size f.shape) × (size f.shape ≤ 32) × AreInside fs
 
--- Where a walk is: at a gap of the topmost frame, with such pairs so far.
-pub record IsWalk (known : Known) (m : ℕ) (request : Request) (top : PathNode) (frames : List PathNode) (tally : Tally) : Type 0 where
+-- A walk is at a gap of the node `top`, to which this path leads. The pass is sure that a scan that stands there has taken pairs that the
+-- tally tells.
+pub record IsWalk (known : Known) (version : ℕ) (request : Request) (top : PathNode) (frames : List PathNode) (tally : Tally) : Type 0 where
   pub lowest : Stage
   pub others : List Stage
   pub top_is : top ≡ frame lowest
@@ -124,28 +126,30 @@ pub record IsWalk (known : Known) (m : ℕ) (request : Request) (top : PathNode)
   pub room : size lowest.shape ≤ 32
   pub fits : lowest.place ≤ size lowest.shape
   pub inside : AreInside others
-  pub pinned : IsPinnedSince known m
-  pub scan : Sure known (λ past. IsTalliedScan request.0 past m request.1 (lowest ∷ others) tally)
+  pub pinned : IsPinnedSince known version
+  pub scan : Sure known (λ past. IsTalliedScan request.0 past version request.1 (lowest ∷ others) tally)
 
 -- The pass is sure that all keys behind the slots of these frames come later than this key.
-abbrev pub ArePastKey : Direction → Known → ℕ → Key → List PathNode → Type 0
-ArePastKey direction known m key [] = Unit {0}
-ArePastKey direction known m key (f ∷ fs) =
-    Sure known (λ past. IsPastKey direction past m key f.number (gap_behind direction f.slot)) × ArePastKey direction known m key fs
+abbrev pub ArePastKey : (direction : Direction) → (known : Known) → (version : ℕ) → (key : Key) → (frames : List PathNode) → Type 0
+ArePastKey direction known version key [] = Unit {0}
+ArePastKey direction known version key (node ∷ frames) =
+    Sure known (λ past. IsPastKey direction past version key node.number (gap_behind direction node.slot)) × ArePastKey direction known version key frames
 
 -- The pass is sure that all keys behind the topmost frame's gap, and behind the slots of the others, come later than this key.
-pub record IsBound (direction : Direction) (known : Known) (m : ℕ) (key : Key) (top : PathNode) (frames : List PathNode) : Type 0 where
-  pub there : Sure known (λ past. IsPastKey direction past m key top.number top.slot)
-  pub above : ArePastKey direction known m key frames
+pub record IsBound (direction : Direction) (known : Known) (version : ℕ) (key : Key) (top : PathNode) (frames : List PathNode) : Type 0 where
+  pub there : Sure known (λ past. IsPastKey direction past version key top.number top.slot)
+  pub above : ArePastKey direction known version key frames
 
--- The walk is at a gap of this node on this path, with such pairs so far. What stands behind it comes later than the range's first key.
-abbrev pub IsBoundWalk : Known → ℕ → Request → PathNode → List PathNode → Tally → Type 0
-IsBoundWalk known m request top frames tally =
-    IsWalk known m request top frames tally × IsBound request.0 known m (first_key request.0 request.1) top frames
+-- A walk is at a gap of the node `top`, to which this path leads, and the tally tells its pairs so far. What stands behind the gap comes
+-- later than the range's first key.
+abbrev pub IsBoundWalk : (known : Known) → (version : ℕ) → (request : Request) → (top : PathNode) → (frames : List PathNode) →
+    (tally : Tally) → Type 0
+IsBoundWalk known version request top frames tally =
+    IsWalk known version request top frames tally × IsBound request.0 known version (first_key request.0 request.1) top frames
 
 -- The walk is at a gap of the last node of this path, as `IsBoundWalk` says.
-pub record IsWalkAlong (known : Known) (m : ℕ) (request : Request) (way : List PathNode) (tally : Tally) : Type 0 where
+pub record IsWalkAlong (known : Known) (version : ℕ) (request : Request) (way : List PathNode) (tally : Tally) : Type 0 where
   pub top : PathNode
   pub frames : List PathNode
   pub way_is : way ≡ frames ++ top ∷ []
-  pub bound : IsBoundWalk known m request top frames tally
+  pub bound : IsBoundWalk known version request top frames tally

@@ -17,14 +17,17 @@ use Rattle.rowex_reading.specs.declared.descent.Found.TheVariants.{Leaf as Found
 use Rattle.rowex_scanning.specs.declared.start.SearchEnd.{SearchEnd}
 use Rattle.rowex_scanning.specs.declared.start.Start.{Start}
 
--- The search for the key has gone along this path since version m, through one node at least, and ended at this leaf.
-abbrev pub IsSearchEnd : Layout → Known → ℕ → Key → List PathNode → SearchEnd → Type 0
-IsSearchEnd layout known m key way found =
-    (0 < length way) × (value : ℕ) × IsWayOf layout known m key way (FoundLeaf found.number value found.mismatch)
+-- The search for the key, which loaded the root at this version, has gone along this path, through one node at least. It has ended at this
+-- leaf.
+abbrev pub IsSearchEnd : (layout : Layout) → (known : Known) → (version : ℕ) → (key : Key) → (way : List PathNode) → (found : SearchEnd) →
+    Type 0
+IsSearchEnd layout known version key way found =
+    (0 < length way) × (value : ℕ) × IsWayOf layout known version key way (FoundLeaf found.number value found.mismatch)
 
--- The leaf at which the search has ended stands in the topmost frame's slot. Its key does not come before this one, and all that is behind
+-- The leaf at which the search has ended stands in the slot of `top`. Its key does not come before the key sought, and all that is behind
 -- it comes later.
-pub record IsFirst (direction : Direction) (known : Known) (since : ℕ) (key : Key) (number : ℕ) (top : PathNode) (frames : List PathNode) : Type 0 where
+pub record IsFirst (direction : Direction) (known : Known) (since : ℕ) (key : Key) (number : ℕ) (top : PathNode)
+    (frames : List PathNode) : Type 0 where
   pub found : Key
   pub value : ℕ
   pub inside : top.slot < top.count
@@ -34,24 +37,27 @@ pub record IsFirst (direction : Direction) (known : Known) (since : ℕ) (key : 
   pub bound : IsBound direction known since key (record top { slot = gap_behind direction top.slot }) frames
 
 -- the walk of any scan that starts at the key stands here, with no pairs so far
-abbrev pub IsWalkFrom : Direction → Known → ℕ → Key → PathNode → List PathNode → Type 0
+abbrev pub IsWalkFrom : (direction : Direction) → (known : Known) → (since : ℕ) → (key : Key) → (top : PathNode) →
+    (frames : List PathNode) → Type 0
 IsWalkFrom direction known since key top frames =
     (range : Range) → first_key direction range ≡ key → IsWalk known since (direction, range) top frames (tally_of_number 0)
 
--- The scan starts before the leaf at which the search has ended, or at a gap.
-abbrev pub IsBegun : Direction → Known → ℕ → Key → ℕ → List PathNode → Start → Type 0
-IsBegun direction known m key number frames start = MatchBool start.leaf
-    (IsFirst direction known m key number start.top frames ×
-    IsWalkFrom direction known m key (record start.top { slot = gap_before direction start.top.slot }) frames)
-    (IsBound direction known m key start.top frames × IsWalkFrom direction known m key start.top frames)
+-- The scan starts at the node `start.top`, before the leaf at which the search has ended, or at a gap.
+abbrev pub IsBegun : (direction : Direction) → (known : Known) → (version : ℕ) → (key : Key) → (number : ℕ) → (frames : List PathNode) →
+    (start : Start) → Type 0
+IsBegun direction known version key number frames start = MatchBool start.leaf
+    (IsFirst direction known version key number start.top frames ×
+    IsWalkFrom direction known version key (record start.top { slot = gap_before direction start.top.slot }) frames)
+    (IsBound direction known version key start.top frames × IsWalkFrom direction known version key start.top frames)
 
 -- Where a scan from the key starts on the path of the key's search, which has ended at this leaf.
-pub record IsStart (direction : Direction) (known : Known) (m : ℕ) (key : Key) (way : List PathNode) (number : ℕ) (start : Start) : Type 0 where
+pub record IsStart (direction : Direction) (known : Known) (version : ℕ) (key : Key) (way : List PathNode) (number : ℕ) (start : Start) : Type 0 where
   pub within : start.level < length way
-  pub begun : IsBegun direction known m key number (take start.level way) start
+  pub begun : IsBegun direction known version key number (take start.level way) start
 
--- The scan starts behind the leaf at which the search has ended. That leaf's key is below this one, and so is all that stands left of it.
-pub record IsBehindLeaf (known : Known) (m : ℕ) (key : Key) (way : List PathNode) (number : ℕ) (start : Start) : Type 0 where
+-- The scan starts behind the leaf at which the search has ended. That leaf's key is below the key sought, and so is all that stands left of
+-- it.
+pub record IsBehindLeaf (known : Known) (version : ℕ) (key : Key) (way : List PathNode) (number : ℕ) (start : Start) : Type 0 where
   pub apart : start.leaf ≡ false
   pub last : start.level + 1 ≡ length way
   pub step : PathNode
@@ -59,14 +65,14 @@ pub record IsBehindLeaf (known : Known) (m : ℕ) (key : Key) (way : List PathNo
   pub behind : start.top.slot ≡ suc step.slot
   pub found : Key
   pub value : ℕ
-  pub read : Sure known (λ past. IsRead past m number found value)
+  pub read : Sure known (λ past. IsRead past version number found value)
   pub low : IsBefore found key
-  pub beneath : Sure known (λ past. IsPastKey Downwards past m key step.number step.slot)
+  pub beneath : Sure known (λ past. IsPastKey Downwards past version key step.number step.slot)
 
 -- Where a scan upwards starts, and what stands left of there. All of it is below the key, or the scan starts behind the search's leaf
 -- (`IsBehindLeaf`).
-pub record IsParting (known : Known) (m : ℕ) (key : Key) (way : List PathNode) (number : ℕ) (start : Start) : Type 0 where
-  pub upwards : IsStart Upwards known m key way number start
+pub record IsParting (known : Known) (version : ℕ) (key : Key) (way : List PathNode) (number : ℕ) (start : Start) : Type 0 where
+  pub upwards : IsStart Upwards known version key way number start
   pub of_way : (s : PathNode) → slice_get way start.level ≡ Some s → start.top ≡ record s { slot = start.top.slot }
-  pub left : ArePastKey Downwards known m key (take start.level way)
-  pub side : Sure known (λ s. IsPastKey Downwards s m key start.top.number start.top.slot) ⊎ IsBehindLeaf known m key way number start
+  pub left : ArePastKey Downwards known version key (take start.level way)
+  pub side : Sure known (λ s. IsPastKey Downwards s version key start.top.number start.top.slot) ⊎ IsBehindLeaf known version key way number start

@@ -20,17 +20,17 @@ abbrev pub IsNone : Tally → Type 0
 IsNone tally = (tally.size ≡ 0) × tally.says []
 
 -- the second tally tells the same pairs as the first
-abbrev pub IsKept : Tally → Tally → Type 0
+abbrev pub IsKept : (old new : Tally) → Type 0
 IsKept old new = (new.size ≡ old.size) × ((taken : List Pair) → old.says taken → new.says taken)
 
 -- the second tally tells one pair more, with this key and value
-abbrev pub IsOneMore : Tally → Key → ℕ → Tally → Type 0
+abbrev pub IsOneMore : (old : Tally) → (key : Key) → (value : ℕ) → (new : Tally) → Type 0
 IsOneMore old key value new =
     (new.size ≡ old.size + 1) × ((taken : List Pair) → old.says taken → new.says (record { key = key; value = value } ∷ taken))
 
 -- the tally that tells nothing of its pairs but their number
-abbrev pub tally_of_number : ℕ → Tally
-tally_of_number n = record { size = n; says = λ taken. Unit {0} }
+abbrev pub tally_of_number : (count : ℕ) → Tally
+tally_of_number count = record { size = count; says = λ taken. Unit {0} }
 
 -- the tally that tells these pairs, in the order in which they were taken
 abbrev pub tally_of_pairs : List (Key × ℕ) → Tally
@@ -39,12 +39,13 @@ tally_of_pairs pairs = record { size = length pairs; says = λ taken. pairs ≡ 
 -- the values of pairs, in the order in which they were taken
 abbrev pub values_taken : List Pair → List ℕ
 values_taken [] = []
-values_taken (x ∷ xs) = values_taken xs ++ x.value ∷ []
+values_taken (pair ∷ pairs) = values_taken pairs ++ pair.value ∷ []
 
 -- the tally that tells the values of its pairs
-abbrev pub tally_of_values : List ℕ → Tally
+abbrev pub tally_of_values : (values : List ℕ) → Tally
 tally_of_values values = record { size = length values; says = λ taken. values ≡ values_taken taken }
 
 -- a scan has taken pairs that the tally tells, and stands at these frames
-abbrev pub IsTalliedScan : Direction → Past → ℕ → Range → List Stage → Tally → Type 0
-IsTalliedScan direction past m range fs tally = (taken : List Pair) × AreTallied tally taken × IsScanBy direction past m range fs taken
+abbrev pub IsTalliedScan : (direction : Direction) → (past : Past) → (version : ℕ) → (range : Range) → (stages : List Stage) →
+    (tally : Tally) → Type 0
+IsTalliedScan direction past version range stages tally = (taken : List Pair) × AreTallied tally taken × IsScanBy direction past version range stages taken
