@@ -9,7 +9,7 @@ use Rattle.rowex_replay_state.specs.States.{StateView, IsStateOf}
 use Rattle.rowex_replay.specs.Runs.{Run, HasLegalEvents, core_of}
 
 -- The only kind of act that may want memory: a publish by a pass that has locked its word.
-abbrev pub MayWantMemory : Core → ℕ → Act → Type 0
+abbrev pub MayWantMemory : (core : Core) → (pass : ℕ) → (act : Act) → Type 0
 MayWantMemory core pass act = (spot : Spot) × (word : ℕ) × (act ≡ Publish spot word) × IsLockedAt core pass spot
 
 -- The state is that after a legal run.

@@ -9,25 +9,25 @@ use Rattle.rowex_replay_state.specs.Fates.{stored_fate}
 abbrev pub IsStoredInTree : Stored → Type 0
 IsStoredInTree stored = (since : ℕ) × (stored ≡ InTree since)
 
--- a record that the new tree links is in the tree, or pass q has made it ready
-abbrev pub MayBeLinked : ℕ → Bool → Stored → Type 0
-MayBeLinked q linked stored = linked ≡ true → IsStoredInTree stored ⊎ (stored ≡ Ready q)
+-- a record that the new tree links is in the tree, or the pass has made it ready
+abbrev pub MayBeLinked : (pass : ℕ) → (linked : Bool) → (stored : Stored) → Type 0
+MayBeLinked pass linked stored = linked ≡ true → IsStoredInTree stored ⊎ (stored ≡ Ready pass)
 
--- a node in the tree that the new tree links no more is locked by pass q
-abbrev pub MayBeUnlinked : ℕ → Bool → Option ℕ → Stored → Type 0
-MayBeUnlinked q linked lock stored = linked ≡ false → IsStoredInTree stored → lock ≡ Some q
+-- a node in the tree that the new tree links no more is locked by the pass
+abbrev pub MayBeUnlinked : (pass : ℕ) → (linked : Bool) → (lock : Option ℕ) → (stored : Stored) → Type 0
+MayBeUnlinked pass linked lock stored = linked ≡ false → IsStoredInTree stored → lock ≡ Some pass
 
--- pass q may link each of the records that the new tree links
-abbrev pub AllMayBeLinked : ℕ → List Bool → List Stored → Type 0
-AllMayBeLinked q linked fates = (i : ℕ) (stored : Stored) → slice_get fates i ≡ Some stored → MayBeLinked q (get_or linked i false) stored
+-- the pass may link each of the records that the new tree links
+abbrev pub AllMayBeLinked : (pass : ℕ) → (linked : List Bool) → (fates : List Stored) → Type 0
+AllMayBeLinked pass linked fates = (i : ℕ) (stored : Stored) → slice_get fates i ≡ Some stored → MayBeLinked pass (get_or linked i false) stored
 
--- pass q may unlink each node that the new tree links no more
-abbrev pub AllMayBeUnlinked : ℕ → List Bool → List (Option ℕ) → List Stored → Type 0
-AllMayBeUnlinked q linked locks fates =
-    (i : ℕ) (stored : Stored) → slice_get fates i ≡ Some stored → MayBeUnlinked q (get_or linked i false) (get_or locks i None) stored
+-- the pass may unlink each node that the new tree links no more
+abbrev pub AllMayBeUnlinked : (pass : ℕ) → (linked : List Bool) → (locks : List (Option ℕ)) → (fates : List Stored) → Type 0
+AllMayBeUnlinked pass linked locks fates =
+    (i : ℕ) (stored : Stored) → slice_get fates i ≡ Some stored → MayBeUnlinked pass (get_or linked i false) (get_or locks i None) stored
 
--- the fates after a publish by pass q in version `now`
-abbrev pub AreNextFates : ℕ → ℕ → List Bool → List Stored → List Stored → Type 0
-AreNextFates now q linked old new =
-    (i : ℕ) (f : Stored) → slice_get new i ≡ Some f →
-    (e : Stored) × (slice_get old i ≡ Some e) × (stored_fate f ≡ next_fate now q (get_or linked i false) (stored_fate e))
+-- the fates of records after a publish by the pass, which makes version `now`
+abbrev pub AreNextFates : (now pass : ℕ) → (linked : List Bool) → (old new : List Stored) → Type 0
+AreNextFates now pass linked old new =
+    (i : ℕ) (next : Stored) → slice_get new i ≡ Some next →
+    (stored : Stored) × (slice_get old i ≡ Some stored) × (stored_fate next ≡ next_fate now pass (get_or linked i false) (stored_fate stored))

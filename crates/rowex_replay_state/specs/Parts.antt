@@ -19,7 +19,7 @@ abbrev pub table_of : RecordedWords → Table
 table_of records = record { nodes = records.nodes.now; leaves = records.leaves.now }
 
 -- the tree's first fork is at `least` or later; a leaf has none
-abbrev pub IsForkedFrom : ℕ → Tree → Type 0
+abbrev pub IsForkedFrom : (least : ℕ) → (tree : Tree) → Type 0
 IsForkedFrom least (leaf number key value) = Unit {0}
 IsForkedFrom least (node number fixed body) = IsForkedFrom least body
 IsForkedFrom least (fork position left right) = least ≤ position
@@ -46,16 +46,16 @@ pub record GrowsBy (tree : Tree) (old new : Linked) : Type 0 where
   pub leaves_are : (n : ℕ) →
       (slice_index_or new.leaves.items n false ≡ true) ↔ ((slice_index_or old.leaves.items n false ≡ true) ⊎ Links tree (a_leaf n))
 
--- Whether there is a tree with the property. If so, it was read, and what is told has grown by it.
-abbrev pub IsTreeRead : (Tree → Type 0) → Bool → Linked → Linked → Type 0
+-- If `good` is true, a tree with the property `shows` was read, and what is told has grown by it. Else there is no such tree.
+abbrev pub IsTreeRead : (shows : Tree → Type 0) → (good : Bool) → (old new : Linked) → Type 0
 IsTreeRead shows true old new = (tree : Tree) × shows tree × GrowsBy tree old new
 IsTreeRead shows false old new = (tree : Tree) → ¬ (shows tree)
 
--- A part of a tree, for a subtrie with the property, was read exactly if the words show one. It is so for all words that the table's may be
--- part of.
-abbrev pub IsPartRead : Table → ℕ → (Subtrie → Type 0) → Bool → Linked → Linked → Type 0
-IsPartRead table least is good old new =
-    (words : Rec → List ℕ) → AreWordsOf table words → (trie : Subtrie) → is trie → IsTreeRead (ShowsPart table words least trie) good old new
+-- A part of a tree, whose subtrie has the property `fits`, was read exactly if the words show one. It is so for all words of which the
+-- table's may be part.
+abbrev pub IsPartRead : (table : Table) → (least : ℕ) → (fits : Subtrie → Type 0) → (good : Bool) → (old new : Linked) → Type 0
+IsPartRead table least fits good old new =
+    (words : Rec → List ℕ) → AreWordsOf table words → (trie : Subtrie) → fits trie → IsTreeRead (ShowsPart table words least trie) good old new
 
 -- There is still a mark for each record. If a part was read, one leaf more is told, or several.
 pub record HasGrown (table : Table) (good : Bool) (old new : Linked) : Type 0 where
@@ -63,27 +63,27 @@ pub record HasGrown (table : Table) (good : Bool) (old new : Linked) : Type 0 wh
   pub longer : good ≡ true → length old.items.items < length new.items.items
 
 -- the table has this leaf record, whose words up to the end of its key spell this leaf
-pub record IsLeafAt (leaves : List (List ℕ)) (n : ℕ) (pair : List ℕ × ℕ) : Type 0 where
-  pub in_table : n < length leaves
+pub record IsLeafAt (leaves : List (List ℕ)) (number : ℕ) (pair : List ℕ × ℕ) : Type 0 where
+  pub in_table : number < length leaves
   pub has : HasLeafWords pair
-  pub spelling : leaf_words pair ≡ up_to_key (slice_index_or leaves n [])
+  pub spelling : leaf_words pair ≡ up_to_key (slice_index_or leaves number [])
 
--- A leaf was added exactly if the record spells one.
-abbrev pub AddsLeaf : List (List ℕ) → ℕ → Bool → Linked → Linked → Type 0
-AddsLeaf leaves n true old new =
-    (pair : List ℕ × ℕ) × IsLeafAt leaves n pair ×
-    (new.items.items ≡ old.items.items ++ record { number = n; key = pair.0; value = pair.1 } ∷ []) ×
-    (new.nodes ≡ old.nodes) × (new.leaves.items ≡ slice_set old.leaves.items n true)
-AddsLeaf leaves n false old new = ((pair : List ℕ × ℕ) → ¬ (IsLeafAt leaves n pair)) × (new ≡ old)
+-- `added` is true exactly if the leaf record spells a leaf. That leaf is then told and marked. If `added` is false, nothing has changed.
+abbrev pub AddsLeaf : (leaves : List (List ℕ)) → (number : ℕ) → (added : Bool) → (old new : Linked) → Type 0
+AddsLeaf leaves number true old new =
+    (pair : List ℕ × ℕ) × IsLeafAt leaves number pair ×
+    (new.items.items ≡ old.items.items ++ record { number = number; key = pair.0; value = pair.1 } ∷ []) ×
+    (new.nodes ≡ old.nodes) × (new.leaves.items ≡ slice_set old.leaves.items number true)
+AddsLeaf leaves number false old new = ((pair : List ℕ × ℕ) → ¬ (IsLeafAt leaves number pair)) × (new ≡ old)
 
 -- the table has this node record, whose words spell a node of this height
-pub record SpellsNode (nodes : List (List ℕ)) (n height : ℕ) (view : NodeView) : Type 0 where
-  pub in_table : n < length nodes
+pub record SpellsNode (nodes : List (List ℕ)) (number height : ℕ) (view : NodeView) : Type 0 where
+  pub in_table : number < length nodes
   pub has : HasNodeWords view
-  pub spelling : node_words view ≡ slice_index_or nodes n []
+  pub spelling : node_words view ≡ slice_index_or nodes number []
   pub height_is : view.height ≡ height
 
--- a node was read exactly if the record spells one of this height
-abbrev pub IsNodeAt : List (List ℕ) → ℕ → ℕ → Option NodeView → Type 0
-IsNodeAt nodes n height None = (view : NodeView) → ¬ (SpellsNode nodes n height view)
-IsNodeAt nodes n height (Some view) = SpellsNode nodes n height view
+-- a node was found exactly if the node record spells one of this height
+abbrev pub IsNodeAt : (nodes : List (List ℕ)) → (number height : ℕ) → (found : Option NodeView) → Type 0
+IsNodeAt nodes number height None = (view : NodeView) → ¬ (SpellsNode nodes number height view)
+IsNodeAt nodes number height (Some view) = SpellsNode nodes number height view

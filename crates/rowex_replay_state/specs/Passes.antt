@@ -16,26 +16,26 @@ abbrev pub in_round : PassState → (epoch version : ℕ) → PassState
 in_round pass epoch version = record { pin = pass.pin; epoch = epoch; version = version; bound = epoch; seen = replicate MAX_STOCK_PASSES false }
 
 -- a round's bound, lowered to the word of a pin
-abbrev pub lowered_by : ℕ → Option ℕ → ℕ
+abbrev pub lowered_by : (bound : ℕ) → (pin : Option ℕ) → ℕ
 lowered_by bound None = bound
 lowered_by bound (Some word) = min bound word
 
--- the pass, once it has loaded this pin of pass o
-abbrev pub with_pin_seen : PassState → ℕ → Option ℕ → PassState
-with_pin_seen pass o pin =
-    record { pin = pass.pin; epoch = pass.epoch; version = pass.version; bound = lowered_by pass.bound pin; seen = set pass.seen o true }
+-- the pass, once it has loaded this pin of another pass
+abbrev pub with_pin_seen : (pass : PassState) → (other : ℕ) → (pin : Option ℕ) → PassState
+with_pin_seen pass other pin =
+    record { pin = pass.pin; epoch = pass.epoch; version = pass.version; bound = lowered_by pass.bound pin; seen = set pass.seen other true }
 
 -- the pass isn't pinned, and has loaded this epoch last
-abbrev pub MayPin : PassState → ℕ → Type 0
+abbrev pub MayPin : (pass : PassState) → (epoch : ℕ) → Type 0
 MayPin pass epoch = (pass.pin ≡ None) × (epoch ≡ pass.epoch) × (1 ≤ epoch)
 
--- the pass has loaded the pin of each of the first n passes in its round
-abbrev pub HasLoadedPins : PassState → ℕ → Type 0
-HasLoadedPins pass n = All (λ b. b ≡ true) (take n pass.seen)
+-- the pass has loaded the pin of each of the first `count` passes in its round
+abbrev pub HasLoadedPins : (pass : PassState) → (count : ℕ) → Type 0
+HasLoadedPins pass count = All (λ b. b ≡ true) (take count pass.seen)
 
--- What was marked with this epoch is out of reach: the epoch is below the bound of the pass's round over n passes.
-abbrev pub IsOutOfReach : PassState → ℕ → ℕ → Type 0
-IsOutOfReach pass epoch n = (1 ≤ epoch) × (epoch < pass.bound) × HasLoadedPins pass n
+-- What was marked with this epoch is out of reach: the epoch is below the bound of the pass's round over `count` passes.
+abbrev pub IsOutOfReach : (pass : PassState) → (epoch count : ℕ) → Type 0
+IsOutOfReach pass epoch count = (1 ≤ epoch) × (epoch < pass.bound) × HasLoadedPins pass count
 
 -- the state is that of a pass with this pin and this round
 pub record IsPassStateOf (layout : Layout) (pass : PassState) (pin : Option Pin) (round : Round) : Type 0 where

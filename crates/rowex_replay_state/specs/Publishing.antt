@@ -24,21 +24,21 @@ pub record IsWordStored (state : StateView) (core : Core) (words : Rec → List 
 abbrev pub AreWordsPacked : Core → (Rec → List ℕ) → Type 0
 AreWordsPacked core words = (rec : Rec) → MustSpellValue (core.fate rec) → IsPacked rec (words rec)
 
--- the change that pass q makes by a publish of the tree that the words show from this root
-abbrev pub change_to : Core → ℕ → (Rec → List ℕ) → Option Entry → Change
-change_to core q words root = change_between q (items_of (core.past.version core.past.now)) (items_of (tree_of (heap_of words) root))
+-- the change that the pass makes by a publish of the tree that the words show from this root
+abbrev pub change_to : (core : Core) → (pass : ℕ) → (words : Rec → List ℕ) → (root : Option Entry) → Change
+change_to core pass words root = change_between pass (items_of (core.past.version core.past.now)) (items_of (tree_of (heap_of words) root))
 
--- Pass q may make the tree that the words show from this root the newest version, its locks on words aside.
-abbrev pub MayMakeVersion : Core → ℕ → (Rec → List ℕ) → Option Entry → Type 0
-MayMakeVersion core q words root = IsNextVersion core.shared q (heap_of words) root (tree_of (heap_of words) root) (change_to core q words root)
+-- The pass may make the tree that the words show from this root the newest version, its locks on words aside.
+abbrev pub MayMakeVersion : (core : Core) → (pass : ℕ) → (words : Rec → List ℕ) → (root : Option Entry) → Type 0
+MayMakeVersion core pass words root = IsNextVersion core.shared pass (heap_of words) root (tree_of (heap_of words) root) (change_to core pass words root)
 
--- the core after pass q has made the tree that the words show from this root the newest version
-abbrev pub published : Core → ℕ → (Rec → List ℕ) → Option Entry → Core
-published core q words root =
-    record { layout = core.layout; words = words; shared = published_by core.shared q root (tree_of (heap_of words) root) (change_to core q words root) }
+-- the core after the pass has made the tree that the words show from this root the newest version
+abbrev pub published : (core : Core) → (pass : ℕ) → (words : Rec → List ℕ) → (root : Option Entry) → Core
+published core pass words root =
+    record { layout = core.layout; words = words; shared = published_by core.shared pass root (tree_of (heap_of words) root) (change_to core pass words root) }
 
--- The publish was made, and is legal in each core whose state it was. Or it wasn't, and is legal in none.
-abbrev pub IsPublishJudged : Bool → StateView → StateView → ℕ → Option Entry → Type 0
+-- The publish was made, and is legal in each core that the old state stands for. Or it was not made, and is legal in none.
+abbrev pub IsPublishJudged : (made : Bool) → (old new : StateView) → (pass : ℕ) → (root : Option Entry) → Type 0
 IsPublishJudged true old new pass root =
     (core : Core) (words : Rec → List ℕ) → IsWordStored old core words → MayMakeVersion core pass words root ×
     IsStateOf new (published core pass words root)
@@ -46,11 +46,12 @@ IsPublishJudged false old new pass root =
     (new ≡ old) × ((core : Core) (words : Rec → List ℕ) → IsWordStored old core words → AreWordsPacked core words →
     ¬ (MayMakeVersion core pass words root))
 
--- the leaf, with this value if it has this number
-abbrev pub revalued_item : ℕ → ℕ → Item → Item
-revalued_item l word x = item x.number x.key (if nat_eq x.number l then word else x.value)
+-- the old leaf, with this word as its value if it has the number `leaf`
+abbrev pub revalued_item : (leaf word : ℕ) → (old : Item) → Item
+revalued_item leaf word old = item old.number old.key (if nat_eq old.number leaf then word else old.value)
 
--- the lists have the same leaves, but that leaf l has value w in the new one
-pub record AreRevalued (l w : ℕ) (old new : List ReadItem) : Type 0 where
+-- the lists have the same leaves, except that the leaf of this number has this word as its value in the new one
+pub record AreRevalued (leaf word : ℕ) (old new : List ReadItem) : Type 0 where
   pub count : length new ≡ length old
-  pub each : (i : ℕ) (x : ReadItem) → slice_get new i ≡ Some x → (y : ReadItem) × (slice_get old i ≡ Some y) × (read_item x ≡ revalued_item l w (read_item y))
+  pub each : (i : ℕ) (x : ReadItem) → slice_get new i ≡ Some x → (y : ReadItem) × (slice_get old i ≡ Some y) ×
+      (read_item x ≡ revalued_item leaf word (read_item y))

@@ -29,83 +29,84 @@ pub record RecordsView : Type 0 where
 -- ---- what is stored of a record, where the table has it
 
 -- the words of a record, if the table has it
-abbrev pub words_in : RecordsView → Rec → Option (List ℕ)
+abbrev pub words_in : (records : RecordsView) → (rec : Rec) → Option (List ℕ)
 words_in records (a_node n) = slice_get records.nodes n
 words_in records (a_leaf n) = slice_get records.leaves n
 
 -- the fate of a record, if the table has it
-abbrev pub fate_in : RecordsView → Rec → Option Stored
+abbrev pub fate_in : (records : RecordsView) → (rec : Rec) → Option Stored
 fate_in records (a_node n) = slice_get records.node_fates n
 fate_in records (a_leaf n) = slice_get records.leaf_fates n
 
 -- who has locked a record, or nobody, if the table has it
-abbrev pub lock_in : RecordsView → Rec → Option (Option ℕ)
+abbrev pub lock_in : (records : RecordsView) → (rec : Rec) → Option (Option ℕ)
 lock_in records (a_node n) = slice_get records.locks n
 lock_in records (a_leaf n) = Some None
 
 -- the state of a record, if the table has it
-abbrev pub tag_in : RecordsView → Rec → Option Tag
+abbrev pub tag_in : (records : RecordsView) → (rec : Rec) → Option Tag
 tag_in records rec = option_and_then (λ f. option_map (λ o. tag_of o (stored_fate f)) (lock_in records rec)) (fate_in records rec)
 
 -- the record's state has this word
-abbrev pub HasState : RecordsView → Rec → ℕ → Type 0
-HasState records rec word = (t : Tag) × (tag_in records rec ≡ Some t) × HasStateWord t × (state_word t ≡ word)
+abbrev pub HasState : (records : RecordsView) → (rec : Rec) → (word : ℕ) → Type 0
+HasState records rec word = (tag : Tag) × (tag_in records rec ≡ Some tag) × HasStateWord tag × (state_word tag ≡ word)
 
--- word i of the record behind its state is this one
-abbrev pub HasWordStored : RecordsView → Rec → ℕ → ℕ → Type 0
-HasWordStored records rec i word = (words : List ℕ) × (words_in records rec ≡ Some words) × (slice_get words i ≡ Some word)
+-- behind its state, the record has this word at this index
+abbrev pub HasWordStored : (records : RecordsView) → (rec : Rec) → (index word : ℕ) → Type 0
+HasWordStored records rec index word = (words : List ℕ) × (words_in records rec ≡ Some words) × (slice_get words index ≡ Some word)
 
 -- one of the node's entries has this word
-abbrev pub HasEntryStored : RecordsView → ℕ → ℕ → Type 0
-HasEntryStored records n word = (j : ℕ) × (j < MAX_ENTRIES) × HasWordStored records (a_node n) (HEAD_WORDS + j) word
+abbrev pub HasEntryStored : (records : RecordsView) → (node word : ℕ) → Type 0
+HasEntryStored records node word = (slot : ℕ) × (slot < MAX_ENTRIES) × HasWordStored records (a_node node) (HEAD_WORDS + slot) word
 
--- pass q has locked node n, which is in the tree and has an entry with this word
-abbrev pub IsEntryLocked : RecordsView → ℕ → ℕ → ℕ → Type 0
-IsEntryLocked records q word n =
-    (lock_in records (a_node n) ≡ Some (Some q)) × ((since : ℕ) × (fate_in records (a_node n) ≡ Some (InTree since))) × HasEntryStored records n word
+-- the pass has locked the node, which is in the tree and has an entry with this word
+abbrev pub IsEntryLocked : (records : RecordsView) → (pass word node : ℕ) → Type 0
+IsEntryLocked records pass word node =
+    (lock_in records (a_node node) ≡ Some (Some pass)) × ((since : ℕ) × (fate_in records (a_node node) ≡ Some (InTree since))) ×
+    HasEntryStored records node word
 
--- pass q has locked a node of the table that has an entry with this word
-abbrev pub HasLockedEntry : RecordsView → ℕ → ℕ → Type 0
-HasLockedEntry records q word = (n : ℕ) × (n < records.layout.nodes) × IsEntryLocked records q word n
+-- the pass has locked a node of the table that has an entry with this word
+abbrev pub HasLockedEntry : (records : RecordsView) → (pass word : ℕ) → Type 0
+HasLockedEntry records pass word = (node : ℕ) × (node < records.layout.nodes) × IsEntryLocked records pass word node
 
 -- the record's words spell a value
-abbrev pub IsSpelledIn : RecordsView → Rec → Type 0
+abbrev pub IsSpelledIn : (records : RecordsView) → (rec : Rec) → Type 0
 IsSpelledIn records rec = (words : List ℕ) × (words_in records rec ≡ Some words) × IsPacked rec words
 
 -- the leaf's words have this key
-abbrev pub HasKeyIn : RecordsView → ℕ → List ℕ → Type 0
-HasKeyIn records n key = (words : List ℕ) × (words_in records (a_leaf n) ≡ Some words) × ((leaf_of words).key ≡ key)
+abbrev pub HasKeyIn : (records : RecordsView) → (leaf : ℕ) → (key : List ℕ) → Type 0
+HasKeyIn records leaf key = (words : List ℕ) × (words_in records (a_leaf leaf) ≡ Some words) × ((leaf_of words).key ≡ key)
 
 -- the record's words spell a value for which it has room
-abbrev pub IsPackedIn : RecordsView → Rec → Type 0
+abbrev pub IsPackedIn : (records : RecordsView) → (rec : Rec) → Type 0
 IsPackedIn records rec = (words : List ℕ) × (words_in records rec ≡ Some words) × IsPacked rec words × FitsIn records.layout rec words
 
 -- the records with one fate, one lock or the words of one record changed
 
--- the records, with another fate of record r
-abbrev pub with_fate_in : RecordsView → Rec → Stored → RecordsView
-with_fate_in records (a_node n) stored = record records { node_fates = set records.node_fates n stored }
-with_fate_in records (a_leaf n) stored = record records { leaf_fates = set records.leaf_fates n stored }
+-- the records, with another fate of this one
+abbrev pub with_fate_in : (records : RecordsView) → (rec : Rec) → (stored : Stored) → RecordsView
+with_fate_in records (a_node number) stored = record records { node_fates = set records.node_fates number stored }
+with_fate_in records (a_leaf number) stored = record records { leaf_fates = set records.leaf_fates number stored }
 
--- the records, with another lock of node n
-abbrev pub with_lock_in : RecordsView → ℕ → Option ℕ → RecordsView
-with_lock_in records n o = record records { locks = set records.locks n o }
+-- the records, with another owner of this node's lock
+abbrev pub with_lock_in : (records : RecordsView) → (node : ℕ) → (owner : Option ℕ) → RecordsView
+with_lock_in records node owner = record records { locks = set records.locks node owner }
 
--- the records, with another fate of record r, and its lock released if it is a node
-abbrev pub with_fate_unlocked_in : RecordsView → Rec → Stored → RecordsView
-with_fate_unlocked_in records (a_node n) stored = with_fate_in (with_lock_in records n None) (a_node n) stored
-with_fate_unlocked_in records (a_leaf n) stored = with_fate_in records (a_leaf n) stored
+-- the records, with another fate of this one, and its lock released if it is a node
+abbrev pub with_fate_unlocked_in : (records : RecordsView) → (rec : Rec) → (stored : Stored) → RecordsView
+with_fate_unlocked_in records (a_node number) stored = with_fate_in (with_lock_in records number None) (a_node number) stored
+with_fate_unlocked_in records (a_leaf number) stored = with_fate_in records (a_leaf number) stored
 
--- the records, with other words of record r
-abbrev pub with_words_in : RecordsView → Rec → List ℕ → RecordsView
-with_words_in records (a_node n) words = record records { nodes = set records.nodes n words }
-with_words_in records (a_leaf n) words = record records { leaves = set records.leaves n words }
+-- the records, with other words of this one
+abbrev pub with_words_in : (records : RecordsView) → (rec : Rec) → (words : List ℕ) → RecordsView
+with_words_in records (a_node number) words = record records { nodes = set records.nodes number words }
+with_words_in records (a_leaf number) words = record records { leaves = set records.leaves number words }
 
--- fates and locks allow pass q to publish a tree that links just these nodes and leaves
-pub record MayPublishTree (records : RecordsView) (q : ℕ) (nodes leaves : List Bool) : Type 0 where
-  pub nodes_come : AllMayBeLinked q nodes records.node_fates
-  pub leaves_come : AllMayBeLinked q leaves records.leaf_fates
-  pub nodes_go : AllMayBeUnlinked q nodes records.locks records.node_fates
+-- fates and locks allow the pass to publish a tree that links just these nodes and leaves
+pub record MayPublishTree (records : RecordsView) (pass : ℕ) (nodes leaves : List Bool) : Type 0 where
+  pub nodes_come : AllMayBeLinked pass nodes records.node_fates
+  pub leaves_come : AllMayBeLinked pass leaves records.leaf_fates
+  pub nodes_go : AllMayBeUnlinked pass nodes records.locks records.node_fates
 
 -- from the first records to the second only fates have changed, as a publish changes them
 pub record AreNextRecords (now pass : ℕ) (nodes leaves : List Bool) (old new : RecordsView) : Type 0 where

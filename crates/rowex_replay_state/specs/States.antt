@@ -40,21 +40,22 @@ pub record IsStateOf (state : StateView) (core : Core) : Type 0 where
   pub changes : core.changes ≡ state.changes
   pub items : items_of (core.past.version core.past.now) ≡ map read_item state.items
 
--- The act of pass q was made, and is legal in each lawful core whose state it was. Or it wasn't, and is legal in none.
-abbrev pub IsStepped : Bool → StateView → StateView → ℕ → Act → Type 0
-IsStepped true old new q act = (core : Core) → ∥ IsLawful core ∥₁ → IsStateOf old core → LegalAct core q act × IsStateOf new (after core q act)
-IsStepped false old new q act = (new ≡ old) × ((core : Core) → IsLawful core → IsStateOf old core → ¬ (LegalAct core q act))
+-- The pass's act was made, and is legal in each lawful core that the old state stands for. Or it was not made, and is legal in none.
+abbrev pub IsStepped : (made : Bool) → (old new : StateView) → (pass : ℕ) → (act : Act) → Type 0
+IsStepped true old new pass act = (core : Core) → ∥ IsLawful core ∥₁ → IsStateOf old core → LegalAct core pass act × IsStateOf new (after core pass act)
+IsStepped false old new pass act = (new ≡ old) × ((core : Core) → IsLawful core → IsStateOf old core → ¬ (LegalAct core pass act))
 
--- pass q has locked what names the leaf
-abbrev pub HasNamerLocked : StateView → ℕ → ℕ → Type 0
-HasNamerLocked state q l = ((state.anchor ≡ Some q) × (state.root ≡ Some (Leaf l))) ⊎ HasLockedEntry state.records q (entry_word (Some (Leaf l)))
+-- the pass has locked what names the leaf: the anchor, or a node
+abbrev pub HasNamerLocked : (state : StateView) → (pass leaf : ℕ) → Type 0
+HasNamerLocked state pass leaf =
+    ((state.anchor ≡ Some pass) × (state.root ≡ Some (Leaf leaf))) ⊎ HasLockedEntry state.records pass (entry_word (Some (Leaf leaf)))
 
--- Pass q has the lock under which the spot's word is stored. For a value, it is that of what names the leaf.
-abbrev pub HasLock : StateView → ℕ → Spot → Type 0
-HasLock state q Root = state.anchor ≡ Some q
-HasLock state q (Slot n j) = (j < MAX_ENTRIES) × (lock_in state.records (a_node n) ≡ Some (Some q))
-HasLock state q (Value l) = ((words : List ℕ) × (words_in state.records (a_leaf l) ≡ Some words)) × HasNamerLocked state q l
+-- The pass has the lock under which the spot's word is stored. For a value, it is that of what names the leaf.
+abbrev pub HasLock : (state : StateView) → (pass : ℕ) → (spot : Spot) → Type 0
+HasLock state pass Root = state.anchor ≡ Some pass
+HasLock state pass (Slot n j) = (j < MAX_ENTRIES) × (lock_in state.records (a_node n) ≡ Some (Some pass))
+HasLock state pass (Value l) = ((words : List ℕ) × (words_in state.records (a_leaf l) ≡ Some words)) × HasNamerLocked state pass l
 
--- the act is a publish of pass q, which has locked its word
-abbrev pub IsLockedPublish : StateView → ℕ → Act → Type 0
-IsLockedPublish state q act = (spot : Spot) × (word : ℕ) × (act ≡ Publish spot word) × HasLock state q spot
+-- the act is a publish, and the pass has the lock of its spot
+abbrev pub IsLockedPublish : (state : StateView) → (pass : ℕ) → (act : Act) → Type 0
+IsLockedPublish state pass act = (spot : Spot) × (word : ℕ) × (act ≡ Publish spot word) × HasLock state pass spot

@@ -24,12 +24,12 @@ pub record AreWordsOf (table : Table) (words : Rec → List ℕ) : Type 0 where
   pub leaves_are : (n : ℕ) → n < length table.leaves → words (a_leaf n) ≡ slice_index_or table.leaves n []
 
 -- the table has this record
-abbrev pub HasRecordIn : Table → Rec → Type 0
+abbrev pub HasRecordIn : (table : Table) → (rec : Rec) → Type 0
 HasRecordIn table (a_node n) = n < length table.nodes
 HasRecordIn table (a_leaf n) = n < length table.leaves
 
 -- the record is in the table, and its words spell a value
-abbrev pub IsSpelled : Table → (Rec → List ℕ) → Rec → Type 0
+abbrev pub IsSpelled : (table : Table) → (words : Rec → List ℕ) → (rec : Rec) → Type 0
 IsSpelled table words rec = HasRecordIn table rec × IsPacked rec (words rec)
 
 -- The words show a lawful tree from this root, or none if the root is empty. Each record that it links is in the table and spells a value.
@@ -50,11 +50,11 @@ pub record Tells (table : Table) (tree : Option Tree) (linked : Linked) : Type 0
   pub nodes_are : (n : ℕ) → (slice_index_or linked.nodes.items n false ≡ true) ↔ IsLinked tree (a_node n)
   pub leaves_are : (n : ℕ) → (slice_index_or linked.leaves.items n false ≡ true) ↔ IsLinked tree (a_leaf n)
 
--- Something was told exactly if the words show a lawful version.
-abbrev pub IsReadVersion : Table → (Rec → List ℕ) → Option Entry → Option Linked → Type 0
+-- Something was told exactly if the words show a lawful version. It is then told of that version's tree.
+abbrev pub IsReadVersion : (table : Table) → (words : Rec → List ℕ) → (root : Option Entry) → (told : Option Linked) → Type 0
 IsReadVersion table words root None = ¬ (IsVersion table words root)
 IsReadVersion table words root (Some linked) = IsVersion table words root × Tells table (tree_of (heap_of words) root) linked
 
--- Something was told exactly if there is a lawful version, whichever words the table's are part of.
-abbrev pub IsToldVersion : Table → Option Entry → Option Linked → Type 0
+-- Something was told exactly if there is a lawful version, by any words of which the table's are part.
+abbrev pub IsToldVersion : (table : Table) → (root : Option Entry) → (linked : Option Linked) → Type 0
 IsToldVersion table root linked = (words : Rec → List ℕ) → AreWordsOf table words → IsReadVersion table words root linked
