@@ -1,4 +1,4 @@
--- Tables of sections, and the sections, as contracts see them; and what their calls do.
+-- What contracts see of tables and of sections, and what calls of a section do.
 use Rattle.std.specs.Prelude.{◌≡◌, ◌+◌, ◌<◌, ◌≤◌, ◌⊎◌, ℕ, true, List, ◌∷◌}
 use Rattle.atomic_table.specs.Seated.{TableId}
 use Rattle.sections.specs.declared.events.SectionEvent.{SectionEvent}
@@ -19,11 +19,11 @@ pub record SectionView : Type 0 where
   pub known : SectionKnowledge
 
 -- the section is one of this table
-abbrev pub IsSectionOf : SectionsView → SectionView → Type 0
+abbrev pub IsSectionOf : (table : SectionsView) (section : SectionView) → Type 0
 IsSectionOf table section = (section.table ≡ table.id) × (section.known.count ≡ table.count)
 
 -- the section of this number, which was never entered
-abbrev pub IsNewSection : SectionsView → ℕ → SectionView → Type 0
+abbrev pub IsNewSection : (table : SectionsView) (number : ℕ) (section : SectionView) → Type 0
 IsNewSection table number section = (section.table ≡ table.id) × (section.known ≡ new_section number table.count)
 
 -- the section is open
@@ -31,7 +31,7 @@ abbrev pub IsInside : SectionView → Type 0
 IsInside section = IsOpen section.known.number section.known.run
 
 -- the two views are of one section
-abbrev pub IsOneSection : SectionView → SectionView → Type 0
+abbrev pub IsOneSection : (old new : SectionView) → Type 0
 IsOneSection old new = (new.table ≡ old.table) × (new.known.number ≡ old.known.number) × (new.known.count ≡ old.known.count)
 
 -- The section's owner has made no event, and knows those of others up to now, which make a lawful run. Nothing else has changed.
@@ -41,8 +41,7 @@ pub record SeesOthers (old new : SectionView) : Type 0 where
   pub others : OthersRunOn old.known.number old.known.run new.known.run
   pub lawful : IsLawfulRun new.known.run
 
--- The section is entered: the last event of the run is this one. It comes with the number of moments that had been taken when the call
--- loaded it.
+-- The owner's section is entered, which is the last event of the run. The event has the number of moments that the call has loaded.
 pub record Enters (old new : SectionView) : Type 0 where
   pub one : IsOneSection old new
   pub before : List SectionEvent
@@ -51,15 +50,15 @@ pub record Enters (old new : SectionView) : Type 0 where
   pub fresh : moments_in old.known.run ≤ moments
   pub run : new.known.run ≡ Entered old.known.number moments ∷ before
 
--- The section is left: the last event of the run is this one.
+-- The owner's section is left, which is the last event of the run.
 pub record Leaves (old new : SectionView) : Type 0 where
   pub one : IsOneSection old new
   pub before : List SectionEvent
   pub others : OthersRunOn old.known.number old.known.run before
   pub run : new.known.run ≡ Left old.known.number ∷ before
 
--- The number is that of a moment: at some time of the call fewer had been taken. It has been taken when the call ends. Or all that a table
--- tells apart have been taken, and it is the next number.
+-- The call took the moment of this number. At some time of the call fewer moments had been taken, and this one has been by its end. Or a
+-- table tells no more moments apart: all have been taken, and the number is the next one.
 pub record TakesMoment (moment : ℕ) (old new : SectionView) : Type 0 where
   pub one : IsOneSection old new
   pub before : List SectionEvent
@@ -68,13 +67,13 @@ pub record TakesMoment (moment : ℕ) (old new : SectionView) : Type 0 where
   pub until : OthersRunOn old.known.number before new.known.run
   pub taken : (moment ≤ moments_in new.known.run) ⊎ ((moment ≡ MOST_MOMENTS + 1) × (moments_in new.known.run ≡ MOST_MOMENTS))
 
--- From now on looks count the section. Its owner has made no event.
+-- After the call, looks count the section. Its owner has made no event.
 pub record StartsCounting (old new : SectionView) : Type 0 where
   pub table : new.table ≡ old.table
   pub known : new.known ≡ record old.known { counted = true; run = new.known.run }
   pub others : OthersRunOn old.known.number old.known.run new.known.run
 
--- One moment more than expected has been taken. Nothing of the section has changed.
+-- More moments than expected have been taken by the end of the call. Nothing of the section has changed.
 pub record TakesNext (expected : ℕ) (old new : SectionView) : Type 0 where
   pub table : new.table ≡ old.table
   pub known : new.known ≡ record old.known { run = new.known.run }

@@ -10,9 +10,10 @@ use Rattle.sections.specs.declared.events.Seated.TheVariants.{Owner}
 use Rattle.sections.specs.Rule.{SectionsRuled}
 use Rattle.sections.specs.Runs.{RunGoesOn}
 
--- By the rule of the table all runs are one. Of what one owner knows, or knew earlier, and what another does, one goes on from the other.
+-- By the rule of the table all runs are one. Take a run that one owner knows or has known, and one of another owner. One of the two goes on
+-- from the other.
 abbrev pub RunsAreOne : Type 0
 RunsAreOne =
-    (count : ℕ) (s : State (Unit {0}) Seated) → SectionsRuled count s → (i j : ℕ) (k l : SectionKnowledge) →
-    get_elem? s.views i ≡ some (Owner k) → get_elem? s.views j ≡ some (Owner l) →
-    (one other : List SectionEvent) → RunGoesOn one k.run → RunGoesOn other l.run → RunGoesOn one other ⊎ RunGoesOn other one
+    (count : ℕ) (state : State (Unit {0}) Seated) → SectionsRuled count state → (seat other_seat : ℕ) (known other_known : SectionKnowledge) →
+    get_elem? state.views seat ≡ some (Owner known) → get_elem? state.views other_seat ≡ some (Owner other_known) →
+    (one other : List SectionEvent) → RunGoesOn one known.run → RunGoesOn other other_known.run → RunGoesOn one other ⊎ RunGoesOn other one

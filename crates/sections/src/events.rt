@@ -5,7 +5,7 @@ use std::collections::LinkedList;
 
 /// What changes a section, or takes a moment.
 pub enum SectionEvent {
-    /// The section of this number is entered. Before that, so many moments had been taken when it loaded their number.
+    /// The section with the first number is entered. The second is how many moments had been taken when its owner loaded their number.
     Entered(u64, u64),
     /// The section of this number is left.
     Left(u64),
@@ -19,7 +19,7 @@ pub struct SectionKnowledge {
     pub number: u64,
     /// How many sections the table has.
     pub count: u64,
-    /// Whether a look takes its word in, as it does from the first entry on.
+    /// Whether looks count the section, as they do from its first entry on.
     pub counted: bool,
     /// What has happened, up to the last event of which it knows. The newest event comes first.
     pub run: LinkedList<SectionEvent>,
@@ -29,5 +29,6 @@ pub struct SectionKnowledge {
 pub enum Seated {
     /// That the sections from this number on are still to be dealt, and how many the table has.
     Dealer(u64, u64),
+    /// What the owner of a section knows.
     Owner(SectionKnowledge),
 }

@@ -32,7 +32,7 @@ impl Play<(), Seated> for FindsMoments {
     ghost then = { finding found_moments };
 }
 
-/// The number below which all sections are that were ever entered is loaded.
+/// The extent is loaded: all sections that were ever entered have lower numbers.
 pub(crate) struct FindsExtent;
 
 impl Play<(), Seated> for FindsExtent {
@@ -46,7 +46,7 @@ impl Play<(), Seated> for FindsWord {
     ghost then = { finding found_word };
 }
 
-/// The extent takes in the seat's own section.
+/// The extent is raised above the number of the seat's own section.
 pub(crate) struct Counts;
 
 impl Play<(), Seated> for Counts {

@@ -1,4 +1,4 @@
-//! The atomic steps that sections make, each on one word of the table. Its owner makes each with its section.
+//! The atomic steps that owners of sections make, each on one word of the table.
 
 ghost use Rattle.std.specs.Prelude.{◌≡◌, ◌≤◌, ◌<◌, ℕ, true};
 ghost use Rattle.sections.specs.Runs.{HasNoneOf, moments_in, word_in};
@@ -8,7 +8,7 @@ use crate::plays::{Counts, Entering, FindsExtent, FindsMoments, FindsWord, Leavi
 use crate::table::{EXTENT, FIRST_SECTION, MOMENTS, MOST_MOMENTS, Section, Sections};
 
 impl Sections {
-    /// Loads how many moments have been taken, and returns it.
+    /// Loads the number of moments taken so far, and returns it.
     pub(crate) fn load_moments(&self, section: &mut Section) -> u64
         requires { IsSectionOf self.now section.old }
         ensures looks { SeesOthers section.old section.new }
@@ -47,7 +47,7 @@ impl Sections {
             .load::<FindsWord>(&mut section.seat, place)
     }
 
-    /// Makes the extent take in `section`, if it doesn't yet.
+    /// Has looks count `section` from now on: raises the extent above its number, if it isn't there.
     pub(crate) fn count_section(&self, section: &mut Section)
         requires { IsSectionOf self.now section.old }
         ensures { StartsCounting section.old section.new }
@@ -62,8 +62,7 @@ impl Sections {
         section.counted = true;
     }
 
-    /// Stores `moments` and one more in the word of `section`, which isn't open and which looks take in: it is entered. The owner knows of
-    /// so many moments.
+    /// Enters `section`, which isn't open and which looks count: stores `moments` and one in its word. `moments` is how many the owner knows.
     pub(crate) fn store_entered(&self, section: &mut Section, moments: u64)
         requires own { IsSectionOf self.now section.old }
         requires outside { ¬ IsInside section.old }
@@ -79,7 +78,7 @@ impl Sections {
         section.word = word;
     }
 
-    /// Stores 0 in the word of `section`, which is open: it is left.
+    /// Leaves `section`, which is open: stores 0 in its word.
     pub(crate) fn store_left(&self, section: &mut Section)
         requires own { IsSectionOf self.now section.old }
         requires inside { IsInside section.old }

@@ -14,11 +14,11 @@ use std::marker::Model;
 /// The most moments that a table tells apart.
 pub const MOST_MOMENTS: u64 = 1 << 63;
 
-/// The word that has the number of moments that were taken.
+/// The index of the word with the number of moments taken.
 pub(crate) const MOMENTS: usize = 0;
-/// The word below whose number all sections are that were ever entered.
+/// The index of the word with the extent: all sections that were ever entered have lower numbers.
 pub(crate) const EXTENT: usize = 8;
-/// The word of section 0. Each other stands 8 words behind the one before, so that no two are in one line of a processor's cache.
+/// The index of the word of section 0. That of each further section is 8 higher, so that no two are in one line of a processor's cache.
 pub(crate) const FIRST_SECTION: usize = 16;
 
 /// A section of one thread at a time: the right to enter it and to leave it. What its owner knows takes no bytes.
@@ -26,7 +26,7 @@ pub(crate) const FIRST_SECTION: usize = 16;
 pub struct Section {
     pub(crate) seat: Seat<(), Seated>,
     pub(crate) number: u16,
-    /// Whether a look takes its word in.
+    /// Whether looks count the section, as they do from its first entry on.
     pub(crate) counted: bool,
     /// The section's word in the table, which only its owner stores.
     pub(crate) word: u64,
