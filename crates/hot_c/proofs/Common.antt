@@ -29,7 +29,7 @@ pub use Rattle.key_bits.specs.Key.{IsKey}
 pub use Rattle.key_bits.specs.declared.TheConstants.{MAX_BYTES}
 pub use Rattle.key_ranges.specs.Ranges.{HasPrefix, IsNextKey, IsPreviousKey, NoKeyAbove, last_with}
 pub use Rattle.linearizability.specs.Configurations.{Happening, refuses, responds, shows, steps}
-pub use Rattle.linearizability.specs.Histories.{answers}
+pub use Rattle.linearizability.specs.Histories.{notes_of_response}
 pub use Rattle.packed_pairs.specs.Parts.{fitting, keys_in, packed_head}
 pub use Rattle.record_words.specs.Layout.{HasStock}
 pub use Rattle.record_words.specs.declared.layout.Layout.{Layout}

@@ -1,7 +1,7 @@
 -- What calls have told is what their passes have done.
 pub mod Asked
 pub mod Quiet
-use Rattle.hot_c.proofs.Common.{◌≡◌, ⊎_elim, ℕ, suc, ◌<◌, ◌≤◌, List, [], ◌∷◌, ◌++◌, map, Option, None, Some, refl, sym, ap, subst, ◌∙◌, arith, append_assoc, append-nil, length, Result, IsPermutation, cases_lt, IsPermutation-refl, MAX_BYTES, Call, Get, Insert, Change, Note, Reply, Absent, Inserted, Value, LegalCalls, Layout, Act, Known, Does, Ends, Runs, silent, SeatView, TableView, GetsOr, loads_in, AreNoted, HasMadeGetManySteps, gets, IsNewPass, PassView, pass_of, untold, Refusal, HandleView, Stays, IsLoaderPass, pairs_noted, answers, Happening, responds, shows, steps, HandleHasDone, HasEndedAs, HasGoneThrough, HasSeenLeader, call_of, called, load_call, loader, many_ended, new, notes_of_end, quiet, shown, stamped, steps_of, handles_are_linearizable, seeing_is_done, silent_steps_end}
+use Rattle.hot_c.proofs.Common.{◌≡◌, ⊎_elim, ℕ, suc, ◌<◌, ◌≤◌, List, [], ◌∷◌, ◌++◌, map, Option, None, Some, refl, sym, ap, subst, ◌∙◌, arith, append_assoc, append-nil, length, Result, IsPermutation, cases_lt, IsPermutation-refl, MAX_BYTES, Call, Get, Insert, Change, Note, Reply, Absent, Inserted, Value, LegalCalls, Layout, Act, Known, Does, Ends, Runs, silent, SeatView, TableView, GetsOr, loads_in, AreNoted, HasMadeGetManySteps, gets, IsNewPass, PassView, pass_of, untold, Refusal, HandleView, Stays, IsLoaderPass, pairs_noted, notes_of_response, Happening, responds, shows, steps, HandleHasDone, HasEndedAs, HasGoneThrough, HasSeenLeader, call_of, called, load_call, loader, many_ended, new, notes_of_end, quiet, shown, stamped, steps_of, handles_are_linearizable, seeing_is_done, silent_steps_end}
 use Rattle.std.specs.Prelude.{All, ◌≢◌}
 use Rattle.rowex_core.specs.Events.{after}
 use Rattle.rowex_core.specs.Opening.{opening}
@@ -23,14 +23,14 @@ use Rattle.hot_c.proofs.Histories.Asked.{Ended, call_ended, nothing_told, read_m
 
 answered_notes-append : (xs ys : List Happening) → answered_notes (xs ++ ys) ≡ answered_notes xs ++ answered_notes ys
 answered_notes-append [] ys = refl
-answered_notes-append (x ∷ xs) ys = ap (λ (l : List Note). answers x ++ l) (answered_notes-append xs ys) ∙ sym (append_assoc (answers x) (answered_notes xs) (answered_notes ys))
+answered_notes-append (x ∷ xs) ys = ap (λ (l : List Note). notes_of_response x ++ l) (answered_notes-append xs ys) ∙ sym (append_assoc (notes_of_response x) (answered_notes xs) (answered_notes ys))
 
 answered_notes-steps : (q : ℕ) (acts : List Act) (ys : List Happening) → answered_notes (steps_of q acts ++ ys) ≡ answered_notes ys
 answered_notes-steps q [] ys = refl
 answered_notes-steps q (act ∷ acts) ys = answered_notes-steps q acts ys
 
-answered_notes-call : (q : ℕ) (calls : List Call) (acts : List Act) (last : Act) (notes : List Note) (ended : Happening) → answered_notes (call_of q calls acts last notes ended) ≡ answers ended
-answered_notes-call q calls acts last notes ended = answered_notes-steps q acts (steps q last notes ∷ ended ∷ []) ∙ append-nil (answers ended)
+answered_notes-call : (q : ℕ) (calls : List Call) (acts : List Act) (last : Act) (notes : List Note) (ended : Happening) → answered_notes (call_of q calls acts last notes ended) ≡ notes_of_response ended
+answered_notes-call q calls acts last notes ended = answered_notes-steps q acts (steps q last notes ∷ ended ∷ []) ∙ append-nil (notes_of_response ended)
 
 -- The calls of one handle
 
@@ -57,18 +57,18 @@ module _ {index : TableView} {q : ℕ} {told : List (List (Call × Reply))} {h g
   gone_then : HandleHasDone index q (x.done ++ the_call) g
   gone_then = (same ∙ x.gone.0, seat, called x.gone.2 calls acts last said ends so)
 
-  notes_then : answered_notes (x.done ++ the_call) ≡ answered_notes x.done ++ answers ended
+  notes_then : answered_notes (x.done ++ the_call) ≡ answered_notes x.done ++ notes_of_response ended
   notes_then = answered_notes-append x.done the_call ∙ ap (λ (l : List Note). answered_notes x.done ++ l)
       (answered_notes-call q calls acts last (notes_of_end index acts last said h.pass.seat g.pass.seat ends) ended)
 
-  pub tells : (replies : List (Call × Reply)) → IsPermutation replies (map (λ (n : Note). (n.call, n.reply)) (answers ended)) → IsDone index q (told ++ replies ∷ []) g
+  pub tells : (replies : List (Call × Reply)) → IsPermutation replies (map (λ (n : Note). (n.call, n.reply)) (notes_of_response ended)) → IsDone index q (told ++ replies ∷ []) g
   tells replies are = record {
     done = x.done ++ the_call;
     gone = gone_then;
-    notes = subst (AreNotesOf (told ++ replies ∷ [])) (sym notes_then) (more x.notes replies (answers ended) are);
+    notes = subst (AreNotesOf (told ++ replies ∷ [])) (sym notes_then) (more x.notes replies (notes_of_response ended) are);
   }
 
-  pub tells_nothing : answers ended ≡ [] → IsDone index q told g
+  pub tells_nothing : notes_of_response ended ≡ [] → IsDone index q told g
   tells_nothing silent = record {
     done = x.done ++ the_call;
     gone = gone_then;

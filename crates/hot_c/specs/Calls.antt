@@ -1,4 +1,4 @@
--- What the calls of a program in C say.
+-- What calls through a handle of a program in C do and tell.
 use Rattle.std.specs.Prelude.{◌≡◌, ◌⊎◌, ◌+◌, ◌++◌, ◌∷◌, [], ℕ, ◌≤◌, List, length, map, reverse, All, slice_get, Option, Some, None, IsSome, Result, Ok, Err, MatchResult}
 use Rattle.key_bits.specs.declared.TheConstants.{MAX_BYTES}
 use Rattle.finite_map.specs.declared.Call.{Call}
@@ -25,11 +25,11 @@ use Rattle.hot_c.specs.declared.handle.IndexHandle.{IndexHandle}
 use Rattle.hot_c.specs.declared.opened.Opened.{Opened}
 use Rattle.hot_c.specs.declared.status.TheConstants.{CLOSED, DONE, KEY_TOO_LONG, NO_HANDLE, NO_MEMORY}
 
--- an index takes a key of this length
+-- the key is no longer than an index takes
 abbrev pub FitsInKey : List ℕ → Type 0
 FitsInKey key = length key ≤ MAX_BYTES
 
--- An open handle stays open, at the same index, and keeps what it kept. `Became` says what has become of its pass.
+-- An open handle stays open, at the same index, and keeps the closed handles that it kept. `Became` says what became of its pass.
 pub record StaysOpen (Became : TableView → PassView → PassView → Type 0) (old new : Option Opened) : Type 0 where
   pub before : Opened
   pub after : Opened
@@ -38,15 +38,15 @@ pub record StaysOpen (Became : TableView → PassView → PassView → Type 0) (
   pub stays : Stays Became before.handle after.handle
   pub keeps : after.kept.items ≡ before.kept.items
 
--- A call had this outcome, by its steps. It was noted with the reply, or refused for the cause. If a change found no record free, all
--- records were counted, and the refusal says what the count says.
-abbrev pub HasOutcome : Call → Result Reply Refusal → TableView → PassView → PassView → Type 0
+-- A call through a handle had this outcome. It was answered and noted, or refused with its cause. Its steps are those of a get, or of one
+-- try of a change. If the try found no record free, all records were counted, and the refusal says what the count says.
+abbrev pub HasOutcome : (call : Call) (outcome : Result Reply Refusal) (index : TableView) (old new : PassView) → Type 0
 HasOutcome call outcome index old new =
     IsOutcome call (as_tried outcome) index old new × HasCause call (as_tried outcome) index old new ×
     GetsOrCounts call outcome index untold (old, tt) (new, tt)
 
--- the call with this key in place of its own
-abbrev pub for_key : List ℕ → Call → Call
+-- the same call, of this key in place of its own
+abbrev pub for_key : (key : List ℕ) (call : Call) → Call
 for_key key (Insert own value) = Insert key value
 for_key key (Upsert own value) = Upsert key value
 for_key key (Exchange own expected value) = Exchange key expected value
@@ -55,98 +55,99 @@ for_key key (Get own) = Get key
 for_key key (Remove own) = Remove key
 for_key key (RemoveIf own expected) = RemoveIf key expected
 
--- a count of all records gave these numbers
-abbrev pub HasCountedRecords : RecordCounts → TableView → PassView → PassView → Type 0
+-- all records were counted, with these counts, and no call was noted
+abbrev pub HasCountedRecords : (counts : RecordCounts) (index : TableView) (old new : PassView) → Type 0
 HasCountedRecords counts index old new = IsUnnoted index.layout old new × HasCounted index untold (old, tt) (new, tt) counts
 
--- A call for a key of this length was made, and the status tells its outcome.
-abbrev pub TellsOutcome : (size : ℕ) → Call → (status : ℕ) → Result Reply Refusal → TableView → PassView → PassView → Type 0
+-- A call for a key of this length was made, and the status tells its reply or its refusal.
+abbrev pub TellsOutcome : (size : ℕ) (call : Call) (status : ℕ) (outcome : Result Reply Refusal) (index : TableView) (old new : PassView) → Type 0
 TellsOutcome size call status outcome index old new =
     HasOutcome call outcome index old new × MatchResult outcome (λ reply. status ≡ reply_status reply) (λ refusal. TellsRefusal size refusal status)
 
--- A call for a key through a handle. C wants a value at a word that has `before`, and then has `after`. A closed handle and a key that is
--- too long are told as such, and nothing has changed. Else the call is made, and its outcome told.
+-- A call for a key through a handle, whose status tells a program in C the outcome. C's word for a value has `before` and then `after`. If
+-- the handle is closed or the key too long, the status says so, and nothing has changed. Else the call is made.
 pub record Answers (key : List ℕ) (call : Call) (old new : Option Opened) (before after status : ℕ) : Type 0 where
   pub closed : old ≡ None → (status ≡ CLOSED) × (new ≡ old) × (after ≡ before)
   pub long : IsSome old → ¬ FitsInKey key → (status ≡ KEY_TOO_LONG) × (new ≡ old) × (after ≡ before)
   pub made : IsSome old → FitsInKey key →
       (outcome : Result Reply Refusal) × StaysOpen (TellsOutcome (length key) call status outcome) old new × (after ≡ value_after before outcome)
 
--- a round of collection gave back so many nodes and leaves
-abbrev pub HasGivenBack : (nodes leaves : ℕ) → TableView → PassView → PassView → Type 0
+-- a round of collection gave back so many node and leaf records, and no call was noted
+abbrev pub HasGivenBack : (nodes leaves : ℕ) (index : TableView) (old new : PassView) → Type 0
 HasGivenBack nodes leaves index old new = IsUnnoted index.layout old new × HasCollected index untold (old, tt) (new, tt) nodes leaves
 
--- all of these handles are closed
-abbrev pub AreClosed : List IndexHandle → Type 0
+-- all handles are closed
+abbrev pub AreClosed : (handles : List IndexHandle) → Type 0
 AreClosed handles = All (λ h. h.cell.opened ≡ None) handles
 
--- the pointers that C has of these handles
+-- the addresses at which C has the handles
 abbrev pub places_of : List IndexHandle → List ℕ
 places_of = map (λ h. h.place)
 
--- an index can have so many passes, nodes and leaves
+-- an index can have so many passes, node records and leaf records
 abbrev pub IsSize : (passes nodes leaves : ℕ) → Type 0
 IsSize passes nodes leaves = IsPassCount passes × IsNodeCount nodes × IsLeafCount leaves
 
 -- an index can have so many passes and this stock
-abbrev pub IsStockSize : ℕ → Stock → Type 0
+abbrev pub IsStockSize : (passes : ℕ) (stock : Stock) → Type 0
 IsStockSize passes stock = IsStockPassCount passes × IsRecordCount stock.nodes × IsRecordCount (leaves_of stock)
 
--- a share of the index with the new pass of this number, which keeps no closed handles
-abbrev pub IsNewShare : TableView → ℕ → Opened → Type 0
+-- the open handle is at this index, has its new pass of this number, and keeps no closed handles
+abbrev pub IsNewShare : (index : TableView) (pass : ℕ) (opened : Opened) → Type 0
 IsNewShare index pass opened = (opened.handle.index ≡ index) × IsNewPass pass opened.handle.pass × (opened.kept.items ≡ [])
 
--- The new passes of one index with so many passes and such records, in the order of their numbers. Each has a share of the index.
+-- The open handles are those of one new index: one for each of its passes, in the order of their numbers. `HasRecords` holds of its layout.
 pub record AreNew (passes : ℕ) (HasRecords : Layout → Type 0) (opened : List Opened) : Type 0 where
   pub index : TableView
   pub layout : (index.layout.passes ≡ passes) × HasRecords index.layout
   pub count : length opened ≡ passes
   pub each : (pass : ℕ) (o : Opened) → slice_get opened pass ≡ Some o → IsNewShare index pass o
 
--- the handles are open on one new index with such records, and have its passes in the order of their numbers
-abbrev pub HaveOpenedOn : (Layout → Type 0) → List IndexHandle → Type 0
-HaveOpenedOn HasRecords handles = (opened : List Opened) × (map (λ h. h.cell.opened) handles ≡ map Some opened) × AreNew (length handles) HasRecords opened
+-- The handles are open on one new index, and have its passes in the order of their numbers. `HasRecords` holds of its layout.
+abbrev pub HaveOpenedOn : (HasRecords : Layout → Type 0) (handles : List IndexHandle) → Type 0
+HaveOpenedOn HasRecords handles =
+    (opened : List Opened) × (map (λ h. h.cell.opened) handles ≡ map Some opened) × AreNew (length handles) HasRecords opened
 
--- so many nodes, one more that is kept, and so many leaves, which are all long
-abbrev pub HasCounts : (nodes leaves : ℕ) → Layout → Type 0
+-- the layout has so many node records, one more that is kept, and so many leaf records, which are all long
+abbrev pub HasCounts : (nodes leaves : ℕ) (layout : Layout) → Type 0
 HasCounts nodes leaves layout = (layout.nodes ≡ with_one_kept nodes) × (layout.leaves ≡ leaves) × (layout.long_from ≡ 0)
 
--- the handles are open on one new index with this number of nodes and of leaves, which are all long
-abbrev pub HaveOpened : (nodes leaves : ℕ) → List IndexHandle → Type 0
+-- The handles are open on one new index with so many node records, and one more that is kept. It has so many leaf records, all long.
+abbrev pub HaveOpened : (nodes leaves : ℕ) (handles : List IndexHandle) → Type 0
 HaveOpened nodes leaves = HaveOpenedOn (HasCounts nodes leaves)
 
--- the handles are open on one new index with this stock, and the node record that is kept
-abbrev pub HaveOpenedStock : Stock → List IndexHandle → Type 0
+-- the handles are open on one new index with this stock, and one more node record, which is kept
+abbrev pub HaveOpenedStock : (stock : Stock) (handles : List IndexHandle) → Type 0
 HaveOpenedStock stock = HaveOpenedOn (λ layout. HasStock layout (kept_stock stock))
 
--- The first handle of an index with so many passes, of which it has the last. It keeps the others, the one with the least number as the
--- next to be opened. The property holds of each pass, by its number.
+-- The first open handle of an index with so many passes. It has the last pass, and keeps closed handles with all others. The one with the
+-- least number is opened next. `IsPass` holds of each pass and its number, and `HasRecords` of the layout.
 pub record KeepsPasses (IsPass : TableView → ℕ → PassView → Type 0) (passes : ℕ) (HasRecords : Layout → Type 0) (opened : Opened) : Type 0 where
   pub layout : (opened.handle.index.layout.passes ≡ passes) × HasRecords opened.handle.index.layout
   pub count : length opened.kept.items + 1 ≡ passes
   pub each : (pass : ℕ) (handle : HandleView) → slice_get (reverse opened.kept.items ++ opened.handle ∷ []) pass ≡ Some handle →
       (handle.index ≡ opened.handle.index) × IsPass opened.handle.index pass handle.pass
 
--- the first handle of a new index with so many passes, which keeps all others
-abbrev pub IsKeeper : ℕ → (Layout → Type 0) → Opened → Type 0
+-- the first open handle of a new index with so many passes, which keeps closed handles with all other passes
+abbrev pub IsKeeper : (passes : ℕ) (HasRecords : Layout → Type 0) (opened : Opened) → Type 0
 IsKeeper = KeepsPasses (λ index. IsNewPass)
 
--- a handle was opened that keeps the others of a new index with this stock
-abbrev pub HasOpenedKeeper : ℕ → Stock → Option Opened → Type 0
+-- a handle was opened on a new index with so many passes and this stock, which keeps closed handles with all other passes
+abbrev pub HasOpenedKeeper : (passes : ℕ) (stock : Stock) (new : Option Opened) → Type 0
 HasOpenedKeeper passes stock new = (opened : Opened) × (new ≡ Some opened) × IsKeeper passes (λ layout. HasStock layout (kept_stock stock)) opened
 
--- the handle keeps the same closed handles as before
-abbrev pub KeepsAll : Opened → Opened → Type 0
+-- the open handle is the same, and keeps the same closed handles
+abbrev pub KeepsAll : (was now : Opened) → Type 0
 KeepsAll was now = (now.handle ≡ was.handle) × (now.kept.items ≡ was.kept.items)
 
--- The next of the closed handles that `was` keeps was opened. It keeps none itself.
+-- The next of the closed handles that `was` keeps was opened, and `now` keeps the others. The opened one keeps none.
 pub record HasOpenedNext (was now opened : Opened) : Type 0 where
   pub next : was.kept.items ≡ now.kept.items ++ opened.handle ∷ []
   pub same : now.handle ≡ was.handle
   pub alone : opened.kept.items ≡ []
 
--- From an open handle that keeps others, the next of them was opened. Or there was none, or no memory.
-abbrev pub OpensNext : Opened → Option Opened → Option Opened → ℕ → Type 0
+-- From an open handle, `was`, the next of the closed handles that it keeps was opened. Or it keeps none, or memory was refused.
+abbrev pub OpensNext : (was : Opened) (keeper handle : Option Opened) (status : ℕ) → Type 0
 OpensNext was keeper handle status = (now : Opened) × (keeper ≡ Some now) ×
     (((status ≡ DONE) × (opened : Opened) × (handle ≡ Some opened) × HasOpenedNext was now opened)
     ⊎ ((status ≡ NO_HANDLE) × (handle ≡ None) × (was.kept.items ≡ []) × KeepsAll was now)

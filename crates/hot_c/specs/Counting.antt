@@ -1,4 +1,4 @@
--- What a count of a range by a program in C says.
+-- What the count of a range tells a program in C.
 use Rattle.std.specs.Prelude.{◌≡◌, ℕ, ◌-◌, ◌^◌, List, Option, None, IsSome}
 use Rattle.hot_index_calls.specs.Answers.{range_from}
 use Rattle.hot_index_calls.specs.Calls.{IsCountRead}
@@ -6,9 +6,10 @@ use Rattle.hot_c.specs.Calls.{FitsInKey, StaysOpen}
 use Rattle.hot_c.specs.declared.opened.Opened.{Opened}
 use Rattle.hot_c.specs.declared.status.TheConstants.{CLOSED, DONE, KEY_TOO_LONG}
 
--- A count through a handle. C wants the number at a word that has `before`, and then has `after`. A closed handle and a key that is too
--- long are told as such, and nothing has changed. Else the range is counted.
+-- A count of a range through a handle. C's word for the number has `before` and then `after`. If the handle is closed or a key too long,
+-- the status says so, and nothing has changed. Else the range is counted.
 pub record CountsRange (from upto : List ℕ) (old new : Option Opened) (before after status : ℕ) : Type 0 where
   pub closed : old ≡ None → (status ≡ CLOSED) × (new ≡ old) × (after ≡ before)
   pub long : IsSome old → ¬ (FitsInKey from × FitsInKey upto) → (status ≡ KEY_TOO_LONG) × (new ≡ old) × (after ≡ before)
-  pub made : IsSome old → FitsInKey from → FitsInKey upto → (status ≡ DONE) × StaysOpen (IsCountRead (range_from from upto (2 ^ 63 - 1)) after) old new
+  pub made : IsSome old → FitsInKey from → FitsInKey upto →
+      (status ≡ DONE) × StaysOpen (IsCountRead (range_from from upto (2 ^ 63 - 1)) after) old new

@@ -1,4 +1,4 @@
--- What a call says by which a handle of a program in C sees what another has seen.
+-- What `hot_see` tells a program in C: one handle sees what another, its leader, has seen.
 use Rattle.std.specs.Prelude.{◌≡◌, ◌⊎◌, ℕ, Option, Some, None, IsSome}
 use Rattle.rowex_table.specs.Traces.{RunBeginsWith}
 use Rattle.hot_index.specs.Stamps.{HasCaughtUp, HasStamped}
@@ -7,26 +7,26 @@ use Rattle.hot_c.specs.Calls.{StaysOpen}
 use Rattle.hot_c.specs.declared.opened.Opened.{Opened}
 use Rattle.hot_c.specs.declared.status.TheConstants.{CLOSED, DONE}
 
--- both handles, if they are open, are at the same index
-abbrev pub AreAtOneIndex : Option Opened → Option Opened → Type 0
+-- if both handles are open, they are at the same index
+abbrev pub AreAtOneIndex : (one other : Option Opened) → Type 0
 AreAtOneIndex one other = (first second : Opened) → one ≡ Some first → other ≡ Some second → second.handle.index ≡ first.handle.index
 
--- All that calls tell of the pass is as it was: its number, its front, its answered calls, and its steps.
-abbrev pub IsAsTold : PassView → PassView → Type 0
+-- What calls tell of the pass is as it was: its number, its front, its answered calls, and its steps.
+abbrev pub IsAsTold : (old new : PassView) → Type 0
 IsAsTold old new =
     (new.number ≡ old.number) × (new.front ≡ old.front) × (new.fresh ≡ old.fresh) × (new.notes ≡ old.notes) × (new.steps ≡ old.steps) ×
     (new.failed ≡ old.failed)
 
--- A handle sees what its leader has seen. It has now seen all changes that the leader has seen, beside its own, and no call of it is noted.
--- All that calls tell of the leader is as it was. If either is closed, that is told and nothing has changed.
+-- A handle sees what its leader has seen: it has followed a stamp of all changes that the leader has seen. What calls tell of the leader
+-- is as it was. If either handle is closed, the status says so, and nothing has changed.
 pub record SeesLeader (old new old_leader new_leader : Option Opened) (status : ℕ) : Type 0 where
   pub closed : (old ≡ None) ⊎ (old_leader ≡ None) → (status ≡ CLOSED) × (new ≡ old) × (new_leader ≡ old_leader)
   pub seen : (leader : Opened) → IsSome old → old_leader ≡ Some leader →
       (status ≡ DONE) × StaysOpen (λ index was now. HasCaughtUp index.layout leader.handle.pass.front was now) old new
       × StaysOpen (λ index was now. IsAsTold was now) old_leader new_leader
 
--- A handle has seen a leader. The steps that it knows now begin with those that the leader knew. The leader has made one stamp, and nothing
--- else.
+-- After a handle has seen what its leader has seen, the steps that it knows begin with those that the leader knew. The leader has made one
+-- stamp, and nothing else of it has changed.
 abbrev pub SeesSteps : (old new old_leader new_leader : Option Opened) → Type 0
 SeesSteps old new old_leader new_leader =
     (was now led then : Opened) → old ≡ Some was → new ≡ Some now → old_leader ≡ Some led → new_leader ≡ Some then →

@@ -1,4 +1,4 @@
--- What the calls of its handles have told a program in C, and that all of it stands in one legal history of a finite map.
+-- What calls through handles have told a program in C, and that all that was told stands in one legal history of a finite map.
 use Rattle.std.specs.Prelude.{◌≡◌, ◌≢◌, ◌⊎◌, ℕ, ◌<◌, All, List, [], ◌∷◌, ◌++◌, IsPermutation, Option, None, Some, if◌then◌else◌, map, nat_eq}
 use Rattle.std.specs.Option.{option_to_list}
 use Rattle.finite_map.specs.declared.Call.{Call}
@@ -18,7 +18,7 @@ use Rattle.hot_index_calls.specs.Traces.{HasCollected, HasMadeScanSteps, untold}
 use Rattle.hot_index_calls.specs.declared.census.RecordCounts.{RecordCounts}
 use Rattle.hot_index.specs.Handles.{HandleView}
 use Rattle.hot_index.specs.Loads.{IsLoaderPass}
-use Rattle.linearizability.specs.Histories.{answers}
+use Rattle.linearizability.specs.Histories.{notes_of_response}
 use Rattle.linearizability.specs.Configurations.{Happening}
 use Rattle.linearizability.specs.Statements.{IsLinearizable}
 use Rattle.index_laws.specs.Joined.{IsExecutionOf}
@@ -40,7 +40,7 @@ use Rattle.hot_c.specs.declared.status.TheConstants.{ABSENT, BUSY, DIFFERS, DONE
 
 -- What a call has told
 
--- the reply that a status tells, where C's value is this one; none if the call was refused, or wasn't made
+-- the reply that the status and C's value tell; none if the call was refused, or wasn't made
 abbrev pub told_reply : (status value : ℕ) → Option Reply
 told_reply status value =
     if nat_eq status FOUND then Some (Value value) else (if nat_eq status ABSENT then Some Absent else (if nat_eq status INSERTED then Some Inserted else
@@ -48,28 +48,28 @@ told_reply status value =
     (if nat_eq status EXCHANGED then Some Exchanged else (if nat_eq status DIFFERS then Some (Differs value) else
     (if nat_eq status REMOVED then Some (Removed value) else None))))))))
 
--- the call with the reply that it was told, if any
-abbrev pub told_of : Call → (status value : ℕ) → List (Call × Reply)
+-- the call with the reply that the status and the value tell, if they tell one
+abbrev pub told_of : (call : Call) (status value : ℕ) → List (Call × Reply)
 told_of call status value = map (λ reply. (call, reply)) (option_to_list (told_reply status value))
 
--- each of many look-ups, so
-abbrev pub told_of_each : List Lookup → List (Call × Reply)
+-- the gets of many look-ups, each with the reply that its status and value tell
+abbrev pub told_of_each : (lookups : List Lookup) → List (Call × Reply)
 told_of_each [] = []
 told_of_each (it ∷ rest) = told_of (Get (key_in it)) it.status it.value ++ told_of_each rest
 
--- the insertions of the pairs of a load
+-- the insertions of the pairs of a load, each with the reply `Inserted`
 abbrev pub loaded_each : List (Key × ℕ) → List (Call × Reply)
 loaded_each = map (λ x. (Insert x.0 x.1, Inserted))
 
 -- What the calls of a handle have told
 
--- The handle is at this index, with a pass of it, as the invariants of a handle and of a pass say.
+-- The handle is at this index, and has a pass of the index, as the invariants of a handle and of a pass say.
 pub record IsAt (index : TableView) (handle : HandleView) : Type 0 where
   pub index_is : handle.index ≡ index
   pub own : Owns index handle.pass
   pub seat : handle.pass ≡ pass_of handle.pass.seat
 
--- The call asked nothing of the map: it read a range, collected or counted records, and noted nothing.
+-- The call asked nothing of the map, and noted nothing. It read a range, or made a round of collection, or counted all records.
 pub record AsksNothing (index : TableView) (old new : PassView) : Type 0 where
   pub same : new.notes ≡ old.notes
   pub legal : LegalCalls new.front new.number new.notes
@@ -77,33 +77,38 @@ pub record AsksNothing (index : TableView) (old new : PassView) : Type 0 where
       ⊎ (((nodes : ℕ) × (leaves : ℕ) × HasCollected index untold (old, tt) (new, tt) nodes leaves) ⊎
       ((counts : RecordCounts) × HasCounted index untold (old, tt) (new, tt) counts))
 
--- The one handle saw what the other had seen.
+-- A handle saw what its leader had seen: the handle was `old` and is `new`, and the leader was `leader` and is `led`.
 pub record HasSeenAnother (old new leader led : Opened) : Type 0 where
   pub sees : SeesLeader (Some old) (Some new) (Some leader) (Some led) DONE
   pub steps : SeesSteps (Some old) (Some new) (Some leader) (Some led)
 
--- The handle with pass q of the index has come to this, and its calls have told so much since its pass was new: of each call that asked the
--- map, what it asked, with the reply that its status and value tell; nothing of one that was refused. It was opened with a new pass, or with
--- the loader's, which has inserted each pair. It asked for one key, in a look-up never refused as busy (`hot_get`), or looked up many. Calls
--- that ask the map nothing went on. It saw what another handle had seen, or another saw what it had seen.
+-- What the calls of a handle with pass q of the index have told since it was opened. There is an entry for each call that asked the map:
+-- what the call asked, with the replies that its statuses and values tell. The entry of a refused call is empty. A handle is opened with a
+-- new pass, or with the pass of a load, which has inserted each pair. Its calls ask for one key (`asked`), look up many keys, or ask the
+-- map nothing (`went_on`). It sees what another handle has seen, or is seen by another. `hot_get` is never told that it is busy.
 pub data HaveTold (index : TableView) : ℕ → List (List (Call × Reply)) → HandleView → Type 0 where
   opened : {q : ℕ} {h : HandleView} → IsNewPass q h.pass → IsAt index h → HaveTold index q [] h
-  loaded : {q : ℕ} {h : HandleView} → q ≡ 0 → (pairs : List (Key × ℕ)) → IsLoaderPass index pairs h.pass → IsAt index h → HaveTold index q (loaded_each pairs ∷ []) h
-  asked : {q : ℕ} {told : List (List (Call × Reply))} {o p : Opened} → HaveTold index q told o.handle → (key : List ℕ) (call : Call) (before after status : ℕ) →
-      Answers key call (Some o) (Some p) before after status → GetsOr call (status ≢ BUSY) (Unit {0}) → HaveTold index q (told ++ told_of call status after ∷ []) p.handle
-  looked_up : {q : ℕ} {told : List (List (Call × Reply))} {o p : Opened} → HaveTold index q told o.handle → (before after : List Lookup) → All (λ it. FitsInKey (key_in it)) before →
+  loaded : {q : ℕ} {h : HandleView} → q ≡ 0 → (pairs : List (Key × ℕ)) → IsLoaderPass index pairs h.pass → IsAt index h →
+      HaveTold index q (loaded_each pairs ∷ []) h
+  asked : {q : ℕ} {told : List (List (Call × Reply))} {o p : Opened} → HaveTold index q told o.handle →
+      (key : List ℕ) (call : Call) (before after status : ℕ) →
+      Answers key call (Some o) (Some p) before after status → GetsOr call (status ≢ BUSY) (Unit {0}) →
+      HaveTold index q (told ++ told_of call status after ∷ []) p.handle
+  looked_up : {q : ℕ} {told : List (List (Call × Reply))} {o p : Opened} → HaveTold index q told o.handle →
+      (before after : List Lookup) → All (λ it. FitsInKey (key_in it)) before →
       LooksUpAll (Some o) (Some p) before after DONE → HaveTold index q (told ++ told_of_each after ∷ []) p.handle
-  went_on : {q : ℕ} {told : List (List (Call × Reply))} {o p : Opened} → HaveTold index q told o.handle → StaysOpen AsksNothing (Some o) (Some p) → HaveTold index q told p.handle
-  saw : {q r : ℕ} {told others : List (List (Call × Reply))} {o p l m : Opened} → HaveTold index q told o.handle → HaveTold index r others l.handle →
-      HasSeenAnother o p l m → HaveTold index q told p.handle
-  was_seen : {q r : ℕ} {told others : List (List (Call × Reply))} {o p l m : Opened} → HaveTold index q told l.handle → HaveTold index r others o.handle →
-      HasSeenAnother o p l m → HaveTold index q told m.handle
+  went_on : {q : ℕ} {told : List (List (Call × Reply))} {o p : Opened} → HaveTold index q told o.handle →
+      StaysOpen AsksNothing (Some o) (Some p) → HaveTold index q told p.handle
+  saw : {q r : ℕ} {told others : List (List (Call × Reply))} {o p l m : Opened} →
+      HaveTold index q told o.handle → HaveTold index r others l.handle → HasSeenAnother o p l m → HaveTold index q told p.handle
+  was_seen : {q r : ℕ} {told others : List (List (Call × Reply))} {o p l m : Opened} →
+      HaveTold index q told l.handle → HaveTold index r others o.handle → HasSeenAnother o p l m → HaveTold index q told m.handle
 
--- A call that says this of its handle asks nothing of the map, where it is made.
-abbrev pub StaysQuiet : (Option Opened → Option Opened → Type 0) → Type 0
+-- A call through an open handle that says this of the handle asks nothing of the map, and leaves the handle open.
+abbrev pub StaysQuiet : (Says : Option Opened → Option Opened → Type 0) → Type 0
 StaysQuiet Says = (o : Opened) (new : Option Opened) → Says (Some o) new → StaysOpen AsksNothing (Some o) new
 
--- So it is with scans in each order, packed ones, scans of values, searches for an end of a range, counts of a range, rounds and censuses.
+-- Which calls ask nothing of the map: scans of each kind, searches for an end of a range, counts, and rounds of collection.
 pub record QuietCalls : Type 0 where
   pub lists : (order : Order) (from upto : List ℕ) → FitsInKey from → FitsInKey upto → (before after : Listing) (status : ℕ) →
       StaysQuiet (λ old new. ListsBy (IsListedIn order) from upto old new before after status)
@@ -113,8 +118,10 @@ pub record QuietCalls : Type 0 where
       StaysQuiet (λ old new. ListsValues from upto old new before after status)
   pub ends : (order : Order) (from upto : List ℕ) → FitsInKey from → FitsInKey upto → (before after : Pair) (status : ℕ) →
       StaysQuiet (λ old new. FindsFirstIn order from upto old new before after status)
-  pub first : (from : List ℕ) → FitsInKey from → (before after : Pair) (status : ℕ) → StaysQuiet (λ old new. FindsFirst from old new before after status)
-  pub last : (upto : List ℕ) → FitsInKey upto → (before after : Pair) (status : ℕ) → StaysQuiet (λ old new. FindsLast upto old new before after status)
+  pub first : (from : List ℕ) → FitsInKey from → (before after : Pair) (status : ℕ) →
+      StaysQuiet (λ old new. FindsFirst from old new before after status)
+  pub last : (upto : List ℕ) → FitsInKey upto → (before after : Pair) (status : ℕ) →
+      StaysQuiet (λ old new. FindsLast upto old new before after status)
   pub counts : (from upto : List ℕ) → FitsInKey from → FitsInKey upto → (before after status : ℕ) →
       StaysQuiet (λ old new. CountsRange from upto old new before after status)
   pub round : (nodes leaves : ℕ) → StaysQuiet (StaysOpen (HasGivenBack nodes leaves))
@@ -125,30 +132,31 @@ pub record QuietCalls : Type 0 where
 -- the notes of the answered calls among these happenings
 abbrev pub answered_notes : List Happening → List Note
 answered_notes [] = []
-answered_notes (x ∷ xs) = answers x ++ answered_notes xs
+answered_notes (x ∷ xs) = notes_of_response x ++ answered_notes xs
 
--- The notes are of what was told, call by call: for each reply of a call there is a note, in some order.
+-- The notes are those of what calls have told. Call by call, there is a note for each reply, in some order.
 pub data AreNotesOf : List (List (Call × Reply)) → List Note → Type 0 where
   none : AreNotesOf [] []
   more : {told : List (List (Call × Reply))} {notes : List Note} → AreNotesOf told notes → (replies : List (Call × Reply)) (added : List Note) →
       IsPermutation replies (map (λ n. (n.call, n.reply)) added) → AreNotesOf (told ++ replies ∷ []) (notes ++ added)
 
--- the steps of which the handle knows
+-- the steps that the pass of the open handle knows
 abbrev pub steps_known : Opened → List Event
-steps_known o = o.handle.pass.seat.trace
+steps_known open_handle = open_handle.handle.pass.seat.trace
 
--- Each pass of an index has an open handle, whose calls have told a program this. Some handle of the index, of pass p, knew of all steps of
--- which these knew, as where it saw each of them, or one that had. Then each saw a handle that knew of all that this one had known. So
--- there is one execution in which each pass made the calls that its handle told of, with these replies, and no others; and it is
--- linearizable: they have one order that a map could have run, and of two calls that don't overlap the earlier stands first.
+-- Let each pass of an index have an open handle, whose calls have told a program in C `told`. Let some handle of the index (`all`) know
+-- all steps that these handles knew. Let each handle then see a leader that knows all steps that `all` knew. There is one execution in
+-- which each pass makes just the calls that its handle told of, with these replies. It is linearizable: the calls have one order that a
+-- map could have run. Of two calls that don't overlap, the earlier stands first.
 abbrev pub CallsAreLinearizable : Type 0
 CallsAreLinearizable =
     (index : TableView) (told : ℕ → List (List (Call × Reply))) (was now leader led : ℕ → Opened) →
-    ((q : ℕ) → q < index.layout.passes → HaveTold index q (told q) (was q).handle) →
-    (p : ℕ) → p < index.layout.passes → (others : List (List (Call × Reply))) (all : Opened) → HaveTold index p others all.handle →
-    ((q : ℕ) → q < index.layout.passes → RunBeginsWith (steps_known all) (steps_known (was q))) →
-    ((q : ℕ) → q < index.layout.passes → HasSeenAnother (was q) (now q) (leader q) (led q)) →
-    ((q : ℕ) → q < index.layout.passes → RunBeginsWith (steps_known (leader q)) (steps_known all)) →
+    ((pass : ℕ) → pass < index.layout.passes → HaveTold index pass (told pass) (was pass).handle) →
+    (one : ℕ) → one < index.layout.passes → (others : List (List (Call × Reply))) (all : Opened) → HaveTold index one others all.handle →
+    ((pass : ℕ) → pass < index.layout.passes → RunBeginsWith (steps_known all) (steps_known (was pass))) →
+    ((pass : ℕ) → pass < index.layout.passes → HasSeenAnother (was pass) (now pass) (leader pass) (led pass)) →
+    ((pass : ℕ) → pass < index.layout.passes → RunBeginsWith (steps_known (leader pass)) (steps_known all)) →
     (done : ℕ → List Happening) × (last : ℕ) × (at : ℕ → Instant) × (happens : ℕ → Happening) ×
-    ((q : ℕ) → q < index.layout.passes → AreNotesOf (told q) (answered_notes (done q))) ×
-    IsExecutionOf index (steps_known all) done (λ q. (was q).handle.pass.seat) last at happens × IsLinearizable index.layout last (λ t. configuration_of index.layout (at t)) happens
+    ((pass : ℕ) → pass < index.layout.passes → AreNotesOf (told pass) (answered_notes (done pass))) ×
+    IsExecutionOf index (steps_known all) done (λ pass. (was pass).handle.pass.seat) last at happens ×
+    IsLinearizable index.layout last (λ t. configuration_of index.layout (at t)) happens

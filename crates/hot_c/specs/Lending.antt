@@ -1,4 +1,4 @@
--- What becomes of a cell that lent what it holds.
+-- What becomes of a handle's cell while what it holds is lent, and after.
 use Rattle.std.specs.Prelude.{Some}
 use Rattle.std.specs.Borrow.{Lends, MutBor, Fml}
 use Rattle.hot_handles.specs.declared.held.Held.{Held}
@@ -8,22 +8,22 @@ use Rattle.hot_c.specs.declared.cell.HandleCell.{HandleCell}
 use Rattle.hot_c.specs.contracts.opened.Opened.{the_row as opened_row}
 use Rattle.hot_c.specs.contracts.cell.HandleCell.{the_row as cell_row}
 
--- a handle's cell as a holder, whose type tells what it holds
+-- the handle's cell as a holder of an open handle
 abbrev pub held_opened : HandleCell → Held Opened
 held_opened cell = record { at = cell.at; value = cell.opened }
 
--- a holder of an open handle as its cell
+-- the holder of an open handle as a handle's cell
 abbrev pub cell_of_opened : Held Opened → HandleCell
 cell_of_opened held = record { at = held.at; opened = held.value }
 
--- the handle's cell ends as its holder does
-abbrev pub LendsHeldOpened : MutBor HandleCell → MutBor (Held Opened) → Fml
+-- the cell was lent as a holder: the handle's cell ends as this holder does
+abbrev pub LendsHeldOpened : (cell : MutBor HandleCell) (held : MutBor (Held Opened)) → Fml
 LendsHeldOpened cell held = Lends cell_row (held_row opened_row) cell held cell_of_opened
 
--- the handle's cell, holding this open handle
-abbrev pub with_opened : HandleCell → Opened → HandleCell
+-- the handle's cell, with this open handle in it
+abbrev pub with_opened : (cell : HandleCell) (opened : Opened) → HandleCell
 with_opened cell opened = record cell { opened = Some opened }
 
--- the handle's cell ends with the last value behind the reference
-abbrev pub LendsOpened : MutBor HandleCell → MutBor Opened → Fml
+-- the open handle in the cell was lent: the cell ends with the last value behind the reference
+abbrev pub LendsOpened : (cell : MutBor HandleCell) (opened : MutBor Opened) → Fml
 LendsOpened cell opened = Lends cell_row opened_row cell opened (with_opened cell.now)

@@ -1,4 +1,4 @@
--- The orders in which a scan lists its pairs, and what was answered in each.
+-- The orders in which a scan lists its pairs, and what is said of its answer in each.
 use Rattle.std.specs.Prelude.{ℕ, List, reverse, Bool}
 use Rattle.record_words.specs.declared.layout.Layout.{Layout}
 use Rattle.version_laws.specs.Scan.{Range}
@@ -10,22 +10,22 @@ use Rattle.packed_pairs.specs.declared.direction.Direction.TheVariants.{Upwards 
 use Rattle.hot_c.specs.declared.pairs.Order.{Order}
 use Rattle.hot_c.specs.declared.pairs.Order.TheVariants.{Upwards, Downwards, LastUpwards}
 
--- What is said of a scan of a range: of its pairs, and whether there is a further one.
+-- What may be said of a scan of a range, by its pairs and by whether there is a further one.
 abbrev pub Answer : Type 1
-Answer = Layout → PassView → PassView → Range → List (List ℕ × ℕ) → Bool → Type 0
+Answer = (layout : Layout) (old new : PassView) (range : Range) (pairs : List (List ℕ × ℕ)) (is_more : Bool) → Type 0
 
--- A scan of the last pairs in rising order was answered. A scan downwards lists them from the last one on.
+-- A scan of the last pairs of a range was answered with these pairs, in rising order. A scan downwards lists them from the last one on.
 abbrev pub IsLastListed : Answer
 IsLastListed layout old new range pairs is_more = IsReverseListed layout old new range (reverse pairs) is_more
 
--- a scan in this order was answered
+-- a scan was answered, with its pairs in this order
 abbrev pub IsListedIn : Order → Answer
 IsListedIn Upwards = IsListed
 IsListedIn Downwards = IsReverseListed
 IsListedIn LastUpwards = IsLastListed
 
--- the pairs in this order, from the order in which the scan found them
-abbrev pub in_order : Order → List (List ℕ × ℕ) → List (List ℕ × ℕ)
+-- the pairs in this order, where `pairs` has them in the order in which the scan finds them
+abbrev pub in_order : (order : Order) (pairs : List (List ℕ × ℕ)) → List (List ℕ × ℕ)
 in_order Upwards pairs = pairs
 in_order Downwards pairs = pairs
 in_order LastUpwards pairs = reverse pairs
@@ -36,7 +36,7 @@ direction_of Upwards = Rising
 direction_of Downwards = Falling
 direction_of LastUpwards = Falling
 
--- a scan in this order was answered, with its pairs as it found them
+-- a scan for this order was answered, with its pairs in the order in which it found them
 abbrev pub IsFilledIn : Order → Answer
 IsFilledIn Upwards = IsListed
 IsFilledIn Downwards = IsReverseListed

@@ -1,25 +1,26 @@
--- Pairs of a scan in C's array, and one pair at a place of C's.
+-- Pairs of a scan as a program in C has them: in an array, or one at a place of its own.
 use Rattle.std.specs.Prelude.{◌≡◌, ℕ, List, length, take, drop, slice_get, Option, Some, None}
 use Rattle.hot_c.specs.declared.pairs.Pair.{Pair}
 use Rattle.hot_c.specs.declared.status.TheConstants.{ABSENT, FOUND}
 
--- C's pair becomes this key with its value. Its first bytes are the key's, and those behind the key stay.
+-- C's pair becomes this key with this value. The first bytes of its room are the key's, and the bytes behind the key stay as they were.
 pub record Spells (pair : List ℕ × ℕ) (before after : Pair) : Type 0 where
   pub key : take (length pair.0) after.key ≡ pair.0
   pub behind : drop (length pair.0) after.key ≡ drop (length pair.0) before.key
   pub count : after.length ≡ length pair.0
   pub value : after.value ≡ pair.1
 
--- the pair with this index in C's array becomes this key with its value
-abbrev pub BecomesAt : List Pair → ℕ → List ℕ × ℕ → Pair → Type 0
-BecomesAt before q e pair = (was : Pair) × (slice_get before q ≡ Some was) × Spells e was pair
+-- The pair at this place of C's array becomes this key with this value. `becomes` is that pair after it.
+abbrev pub BecomesAt : (before : List Pair) (place : ℕ) (pair : List ℕ × ℕ) (becomes : Pair) → Type 0
+BecomesAt before place pair becomes = (was : Pair) × (slice_get before place ≡ Some was) × Spells pair was becomes
 
--- C's array begins with these pairs
-abbrev pub AreSpelled : List (List ℕ × ℕ) → List Pair → List Pair → Type 0
+-- C's array, which had `before`, begins with these pairs in `after`.
+abbrev pub AreSpelled : (pairs : List (List ℕ × ℕ)) (before after : List Pair) → Type 0
 AreSpelled pairs before after =
-    (q : ℕ) (e : List ℕ × ℕ) → slice_get pairs q ≡ Some e → (pair : Pair) × (slice_get after q ≡ Some pair) × BecomesAt before q e pair
+    (place : ℕ) (pair : List ℕ × ℕ) → slice_get pairs place ≡ Some pair →
+    (becomes : Pair) × (slice_get after place ≡ Some becomes) × BecomesAt before place pair becomes
 
--- the status tells whether a pair was found, and C's pair is that one, or as it was
-abbrev pub IsPairTold : Option (List ℕ × ℕ) → Pair → Pair → ℕ → Type 0
+-- The status tells whether a pair was found. If so, C's pair is that one. Else it is as it was.
+abbrev pub IsPairTold : (found : Option (List ℕ × ℕ)) (before after : Pair) (status : ℕ) → Type 0
 IsPairTold None before after status = (status ≡ ABSENT) × (after ≡ before)
 IsPairTold (Some pair) before after status = (status ≡ FOUND) × Spells pair before after

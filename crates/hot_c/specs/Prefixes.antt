@@ -1,4 +1,4 @@
--- What the scans of a prefix of a program in C say, that go on from a key.
+-- What a scan of a prefix that goes on from a key tells a program in C.
 use Rattle.std.specs.Prelude.{◌≡◌, ◌↔◌, ℕ, List, IsTrue, Option, None, IsSome}
 use Rattle.std.specs.declared.cmp.Ordering.TheVariants.{Less}
 use Rattle.key_bits.specs.Key.{IsKey}
@@ -13,31 +13,32 @@ use Rattle.hot_c.specs.Scans.{Listing, ListsBy}
 use Rattle.hot_c.specs.declared.opened.Opened.{Opened}
 use Rattle.hot_c.specs.declared.status.TheConstants.{CLOSED, KEY_TOO_LONG}
 
--- the range has just the keys with the property
-abbrev pub IsRangeOf : (List ℕ → Type 0) → List ℕ → List ℕ → Type 0
+-- the range has just the keys of which `IsInside` holds
+abbrev pub IsRangeOf : (IsInside : List ℕ → Type 0) (from upto : List ℕ) → Type 0
 IsRangeOf IsInside from upto = (key : List ℕ) → IsKey key → IsTrue (is_within from upto key) ↔ IsInside key
 
 -- the key begins with the prefix and is above the other key
-abbrev pub HasPrefixAbove : List ℕ → List ℕ → List ℕ → Type 0
+abbrev pub HasPrefixAbove : (prefix other key : List ℕ) → Type 0
 HasPrefixAbove prefix other key = HasPrefix prefix key × (key_order other key ≡ Less)
 
 -- the key begins with the prefix and is below the other key
-abbrev pub HasPrefixBelow : List ℕ → List ℕ → List ℕ → Type 0
+abbrev pub HasPrefixBelow : (prefix other key : List ℕ) → Type 0
 HasPrefixBelow prefix other key = HasPrefix prefix key × (key_order key other ≡ Less)
 
--- A scan through a handle of keys with a prefix, on one side of another key. A closed handle, and a prefix or a key that is too long, are
--- told as such, and nothing has changed. Else it is a scan of the range of just those keys.
+-- A scan through a handle of the keys with a prefix that are on one side of another key. If the handle is closed, or the prefix or the key
+-- too long, the status says so, and nothing has changed. Else it is a scan of the range of just those keys.
 pub record ListsRest (IsMade : Answer) (IsInside : List ℕ → Type 0) (prefix other : List ℕ)
     (old new : Option Opened) (before after : Listing) (status : ℕ) : Type 0 where
   pub closed : old ≡ None → (status ≡ CLOSED) × (new ≡ old) × (after ≡ before)
   pub long : IsSome old → ¬ (FitsInKey prefix × FitsInKey other) → (status ≡ KEY_TOO_LONG) × (new ≡ old) × (after ≡ before)
   pub made : IsSome old → FitsInKey prefix → FitsInKey other →
-      (from upto : List ℕ) × IsRangeOf IsInside from upto × FitsInKey from × FitsInKey upto × ListsBy IsMade from upto old new before after status
+      (from upto : List ℕ) × IsRangeOf IsInside from upto × FitsInKey from × FitsInKey upto ×
+      ListsBy IsMade from upto old new before after status
 
--- a scan upwards of the keys with a prefix that are above another key
-abbrev pub ListsAfter : List ℕ → List ℕ → Option Opened → Option Opened → Listing → Listing → ℕ → Type 0
+-- a scan upwards of the keys that begin with the prefix and are above the other key
+abbrev pub ListsAfter : (prefix other : List ℕ) (old new : Option Opened) (before after : Listing) (status : ℕ) → Type 0
 ListsAfter prefix other = ListsRest IsListed (HasPrefixAbove prefix other) prefix other
 
--- a scan downwards of the keys with a prefix that are below another key
-abbrev pub ListsBefore : List ℕ → List ℕ → Option Opened → Option Opened → Listing → Listing → ℕ → Type 0
+-- a scan downwards of the keys that begin with the prefix and are below the other key
+abbrev pub ListsBefore : (prefix other : List ℕ) (old new : Option Opened) (before after : Listing) (status : ℕ) → Type 0
 ListsBefore prefix other = ListsRest IsReverseListed (HasPrefixBelow prefix other) prefix other

@@ -1,4 +1,4 @@
--- What a call says that was refused.
+-- What the status of a refused call tells.
 use Rattle.std.specs.Prelude.{◌≡◌, ◌≢◌, ℕ}
 use Rattle.finite_map.specs.declared.Call.{Call}
 use Rattle.rowex_writing.specs.declared.attempts.TryFault.TheVariants.{FullLeaves, FullNodes}
@@ -11,32 +11,32 @@ use Rattle.hot_index_calls.specs.declared.refusals.Refusal.{Refusal}
 use Rattle.hot_index_calls.specs.declared.refusals.Refusal.TheVariants.{Busy, HeldBack, Full}
 use Rattle.hot_c.specs.declared.status.TheConstants.{BUSY, FULL_NODES, FULL_LEAVES, KEY_TOO_LONG, HELD_BACK}
 
--- the index has no record of one kind and class
+-- of one kind and class there is no record, in whatever state
 pub record AreNone (counts : StateCounts) : Type 0 where
   pub free : counts.free ≡ 0
   pub held : counts.held ≡ 0
   pub live : counts.live ≡ 0
   pub obsolete : counts.obsolete ≡ 0
 
--- The status says whether the index has no leaf record with room for a key of this length, or too few are free.
+-- The status says that the index has no leaf record with room for a key of this length, or else that it is full.
 pub record TellsOfLeaves (length : ℕ) (counts : RecordCounts) (status : ℕ) : Type 0 where
   pub none : OfLeaves AreNone length counts → status ≡ KEY_TOO_LONG
   pub taken : ¬ OfLeaves AreNone length counts → status ≡ FULL_LEAVES
 
--- The status says why a call for a key of this length was refused.
-abbrev pub TellsRefusal : (length : ℕ) → Refusal → (status : ℕ) → Type 0
+-- The status says why a call of a key of this length was refused.
+abbrev pub TellsRefusal : (length : ℕ) (refusal : Refusal) (status : ℕ) → Type 0
 TellsRefusal length Busy status = status ≡ BUSY
 TellsRefusal length (HeldBack lacks) status = status ≡ HELD_BACK
 TellsRefusal length (Full Nodes counts) status = status ≡ FULL_NODES
 TellsRefusal length (Full Leaves counts) status = TellsOfLeaves length counts status
 
--- The status tells no lack of a kind of records that the call never lacks. If the call lacks neither kind, it tells none that others hold
--- back.
+-- The status tells no lack of records that the call never lacks: not of node records, nor of leaf records. If the call lacks neither, it is
+-- not told that it is held back.
 pub record TellsWhatMay (call : Call) (status : ℕ) : Type 0 where
   pub nodes : ¬ MayRefuse call FullNodes → status ≢ FULL_NODES
   pub leaves : ¬ MayRefuse call FullLeaves → status ≢ FULL_LEAVES
   pub held : ¬ MayRefuse call FullNodes → ¬ MayRefuse call FullLeaves → status ≢ HELD_BACK
 
--- the status tells no lack of records
-abbrev pub TellsOfNoLack : ℕ → Type 0
+-- the status tells no lack of records, neither full nor held back
+abbrev pub TellsOfNoLack : (status : ℕ) → Type 0
 TellsOfNoLack status = (status ≢ FULL_NODES) × (status ≢ FULL_LEAVES) × (status ≢ HELD_BACK)

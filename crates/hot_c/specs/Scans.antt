@@ -56,7 +56,7 @@ pub record Listing : Type 0 where
   pub more : ℕ
 
 -- these values as what C sees of a scan
-abbrev pub listing : List Pair → (count more : ℕ) → Listing
+abbrev pub listing : (room : List Pair) (count more : ℕ) → Listing
 listing room count more = record { room = room; count = count; more = more }
 
 -- The array begins with the scan's pairs, for which it has room. Behind them, and behind the key of each, it is as it was.
@@ -67,18 +67,19 @@ pub record IsArrayListed (pairs : List (List ℕ × ℕ)) (is_more : Bool) (befo
   pub count : after.count ≡ length pairs
   pub more : after.more ≡ from_bool is_more
 
--- a scan through a handle, of as many pairs as C's array has room for
-abbrev pub ListsBy : Answer → List ℕ → List ℕ → Option Opened → Option Opened → Listing → Listing → ℕ → Type 0
-ListsBy IsMade from upto old new before after status = ListsInto IsArrayListed IsMade (range_from from upto (length before.room)) old new before after status
+-- a scan through a handle, of at most as many pairs as C's array has room for
+abbrev pub ListsBy : (IsMade : Answer) (from upto : List ℕ) (old new : Option Opened) (before after : Listing) (status : ℕ) → Type 0
+ListsBy IsMade from upto old new before after status =
+    ListsInto IsArrayListed IsMade (range_from from upto (length before.room)) old new before after status
 
 -- a scan upwards, from the first key of the range on
-abbrev pub ListsUpwards : List ℕ → List ℕ → Option Opened → Option Opened → Listing → Listing → ℕ → Type 0
+abbrev pub ListsUpwards : (from upto : List ℕ) (old new : Option Opened) (before after : Listing) (status : ℕ) → Type 0
 ListsUpwards = ListsBy IsListed
 
 -- a scan downwards: the last pairs of the range, in falling order
-abbrev pub ListsReverse : List ℕ → List ℕ → Option Opened → Option Opened → Listing → Listing → ℕ → Type 0
+abbrev pub ListsReverse : (from upto : List ℕ) (old new : Option Opened) (before after : Listing) (status : ℕ) → Type 0
 ListsReverse = ListsBy IsReverseListed
 
 -- a scan of the last pairs of the range, in rising order
-abbrev pub ListsLast : List ℕ → List ℕ → Option Opened → Option Opened → Listing → Listing → ℕ → Type 0
+abbrev pub ListsLast : (from upto : List ℕ) (old new : Option Opened) (before after : Listing) (status : ℕ) → Type 0
 ListsLast = ListsBy IsLastListed

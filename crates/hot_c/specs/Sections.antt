@@ -1,4 +1,4 @@
--- What the calls of sections say, for programs in C.
+-- What the calls of sections tell a program in C.
 use Rattle.std.specs.Prelude.{◌≡◌, ◌⊎◌, ◌<◌, ℕ, [], Option, Some, None, IsSome}
 use Rattle.sections.specs.Runs.{IsHeld, IsPast}
 use Rattle.sections.specs.Sections.{Enters, IsInside, Leaves, SeesOthers, SectionView, TakesMoment}
@@ -6,7 +6,7 @@ use Rattle.hot_handles.specs.SectionHandles.{HasOpenedSection, KeepsSections, Is
 use Rattle.hot_handles.specs.declared.section.opened.OpenSection.{OpenSection as OpenSection}
 use Rattle.hot_c.specs.declared.status.TheConstants.{CLOSED, DONE, INSIDE, NO_HANDLE, NO_MEMORY, NOT_PAST, OUTSIDE}
 
--- An open handle stays open, at the same table, and keeps what it kept. `Became` says what has become of its section.
+-- A section's open handle stays open, at the same table, and keeps the sections that it kept. `Became` says what became of its own section.
 pub record KeepsSection (Became : SectionView → SectionView → Type 0) (old new : Option OpenSection) : Type 0 where
   pub before : OpenSection
   pub after : OpenSection
@@ -16,57 +16,59 @@ pub record KeepsSection (Became : SectionView → SectionView → Type 0) (old n
   pub kept : after.kept.items ≡ before.kept.items
   pub became : Became before.section after.section
 
--- the handle is open, with a section that is open
+-- the handle is open, and its section is entered
 abbrev pub HoldsInside : Option OpenSection → Type 0
 HoldsInside held = (section : OpenSection) × (held ≡ Some section) × IsInside section.section
 
--- the handle is open, with a section that is not
+-- the handle is open, and its section is not entered
 abbrev pub HoldsOutside : Option OpenSection → Type 0
 HoldsOutside held = (section : OpenSection) × (held ≡ Some section) × ¬ IsInside section.section
 
--- A section is entered. A closed handle and a section that is open already are told as such, and nothing has changed.
+-- The section of a handle is entered. If the handle is closed, or the section is entered already, the status says so, and nothing has
+-- changed.
 pub record EntersSection (old new : Option OpenSection) (status : ℕ) : Type 0 where
   pub closed : old ≡ None → (status ≡ CLOSED) × (new ≡ old)
   pub inside : HoldsInside old → (status ≡ INSIDE) × KeepsSection (λ s t. t ≡ s) old new
   pub entered : HoldsOutside old → (status ≡ DONE) × KeepsSection Enters old new
 
--- A section is left. A closed handle and a section that isn't open are told as such, and nothing has changed.
+-- The section of a handle is left. If the handle is closed, or the section isn't entered, the status says so, and nothing has changed.
 pub record LeavesSection (old new : Option OpenSection) (status : ℕ) : Type 0 where
   pub closed : old ≡ None → (status ≡ CLOSED) × (new ≡ old)
   pub outside : HoldsOutside old → (status ≡ OUTSIDE) × KeepsSection (λ s t. t ≡ s) old new
   pub left : HoldsInside old → (status ≡ DONE) × KeepsSection Leaves old new
 
--- The call tells whether a section is open, and nothing has changed.
+-- The status tells whether the section of a handle is entered. Nothing has changed.
 pub record TellsInside (old new : Option OpenSection) (status : ℕ) : Type 0 where
   pub closed : old ≡ None → status ≡ CLOSED
   pub outside : HoldsOutside old → status ≡ OUTSIDE
   pub inside : HoldsInside old → status ≡ INSIDE
   pub same : new ≡ old
 
--- A moment is taken, and its number is in C's word. A closed handle is told as such, and nothing has changed.
+-- A moment is taken, and C's word has its number. If the handle is closed, the status says so, and nothing has changed.
 pub record TellsMoment (old new : Option OpenSection) (before after status : ℕ) : Type 0 where
   pub closed : old ≡ None → (status ≡ CLOSED) × (new ≡ old) × (after ≡ before)
   pub taken : IsSome old → (status ≡ DONE) × KeepsSection (TakesMoment after) old new
 
--- the owner of a section has looked, and found that the moment is past
-abbrev pub FindsPast : ℕ → SectionView → SectionView → Type 0
+-- by a look of the owner of a section, the moment is past
+abbrev pub FindsPast : (moment : ℕ) (old new : SectionView) → Type 0
 FindsPast moment old new = SeesOthers old new × IsPast moment new.known.run
 
--- the owner of a section has looked, and found what may hold the moment
-abbrev pub FindsHeld : ℕ → SectionView → SectionView → Type 0
+-- by a look of the owner of a section, something holds the moment
+abbrev pub FindsHeld : (moment : ℕ) (old new : SectionView) → Type 0
 FindsHeld moment old new = SeesOthers old new × IsHeld moment new.known.run
 
--- The call tells whether the moment of this number is past. A closed handle is told as such, and nothing has changed.
+-- The status tells whether the moment of this number is past. If the handle is closed, the status says so, and nothing has changed.
 pub record TellsPast (moment : ℕ) (old new : Option OpenSection) (status : ℕ) : Type 0 where
   pub closed : old ≡ None → (status ≡ CLOSED) × (new ≡ old)
-  pub told : IsSome old → ((status ≡ DONE) × KeepsSection (FindsPast moment) old new) ⊎ ((status ≡ NOT_PAST) × KeepsSection (FindsHeld moment) old new)
+  pub told : IsSome old →
+      ((status ≡ DONE) × KeepsSection (FindsPast moment) old new) ⊎ ((status ≡ NOT_PAST) × KeepsSection (FindsHeld moment) old new)
 
--- a handle was opened that keeps `count` sections of a new table
-abbrev pub HasOpenedSections : ℕ → Option OpenSection → Type 0
+-- a handle was opened that keeps `count` sections of a new table, beside its own
+abbrev pub HasOpenedSections : (count : ℕ) (new : Option OpenSection) → Type 0
 HasOpenedSections count new = (opened : OpenSection) × (new ≡ Some opened) × KeepsSections count opened
 
--- From an open handle that keeps sections, the next of them was opened. Or there was none, or no memory.
-abbrev pub OpensSection : OpenSection → Option OpenSection → Option OpenSection → ℕ → Type 0
+-- From an open handle, `was`, the next of the sections that it keeps was opened. Or it keeps none, or memory was refused.
+abbrev pub OpensSection : (was : OpenSection) (keeper handle : Option OpenSection) (status : ℕ) → Type 0
 OpensSection was keeper handle status = (now : OpenSection) × (keeper ≡ Some now) ×
     (((status ≡ DONE) × (opened : OpenSection) × (handle ≡ Some opened) × HasOpenedSection was now opened)
     ⊎ ((status ≡ NO_HANDLE) × (handle ≡ None) × (was.kept.items ≡ []) × IsUnchangedSection was now)

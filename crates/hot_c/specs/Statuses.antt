@@ -1,11 +1,11 @@
--- What a status says of a reply, and what becomes of C's value.
+-- Which status tells a reply, and what becomes of C's value.
 use Rattle.std.specs.Prelude.{ℕ, Result, Ok}
 use Rattle.finite_map.specs.declared.Reply.{Reply}
 use Rattle.finite_map.specs.declared.Reply.TheVariants.{Inserted, Exists, New, Was, Exchanged, Differs, Value, Absent, Removed}
 use Rattle.hot_index_calls.specs.declared.refusals.Refusal.{Refusal}
 use Rattle.hot_c.specs.declared.status.TheConstants.{FOUND, ABSENT, INSERTED, EXISTS, NEW, WAS, EXCHANGED, DIFFERS, REMOVED}
 
--- the status of each reply
+-- the status that tells this reply
 abbrev pub reply_status : Reply → ℕ
 reply_status (Value value) = FOUND
 reply_status Absent = ABSENT
@@ -17,8 +17,8 @@ reply_status Exchanged = EXCHANGED
 reply_status (Differs value) = DIFFERS
 reply_status (Removed value) = REMOVED
 
--- C's value after the call: that of the outcome if it has one, and else the one before
-abbrev pub value_after : ℕ → Result Reply Refusal → ℕ
+-- C's value after the call: the value in the reply, if the outcome is a reply with one, and else the value before
+abbrev pub value_after : (before : ℕ) (outcome : Result Reply Refusal) → ℕ
 value_after before (Ok (Value value)) = value
 value_after before (Ok (Exists value)) = value
 value_after before (Ok (Was value)) = value

@@ -1,4 +1,4 @@
--- A stock as a program in C tells it.
+-- A stock as a program in C gives it, and how many bytes an index of a stock takes.
 use Rattle.std.specs.Prelude.{◌≡◌, ℕ, ◌*◌}
 use Rattle.record_words.specs.Layout.{HasStock, word_count}
 use Rattle.record_words.specs.declared.TheConstants.{WORD_BYTES}
@@ -7,11 +7,11 @@ use Rattle.record_words.specs.declared.layout.Stock.{Stock}
 use Rattle.hot_index.specs.Kept.{kept_stock}
 use Rattle.hot_c.specs.declared.stock.HotStock.{HotStock}
 
--- the stock that C's numbers stand for
+-- the stock with the numbers of C's struct
 abbrev pub stock_in : HotStock → Stock
 stock_in it = record { nodes = it.nodes; short = it.short; medium = it.medium; large = it.large; wide = it.wide; long = it.long }
 
--- a table of so many passes, this stock and one more node record takes so many bytes
+-- an index with so many passes, this stock, and one more node record, which is kept, takes `bytes` bytes
 pub record TakesBytes (passes : ℕ) (stock : Stock) (bytes : ℕ) : Type 0 where
   pub layout : Layout
   pub passes_are : layout.passes ≡ passes

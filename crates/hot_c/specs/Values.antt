@@ -1,4 +1,4 @@
--- What a scan of values by a program in C says.
+-- What a scan of values tells a program in C.
 use Rattle.std.specs.Prelude.{◌≡◌, ◌⊎◌, ◌++◌, ℕ, ◌≤◌, List, length, drop, Bool, Option, None, IsSome}
 use Rattle.std.specs.Int.{from_bool}
 use Rattle.hot_index_calls.specs.Answers.{AreValuesListed, HasFoundPair, IsUnnoted, range_from}
@@ -14,19 +14,19 @@ pub record ValueListing : Type 0 where
   pub more : ℕ
 
 -- these values as what C sees of a scan of values
-abbrev pub value_listing : List ℕ → (count more : ℕ) → ValueListing
+abbrev pub value_listing : (room : List ℕ) (count more : ℕ) → ValueListing
 value_listing room count more = record { room = room; count = count; more = more }
 
--- The array begins with these values, for which it has room, and is otherwise as it was.
+-- C's array, which has room for these values, begins with them, and is otherwise as it was.
 pub record AreWritten (values : List ℕ) (is_more : Bool) (before after : ValueListing) : Type 0 where
   pub short : length values ≤ length before.room
   pub written : after.room ≡ values ++ drop (length values) before.room
   pub count : after.count ≡ length values
   pub more : after.more ≡ from_bool is_more
 
--- A scan of values through a handle, of as many as C's array has room for. A closed handle and a key that is too long are told as such, and
--- nothing has changed. Else its values are written. Or there is no memory for one that it found, and nothing is written. Either way the
--- number of its steps is bounded.
+-- A scan of values through a handle, of at most as many as C's array has room for. If the handle is closed or a key too long, the status
+-- says so, and nothing has changed. Else the values are written. Or memory for a pair was refused, and nothing is written. The number of
+-- steps is bounded.
 pub record ListsValues (from upto : List ℕ) (old new : Option Opened) (before after : ValueListing) (status : ℕ) : Type 0 where
   pub closed : old ≡ None → (status ≡ CLOSED) × (new ≡ old) × (after ≡ before)
   pub long : IsSome old → ¬ (FitsInKey from × FitsInKey upto) → (status ≡ KEY_TOO_LONG) × (new ≡ old) × (after ≡ before)
@@ -34,6 +34,9 @@ pub record ListsValues (from upto : List ℕ) (old new : Option Opened) (before 
       ((status ≡ DONE) × (values : List ℕ) × (is_more : Bool) ×
       StaysOpen (λ index was now. AreValuesListed index.layout was now (range_from from upto (length before.room)) values is_more) old new
       × AreWritten values is_more before after)
-      ⊎ ((status ≡ NO_MEMORY) × StaysOpen (λ index was now. IsUnnoted index.layout was now × HasFoundPair index.layout was now (range_from from upto (length before.room))) old new
+      ⊎ ((status ≡ NO_MEMORY)
+      × StaysOpen (λ index was now. IsUnnoted index.layout was now
+      × HasFoundPair index.layout was now (range_from from upto (length before.room))) old new
       × (after ≡ before))
-  pub read : IsSome old → FitsInKey from → FitsInKey upto → StaysOpen (λ index was now. HasMadeScanSteps index untold (length before.room) (was, tt) (now, tt)) old new
+  pub read : IsSome old → FitsInKey from → FitsInKey upto →
+      StaysOpen (λ index was now. HasMadeScanSteps index untold (length before.room) (was, tt) (now, tt)) old new

@@ -161,8 +161,8 @@ pub extern "C" fn hot_stock_for_keys(count: u32, longest: usize, stock: &mut Hot
     stock.set_counts(Stock::for_keys(count, longest));
 }
 
-/// Writes to `stock` that of `Stock::for_any_keys`. It is enough for any `count` keys at once, of at most `longest` bytes each, in an index
-/// of `handles` passes. A key has at most 240 bytes, and an index at most 1,024 passes.
+/// Writes to `stock` what `Stock::for_any_keys` returns for an index of `handles` passes. It is enough for any `count` keys at once, of at
+/// most `longest` bytes each. More than 1,024 passes count as 1,024.
 #[unsafe(no_mangle)]
 pub extern "C" fn hot_stock_for_any_keys(
     count: u32,
@@ -353,9 +353,9 @@ pub extern "C" fn hot_try_remove_if(
     make_call(handle, &mut call, key, had)
 }
 
-/// Gives `call` the key `key` in place of its own, makes it, and returns the status. `CLOSED` if the handle is closed, `KEY_TOO_LONG` if
-/// the key has more than 240 bytes. The reply's value, if it has one, goes to `had`; else `had` stays. Inline, so that the key's bytes are
-/// written once.
+/// Makes `call` with the key `key` in place of its own, and returns the status. `CLOSED` if the handle is closed, `KEY_TOO_LONG` if the key
+/// has more than 240 bytes. The reply's value, if it has one, goes to `had`; else `had` stays.
+// Inline, so that the key's bytes are written once.
 #[inline(always)]
 fn make_call(handle: &mut IndexHandle, call: &mut Call, key: &[u8], had: &mut u64) -> u32
     ensures call { Answers key.now (for_key key.now call.old) handle.old.cell.opened handle.new.cell.opened had.old had.new result }
@@ -371,7 +371,7 @@ fn make_call(handle: &mut IndexHandle, call: &mut Call, key: &[u8], had: &mut u6
     }
 }
 
-/// Gives `call` the key `key` in place of its own; a fault if that has more than 240 bytes, and then `call` stays.
+/// Gives `call` the key `key` in place of its own. A fault if `key` has more than 240 bytes.
 #[inline(always)]
 fn set_key(call: &mut Call, key: &[u8]) -> Result<(), KeyFault>
     ensures fits { IsOk result ↔ FitsInKey key.now }

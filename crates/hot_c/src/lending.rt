@@ -10,7 +10,7 @@ use hot_handles::Held;
 use std::alloc::Global;
 
 impl HandleCell {
-    /// The cell as one whose type tells what it holds.
+    /// The cell as a holder of an open handle.
     fn held(&mut self) -> &mut Held<Opened>
         ensures* writes_back { sem 𝓛 (LendsHeldOpened self.entry result) }
         ensures value { result.now ≡ held_opened self.old }

@@ -49,7 +49,7 @@ pub fn is_stock_in_range(passes: usize, stock: &Stock) -> bool
         && leaves <= u32::MAX as u64
 }
 
-/// Opens each of `handles`, which are closed, with the one of its number in `passes`, which are as many.
+/// Opens each of `handles`, which are closed, with the one at the same place in `passes`, which are as many.
 pub fn open_handles(handles: &mut [IndexHandle], passes: Vec<Box<Opened, Global>>)
     requires closed { AreClosed handles.old }
     requires count { length passes.items ≡ length handles.old }
@@ -109,8 +109,8 @@ pub fn make_keeper(
     keep_passes(alloc, index, passes).map_err(|_| IndexFault::Memory)
 }
 
-/// The last of `passes`, which are those of `index`, opened, with its share. It keeps the others, the first one last. An error if memory
-/// is refused, or there is no pass.
+/// Opens the last of `passes`, which are those of `index`, with a share of the index. It keeps the others, of which the first is opened next.
+/// An error if memory is refused, or there is no pass.
 pub fn keep_passes(
     alloc: Global,
     index: Index,

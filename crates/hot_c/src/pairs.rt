@@ -1,4 +1,4 @@
-//! The pairs of a scan in an array of C, and one pair at a place of C's.
+//! The pairs of a scan as a program in C has them: in an array, or one at a place of its own.
 
 ghost use Rattle.std.specs.Prelude.{◌≡◌, ◌+◌, ◌≤◌, length, drop, reverse, slice_get};
 ghost use Rattle.hot_c.specs.Orders.{direction_of, in_order};
@@ -83,12 +83,12 @@ fn write_pairs_backwards(pairs: &Pairs, room: &mut [Pair])
     }
 }
 
-/// Writes `key`, its length and `value` to `pair`; the bytes behind the key stay. Keys of 8 and of 16 to 64 bytes, the common ones, are copied
-/// through arrays. Such a copy needs no call and no test for overlap.
+/// Writes `key`, its length and `value` to `pair`; the bytes behind the key stay.
 fn write_pair(key: &[u8], value: u64, pair: &mut Pair)
     requires { IsKey key.now }
     ensures { Spells (key.now, value) pair.old pair.new }
 {
+    // The common lengths are copied through arrays: such a copy needs no call and no test for overlap.
     match key.len() {
         8 => {
             let mut eight = [0; 8];
@@ -103,13 +103,13 @@ fn write_pair(key: &[u8], value: u64, pair: &mut Pair)
     }
 }
 
-/// Writes `key`, which has N to 2 N bytes, and `value` to `pair`. Two copies write the key: its first N bytes and its last N, which may
-/// overlap. The array holds either part in turn: with two arrays they would go through memory.
+/// Writes `key`, which has N to 2 N bytes, its length and `value` to `pair`; the bytes behind the key stay.
 fn write_pair_by_ends<const N: usize>(key: &[u8], value: u64, pair: &mut Pair)
     requires key { IsKey key.now }
     requires covered { (N ≤ length key.now) × (length key.now ≤ N + N) }
     ensures { Spells (key.now, value) pair.old pair.new }
 {
+    // The first N bytes and the last N may overlap. One array holds both in turn: with two they would go through memory.
     let last = key.len() - N;
     let mut part = [0; N];
     part.copy_from_slice(&key[..N]);
@@ -120,7 +120,8 @@ fn write_pair_by_ends<const N: usize>(key: &[u8], value: u64, pair: &mut Pair)
     pair.value = value;
 }
 
-/// Writes `key`, of any length, and `value` to `pair`. Never inline: so a loop over pairs needs few registers.
+/// Writes `key`, of any length, its length and `value` to `pair`; the bytes behind the key stay.
+// Not inline, so that a loop over pairs needs few registers.
 #[inline(never)]
 fn write_pair_of_any_length(key: &[u8], value: u64, pair: &mut Pair)
     requires { IsKey key.now }

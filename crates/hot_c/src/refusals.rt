@@ -1,4 +1,4 @@
-//! What a call says that was refused.
+//! The status of a refused call.
 
 ghost use Rattle.std.specs.Prelude.{◌↔◌, IsTrue};
 ghost use Rattle.hot_index_calls.specs.Refusals.{OfLeaves};
@@ -32,14 +32,14 @@ fn tell_lack_of_leaves(size: usize, counts: &RecordCounts) -> u32
     }
 }
 
-/// Whether there is no record of one kind and class, by `counts`.
+/// Whether there is no record at all by `counts`, which are those of one kind and class.
 fn has_no_record(counts: &StateCounts) -> bool
     ensures { IsTrue result ↔ AreNone counts.now }
 {
     counts.free == 0 && counts.held == 0 && counts.live == 0 && counts.obsolete == 0
 }
 
-/// Whether there is no leaf record with room for a key of `size` bytes, by `counts`.
+/// Whether by `counts` there is no leaf record at all with room for a key of `size` bytes.
 fn has_no_leaf_for(size: usize, counts: &RecordCounts) -> bool
     ensures { IsTrue result ↔ OfLeaves AreNone size counts.now }
 {

@@ -1,4 +1,4 @@
--- What becomes of a cell that lent what it holds.
+-- What becomes of a load's cell while what it holds is lent, and after.
 use Rattle.std.specs.Prelude.{Some}
 use Rattle.std.specs.Borrow.{Lends, MutBor, Fml}
 use Rattle.hot_handles.specs.declared.held.Held.{Held}
@@ -8,22 +8,22 @@ use Rattle.hot_handles.specs.declared.load.cell.LoadCell.{LoadCell}
 use Rattle.hot_handles.specs.contracts.load.open_load.OpenLoad.{the_row as opened_row}
 use Rattle.hot_handles.specs.contracts.load.cell.LoadCell.{the_row as cell_row}
 
--- a load's cell as a holder, whose type tells what it holds
+-- the load's cell as a holder of an open load
 abbrev pub held_load : LoadCell → Held OpenLoad
 held_load cell = record { at = cell.at; value = cell.opened }
 
--- a holder of a load as its cell
+-- the holder of an open load as a load's cell
 abbrev pub cell_of_load : Held OpenLoad → LoadCell
 cell_of_load held = record { at = held.at; opened = held.value }
 
--- the load's cell ends as its holder does
-abbrev pub LendsHeldLoad : MutBor LoadCell → MutBor (Held OpenLoad) → Fml
+-- the cell was lent as a holder: the load's cell ends as this holder does
+abbrev pub LendsHeldLoad : (cell : MutBor LoadCell) (held : MutBor (Held OpenLoad)) → Fml
 LendsHeldLoad cell held = Lends cell_row (held_row opened_row) cell held cell_of_load
 
--- the load's cell, holding this load
-abbrev pub with_load : LoadCell → OpenLoad → LoadCell
+-- the load's cell, with this open load in it
+abbrev pub with_load : (cell : LoadCell) (opened : OpenLoad) → LoadCell
 with_load cell opened = record cell { opened = Some opened }
 
--- the load's cell ends with the last value behind the reference
-abbrev pub LendsLoad : MutBor LoadCell → MutBor OpenLoad → Fml
+-- the open load in the cell was lent: the cell ends with the last value behind the reference
+abbrev pub LendsLoad : (cell : MutBor LoadCell) (opened : MutBor OpenLoad) → Fml
 LendsLoad cell opened = Lends cell_row opened_row cell opened (with_load cell.now)

@@ -1,19 +1,19 @@
--- What handles of sections hold, and how they are opened.
+-- What an open handle of a section holds, and how handles of sections are opened.
 use Rattle.std.specs.Prelude.{◌≡◌, ◌+◌, ◌++◌, ◌∷◌, [], ℕ, length}
 use Rattle.sections.specs.Sections.{IsNewSection}
 use Rattle.hot_handles.specs.declared.section.opened.OpenSection.{OpenSection}
 
--- The first section of a new table, which keeps the `count` others.
+-- The open handle has section 0 of a new table, and keeps the `count` other sections.
 pub record KeepsSections (count : ℕ) (opened : OpenSection) : Type 0 where
   pub count_is : opened.sections.value.count ≡ count + 1
   pub kept : length opened.kept.items ≡ count
   pub new : IsNewSection opened.sections.value 0 opened.section
 
--- the open section has the same table, the same section, and keeps the same others
-abbrev pub IsUnchangedSection : OpenSection → OpenSection → Type 0
+-- the open handle has the same table and the same section, and keeps the same other sections
+abbrev pub IsUnchangedSection : (was now : OpenSection) → Type 0
 IsUnchangedSection was now = (now.sections.value ≡ was.sections.value) × (now.section ≡ was.section) × (now.kept.items ≡ was.kept.items)
 
--- The next of the sections that `was` keeps was opened. It keeps none itself.
+-- The next of the sections that `was` keeps was opened, and `now` keeps the others. The opened one keeps none.
 pub record HasOpenedSection (was now opened : OpenSection) : Type 0 where
   pub next : was.kept.items ≡ now.kept.items ++ opened.section ∷ []
   pub same : (now.sections.value ≡ was.sections.value) × (now.section ≡ was.section)

@@ -1,4 +1,4 @@
--- What becomes of a cell that lent what it holds.
+-- What becomes of a section's cell while what it holds is lent, and after.
 use Rattle.std.specs.Prelude.{Some}
 use Rattle.std.specs.Borrow.{Lends, MutBor, Fml}
 use Rattle.hot_handles.specs.declared.held.Held.{Held}
@@ -8,22 +8,22 @@ use Rattle.hot_handles.specs.declared.section.cell.SectionCell.{SectionCell}
 use Rattle.hot_handles.specs.contracts.section.opened.OpenSection.{the_row as opened_row}
 use Rattle.hot_handles.specs.contracts.section.cell.SectionCell.{the_row as cell_row}
 
--- a section's cell as a holder, whose type tells what it holds
+-- the section's cell as a holder of an open section
 abbrev pub held_section : SectionCell → Held OpenSection
 held_section cell = record { at = cell.at; value = cell.opened }
 
--- a holder of a section as its cell
+-- the holder of an open section as a section's cell
 abbrev pub cell_of_section : Held OpenSection → SectionCell
 cell_of_section held = record { at = held.at; opened = held.value }
 
--- the section's cell ends as its holder does
-abbrev pub LendsHeldSection : MutBor SectionCell → MutBor (Held OpenSection) → Fml
+-- the cell was lent as a holder: the section's cell ends as this holder does
+abbrev pub LendsHeldSection : (cell : MutBor SectionCell) (held : MutBor (Held OpenSection)) → Fml
 LendsHeldSection cell held = Lends cell_row (held_row opened_row) cell held cell_of_section
 
--- the section's cell, holding this section
-abbrev pub with_section : SectionCell → OpenSection → SectionCell
+-- the section's cell, with this open section in it
+abbrev pub with_section : (cell : SectionCell) (opened : OpenSection) → SectionCell
 with_section cell opened = record cell { opened = Some opened }
 
--- the section's cell ends with the last value behind the reference
-abbrev pub LendsSection : MutBor SectionCell → MutBor OpenSection → Fml
+-- the open section in the cell was lent: the cell ends with the last value behind the reference
+abbrev pub LendsSection : (cell : MutBor SectionCell) (opened : MutBor OpenSection) → Fml
 LendsSection cell opened = Lends cell_row opened_row cell opened (with_section cell.now)

@@ -1,7 +1,7 @@
 -- Worked examples: which calls a history has, and how a pending call is completed.
 use Rattle.linearizability.proofs.Common.{◌≡◌, ◌≢◌, inl, inr, ℕ, [], ◌∷◌, get_or, Some, None, refl, sym, subst, ◌∙◌, All, All-head, All-nil, Call, Get, Insert, Upsert, Change, Added, Note}
 use Rattle.finite_map.specs.declared.Reply.TheVariants.{Inserted, New, Value}
-use Rattle.linearizability.specs.Effects.{makers}
+use Rattle.linearizability.specs.Effects.{maker_notes}
 use Rattle.linearizability.specs.Histories.{ChangesAsAsked, complete_calls, replied}
 use Rattle.linearizability.specs.Configurations.{Happening, invokes, responds, shows}
 use Rattle.linearizability.proofs.Configurations.Completing.{no_change}
@@ -30,14 +30,14 @@ not_yet = refl
 abbrev added : Change
 added = record { pass = 0; key = 1 ∷ []; value = 5; kind = Added }
 
-completed_as_invoked : makers 0 (Insert (1 ∷ []) 5 ∷ []) [] (added ∷ []) ≡ inserted ∷ []
+completed_as_invoked : maker_notes 0 (Insert (1 ∷ []) 5 ∷ []) [] (added ∷ []) ≡ inserted ∷ []
 completed_as_invoked = refl
 
-not_the_others : makers 1 (Get (1 ∷ []) ∷ []) [] (added ∷ []) ≡ []
+not_the_others : maker_notes 1 (Get (1 ∷ []) ∷ []) [] (added ∷ []) ≡ []
 not_the_others = refl
 
 -- were the call that was invoked not the one that makes the change, an upsert with this effect would stand for it
-completed_by_effect : makers 0 (Get (1 ∷ []) ∷ []) [] (added ∷ []) ≡ record { place = 0; call = Upsert (1 ∷ []) 5; reply = New } ∷ []
+completed_by_effect : maker_notes 0 (Get (1 ∷ []) ∷ []) [] (added ∷ []) ≡ record { place = 0; call = Upsert (1 ∷ []) 5; reply = New } ∷ []
 completed_by_effect = refl
 
 -- So that pending insert has changed the map as it asks; and a get that had made this change would not have.

@@ -5,7 +5,7 @@ pub mod Passes
 use Rattle.linearizability.proofs.Common.{◌≡◌, ◌≢◌, ℕ, zero, suc, ◌+◌, ◌-◌, ◌<◌, ◌≤◌, List, [], ◌∷◌, ◌++◌, length, get_or, map, Bool, cond, nat_lt, Option, Some, None, refl, sym, ap, ap₂, subst, ◌∙◌, arith, ⊎_elim, le_refl, append-nil, append_assoc, All, AllPairs, IsPermutation, cases_lt, leb-true, lt-leb, lt-ltb, le-ltb, All-append, All-contains, All-map, All-nil, All-push, All-weaker, IsPermutation-append_left, IsPermutation-sym, IsPermutation-trans, Change, Note, LegalCalls, StandsIn, place_after, LegalHistory, notes_of, place_after-within, FitsPlaces, IsInTime, noted, Layout, seen_by}
 use Rattle.std.proofs.lemmas.List.Quantifiers.{all_pairs_push}
 use Rattle.plain_index.proofs.Times.{woven-in_time}
-use Rattle.linearizability.specs.Histories.{answers, complete_calls, completed, had_responded, invoked, responder, since_of, stays}
+use Rattle.linearizability.specs.Histories.{notes_of_response, complete_calls, completed, had_responded, invoked, responding_pass, since_of, held_from}
 use Rattle.linearizability.specs.Configurations.{Continues, Happening, IsNotedBetween, IsResponse, IsSoundConfiguration, IsWholeRun, Configuration, Pending, invokes, refuses, responds, shows, steps}
 use Rattle.linearizability.specs.Statements.{HaveOneOrder}
 use Rattle.linearizability.proofs.Histories.Calling.{LegalUpTo, calls_legal, noted-append, noted_at, notes_by, notes_complete, notes_up_to}
@@ -42,10 +42,10 @@ module _ (layout : Layout) (last : ℕ) (at : ℕ → Configuration) (happens : 
       ap (λ b. cond b (happens (last + n)) (responds (last + n - last) (added (last + n - last)))) (le-ltb (last + n) last (omega arith))
       ∙ ap (λ k. responds k (added k)) e
 
-  stays_before : (t : ℕ) → t < last → stays last at t ≡ at t
+  stays_before : (t : ℕ) → t < last → held_from last at t ≡ at t
   stays_before t low = ap (λ b. cond b (at t) (at last)) (lt-ltb t last low)
 
-  stays_behind : (n : ℕ) → stays last at (last + n) ≡ at last
+  stays_behind : (n : ℕ) → held_from last at (last + n) ≡ at last
   stays_behind n = ap (λ b. cond b (at (last + n)) (at last)) (le-ltb (last + n) last (omega arith))
 
   -- All calls, those of passes below n completed
@@ -55,12 +55,12 @@ module _ (layout : Layout) (last : ℕ) (at : ℕ → Configuration) (happens : 
 
   same_calls : (t : ℕ) → t ≤ last → complete_calls goes t ≡ complete_calls happens t
   same_calls zero low = refl
-  same_calls (suc t) low = ap₂ (λ xs h. xs ++ map (λ n. (t, n)) (answers h)) (same_calls t (omega arith)) (goes_before t (omega arith))
+  same_calls (suc t) low = ap₂ (λ xs h. xs ++ map (λ n. (t, n)) (notes_of_response h)) (same_calls t (omega arith)) (goes_before t (omega arith))
 
   calls_more : (n m : ℕ) → m ≡ last + n → noted (complete_calls goes (suc m)) ≡ noted (complete_calls goes m) ++ added n
   calls_more n m e =
-      noted-append (complete_calls goes m) (map (λ x. (m, x)) (answers (goes m)))
-      ∙ ap (λ ns. noted (complete_calls goes m) ++ ns) (noted_at m (answers (goes m)) ∙ ap (λ k. answers (goes k)) e ∙ ap answers (goes_behind n))
+      noted-append (complete_calls goes m) (map (λ x. (m, x)) (notes_of_response (goes m)))
+      ∙ ap (λ ns. noted (complete_calls goes m) ++ ns) (noted_at m (notes_of_response (goes m)) ∙ ap (λ k. notes_of_response (goes k)) e ∙ ap notes_of_response (goes_behind n))
 
   others_stay : (n o : ℕ) → o ≢ n → all_notes (suc n) o ≡ all_notes n o
   others_stay n o ne = ap (λ b. notes_by layout last at happens run last o ++ cond b (added o) []) (⊎_elim
@@ -96,7 +96,7 @@ module _ (layout : Layout) (last : ℕ) (at : ℕ → Configuration) (happens : 
   -- In the order of time
 
   abbrev begun : ℕ → ℕ
-  begun = invoked (stays last at) goes
+  begun = invoked (held_from last at) goes
 
   -- a call that responds at its label takes time, and stands behind the changes made before it was invoked, and among those made by its end
   record IsTimed (x : ℕ × Note) : Type 0 where
@@ -105,12 +105,12 @@ module _ (layout : Layout) (last : ℕ) (at : ℕ → Configuration) (happens : 
     pub low : length (at (begun x.0)).core.changes ≤ x.1.place
     pub high : x.0 < last → place_after x.1 ≤ length (at x.0).core.changes
 
-  begun_is : (t : ℕ) → t < last → (h : Happening) → happens t ≡ h → begun t ≡ since_of ((at t).pending (responder h))
-  begun_is t low h e = ap (λ (m : Configuration). since_of (m.pending (responder (goes t)))) (stays_before t low) ∙ ap (λ g. since_of ((at t).pending (responder g))) (goes_before t low ∙ e)
+  begun_is : (t : ℕ) → t < last → (h : Happening) → happens t ≡ h → begun t ≡ since_of ((at t).pending (responding_pass h))
+  begun_is t low h e = ap (λ (m : Configuration). since_of (m.pending (responding_pass (goes t)))) (stays_before t low) ∙ ap (λ g. since_of ((at t).pending (responding_pass g))) (goes_before t low ∙ e)
 
   begun_behind : (n m : ℕ) → m ≡ last + n → begun m ≡ since_of ((at last).pending n)
   begun_behind n m e =
-      ap begun e ∙ ap (λ (m : Configuration). since_of (m.pending (responder (goes (last + n))))) (stays_behind n) ∙ ap (λ g. since_of ((at last).pending (responder g))) (goes_behind n)
+      ap begun e ∙ ap (λ (m : Configuration). since_of (m.pending (responding_pass (goes (last + n))))) (stays_behind n) ∙ ap (λ g. since_of ((at last).pending (responding_pass g))) (goes_behind n)
 
   module _ (t : ℕ) (low : t < last) (q : ℕ) (notes : List Note) (is : happens t ≡ responds q notes) (call : Pending) (x : IsResponse at t q call notes) (pass : q < layout.passes) where
     abbrev s : ℕ
@@ -144,7 +144,7 @@ module _ (layout : Layout) (last : ℕ) (at : ℕ → Configuration) (happens : 
     timed_notes : All IsTimed (map (λ n. (t, n)) notes)
     timed_notes = All-map IsTimed (λ n. (t, n)) notes (λ k d inside. timed_note (get_or notes k d) (x.placed k d inside) (stands k d inside))
 
-  timed_response : (t : ℕ) → t < last → (h : Happening) → happens t ≡ h → Continues layout at t h → All IsTimed (map (λ n. (t, n)) (answers h))
+  timed_response : (t : ℕ) → t < last → (h : Happening) → happens t ≡ h → Continues layout at t h → All IsTimed (map (λ n. (t, n)) (notes_of_response h))
   timed_response t low (steps q act notes) is x = All-nil IsTimed
   timed_response t low (shows q front) is x = All-nil IsTimed
   timed_response t low (invokes q calls) is x = All-nil IsTimed
@@ -167,16 +167,16 @@ module _ (layout : Layout) (last : ℕ) (at : ℕ → Configuration) (happens : 
 
   timed_calls : (t : ℕ) → t ≤ last → All IsTimed (complete_calls goes t)
   timed_calls zero low = All-nil IsTimed
-  timed_calls (suc t) low = All-append IsTimed (complete_calls goes t) (map (λ n. (t, n)) (answers (goes t))) (timed_calls t (omega arith))
-      (subst (λ h. All IsTimed (map (λ n. (t, n)) (answers h))) (sym (goes_before t (omega arith))) (timed_response t (omega arith) (happens t) refl (run.next t (omega arith))))
+  timed_calls (suc t) low = All-append IsTimed (complete_calls goes t) (map (λ n. (t, n)) (notes_of_response (goes t))) (timed_calls t (omega arith))
+      (subst (λ h. All IsTimed (map (λ n. (t, n)) (notes_of_response h))) (sym (goes_before t (omega arith))) (timed_response t (omega arith) (happens t) refl (run.next t (omega arith))))
 
   timed_all : (n m : ℕ) → n ≤ layout.passes → m ≡ last + n → All IsTimed (complete_calls goes m)
   timed_all zero m low e = subst (λ k. All IsTimed (complete_calls goes k)) (let f : last ≡ m = omega arith in f) (timed_calls last (le_refl last))
   timed_all (suc n) zero low e = absurd (omega arith)
   timed_all (suc n) (suc m) low e =
       let at_m : m ≡ last + n = omega arith in
-      All-append IsTimed (complete_calls goes m) (map (λ x. (m, x)) (answers (goes m))) (timed_all n m (omega arith) at_m)
-      (subst (λ ns. All IsTimed (map (λ x. (m, x)) ns)) (sym (ap (λ k. answers (goes k)) at_m ∙ ap answers (goes_behind n))) (timed_completion n m (omega arith) at_m ((at last).pending n) refl))
+      All-append IsTimed (complete_calls goes m) (map (λ x. (m, x)) (notes_of_response (goes m))) (timed_all n m (omega arith) at_m)
+      (subst (λ ns. All IsTimed (map (λ x. (m, x)) ns)) (sym (ap (λ k. notes_of_response (goes k)) at_m ∙ ap notes_of_response (goes_behind n))) (timed_completion n m (omega arith) at_m ((at last).pending n) refl))
 
 -- calls are listed as they respond
 
@@ -190,20 +190,20 @@ all_later t (n ∷ ns) xs h low = subst (AllPairs Rises) (append_assoc xs ((t, n
 
 all_below : (g : ℕ → Happening) (t : ℕ) → All (λ x. x.0 < t) (complete_calls g t)
 all_below g zero = All-nil (λ x. x.0 < 0)
-all_below g (suc t) = All-append (λ x. x.0 < suc t) (complete_calls g t) (map (λ n. (t, n)) (answers (g t)))
+all_below g (suc t) = All-append (λ x. x.0 < suc t) (complete_calls g t) (map (λ n. (t, n)) (notes_of_response (g t)))
     (All-weaker (λ x. x.0 < t) (λ x. x.0 < suc t) (λ x h. omega arith) (complete_calls g t) (all_below g t))
-    (All-map (λ x. x.0 < suc t) (λ n. (t, n)) (answers (g t)) (λ k d inside. omega arith))
+    (All-map (λ x. x.0 < suc t) (λ n. (t, n)) (notes_of_response (g t)) (λ k d inside. omega arith))
 
 in_turn : (g : ℕ → Happening) (t : ℕ) → AllPairs Rises (complete_calls g t)
 in_turn g zero = λ i j d lt within. absurd (omega arith)
-in_turn g (suc t) = all_later t (answers (g t)) (complete_calls g t) (in_turn g t) (All-weaker (λ x. x.0 < t) (λ x. x.0 ≤ t) (λ x h. omega arith) (complete_calls g t) (all_below g t))
+in_turn g (suc t) = all_later t (notes_of_response (g t)) (complete_calls g t) (in_turn g t) (All-weaker (λ x. x.0 < t) (λ x. x.0 ≤ t) (λ x h. omega arith) (complete_calls g t) (all_below g t))
 
 module _ (layout : Layout) (last : ℕ) (at : ℕ → Configuration) (happens : ℕ → Happening) (run : IsWholeRun layout last at happens) (added : ℕ → List Note) (all : AllComplete layout last at added) where
   abbrev calls : List (ℕ × Note)
   calls = complete_calls (completed last happens added) (last + layout.passes)
 
   abbrev before : ℕ → ℕ → Bool
-  before = had_responded (stays last at) (completed last happens added)
+  before = had_responded (held_from last at) (completed last happens added)
 
   timed : All (IsTimed layout last at happens run added all) calls
   timed = timed_all layout last at happens run added all layout.passes (last + layout.passes) (le_refl layout.passes) refl

@@ -1,4 +1,4 @@
--- Runs of an index, configuration by configuration: the steps of passes, and the calls that they invoke and that respond.
+-- Runs of an index, configuration by configuration: the steps of passes, and the calls that passes invoke and that respond.
 use Rattle.std.specs.Prelude.{◌≡◌, ◌≢◌, ℕ, suc, ◌<◌, ◌≤◌, All, IsPermutation, List, [], ◌++◌, Option, None, Some, length, map}
 use Rattle.finite_map.specs.declared.Call.{Call}
 use Rattle.finite_map.specs.declared.Change.{Change}
@@ -12,26 +12,26 @@ use Rattle.rowex_core.specs.Cores.{Core, IsLawful}
 use Rattle.rowex_core.specs.Events.{Legal, after}
 use Rattle.rowex_core.specs.Knowing.{Knows, learned}
 
--- A pending call, invoked at this time, which has not responded. It asks these calls of the map: one, or several look-ups at once, or
--- none, as a scan does.
+-- A pending call: it was invoked at time `since`, and has not responded. `calls` are the calls of the map that it asks: one, or several
+-- look-ups at once, or none, as for a scan.
 pub record Pending : Type 0 where
   pub since : ℕ
   pub calls : List Call
 
--- The index at a time: its core, what each pass knows, and the call of each pass that is pending, if one is.
+-- The index at one time: its core, what each pass knows, and the pending call of each pass, if there is one.
 pub record Configuration : Type 0 where
   pub core : Core
   pub known : ℕ → Known
   pub pending : ℕ → Option Pending
 
--- What happens between two times. A pass makes an atomic step, with which such notes come. It is shown changes, as where it meets another
--- or follows a stamp. It invokes a call. Its call responds, with a note for each call of the map that it asks, or is refused.
+-- What happens between one time and the next. A pass makes an atomic step, with these notes. Or it is shown changes, by a meeting or a
+-- stamp. Or it invokes a call, which asks these calls of the map. Or its call responds with these notes, or is refused.
 pub data Happening : Type 0 where
-  steps : ℕ → Act → List Note → Happening
-  shows : ℕ → List Change → Happening
-  invokes : ℕ → List Call → Happening
-  responds : ℕ → List Note → Happening
-  refuses : ℕ → Happening
+  steps : (pass : ℕ) (act : Act) (notes : List Note) → Happening
+  shows : (pass : ℕ) (front : List Change) → Happening
+  invokes : (pass : ℕ) (calls : List Call) → Happening
+  responds : (pass : ℕ) (notes : List Note) → Happening
+  refuses : (pass : ℕ) → Happening
 
 -- Pass q, which has a call pending, makes the step and learns what it teaches. No other pass learns anything.
 pub record IsConfigurationStep (old new : Configuration) (q : ℕ) (act : Act) (notes : List Note) : Type 0 where
@@ -43,7 +43,7 @@ pub record IsConfigurationStep (old new : Configuration) (q : ℕ) (act : Act) (
   pub called : old.pending q ≡ Some call
   pub pending : new.pending ≡ old.pending
 
--- Pass q is shown changes that have been made: it makes no step.
+-- Pass q is shown changes that passes have made, and makes no step.
 pub record IsShowing (old new : Configuration) (q : ℕ) (front : List Change) : Type 0 where
   pub core : new.core ≡ old.core
   pub more : BeginsWith front (old.known q).front
@@ -52,7 +52,7 @@ pub record IsShowing (old new : Configuration) (q : ℕ) (front : List Change) :
   pub others : (other : ℕ) → other ≢ q → new.known other ≡ old.known other
   pub pending : new.pending ≡ old.pending
 
--- The two configurations have the same core, and passes know the same. At the second, pass q's pending call is this one, if any.
+-- Pass q's pending call becomes this one, or none. The core, what passes know and all other pending calls stay the same.
 pub record IsCallTurn (layout : Layout) (old new : Configuration) (q : ℕ) (call : Option Pending) : Type 0 where
   pub pass : q < layout.passes
   pub core : new.core ≡ old.core
@@ -60,8 +60,8 @@ pub record IsCallTurn (layout : Layout) (old new : Configuration) (q : ℕ) (cal
   pub own : new.pending q ≡ call
   pub others : (other : ℕ) → other ≢ q → new.pending other ≡ old.pending other
 
--- The note may be of the call that pass q has made from time `since` to `until`. By a time in between the pass had loaded the root in
--- the call. The note's place is no lower than what that load showed.
+-- The note's place fits a call of pass q from time `since` to `until`. At a time of the call the pass had loaded the root in it. The place
+-- is no lower than the number of changes that this load showed.
 pub record IsNotedBetween (at : ℕ → Configuration) (q since until : ℕ) (note : Note) : Type 0 where
   pub shown : ℕ
   pub from : since ≤ shown
@@ -69,7 +69,7 @@ pub record IsNotedBetween (at : ℕ → Configuration) (q since until : ℕ) (no
   pub loaded : ((at since).known q).steps ≤ ((at shown).known q).fresh.step
   pub low : length ((at shown).known q).fresh.front ≤ note.place
 
--- Pass q's pending call responds at time t with these notes. There is one for each call of the map that it asks, in some order.
+-- The pass's pending call responds at time t with these notes. There is one note for each call of the map that it asks, in some order.
 pub record IsResponse (at : ℕ → Configuration) (t pass : ℕ) (call : Pending) (notes : List Note) : Type 0 where
   pub called : (at t).pending pass ≡ Some call
   pub calls : IsPermutation call.calls (map (λ n. n.call) notes)
@@ -77,14 +77,14 @@ pub record IsResponse (at : ℕ → Configuration) (t pass : ℕ) (call : Pendin
   pub placed : All (IsNotedBetween at pass call.since t) notes
   pub legal : LegalCalls ((at t).known pass).front pass ((at t).known pass).notes
 
--- Pass q's pending call is refused at time t: it adds no note.
+-- The pass's pending call is refused at time t, and adds no note.
 pub record IsRefusal (at : ℕ → Configuration) (t pass : ℕ) (call : Pending) : Type 0 where
   pub called : (at t).pending pass ≡ Some call
   pub noted : ((at t).known pass).notes ≡ ((at call.since).known pass).notes
   pub legal : LegalCalls ((at t).known pass).front pass ((at t).known pass).notes
 
--- what happens at time t leads to the next one
-abbrev pub Continues : Layout → (ℕ → Configuration) → ℕ → Happening → Type 0
+-- what happens at time t leads from the configuration at t to the next one
+abbrev pub Continues : (layout : Layout) (at : ℕ → Configuration) (t : ℕ) (happening : Happening) → Type 0
 Continues layout at t (steps pass act notes) = IsConfigurationStep (at t) (at (suc t)) pass act notes
 Continues layout at t (shows pass front) = IsShowing (at t) (at (suc t)) pass front
 Continues layout at t (invokes pass calls) =
@@ -92,14 +92,14 @@ Continues layout at t (invokes pass calls) =
 Continues layout at t (responds pass notes) = (call : Pending) × IsResponse at t pass call notes × IsCallTurn layout (at t) (at (suc t)) pass None
 Continues layout at t (refuses pass) = (call : Pending) × IsRefusal at t pass call × IsCallTurn layout (at t) (at (suc t)) pass None
 
--- The core is lawful, and what each pass knows is true of it.
+-- The core of the configuration is lawful, and what each pass knows is true of this core.
 pub record IsSoundConfiguration (layout : Layout) (configuration : Configuration) : Type 0 where
   pub layout_is : configuration.core.layout ≡ layout
   pub lawful : IsLawful configuration.core
   pub named : (pass : ℕ) → pass < layout.passes → (configuration.known pass).pass ≡ pass
   pub knows : (pass : ℕ) → pass < layout.passes → Knows configuration.core (configuration.known pass)
 
--- The index at this time is a sound one in which no change has been made, and no call.
+-- The configuration is sound, and of a new index: no change has been made, no call noted, and none is pending.
 pub record IsNewIndex (layout : Layout) (configuration : Configuration) : Type 0 where
   pub sound : IsSoundConfiguration layout configuration
   pub changes : configuration.core.changes ≡ []

@@ -1,4 +1,4 @@
--- How a pending call is completed by what it has done to the map, whether or not it was asked to.
+-- How pending calls are completed by the changes that they have made, whether or not they ask for these.
 use Rattle.std.specs.Prelude.{ℕ, List, [], ◌∷◌, ◌++◌, Bool, true, false, ◌&&◌, Option, None, Some, drop, if◌then◌else◌, length, nat_eq}
 use Rattle.std.specs.BTreeMap.{is_at}
 use Rattle.finite_map.specs.declared.Call.{Call}
@@ -12,34 +12,37 @@ use Rattle.rowex_core.specs.Statements.{call_of_change}
 use Rattle.linearizability.specs.Histories.{replied}
 use Rattle.linearizability.specs.Configurations.{Configuration, Pending}
 
--- two kinds of changes are one
+-- whether the two kinds of changes are the same
 abbrev pub same_kind : Kind → Kind → Bool
 same_kind Added Added = true
 same_kind Replaced Replaced = true
 same_kind Removed Removed = true
 same_kind _ _ = false
 
--- whether this is the change
-abbrev pub is_this : Change → Option Change → Bool
-is_this change None = false
-is_this change (Some c) = same_kind c.kind change.kind && (nat_eq c.value change.value && is_at (key_order c.key) change.key)
+-- whether the found change is there, and is the same change
+abbrev pub is_same_change : (change : Change) (found : Option Change) → Bool
+is_same_change change None = false
+is_same_change change (Some found) = same_kind found.kind change.kind && (nat_eq found.value change.value && is_at (key_order found.key) change.key)
 
--- The call of pass q that made the change behind the front, with the map's reply. It is the first of these calls that makes this change
--- there. If none does, it is the upsert or removal that does.
-abbrev pub maker : ℕ → List Call → List Change → Change → Note
-maker q [] front change = replied front (call_of_change change)
-maker q (call ∷ calls) front change = if is_this change (change_of q (replied front call)) then replied front call else maker q calls front change
+-- The note of the call by which the pass made the change behind the front. It is the first of these calls that makes this very change on
+-- the map there. If none does, it is the upsert or the removal that does.
+abbrev pub maker_note : (pass : ℕ) (calls : List Call) (front : List Change) (change : Change) → Note
+maker_note pass [] front change = replied front (call_of_change change)
+maker_note pass (call ∷ calls) front change = if is_same_change change (change_of pass (replied front call)) then replied front call else maker_note pass calls front change
 
--- the calls by which pass q made its changes among those behind the front
-abbrev pub makers : ℕ → List Call → List Change → List Change → List Note
-makers q calls front [] = []
-makers q calls front (x ∷ xs) = if nat_eq x.pass q then maker q calls front x ∷ makers q calls (front ++ x ∷ []) xs else makers q calls (front ++ x ∷ []) xs
+-- the notes of the calls by which the pass made its own among the changes behind the front
+abbrev pub maker_notes : (pass : ℕ) (calls : List Call) (front changes : List Change) → List Note
+maker_notes pass calls front [] = []
+maker_notes pass calls front (change ∷ changes) =
+    if nat_eq change.pass pass then maker_note pass calls front change ∷ maker_notes pass calls (front ++ change ∷ []) changes
+    else maker_notes pass calls (front ++ change ∷ []) changes
 
--- What completes a pending call of pass q after these changes: if it has changed the map, it responds as the map does.
-abbrev pub completion_of : (ℕ → Configuration) → List Change → ℕ → Option Pending → List Note
-completion_of at changes q None = []
-completion_of at changes q (Some call) = let seen = (at call.since).core.changes in makers q call.calls seen (drop (length seen) changes)
+-- The notes that complete the pending call of a pass, after these changes. For each change that the call has made there is one, with the
+-- reply of the map there.
+abbrev pub completion_of : (at : ℕ → Configuration) (changes : List Change) (pass : ℕ) (call : Option Pending) → List Note
+completion_of at changes pass None = []
+completion_of at changes pass (Some call) = let seen = (at call.since).core.changes in maker_notes pass call.calls seen (drop (length seen) changes)
 
--- the completion of the call of each pass, at a run's last time
-abbrev pub completions : (last : ℕ) → (ℕ → Configuration) → (pass : ℕ) → List Note
+-- the notes that complete each pass's pending call at the last time of a run
+abbrev pub completions : (last : ℕ) (at : ℕ → Configuration) (pass : ℕ) → List Note
 completions last at pass = completion_of at (at last).core.changes pass ((at last).pending pass)

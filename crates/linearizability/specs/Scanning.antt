@@ -8,19 +8,19 @@ use Rattle.finite_map.specs.Scans.{is_within}
 use Rattle.linearizability.specs.Configurations.{Configuration}
 
 -- the map at a time of the run
-abbrev pub map_at : (ℕ → Configuration) → ℕ → Map
+abbrev pub map_at : (at : ℕ → Configuration) (t : ℕ) → Map
 map_at at t = map_of (at t).core.changes
 
 -- at some time from `since` to `until` the key has the value
-abbrev pub WasHeld : (ℕ → Configuration) → (since until : ℕ) → List ℕ → (value : ℕ) → Type 0
+abbrev pub WasHeld : (at : ℕ → Configuration) (since until : ℕ) (key : List ℕ) (value : ℕ) → Type 0
 WasHeld at since until key value = (t : ℕ) × (since ≤ t) × (t ≤ until) × (value_at (map_at at t) key ≡ Some value)
 
 -- at all times from `since` to `until` the key is in the map
-abbrev pub WasThere : (ℕ → Configuration) → (since until : ℕ) → List ℕ → Type 0
+abbrev pub WasThere : (at : ℕ → Configuration) (since until : ℕ) (key : List ℕ) → Type 0
 WasThere at since until key = (t : ℕ) → since ≤ t → t ≤ until → IsSome (value_at (map_at at t) key)
 
--- A scan from time `since` to `until`. Each pair was in the map at one of these times. No key of the range is missing that was there at
--- all of them, as far as the scan has come.
+-- What a scan from time `since` to `until` shows. Each of its pairs was in the map at one of these times. No key of the range is missing
+-- that was in the map at all of them. If the scan has more, this is said only of keys up to where it has come (`IsReached`).
 pub record IsScanInTime (IsReached : Map → List ℕ → Type 0) (at : ℕ → Configuration) (since until : ℕ) (from upto : List ℕ) (scan : Scan) : Type 0 where
   pub held : All (λ e. WasHeld at since until e.0 e.1) scan.pairs.items
   pub whole : (key : List ℕ) → IsTrue (is_within from upto key) → (scan.more ≡ true → IsReached scan.pairs.items key) → WasThere at since until key →

@@ -14,31 +14,32 @@ use Rattle.record_words.specs.declared.layout.Layout.{Layout}
 use Rattle.rowex_core.specs.declared.event.Event.{Event}
 use Rattle.rowex_core.specs.Runs.{EventsLead}
 use Rattle.linearizability.specs.Effects.{completions}
-use Rattle.linearizability.specs.Histories.{ChangesAsAsked, IsAppended, PendingEndOrChangeAsAsked, complete_calls, completed, had_responded, stays}
+use Rattle.linearizability.specs.Histories.{ChangesAsAsked, IsAppended, PendingEndOrChangeAsAsked, complete_calls, completed, had_responded, held_from}
 use Rattle.linearizability.specs.Configurations.{Happening, IsRefusal, IsResponse, IsSoundConfiguration, IsWholeRun, Configuration, Pending}
 use Rattle.linearizability.specs.Scanning.{IsScanInTime, map_at}
 
 -- each configuration of a run is sound
 abbrev pub RunsStaySound : Type 0
 RunsStaySound =
-    (layout : Layout) (last : ℕ) (at : ℕ → Configuration) (happens : ℕ → Happening) → IsWholeRun layout last at happens → (t : ℕ) → t ≤ last → IsSoundConfiguration layout (at t)
+    (layout : Layout) (last : ℕ) (at : ℕ → Configuration) (happens : ℕ → Happening) → IsWholeRun layout last at happens →
+    (t : ℕ) → t ≤ last → IsSoundConfiguration layout (at t)
 
--- the steps of a run are legal events that lead from its first core to its last
+-- the steps of a run are legal events that lead from its first core to the core at each time
 abbrev pub RunsAreEvents : Type 0
 RunsAreEvents =
-    (layout : Layout) (last : ℕ) (at : ℕ → Configuration) (happens : ℕ → Happening) → IsWholeRun layout last at happens → (t : ℕ) → t ≤ last →
-    (events : List Event) × EventsLead (at 0).core events (at t).core
+    (layout : Layout) (last : ℕ) (at : ℕ → Configuration) (happens : ℕ → Happening) → IsWholeRun layout last at happens →
+    (t : ℕ) → t ≤ last → (events : List Event) × EventsLead (at 0).core events (at t).core
 
--- With these responses appended, the calls of a run stand in one order, each once. Each reply in it is that of a finite map, which is empty
--- at first. No call stands before one that had responded when it was invoked.
-abbrev pub HaveOneOrder : Layout → ℕ → (ℕ → Configuration) → (ℕ → Happening) → (ℕ → List Note) → Type 0
+-- With these responses appended, the answered calls of a run have one order, in which each stands once. In this order each reply is that
+-- of a finite map, empty at first. No call stands before one that had responded when it was invoked.
+abbrev pub HaveOneOrder : (layout : Layout) (last : ℕ) (at : ℕ → Configuration) (happens : ℕ → Happening) (added : ℕ → List Note) → Type 0
 HaveOneOrder layout last at happens added =
     (order : List (ℕ × Note)) × IsPermutation (complete_calls (completed last happens added) (last + layout.passes)) order ×
-    LegalHistory (calls_of (noted order)) × IsInTime (had_responded (stays last at) (completed last happens added)) order
+    LegalHistory (calls_of (noted order)) × IsInTime (had_responded (held_from last at) (completed last happens added)) order
 
 -- The run is linearizable (Herlihy and Wing, 1990). Responses may be appended for calls that are pending, one at most for each, so that all
 -- answered calls have one order.
-abbrev pub IsLinearizable : Layout → ℕ → (ℕ → Configuration) → (ℕ → Happening) → Type 0
+abbrev pub IsLinearizable : (layout : Layout) (last : ℕ) (at : ℕ → Configuration) (happens : ℕ → Happening) → Type 0
 IsLinearizable layout last at happens =
     (added : ℕ → List Note) × ((pass : ℕ) → IsAppended ((at last).pending pass) (added pass)) × HaveOneOrder layout last at happens added
 
@@ -48,7 +49,8 @@ Linearizable =
     (layout : Layout) (last later : ℕ) (at : ℕ → Configuration) (happens : ℕ → Happening) → last ≤ later → IsWholeRun layout later at happens →
     PendingEndOrChangeAsAsked layout last later at → IsLinearizable layout last at happens
 
--- Let a call respond that asks one call of the map or changes nothing. At each time of it, it has changed nothing, or the map as it asks.
+-- Let a call respond that asks one call of the map, or whose notes tell of no change. At each time of the call it has changed nothing, or
+-- has changed the map as it asks.
 abbrev pub RespondersChangeAsAsked : Type 0
 RespondersChangeAsAsked =
     (layout : Layout) (last : ℕ) (at : ℕ → Configuration) (happens : ℕ → Happening) → IsWholeRun layout last at happens →
@@ -56,21 +58,21 @@ RespondersChangeAsAsked =
     ((asked : Call) × (call.calls ≡ asked ∷ [])) ⊎ (changes_of pass notes ≡ []) →
     (m : ℕ) → call.since ≤ m → m ≤ t → ChangesAsAsked pass call.calls (at call.since).core.changes (at m).core.changes
 
--- A call that is refused has changed nothing at any time.
+-- A call that is refused has changed nothing, from its invocation to its refusal.
 abbrev pub RefusedChangeNothing : Type 0
 RefusedChangeNothing =
     (layout : Layout) (last : ℕ) (at : ℕ → Configuration) (happens : ℕ → Happening) → IsWholeRun layout last at happens →
     (pass t : ℕ) (call : Pending) → pass < layout.passes → t ≤ last → IsRefusal at t pass call →
     (m : ℕ) → call.since ≤ m → m ≤ t → OthersGoOn pass (at call.since).core.changes (at m).core.changes
 
--- Whatever pending calls do, the answered calls have one order. It has one more call for each change that a pending one has made.
+-- Whatever pending calls do, the answered calls have one order, together with one call for each change that a pending call has made.
 abbrev pub OrderedByEffect : Type 0
 OrderedByEffect =
     (layout : Layout) (last : ℕ) (at : ℕ → Configuration) (happens : ℕ → Happening) → IsWholeRun layout last at happens →
     HaveOneOrder layout last at happens (completions last at)
 
--- A scan shows maps of times from its invocation to its response, upwards as downwards. It must be lawful from what its pass saw at a
--- load of the root in it to what it has seen by its end.
+-- Let a scan, upwards or downwards, be lawful from the front at its load of the root to the front at its end.
+-- The scan shows the maps of times from its beginning to its end, as `IsScanInTime` says.
 abbrev pub ScansInTime : Type 0
 ScansInTime =
     (layout : Layout) (last : ℕ) (at : ℕ → Configuration) (happens : ℕ → Happening) → IsWholeRun layout last at happens →
@@ -82,10 +84,9 @@ ScansInTime =
     (IsLawfulReverseScan ((at until).known pass).fresh.front ((at until).known pass).front from upto limit scan →
     IsScanInTime IsDownToLast at since until from upto scan)
 
--- Each answered call's reply is the map's at a time between its invocation and its response.
+-- Each reply of a call that responds is the map's at a time between the call's invocation and its response.
 abbrev pub RepliesInTime : Type 0
 RepliesInTime =
     (layout : Layout) (last : ℕ) (at : ℕ → Configuration) (happens : ℕ → Happening) → IsWholeRun layout last at happens →
-    (pass t : ℕ) (call : Pending) (notes : List Note) →
-    pass < layout.passes → t ≤ last → IsResponse at t pass call notes →
+    (pass t : ℕ) (call : Pending) (notes : List Note) → pass < layout.passes → t ≤ last → IsResponse at t pass call notes →
     All (λ n. (m : ℕ) × (call.since ≤ m) × (m ≤ t) × (n.reply ≡ reply_of (map_at at m) n.call)) notes

@@ -1,5 +1,5 @@
 -- How a call for a key has ended: the steps of its pass, its response, and what was told of it.
-use Rattle.hot_c.proofs.Common.{◌≡◌, ◌≢◌, ⊎_elim, ℕ, List, [], ◌∷◌, ◌++◌, map, Option, None, Some, Result, Ok, Err, inl, inr, refl, sym, ap, subst, ◌∙◌, IsPermutation, option_to_list, cases_eq, IsPermutation-refl, Call, Add, Exchange, Get, Insert, Remove, RemoveIf, Upsert, Note, Reply, Absent, Differs, Exchanged, Exists, Inserted, New, Removed, Value, Was, Act, Known, Ends, Runs, silent, SeatView, TableView, Leaves, Nodes, IsNoted, IsRefused, IsRefusedFor, MayRefuse, GetsOr, GetsOrCounts, IsTriedAndCounted, HasCounted, loads_in, PassView, pass_of, IsToldAfter, fault_in, HasMadeChangeSteps, HasRead, reading, untold, Refusal, IsBusy, HeldBack, IsFull, answers, Happening, refuses, responds, HasEndedAs, answered, refused, silent_steps_end}
+use Rattle.hot_c.proofs.Common.{◌≡◌, ◌≢◌, ⊎_elim, ℕ, List, [], ◌∷◌, ◌++◌, map, Option, None, Some, Result, Ok, Err, inl, inr, refl, sym, ap, subst, ◌∙◌, IsPermutation, option_to_list, cases_eq, IsPermutation-refl, Call, Add, Exchange, Get, Insert, Remove, RemoveIf, Upsert, Note, Reply, Absent, Differs, Exchanged, Exists, Inserted, New, Removed, Value, Was, Act, Known, Ends, Runs, silent, SeatView, TableView, Leaves, Nodes, IsNoted, IsRefused, IsRefusedFor, MayRefuse, GetsOr, GetsOrCounts, IsTriedAndCounted, HasCounted, loads_in, PassView, pass_of, IsToldAfter, fault_in, HasMadeChangeSteps, HasRead, reading, untold, Refusal, IsBusy, HeldBack, IsFull, notes_of_response, Happening, refuses, responds, HasEndedAs, answered, refused, silent_steps_end}
 use Rattle.rowex_core.specs.declared.event.Act.TheVariants.{ClearPin}
 use Rattle.rowex_table.proofs.Runs.{runs_append}
 use Rattle.rowex_writing.specs.attempts.Attempts.{LacksNoLeaf}
@@ -148,7 +148,7 @@ pub record Ended (index : TableView) (q : ℕ) (call : Call) (replies : List (Ca
   pub made : Made index k j
   pub ended : Happening
   pub so : HasEndedAs index.layout q (call ∷ []) k.seat j.seat ended
-  pub told : IsPermutation replies (map (λ (n : Note). (n.call, n.reply)) (answers ended))
+  pub told : IsPermutation replies (map (λ (n : Note). (n.call, n.reply)) (notes_of_response ended))
 
 pub call_ended : (index : TableView) (q size : ℕ) (call : Call) (before after status : ℕ) (outcome : Result Reply Refusal) (k j : PassView) → k ≡ pass_of k.seat →
     TellsOutcome size call status outcome index k j → GetsOr call (status ≢ BUSY) (Unit {0}) → after ≡ value_after before outcome → Ended index q call (told_of call status after) k j

@@ -10,7 +10,7 @@ use crate::load::open_load::OpenLoad;
 use std::alloc::Global;
 
 impl LoadCell {
-    /// The cell as one whose type tells what it holds.
+    /// The cell as a holder of an open load.
     fn held(&mut self) -> &mut Held<OpenLoad>
         ensures* writes_back { sem 𝓛 (LendsHeldLoad self.entry result) }
         ensures value { result.now ≡ held_load self.old }

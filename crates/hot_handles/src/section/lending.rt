@@ -10,7 +10,7 @@ use crate::section::opened::OpenSection;
 use std::alloc::Global;
 
 impl SectionCell {
-    /// The cell as one whose type tells what it holds.
+    /// The cell as a holder of an open section.
     fn held(&mut self) -> &mut Held<OpenSection>
         ensures* writes_back { sem 𝓛 (LendsHeldSection self.entry result) }
         ensures value { result.now ≡ held_section self.old }

@@ -1,6 +1,6 @@
 -- The calls of a run: those of each pass are legal, and all notes are those of calls that have responded.
 use Rattle.linearizability.proofs.Common.{◌≡◌, ◌≢◌, ◌⊎◌, inl, inr, ℕ, zero, suc, ◌<◌, ◌≤◌, List, [], ◌∷◌, ◌++◌, map, Option, Some, None, refl, sym, ap, subst, ◌∙◌, arith, ⊎_elim, append-nil, append_assoc, All, IsPermutation, cases_eq, All-nil, All-cons, All-head, All-tail, IsPermutation-append_left, IsPermutation-refl, IsPermutation-sym, IsPermutation-trans, Change, Note, LegalCalls, BeginsWith, OthersGoOn, notes_of, legal_front_part, nothing_before, legal_at_first, legal_longer, noted, Layout, Known}
-use Rattle.linearizability.specs.Histories.{answers, complete_calls}
+use Rattle.linearizability.specs.Histories.{notes_of_response, complete_calls}
 use Rattle.linearizability.specs.Configurations.{Continues, Happening, IsSoundConfiguration, IsWholeRun, Configuration, Pending, invokes, refuses, responds, shows, steps}
 use Rattle.linearizability.proofs.Configurations.{cancelled, runs_stay_sound}
 use Rattle.linearizability.proofs.Histories.Passes.{notes_more, notes_same, passes_below}
@@ -83,7 +83,7 @@ module _ (layout : Layout) (at : ℕ → Configuration) (t : ℕ) where
   abbrev Noting : ℕ → List Note → Type 0
   Noting p notes = (p < layout.passes) × (notes_at (suc t) p ≡ notes_at t p ++ notes) × ((q : ℕ) → q ≢ p → notes_at (suc t) q ≡ notes_at t q)
 
-  pub next_notes : (h : Happening) → Continues layout at t h → (((q : ℕ) → notes_at (suc t) q ≡ notes_at t q) × (answers h ≡ [])) ⊎ ((p : ℕ) × Noting p (answers h))
+  pub next_notes : (h : Happening) → Continues layout at t h → (((q : ℕ) → notes_at (suc t) q ≡ notes_at t q) × (notes_of_response h ≡ [])) ⊎ ((p : ℕ) × Noting p (notes_of_response h))
   next_notes (steps p act notes) x = inl (
     λ q. ap (notes_up_to at q (suc t)) (ap (λ (f : ℕ → Option Pending). f q) x.pending) ∙ notes_stay at q t ((at t).pending q) (λ none. ⊎_elim
         (λ e. (let no : None ≡ Some x.call = sym none ∙ ap (λ k. (at t).pending k) e ∙ x.called in cc))
@@ -145,7 +145,7 @@ module _ (layout : Layout) (last : ℕ) (at : ℕ → Configuration) (happens : 
   abbrev pub notes_by : ℕ → ℕ → List Note
   notes_by t q = notes_up_to at q t ((at t).pending q)
 
-  complete_next : (t : ℕ) → (((q : ℕ) → notes_by (suc t) q ≡ notes_by t q) × (answers (happens t) ≡ [])) ⊎ ((p : ℕ) × Noting layout at t p (answers (happens t))) →
+  complete_next : (t : ℕ) → (((q : ℕ) → notes_by (suc t) q ≡ notes_by t q) × (notes_of_response (happens t) ≡ [])) ⊎ ((p : ℕ) × Noting layout at t p (notes_of_response (happens t))) →
       IsPermutation (notes_of (passes_below (notes_by t) layout.passes)) (noted (complete_calls happens t)) →
       IsPermutation (notes_of (passes_below (notes_by (suc t)) layout.passes)) (noted (complete_calls happens (suc t)))
   complete_next t (inl (same, none)) h =
@@ -154,11 +154,11 @@ module _ (layout : Layout) (last : ℕ) (at : ℕ → Configuration) (happens : 
       subst (IsPermutation (notes_of (passes_below (notes_by (suc t)) layout.passes))) (sym unchanged)
       (subst (λ ns. IsPermutation ns (noted (complete_calls happens t))) (notes_same (notes_by t) (notes_by (suc t)) layout.passes (λ o _. same o)) h)
   complete_next t (inr (p, (low, own, others))) h =
-      let more : noted (complete_calls happens (suc t)) ≡ noted (complete_calls happens t) ++ answers (happens t) =
-      noted-append (complete_calls happens t) (map (λ n. (t, n)) (answers (happens t))) ∙ ap (λ ns. noted (complete_calls happens t) ++ ns) (noted_at t (answers (happens t))) in
+      let more : noted (complete_calls happens (suc t)) ≡ noted (complete_calls happens t) ++ notes_of_response (happens t) =
+      noted-append (complete_calls happens t) (map (λ n. (t, n)) (notes_of_response (happens t))) ∙ ap (λ ns. noted (complete_calls happens t) ++ ns) (noted_at t (notes_of_response (happens t))) in
       subst (IsPermutation (notes_of (passes_below (notes_by (suc t)) layout.passes))) (sym more)
-      (IsPermutation-trans _ _ _ (IsPermutation-sym _ _ (notes_more (notes_by t) (notes_by (suc t)) p (answers (happens t)) own others layout.passes low))
-      (IsPermutation-append_left (answers (happens t)) _ _ h))
+      (IsPermutation-trans _ _ _ (IsPermutation-sym _ _ (notes_more (notes_by t) (notes_by (suc t)) p (notes_of_response (happens t)) own others layout.passes low))
+      (IsPermutation-append_left (notes_of_response (happens t)) _ _ h))
 
   -- what passes have noted in calls that have responded are the notes of these
   pub notes_complete : (t : ℕ) → t ≤ last → IsPermutation (notes_of (passes_below (notes_by t) layout.passes)) (noted (complete_calls happens t))
