@@ -1,4 +1,4 @@
--- What the contracts of the index give of a call that is alone: no other pass makes a step while it runs, or held anything when it began.
+-- What contracts say of a call that is alone. When it begins, no other pass holds anything, and while it runs, no other makes a step.
 use Rattle.std.specs.Prelude.{◌≡◌, ℕ, [], All, Result, IsOk}
 use Rattle.finite_map.specs.declared.Call.{Call}
 use Rattle.finite_map.specs.declared.Reply.{Reply}
@@ -15,22 +15,23 @@ use Rattle.hot_index_calls.specs.Answers.{IsCause, MayTake}
 use Rattle.hot_index_calls.specs.Calls.{HasCause, IsOutcome, MakesTries}
 use Rattle.hot_index_calls.specs.Passes.{IsNewPass, PassView}
 
--- The call may take no record, however many of the changes that the pass knows at last it had seen.
-abbrev pub TakesNone : Call → PassView → PassView → Type 0
-TakesNone call k j = (m : PassView) → BeginsWith j.front m.front → ¬ (MayTake call k m)
+-- Whatever part of its last front the pass had seen by then, the call takes no record (`MayTake`).
+abbrev pub TakesNone : (call : Call) (old new : PassView) → Type 0
+TakesNone call old new = (middle : PassView) → BeginsWith new.front middle.front → ¬ (MayTake call old middle)
 
 -- A call that is alone is refused only for want of a record.
 pub record AloneCallsEnd {G : Type 0} (becomes : G → Event → G → Type 0) : Type 0 where
   -- a call that is alone is never busy
-  pub busy : (layout : Layout) (key : Key) (k j : PassView) → RunsAlone layout j.number k.seat j.seat → ¬ (IsCause layout key k j Busy)
-  -- A call that is alone gets its reply if it may take no record. Such are an exchange, an addition, a new value of a key that was held all
-  -- the while, and the removal of one that was absent all the while.
-  pub reply : (index : TableView) (call : Call) (result : Result Reply TryFault) (k j : PassView) → IsOutcome call result index k j → HasCause call result index k j →
-      RunsAlone index.layout j.number k.seat j.seat → ¬ (MayTake call k j) → IsOk result
-  -- if it waits, it makes one try then, and no other
+  pub busy : (layout : Layout) (key : Key) (old new : PassView) → RunsAlone layout new.number old.seat new.seat → ¬ (IsCause layout key old new Busy)
+  -- A call that is alone and takes no record is answered. Such are exchanges and additions, a new value of a key held all the while, and a
+  -- removal of one absent all the while.
+  pub reply : (index : TableView) (call : Call) (result : Result Reply TryFault) (old new : PassView) →
+      IsOutcome call result index old new → HasCause call result index old new →
+      RunsAlone index.layout new.number old.seat new.seat → ¬ (MayTake call old new) → IsOk result
+  -- a change that waits, is alone and takes no record makes one try, and is answered
   pub once : (index : TableView) (call : Call) (result : Result Reply Full) (before later : PassView × G)
       (tries : MakesTries call result index becomes before later) →
       RunsAlone index.layout before.0.number before.0.seat later.0.seat → TakesNone call before.0 later.0 → (tries.refusals ≡ []) × IsOk result
-  -- the first call of a new index is alone, if its pass alone makes steps
-  pub first : (layout : Layout) (q : ℕ) (p : PassView) (seat : SeatView) → IsNewPass q p → All (λ x. x.pass ≡ q) seat.trace →
-      RunsAlone layout q p.seat seat
+  -- the first call of a new index is alone, if no other pass makes a step
+  pub first : (layout : Layout) (number : ℕ) (pass : PassView) (seat : SeatView) → IsNewPass number pass →
+      All (λ x. x.pass ≡ number) seat.trace → RunsAlone layout number pass.seat seat

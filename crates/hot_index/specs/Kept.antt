@@ -1,17 +1,17 @@
--- The node record that an index has more than it is asked for. Insertions leave one free, so that a removal finds one.
+-- The kept node record: an index has one more than it is asked for. Insertions leave it free, so that a removal finds one.
 use Rattle.std.specs.Prelude.{◌≡◌, ℕ, ◌+◌, min}
 use Rattle.record_words.specs.declared.layout.Layout.{Layout}
 use Rattle.record_words.specs.declared.layout.Stock.{Stock}
 
--- one more node record, but no more than there are numbers
-abbrev pub with_one_kept : ℕ → ℕ
+-- so many node records and the kept one, but at most 2^32 - 1
+abbrev pub with_one_kept : (nodes : ℕ) → ℕ
 with_one_kept nodes = min (nodes + 1) 4294967295
 
--- the stock with one more node record, which is kept for removals
+-- the stock with the kept node record
 abbrev pub kept_stock : Stock → Stock
 kept_stock stock = record stock { nodes = with_one_kept stock.nodes }
 
--- the layout is as asked, but for one more node record, which is kept for removals
+-- the layout is the one asked for, with the kept node record
 pub record HasOneKept (asked layout : Layout) : Type 0 where
   pub passes : layout.passes ≡ asked.passes
   pub nodes : layout.nodes ≡ with_one_kept asked.nodes

@@ -36,25 +36,25 @@ takes change = takes_of change.kind
 abbrev pub IsDifference : (more less net : ℕ) → Type 0
 IsDifference more less net = (a : ℕ) × (b : ℕ) × (net + less + a * 2 ^ 64 ≡ more + b * 2 ^ 64)
 
--- `net` is how many keys the changes put in, less how many they take out
-abbrev pub IsNet : List Change → ℕ → Type 0
+-- `net` is how many keys the changes put in, less how many they take out, modulo 2^64
+abbrev pub IsNet : (changes : List Change) (net : ℕ) → Type 0
 IsNet changes net = IsDifference (sum_by puts changes) (sum_by takes changes) net
 
--- the count is the net of the answered calls of pass q
-abbrev pub IsCountOf : ℕ → List Note → KeyCount → Type 0
-IsCountOf q notes count = IsNet (changes_of q notes) count.keys
+-- the count is what the answered calls of this pass have put in, less what they have taken out, modulo 2^64
+abbrev pub IsCountOf : (pass : ℕ) (notes : List Note) (count : KeyCount) → Type 0
+IsCountOf pass notes count = IsNet (changes_of pass notes) count.keys
 
--- on some map the call has this reply
-abbrev pub MayReply : Call → Reply → Type 0
+-- some map has this reply to the call
+abbrev pub MayReply : (call : Call) (reply : Reply) → Type 0
 MayReply call reply = (pairs : Map) × (reply ≡ reply_of pairs call)
 
--- the count was that of a pass's calls, and is now that of one call more, with this reply
-abbrev pub CountsReply : Reply → KeyCount → KeyCount → Type 0
+-- If the count was that of a pass's answered calls, it is now that of these and one call more, with this reply.
+abbrev pub CountsReply : (reply : Reply) (old new : KeyCount) → Type 0
 CountsReply reply old new = (pass place : ℕ) (notes : List Note) (call : Call) → MayReply call reply → IsCountOf pass notes old →
     IsCountOf pass (notes ++ record { place = place; call = call; reply = reply } ∷ []) new
 
--- An answered call, with this reply, is counted. A refused one leaves the count.
-abbrev pub CountsAnswer : {F : Type 0} → Result Reply F → KeyCount → KeyCount → Type 0
+-- If the call was answered, it is counted. If it was refused, the count stays the same.
+abbrev pub CountsAnswer : {F : Type 0} → (answer : Result Reply F) (old new : KeyCount) → Type 0
 CountsAnswer answer old new = MatchResult answer (λ reply. CountsReply reply old new) (λ fault. new ≡ old)
 
 -- how many keys a call with this reply puts in, less how many it takes out, modulo 2^64
@@ -64,7 +64,8 @@ net_of New = 1
 net_of (Removed held) = 2 ^ 64 - 1
 net_of _ = 0
 
--- The passes with these counts made the changes of a front. Each pass's count is that of its calls, which are legal in the front.
+-- The counts are those of all passes that made the changes of the front, in the order of their numbers. Each is the count of its pass's
+-- calls, which are legal in the front.
 pub record AreCounts (front : List Change) (counts : List KeyCount) : Type 0 where
   pub legal : LegalFront front
   pub makers : All (λ c. c.pass < length counts) front

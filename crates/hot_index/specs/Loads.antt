@@ -1,4 +1,4 @@
--- What stands in an index that was made of sorted pairs.
+-- What a load of sorted pairs takes, and what stands in the index that is made of it.
 use Rattle.std.specs.Prelude.{◌≡◌, ◌<◌, ℕ, zero, suc, List, [], ◌∷◌, length, map}
 use Rattle.finite_map.specs.declared.Call.TheVariants.{Insert}
 use Rattle.finite_map.specs.declared.Change.{Change}
@@ -23,30 +23,30 @@ use Rattle.rowex_table.specs.Seats.{IsLoaderSeat, TableView}
 use Rattle.publish_laws.specs.Lone.{HasSpare}
 use Rattle.hot_index_calls.specs.Passes.{IsNewPass, PassView}
 
--- the load has taken this pair, behind those that it had, for a leaf record of some number
-abbrev pub HasTakenPair : Key → ℕ → LoadView → LoadView → Type 0
+-- the load has taken this pair, behind its earlier ones, for some leaf record
+abbrev pub HasTakenPair : (key : Key) (value : ℕ) (old new : LoadView) → Type 0
 HasTakenPair key value old new = (n : ℕ) × (new ≡ with_item old (item n key value))
 
--- no leaf record of the index, taken or not, has room for the key
-abbrev pub HasNoLeafFor : Layout → Key → Type 0
+-- no leaf record of this layout, taken or not, has room for the key
+abbrev pub HasNoLeafFor : (layout : Layout) (key : Key) → Type 0
 HasNoLeafFor layout key = (n : ℕ) → n < layout.leaves → leaf_size layout n < words_for (length key)
 
 -- the count is that of a pass that has inserted these pairs
-abbrev pub CountsItems : List Item → KeyCount → Type 0
+abbrev pub CountsItems : (items : List Item) (count : KeyCount) → Type 0
 CountsItems items count = (pass : ℕ) → IsCountOf pass (added_notes 0 items) count
 
 -- the change by which pass 0 inserts a pair
 abbrev pub inserted_pair : Key × ℕ → Change
 inserted_pair pair = record { pass = 0; key = pair.0; value = pair.1; kind = Added }
 
--- the notes of answered insertions of these pairs, one after the other, at places from `place` on
-abbrev pub pairs_noted : ℕ → List (Key × ℕ) → List Note
+-- the notes of insertions of these pairs, one after the other, at the places from `place` on
+abbrev pub pairs_noted : (place : ℕ) (pairs : List (Key × ℕ)) → List Note
 pairs_noted place [] = []
 pairs_noted place (x ∷ xs) = record { place = place; call = Insert x.0 x.1; reply = Inserted } ∷ pairs_noted (suc place) xs
 
--- Pass 0 of an index that was made of these pairs. It has inserted each of them, in their order, and has seen nothing else. Its calls are
--- legal, and the map has just these pairs. Its seat is that of a load, its one step. If it is the only pass, some node record is spare, as
--- in a new index.
+-- Pass 0 of an index that was made of these pairs. It has inserted each pair, in their order, and has seen nothing else. Its calls are
+-- legal, and the map has just these pairs. The load is its one step. Some node record stands in no tree, and in an index of one pass stays
+-- spare.
 pub record IsLoaderPass (index : TableView) (xs : List (Key × ℕ)) (pass : PassView) : Type 0 where
   pub number : pass.number ≡ 0
   pub front : pass.front ≡ map inserted_pair xs
@@ -59,7 +59,7 @@ pub record IsLoaderPass (index : TableView) (xs : List (Key × ℕ)) (pass : Pas
   pub out : (n : ℕ) × (n < index.layout.nodes) × ¬ IsLinked (loaded_tree index.layout words) (a_node n)
   pub spare : HasSpare index.layout pass.seat
 
--- the pass of this number of an index that was made of these pairs; all but pass 0 are new
-abbrev pub IsPassOfLoad : TableView → List (Key × ℕ) → ℕ → PassView → Type 0
-IsPassOfLoad index xs zero pass = IsLoaderPass index xs pass
-IsPassOfLoad index xs (suc q) pass = IsNewPass (suc q) pass
+-- The pass of this number, in an index that was made of these pairs. Pass 0 has loaded them, and any other is new.
+abbrev pub IsPassOfLoad : (index : TableView) (pairs : List (Key × ℕ)) (number : ℕ) (pass : PassView) → Type 0
+IsPassOfLoad index pairs zero pass = IsLoaderPass index pairs pass
+IsPassOfLoad index pairs (suc q) pass = IsNewPass (suc q) pass

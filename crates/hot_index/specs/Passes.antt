@@ -6,16 +6,16 @@ use Rattle.rowex_core.specs.declared.known.Known.{Known}
 use Rattle.rowex_table.specs.Seats.{SeatView}
 use Rattle.hot_index_calls.specs.Passes.{IsSettled}
 
--- The pass is between two calls, and the count is that of its answered calls.
+-- The pass that knows this is between two calls, and the count is that of its answered calls.
 pub record IsSettledWith (known : Known) (count : KeyCount) : Type 0 where
   pub settled : IsSettled known
   pub counts : IsCountOf known.pass known.notes count
 
--- the pass is between two calls, and has no answered one
+-- the pass of the seat is between two calls, and has no answered call
 abbrev pub HasNoCall : SeatView → Type 0
 HasNoCall seat = IsSettled seat.known × (seat.known.notes ≡ [])
 
--- The passes of these seats are between two calls. The count is that of the first one's calls. No other has an answered call.
-abbrev pub AreSettled : KeyCount → List SeatView → Type 0
+-- The passes of these seats are between two calls. The count is that of the first pass's calls, and no other pass has an answered call.
+abbrev pub AreSettled : (count : KeyCount) (seats : List SeatView) → Type 0
 AreSettled count [] = Unit {0}
-AreSettled count (s ∷ ss) = IsSettledWith s.known count × All HasNoCall ss
+AreSettled count (seat ∷ seats) = IsSettledWith seat.known count × All HasNoCall seats

@@ -1,4 +1,4 @@
--- What a call for a first pair says.
+-- What a call for the first pair from a key on says.
 use Rattle.std.specs.Prelude.{ℕ, [], Option}
 use Rattle.finite_map.specs.Scans.{IsLawfulScan}
 use Rattle.hot_index_calls.specs.Answers.{IsFoundBy}
@@ -7,6 +7,7 @@ use Rattle.key_ranges.specs.Ranges.{last_with}
 use Rattle.record_words.specs.declared.layout.Layout.{Layout}
 use Rattle.tries.specs.Keys.{Key}
 
--- The first pair from the key on was asked for. A scan of one pair, from this key to the last key of all, has found it, or none.
-abbrev pub IsFirstFound : Layout → PassView → PassView → Key → Option (Key × ℕ) → Type 0
+-- The call asked for the first pair from the key on. A scan with limit 1, from this key to the greatest key of all, has found this pair, or
+-- none.
+abbrev pub IsFirstFound : (layout : Layout) (old new : PassView) (from : Key) (found : Option (Key × ℕ)) → Type 0
 IsFirstFound layout old new from found = IsFoundBy IsLawfulScan layout old new from (last_with []) found

@@ -1,4 +1,4 @@
--- What a pass has seen that follows a stamp.
+-- What a stamp does to the pass that makes it, and to one that follows it.
 use Rattle.std.specs.Prelude.{◌≡◌, suc, List}
 use Rattle.finite_map.specs.declared.Change.{Change}
 use Rattle.finite_map.specs.Fronts.{BeginsWith}
@@ -8,20 +8,20 @@ use Rattle.rowex_table.specs.Seats.{IsShownAll, StampView, TableView}
 use Rattle.hot_index_calls.specs.Answers.{IsUnnoted}
 use Rattle.hot_index_calls.specs.Passes.{PassView, pass_of}
 
--- the stamp is one of this index
-abbrev pub IsStampFrom : TableView → StampView → Type 0
+-- a pass of this index made the stamp
+abbrev pub IsStampFrom : (index : TableView) (stamp : StampView) → Type 0
 IsStampFrom index stamp = stamp.table ≡ index.id
 
--- the pass has made one stamp more, and nothing else of it has changed
-abbrev pub HasStamped : PassView → PassView → Type 0
+-- the pass has made a stamp, which its seat counts, and knows the same otherwise
+abbrev pub HasStamped : (old new : PassView) → Type 0
 HasStamped old new = new ≡ record old { seat = record old.seat { asides = suc old.seat.asides } }
 
--- the pass has seen more changes, and knows the same otherwise
-abbrev pub HasSeenMore : PassView → PassView → Type 0
+-- the pass may have seen more changes, and knows the same otherwise
+abbrev pub HasSeenMore : (old new : PassView) → Type 0
 HasSeenMore old new = new.seat.known ≡ with_front new.front old.seat.known
 
--- The pass has seen the stamp's changes, beside those that it had seen before, and knows the steps that made them. It has made no step, and
--- no call of it is noted. Nothing else of its seat has changed but that this is counted.
+-- The pass has followed a stamp. It has seen the stamp's changes, beside those that it had seen before, and knows the steps that made them.
+-- It has made no step and noted no call. Its seat counts that it followed a stamp, and is the same otherwise.
 pub record HasCaughtUp (layout : Layout) (stamp : List Change) (old new : PassView) : Type 0 where
   pub unnoted : IsUnnoted layout old new
   pub told : BeginsWith new.front stamp

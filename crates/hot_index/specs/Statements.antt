@@ -1,4 +1,4 @@
--- What the contracts of the index give in other words.
+-- What follows from the contracts of the index: of full indexes, of the order of calls, and of counts of keys.
 use Rattle.std.specs.Prelude.{◌+◌, ◌≡◌, ◌≢◌, ◌⊎◌, ◌*◌, ◌<◌, ◌≤◌, ℕ, List, [], length, slice_get, take, Contains, Option, Some, None}
 use Rattle.key_bits.specs.Key.{IsKey}
 use Rattle.finite_map.specs.declared.Call.{Call}
@@ -30,8 +30,8 @@ use Rattle.hot_index_calls.specs.Passes.{AreByPasses, IsNewPass, PassView}
 use Rattle.hot_index_calls.specs.Traces.{HasCollected, HasRead}
 use Rattle.hot_index_calls.specs.declared.census.RecordCounts.{RecordCounts}
 
--- Let all leaf records be long, as in an index that `create` makes. A call that lacks one has found each of them not free, and none its
--- own.
+-- Let all leaf records be long, as in an index that `create` makes. A call that lacks a leaf record has found each one not free, and none
+-- was its own.
 abbrev pub AllLongFullMeansNoneFree : Type 0
 AllLongFullMeansNoneFree =
     (layout : Layout) (key : Key) (old new : PassView) → layout.long_from ≡ 0 → IsKey key → IsCause layout key old new FullLeaves →
@@ -41,25 +41,27 @@ AllLongFullMeansNoneFree =
 abbrev pub OnePassIsNeverBusy : Type 0
 OnePassIsNeverBusy = (layout : Layout) (key : Key) (old new : PassView) → layout.passes ≡ 1 → ¬ (IsCause layout key old new Busy)
 
--- the record is no pass's own: it is in the tree or retired
-abbrev pub IsNobodys : Rec → Option ℕ → Type 0
+-- no pass owns the record: it is in the tree or retired; `by` is the pass that owns it
+abbrev pub IsNobodys : (rec : Rec) (by : Option ℕ) → Type 0
 IsNobodys rec by = by ≡ None
 
--- Each node record was in the tree or retired when its turn came, but for at most 4,321. The call may have claimed these itself.
-abbrev pub AreTakenButOwn : Layout → PassView → PassView → Type 0
+-- Each node record was in the tree or retired when the call looked at it. At most 4,321 are left out, which the call may have claimed
+-- itself.
+abbrev pub AreTakenButOwn : (layout : Layout) (old new : PassView) → Type 0
 AreTakenButOwn layout old new =
     (own : List Rec) × (length own ≤ 2 * most_nodes + 1) ×
     AllMissed (λ r by. IsNobodys r by ⊎ Contains own r) a_node layout.nodes new.failed old.steps
 
--- At least a third of the node records, but one, were in the tree or retired when their turn came. `nodes` lists these, each once.
+-- At least a third of the node records, less one, were in the tree or retired when the call looked at them. `nodes` lists the numbers of
+-- these, each once.
 pub record ThirdIsTaken (layout : Layout) (old new : PassView) : Type 0 where
   pub nodes : List ℕ
   pub apart : AreApart nodes
   pub many : layout.nodes ≤ 3 * length nodes + 1
   pub each : (n : ℕ) → IsOneOf n nodes → (n < layout.nodes) × HasMissedSince IsNobodys new.failed (a_node n) old.steps
 
--- What it means that a call of an index's only pass is full. For want of a leaf record, each with room for its key was in the tree or
--- retired when its turn came. For want of a node record, a third of these were so, but one, and all but those that it may have claimed
+-- Let a call of an index's only pass be full. For want of a leaf record, each one with room for its key was in the tree or retired when
+-- the call looked at it. For want of a node record, a third of these, less one, were so, and all but those that the call may have claimed
 -- itself.
 abbrev pub OnePassFullMeansTaken : Type 0
 OnePassFullMeansTaken =
@@ -67,56 +69,58 @@ OnePassFullMeansTaken =
     (IsCause layout key old new FullLeaves → AllMissedFrom IsNobodys layout (words_for (length key)) new.failed old.steps) ×
     (IsCause layout key old new FullNodes → ThirdIsTaken layout old new × AreTakenButOwn layout old new)
 
--- the call may give its key a value, so it is no removal
+-- the call may give its key a value: it is no removal
 abbrev pub GivesValue : Call → Type 0
 GivesValue (Remove key) = ⊥
 GivesValue (RemoveIf key expected) = ⊥
 GivesValue call = Unit {0}
 
--- Let a call give its key a value that was held in each version that the pass has seen since the call began. It is never refused as full.
+-- Let a call give its key a value, and let the map have the key in each version that the pass saw during the call. The call isn't refused
+-- as full.
 abbrev pub HeldIsNeverFull : Type 0
 HeldIsNeverFull =
     (layout : Layout) (call : Call) (old new : PassView) (fault : TryFault) → IsRefused layout call old new fault → GivesValue call →
     ((n : ℕ) → length old.front ≤ n → n ≤ length new.front → value_at (map_of (take n new.front)) (key_of call) ≢ None) → fault ≡ Busy
 
--- Let a removal's key have been absent in each version that the pass has seen since the call began. It is never refused as full.
+-- Let the key of a removal be absent in each version that the pass saw during the call. The removal isn't refused as full.
 abbrev pub AbsentIsNeverFull : Type 0
 AbsentIsNeverFull =
     (layout : Layout) (call : Call) (old new : PassView) (fault : TryFault) → IsRefused layout call old new fault → IsRemoval call →
     ((n : ℕ) → length old.front ≤ n → n ≤ length new.front → value_at (map_of (take n new.front)) (key_of call) ≡ None) → fault ≡ Busy
 
--- In an index of one pass, a call that gives its key a value is refused only if the key is absent.
+-- In an index of one pass, a call that gives its key a value is refused only if its key is absent.
 abbrev pub OnePassRefusesOnlyNewKeys : Type 0
 OnePassRefusesOnlyNewKeys =
     (layout : Layout) (call : Call) (old new : PassView) (fault : TryFault) → layout.passes ≡ 1 → new.number < layout.passes →
     LegalCalls old.front old.number old.notes →
     IsRefusedFor layout call old new fault → GivesValue call → value_at (map_of old.front) (key_of call) ≡ None
 
--- A call was answered, and a stamp tells all that its pass had seen then. Another pass has seen this before it begins a call. That call's
--- place is no earlier than the first one's, and later than the first one's change.
+-- Let a call be answered, and let a stamp show all that its pass had seen by then. Let another pass have seen this stamp before it begins a
+-- call. The later call's place is no earlier than the first call's, and behind the first call's change.
 abbrev pub ReturnedBeforeBegun : Type 0
 ReturnedBeforeBegun =
-    (layout : Layout) (k j : PassView) (call : Call) (reply : Reply) (first : IsNoted layout k j call reply) (stamp : List Change) → BeginsWith stamp j.front →
-    (i m : PassView) (later : Call) (answer : Reply) → BeginsWith i.front stamp → (second : IsNoted layout i m later answer) →
+    (layout : Layout) (old new : PassView) (call : Call) (reply : Reply) (first : IsNoted layout old new call reply) →
+    (stamp : List Change) → BeginsWith stamp new.front →
+    (before after : PassView) (later : Call) (answer : Reply) → BeginsWith before.front stamp → (second : IsNoted layout before after later answer) →
     place_after (record { place = first.place; call = call; reply = reply }) ≤ second.place
 
--- The pass of this number has this count. It is changing nothing: only others have made changes since those that it has seen.
-abbrev pub HasCount : List Change → ℕ → KeyCount → Type 0
-HasCount front q count =
-    (pass : PassView) × (pass.number ≡ q) × LegalCalls pass.front pass.number pass.notes × OthersGoOn pass.number pass.front front ×
+-- The pass of this number has this count of keys. It is changing nothing: what it has not seen of the front are changes by others.
+abbrev pub HasCount : (front : List Change) (number : ℕ) (count : KeyCount) → Type 0
+HasCount front number count =
+    (pass : PassView) × (pass.number ≡ number) × LegalCalls pass.front pass.number pass.notes × OthersGoOn pass.number pass.front front ×
     IsCountOf pass.number pass.notes count
 
--- The counts of all passes of an index, in the order of their numbers, add up to the number of its keys (`total`). It asks that no pass is
--- changing the index.
+-- If no pass is changing the index, the counts of all its passes, in order, add up to the number of its keys. `total`
+-- takes them (`AreCounts`).
 abbrev pub CountsAddUp : Type 0
 CountsAddUp =
     (layout : Layout) (front : List Change) (counts : List KeyCount) → LegalFront front → AreByPasses layout front → length counts ≡ layout.passes →
     ((pass : ℕ) (count : KeyCount) → slice_get counts pass ≡ Some count → HasCount front pass count) → AreCounts front counts
 
--- In an index of one pass, a node record stands in no tree when the index is new. All that reads the index, collects, counts or is shown
--- steps leaves one there, if one was. So does each change (`LeavesRoom`). Then a removal is not refused for want of a node record.
+-- An index of one pass keeps a spare node record, which stands in no tree. A new index has one. Reads, rounds of collection, counts and
+-- showings leave one spare, if one was. So does each change (`LeavesRoom`). Then a removal is not refused for want of a node record.
 pub record OnePassKeepsSpare {G : Type 0} (becomes : G → Event → G → Type 0) : Type 0 where
-  pub begins : (layout : Layout) (q : ℕ) (pass : PassView) → 0 < layout.nodes → IsNewPass q pass → HasSpare layout pass.seat
+  pub begins : (layout : Layout) (number : ℕ) (pass : PassView) → 0 < layout.nodes → IsNewPass number pass → HasSpare layout pass.seat
   pub reads : (index : TableView) (old new : PassView × G) → HasRead index becomes old new → KeepsSpare index.layout old.0.seat new.0.seat
   pub collects : (index : TableView) (old new : PassView × G) (nodes leaves : ℕ) → HasCollected index becomes old new nodes leaves →
       KeepsSpare index.layout old.0.seat new.0.seat

@@ -107,8 +107,8 @@ impl Index {
     /// Removes `key` if it has the value `expected` (`Removed` with that value). Else it changes nothing, and returns `Differs` with the
     /// key's value, or `Absent`.
     ///
-    /// Where `try_remove_if` would return `Busy`, or records are held back, the call begins again, as `remove` does, and it is refused as
-    /// seldom.
+    /// Where `try_remove_if` would return `Busy`, or records are held back, the call begins again, as `remove` does. It is refused only for
+    /// the reason for which `remove` is.
     pub fn remove_if<R: Wait>(
         &self,
         rt: &R,

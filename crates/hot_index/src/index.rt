@@ -276,7 +276,7 @@ impl Index {
         self.census_with(pass, &mut NoGate)
     }
 
-    /// Does what `get` does, and reports each of its steps to `gate`. Inline, since it is short.
+    /// Does what `get` does, and reports each of its steps to `gate`.
     #[inline(always)]
     pub fn get_with<G: Gate>(&self, pass: &mut Pass, key: &Key, gate: &mut G) -> Option<u64>
         requires { Owns self.now pass.old }

@@ -1,4 +1,4 @@
--- What a call that may change the map leaves, on the seat of its pass.
+-- What a call that may change the map leaves in the seat of its pass.
 use Rattle.std.specs.Prelude.{◌≡◌, ◌+◌, ◌≤◌, List, Result, Ok, Err, IfOk, IfErr}
 use Rattle.finite_map.specs.declared.Call.{Call}
 use Rattle.finite_map.specs.declared.Reply.{Reply}
@@ -18,11 +18,11 @@ use Rattle.hot_index_calls.specs.Noting.{change_notes}
 use Rattle.hot_index_calls.specs.Passes.{IsSettled, pass_of}
 use Rattle.hot_index_calls.specs.Traces.{HasEnded, IsAttempt}
 
--- the seat is one of the table's, and its pass is between two calls
-abbrev pub IsIdle : TableView → SeatView → Type 0
+-- the seat is one of this table, and its pass is between two calls
+abbrev pub IsIdle : (table : TableView) (seat : SeatView) → Type 0
 IsIdle table seat = IsSeatOf table seat × IsSettled seat.known
 
--- The pass is between two calls again, and has loaded the root. This call was answered and noted, or refused.
+-- The call has ended: its pass is between two calls again, and has loaded the root. The call was answered and noted, or refused.
 pub record HasReplied (table : TableView) (call : Call) (result : Result Reply TryFault) (old new : SeatView) : Type 0 where
   pub idle : IsIdle table new
   pub noted : IfOk result (IsNoted table.layout (pass_of old) (pass_of new) call)
@@ -30,19 +30,19 @@ pub record HasReplied (table : TableView) (call : Call) (result : Result Reply T
   pub leafless : LacksNoLeaf FullLeaves call result
   pub loaded : old.known.steps ≤ new.known.fresh.step
 
--- if the call was refused for want of a node record, the pass lacks one beside those that it had made
-abbrev pub HasLacked : TableView → List Rec → Result Reply TryFault → SeatView → SeatView → Type 0
+-- If the call was refused for want of a node record, none was free, beside the node records that the pass had made.
+abbrev pub HasLacked : (table : TableView) (made : List Rec) (result : Result Reply TryFault) (old new : SeatView) → Type 0
 HasLacked table made result old new =
     result ≡ Err FullNodes → LacksNodes table.layout new.known.pass new.known.failed old.known.steps (nodes_among made)
 
--- The pass has made a call with this result, by steps of this sort. With the last one comes its note, if it was answered.
+-- The pass has made a call with this result, by steps of which `Are` holds. With the last step comes the call's note, if it was answered.
 pub record HasAsked {G : Type 0} (table : TableView) (becomes : G → Event → G → Type 0) (Are : SeatView × G → SeatView × G → List Act → Type 0)
     (call : Call) (result : Result Reply TryFault) (old new : SeatView × G) : Type 0 where
   pub replied : HasReplied table call result old.0 new.0
   pub ended : HasEnded table becomes (Are old new) (change_notes call result) old new
   pub later : old.0.known.steps ≤ new.0.known.steps
 
--- An attempt that does nothing. The pass sets its pin and clears it, and is as it was.
+-- An attempt that does nothing: the pass sets its pin and clears it. It has made three steps, and knows the same otherwise.
 pub record HasRested {G : Type 0} (table : TableView) (becomes : G → Event → G → Type 0) (old new : SeatView × G) : Type 0 where
   pub idle : IsIdle table new.0
   pub unnoted : IsUnnoted table.layout (pass_of old.0) (pass_of new.0)

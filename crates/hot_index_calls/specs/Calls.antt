@@ -1,5 +1,4 @@
--- What calls of an index ensure: what the map says of a call, and by which steps; and of a read of a range both, each clause a field by its
--- name.
+-- What calls of an index ensure: what the map says of a call, and which steps the call makes.
 use Rattle.std.specs.Prelude.{◌≡◌, ◌+◌, ◌≤◌, ℕ, Bool, List, [], ◌∷◌, Result, Ok, Err, MatchResult, IfOk, IfErr, IsOk, OnErr}
 use Rattle.finite_map.specs.declared.Call.{Call}
 use Rattle.finite_map.specs.declared.Call.TheVariants.{Get}
@@ -31,15 +30,15 @@ use Rattle.hot_index_calls.specs.Passes.{Owns, PassView}
 use Rattle.hot_index_calls.specs.Rooms.{LeavesRoom}
 use Rattle.hot_index_calls.specs.Traces.{HasMadeGetSteps, HasMadeScanSteps, HasMadeChangeSteps, HasMadeCallSteps, untold}
 
--- What the map says of a call with this result. It was answered, and is noted with this reply. Or it was refused, and has changed nothing.
-abbrev pub IsOutcome : Call → Result Reply TryFault → TableView → PassView → PassView → Type 0
+-- The outcome of a call on the map. The call was answered, and is noted with its reply. Or it was refused, and has changed nothing.
+abbrev pub IsOutcome : (asked : Call) (result : Result Reply TryFault) (index : TableView) (old new : PassView) → Type 0
 IsOutcome asked result index old new = MatchResult result (IsNoted index.layout old new asked) (IsRefused index.layout asked old new)
 
--- the call, if it was refused, has the cause of its fault
-abbrev pub HasCause : Call → Result Reply TryFault → TableView → PassView → PassView → Type 0
+-- if the call was refused, the fault has its cause
+abbrev pub HasCause : (asked : Call) (result : Result Reply TryFault) (index : TableView) (old new : PassView) → Type 0
 HasCause asked result index old new = IfErr result (IsCause index.layout (key_of asked) old new)
 
--- What a change that doesn't wait ensures. Each of its clauses is a field of that name.
+-- What a change that doesn't wait ensures: one clause a field. `leafless` says that a removal lacks no leaf record.
 pub record IsTried {G : Type 0} (asked : Call) (result : Result Reply TryFault) (index : TableView) (becomes : G → Event → G → Type 0)
     (old new : PassView × G) : Type 0 where
   pub own : Owns index new.0
@@ -49,39 +48,40 @@ pub record IsTried {G : Type 0} (asked : Call) (result : Result Reply TryFault) 
   pub made : HasMadeChangeSteps index becomes asked result old new
   pub room : LeavesRoom index.layout asked result old.0.seat new.0.seat
 
--- the first holds of a get, the second of each other call
-abbrev pub GetsOr : Call → Type 0 → Type 0 → Type 0
+-- `Gets` holds if the call is a get, and `Changes` if it is any other
+abbrev pub GetsOr : (asked : Call) (Gets Changes : Type 0) → Type 0
 GetsOr (Get key) Gets Changes = Gets
 GetsOr asked Gets Changes = Changes
 
--- The steps of a call with this outcome, whose number is bounded: those of a get, or of a change's attempts and rounds. The gate was told
--- each.
-abbrev pub GetsOrMakes : {G : Type 0} → Call → Result Reply TryFault → TableView → (G → Event → G → Type 0) → PassView × G → PassView × G → Type 0
+-- The steps of a call that doesn't wait: those of a get, or of a change's attempts and rounds. Their number is bounded, and the gate was
+-- told each.
+abbrev pub GetsOrMakes : {G : Type 0} → (asked : Call) (result : Result Reply TryFault) (index : TableView)
+    (becomes : G → Event → G → Type 0) (old new : PassView × G) → Type 0
 GetsOrMakes asked result index becomes old new =
     GetsOr asked (HasMadeGetSteps index becomes old new) (HasMadeChangeSteps index becomes asked result old new)
 
--- A change was tried once, by a call that doesn't wait. If no record was free, all records were counted then. The result is what the count
--- says.
+-- A change was tried once. If it found no record free, all records were counted after the try, and the result is what this count says.
 pub record IsTriedAndCounted {G : Type 0} (asked : Call) (result : Result Reply Refusal) (index : TableView) (becomes : G → Event → G → Type 0)
     (old new : PassView × G) : Type 0 where
   pub mid : PassView × G
   pub tried : IsTried asked (as_tried result) index becomes old mid
   pub told : IsCountTold asked result index becomes old mid new
 
--- Tries of a change were refused, one after the other, for these reasons. None of them is final.
-abbrev pub AreTriesRefused : {G : Type 0} → Call → List Refusal → TableView → (G → Event → G → Type 0) → PassView × G → PassView × G → Type 0
+-- Tries of a change were refused, one after the other, with these refusals, none of which is final.
+abbrev pub AreTriesRefused : {G : Type 0} → (asked : Call) (refusals : List Refusal) (index : TableView) (becomes : G → Event → G → Type 0)
+    (old new : PassView × G) → Type 0
 AreTriesRefused asked [] index becomes old new = new ≡ old
 AreTriesRefused {G = G} asked (refusal ∷ refusals) index becomes old new =
     (middle : PassView × G) × IsTriedAndCounted asked (Err refusal) index becomes old middle × IsPassing refusal ×
     AreTriesRefused asked refusals index becomes middle new
 
--- A change that waits returns what its last try came to: the reply, or a refusal that is final.
-abbrev pub IsOfLast : Result Reply Full → Result Reply Refusal → Type 0
+-- A change that waits returns what its last try returned: a reply, or a refusal that is final.
+abbrev pub IsOfLast : (result : Result Reply Full) (last : Result Reply Refusal) → Type 0
 IsOfLast (Ok reply) last = last ≡ Ok reply
 IsOfLast (Err full) last = (counts : RecordCounts) × (last ≡ Err (IsFull full counts))
 
--- A change that waits makes tries, with a count after each that found no record free, and no other step. It goes on after one that was busy
--- or held back, and ends with any other. So in an index of one pass it makes one try. The cause of a refusal lies in the last try alone.
+-- A change that waits makes tries, and no other step. After a try that found no record free, all records are counted. A try that is busy or
+-- held back is followed by another, and any other is the last. In an index of one pass there is one try.
 pub record MakesTries {G : Type 0} (asked : Call) (result : Result Reply Full) (index : TableView) (becomes : G → Event → G → Type 0)
     (old new : PassView × G) : Type 0 where
   pub refusals : List Refusal
@@ -92,7 +92,7 @@ pub record MakesTries {G : Type 0} (asked : Call) (result : Result Reply Full) (
   pub tried : IsTriedAndCounted asked outcome index becomes last new
   pub is_last : IsOfLast result outcome
 
--- A change was made by a whole call that waits, or refused by its last try: all that such a call ensures, each clause a field by its name.
+-- What a change that waits ensures: one clause a field. `call` and `cause` say what the last try came to.
 pub record IsWaitedFor {G : Type 0} (asked : Call) (result : Result Reply Full) (index : TableView) (becomes : G → Event → G → Type 0)
     (old new : PassView × G) : Type 0 where
   pub own : Owns index new.0
@@ -104,18 +104,20 @@ pub record IsWaitedFor {G : Type 0} (asked : Call) (result : Result Reply Full) 
   pub told : HasMadeCallSteps index becomes old new
   pub room : LeavesRoom index.layout asked (last_try result) old.0.seat new.0.seat
 
--- The steps of a call that waits and has this outcome: those of a get, or of a change's tries.
-abbrev pub GetsOrTries : {G : Type 0} → Call → Result Reply Full → TableView → (G → Event → G → Type 0) → PassView × G → PassView × G → Type 0
+-- The steps of a call that waits: those of a get, or of a change's tries.
+abbrev pub GetsOrTries : {G : Type 0} → (asked : Call) (result : Result Reply Full) (index : TableView) (becomes : G → Event → G → Type 0)
+    (old new : PassView × G) → Type 0
 GetsOrTries asked result index becomes old new = GetsOr asked (HasMadeGetSteps index becomes old new) (MakesTries asked result index becomes old new)
 
--- The steps of a call that doesn't wait and counts. They are those of a get or of a change, with a count of all records if it found none
--- free.
-abbrev pub GetsOrCounts : {G : Type 0} → Call → Result Reply Refusal → TableView → (G → Event → G → Type 0) → PassView × G → PassView × G → Type 0
+-- The steps of a call that doesn't wait, and counts records. They are those of a get, or of one try of a change. If the try found no record
+-- free, a count of all records follows.
+abbrev pub GetsOrCounts : {G : Type 0} → (asked : Call) (result : Result Reply Refusal) (index : TableView)
+    (becomes : G → Event → G → Type 0) (old new : PassView × G) → Type 0
 GetsOrCounts asked result index becomes old new =
     GetsOr asked (HasMadeGetSteps index becomes old new) (IsTriedAndCounted asked result index becomes old new)
 
--- A range was read, with an answer of this kind. Or memory was refused for a pair that it had found, and such a part is left. The number of
--- its steps is bounded, and the gate was told each.
+-- What a read of a range ensures: one clause a field. It has an answer, of which `IsAnswer` holds. Or memory was refused for a pair that it
+-- had found, and `IsPart` holds. The number of its steps is bounded, and the gate was told each.
 pub record IsRangeReadWith {A E G : Type 0} (IsAnswer : Layout → PassView → PassView → A → Type 0) (IsPart : Layout → PassView → PassView → Type 0)
     (range : Range) (result : Result A E) (index : TableView) (becomes : G → Event → G → Type 0) (old new : PassView × G) : Type 0 where
   pub own : Owns index new.0
@@ -126,58 +128,66 @@ pub record IsRangeReadWith {A E G : Type 0} (IsAnswer : Layout → PassView → 
   pub steps : new.0.steps ≤ old.0.steps + scan_steps range.limit
   pub read : HasMadeScanSteps index becomes range.limit old new
 
--- of a part that is left out of memory nothing is said
-abbrev pub no_part : Layout → PassView → PassView → Type 0
+-- where memory was refused, nothing is said of the part that was read
+abbrev pub no_part : (layout : Layout) (old new : PassView) → Type 0
 no_part layout old new = Unit {0}
 
--- A range was read, with no gate. Of a part that is left out of memory nothing is said.
-abbrev pub IsRangeRead : {A E : Type 0} → (Layout → PassView → PassView → A → Type 0) → Range → Result A E → TableView → PassView → PassView → Type 0
+-- A range was read, with no gate. Where memory was refused, nothing is said of the part that was read.
+abbrev pub IsRangeRead : {A E : Type 0} → (IsAnswer : Layout → PassView → PassView → A → Type 0) (range : Range) (result : Result A E)
+    (index : TableView) (old new : PassView) → Type 0
 IsRangeRead IsAnswer range result index old new = IsRangeReadWith IsAnswer no_part range result index untold (old, tt) (new, tt)
 
--- a scan was made that is lawful in this sense, and a gate was told its steps
-abbrev pub IsScanReadBy : {E G : Type 0} → ScanLaw → Range → Result Scan E → TableView → (G → Event → G → Type 0) → PassView × G → PassView × G → Type 0
+-- a scan was made of which the law `IsLawful` holds, and a gate was told its steps
+abbrev pub IsScanReadBy : {E G : Type 0} → (IsLawful : ScanLaw) (range : Range) (result : Result Scan E) (index : TableView)
+    (becomes : G → Event → G → Type 0) (old new : PassView × G) → Type 0
 IsScanReadBy IsLawful range result index becomes old new =
     IsRangeReadWith (λ layout was now. IsScannedBy IsLawful layout was now range) no_part range result index becomes old new
 
 -- a lawful scan upwards was made, and a gate was told its steps
-abbrev pub IsScanReadWith : {E G : Type 0} → Range → Result Scan E → TableView → (G → Event → G → Type 0) → PassView × G → PassView × G → Type 0
+abbrev pub IsScanReadWith : {E G : Type 0} → (range : Range) (result : Result Scan E) (index : TableView)
+    (becomes : G → Event → G → Type 0) (old new : PassView × G) → Type 0
 IsScanReadWith range result index becomes old new = IsScanReadBy IsLawfulScan range result index becomes old new
 
 -- a lawful scan upwards was made
-abbrev pub IsScanRead : {E : Type 0} → Range → Result Scan E → TableView → PassView → PassView → Type 0
+abbrev pub IsScanRead : {E : Type 0} → (range : Range) (result : Result Scan E) (index : TableView) (old new : PassView) → Type 0
 IsScanRead range result index old new = IsScanReadWith range result index untold (old, tt) (new, tt)
 
--- a scan into a list was made that is lawful in this sense, and a gate was told its steps
-abbrev pub IsListReadBy : {E G : Type 0} → ScanLaw → Range → List (Key × ℕ) → Result Bool E → TableView → (G → Event → G → Type 0) → PassView × G → PassView × G → Type 0
+-- a scan into a list was made of which the law `IsLawful` holds, and a gate was told its steps
+abbrev pub IsListReadBy : {E G : Type 0} → (IsLawful : ScanLaw) (range : Range) (pairs : List (Key × ℕ)) (result : Result Bool E)
+    (index : TableView) (becomes : G → Event → G → Type 0) (old new : PassView × G) → Type 0
 IsListReadBy IsLawful range pairs result index becomes old new =
-    IsRangeReadWith (λ layout was now. IsListedBy IsLawful layout was now range pairs) (λ layout was now. IsListedInPartBy IsLawful layout was now range pairs)
-    range result index becomes old new
+    IsRangeReadWith (λ layout was now. IsListedBy IsLawful layout was now range pairs)
+    (λ layout was now. IsListedInPartBy IsLawful layout was now range pairs) range result index becomes old new
 
 -- a lawful scan upwards into a list was made, and a gate was told its steps
-abbrev pub IsListReadWith : {E G : Type 0} → Range → List (Key × ℕ) → Result Bool E → TableView → (G → Event → G → Type 0) → PassView × G → PassView × G → Type 0
+abbrev pub IsListReadWith : {E G : Type 0} → (range : Range) (pairs : List (Key × ℕ)) (result : Result Bool E) (index : TableView)
+    (becomes : G → Event → G → Type 0) (old new : PassView × G) → Type 0
 IsListReadWith range pairs result index becomes old new = IsListReadBy IsLawfulScan range pairs result index becomes old new
 
 -- a lawful scan upwards into a list was made
-abbrev pub IsListRead : {E : Type 0} → Range → List (Key × ℕ) → Result Bool E → TableView → PassView → PassView → Type 0
+abbrev pub IsListRead : {E : Type 0} → (range : Range) (pairs : List (Key × ℕ)) (result : Result Bool E) (index : TableView)
+    (old new : PassView) → Type 0
 IsListRead range pairs result index old new = IsListReadWith range pairs result index untold (old, tt) (new, tt)
 
--- A range was counted, which needs no memory, and a gate was told its steps. They are at most those of a scan for 16 pairs more than it
--- counted, or for the range's limit, if that is less.
-abbrev pub IsCountReadWith : {G : Type 0} → Range → ℕ → TableView → (G → Event → G → Type 0) → PassView × G → PassView × G → Type 0
+-- A range was counted, which needs no memory, and a gate was told the steps. They are at most as many as those of a scan with a limit of
+-- 16 more than the number, or with the range's limit.
+abbrev pub IsCountReadWith : {G : Type 0} → (range : Range) (number : ℕ) (index : TableView) (becomes : G → Event → G → Type 0)
+    (old new : PassView × G) → Type 0
 IsCountReadWith range number index becomes old new =
     IsRangeReadWith (λ layout was now. IsRangeCounted layout was now range) no_part (limited range (limit_by range.limit number))
     (let counted : Result ℕ (Unit {0}) = Ok number in counted) index becomes old new
 
 -- a range was counted, as `IsCountReadWith` says, with no gate
-abbrev pub IsCountRead : Range → ℕ → TableView → PassView → PassView → Type 0
+abbrev pub IsCountRead : (range : Range) (number : ℕ) (index : TableView) (old new : PassView) → Type 0
 IsCountRead range number index old new = IsCountReadWith range number index untold (old, tt) (new, tt)
 
 -- the values of a range were listed, and a gate was told the steps
-abbrev pub IsValuesReadWith : {E G : Type 0} → Range → List ℕ → Result Bool E → TableView → (G → Event → G → Type 0) → PassView × G → PassView × G → Type 0
+abbrev pub IsValuesReadWith : {E G : Type 0} → (range : Range) (values : List ℕ) (result : Result Bool E) (index : TableView)
+    (becomes : G → Event → G → Type 0) (old new : PassView × G) → Type 0
 IsValuesReadWith range values result index becomes old new =
     IsRangeReadWith (λ layout was now. AreValuesListed layout was now range values) (λ layout was now. AreValuesListedInPart layout was now range values)
     range result index becomes old new
 
 -- the values of a range were listed, with no gate
-abbrev pub IsValuesRead : {E : Type 0} → Range → List ℕ → Result Bool E → TableView → PassView → PassView → Type 0
+abbrev pub IsValuesRead : {E : Type 0} → (range : Range) (values : List ℕ) (result : Result Bool E) (index : TableView) (old new : PassView) → Type 0
 IsValuesRead range values result index old new = IsValuesReadWith range values result index untold (old, tt) (new, tt)

@@ -43,12 +43,13 @@ is_obsolete tag = false
 abbrev pub counts_of : List Tag → StateCounts
 counts_of tags = record { free = count_by is_free tags; held = count_by is_held tags; live = count_by is_live tags; obsolete = count_by is_obsolete tags }
 
--- the loads of the states of records of one kind, in turn from number n on, that find these tags
-abbrev pub loads_of : (ℕ → Rec) → ℕ → List Tag → List Act
-loads_of kind n [] = []
-loads_of kind n (tag ∷ tags) = LoadState (kind n) (state_word tag) ∷ loads_of kind (suc n) tags
+-- the loads of the states of records of one kind, in turn from the number `first` on, that find these states
+abbrev pub loads_of : (kind : ℕ → Rec) (first : ℕ) (tags : List Tag) → List Act
+loads_of kind first [] = []
+loads_of kind first (tag ∷ tags) = LoadState (kind first) (state_word tag) ∷ loads_of kind (suc first) tags
 
--- the states that a count has found, in the order of the records' numbers: of the nodes, and of the leaves of each class
+-- The states that a count of all records has found: of the nodes, and of the leaves of each class. Each list is in the order of the
+-- records' numbers.
 pub record FoundTags : Type 0 where
   pub nodes : List Tag
   pub short : List Tag
@@ -57,7 +58,7 @@ pub record FoundTags : Type 0 where
   pub wide : List Tag
   pub long : List Tag
 
--- the states that were found are one for each record of the layout
+-- the found states are one for each record of the layout
 pub record OneForEach (layout : Layout) (tags : FoundTags) : Type 0 where
   pub nodes : layout.nodes ≡ length tags.nodes
   pub short : layout.medium_from ≡ length tags.short
@@ -67,13 +68,13 @@ pub record OneForEach (layout : Layout) (tags : FoundTags) : Type 0 where
   pub long : layout.leaves ≡ layout.long_from + length tags.long
 
 -- the loads that find these states, nodes first
-abbrev pub loads_in : Layout → FoundTags → List Act
+abbrev pub loads_in : (layout : Layout) (tags : FoundTags) → List Act
 loads_in layout tags =
     loads_of a_node 0 tags.nodes ++ loads_of a_leaf 0 tags.short ++ loads_of a_leaf layout.medium_from tags.medium ++
     loads_of a_leaf layout.large_from tags.large ++ loads_of a_leaf layout.wide_from tags.wide ++ loads_of a_leaf layout.long_from tags.long
 
 -- how many of these states there are of each kind and class, and how many bytes the table takes
-abbrev pub counts_in : Layout → FoundTags → RecordCounts
+abbrev pub counts_in : (layout : Layout) (tags : FoundTags) → RecordCounts
 counts_in layout tags = record {
   nodes = counts_of tags.nodes;
   short = counts_of tags.short;
@@ -84,8 +85,8 @@ counts_in layout tags = record {
   bytes = WORD_BYTES * word_count layout;
 }
 
--- All records were counted. The pass loads the state of each once, in the order of their numbers and nodes first, and makes no other step.
--- The counts are of the states that these loads find, each at its own moment. The gate is told each load, and the pass sees no change.
+-- All records were counted. The pass loads the state of each record once, nodes first, in the order of their numbers, and makes no other
+-- step. The counts are of the states that these loads find, each at its own moment. The gate is told each load. The front stays the same.
 pub record HasCounted {G : Type 0} (index : TableView) (becomes : G → Event → G → Type 0) (old new : PassView × G) (counts : RecordCounts) : Type 0 where
   pub tags : FoundTags
   pub begins : old.0 ≡ pass_of old.0.seat
@@ -97,23 +98,24 @@ pub record HasCounted {G : Type 0} (index : TableView) (becomes : G → Event �
   pub front : new.0.front ≡ old.0.front
   pub many : new.0.steps ≡ old.0.steps + (index.layout.nodes + index.layout.leaves)
 
--- On a seat
+-- What a seat has counted
 
 -- the counts with one record more, in this state
-abbrev pub with_tag : Tag → StateCounts → StateCounts
+abbrev pub with_tag : (tag : Tag) (counts : StateCounts) → StateCounts
 with_tag Free counts = record counts { free = counts.free + 1 }
 with_tag Held counts = record counts { held = counts.held + 1 }
 with_tag Live counts = record counts { live = counts.live + 1 }
 with_tag Locked counts = record counts { live = counts.live + 1 }
 with_tag (Obsolete epoch) counts = record counts { obsolete = counts.obsolete + 1 }
 
--- The records of one kind from `first` to before `behind` were counted. So many were in each state.
-abbrev pub CountsFrom : {G : Type 0} → TableView → (G → Event → G → Type 0) → (ℕ → Rec) → (first behind : ℕ) → StateCounts → SeatView × G → SeatView × G → Type 0
+-- The states of the records of one kind, from number `first` up to before `behind`, were loaded, and these are their counts.
+abbrev pub CountsFrom : {G : Type 0} → (table : TableView) (becomes : G → Event → G → Type 0) (kind : ℕ → Rec) (first behind : ℕ)
+    (counts : StateCounts) (old new : SeatView × G) → Type 0
 CountsFrom table becomes kind first behind counts old new =
     (tags : List Tag) × (behind ≡ first + length tags) × (counts ≡ counts_of tags) × Does table becomes collecting (loads_of kind first tags) old new
 
--- all records were counted
-abbrev pub CountsAll : {G : Type 0} → TableView → (G → Event → G → Type 0) → RecordCounts → SeatView × G → SeatView × G → Type 0
+-- the states of all records were loaded, and these are their counts
+abbrev pub CountsAll : {G : Type 0} → (table : TableView) (becomes : G → Event → G → Type 0) (counts : RecordCounts) (old new : SeatView × G) → Type 0
 CountsAll table becomes counts old new =
     (tags : FoundTags) × OneForEach table.layout tags × (counts ≡ counts_in table.layout tags) ×
     Does table becomes collecting (loads_in table.layout tags) old new

@@ -12,12 +12,12 @@ abbrev pub round_steps : Layout → ℕ
 round_steps layout = 3 + layout.passes + 2 * (layout.nodes + layout.leaves)
 
 -- how many steps an attempt at this call makes at most, with two for its pin and one that clears it
-abbrev pub once_steps : Call → Layout → ℕ
+abbrev pub once_steps : (call : Call) (layout : Layout) → ℕ
 once_steps call layout = most_steps_of call layout + 3
 
--- How many steps two attempts make at most, with a round of collection between. An exchange and an addition make one, since they are never
--- full.
-abbrev pub twice_steps : Call → Layout → ℕ
+-- How many steps a call makes at most in its two attempts, with a round of collection between them. An exchange and an addition, which are
+-- never full, make one attempt.
+abbrev pub twice_steps : (call : Call) (layout : Layout) → ℕ
 twice_steps (Exchange key expected value) layout = once_steps (Exchange key expected value) layout
 twice_steps (Add key delta) layout = once_steps (Add key delta) layout
 twice_steps call layout = 2 * once_steps call layout + round_steps layout
@@ -26,10 +26,10 @@ twice_steps call layout = 2 * once_steps call layout + round_steps layout
 abbrev pub small_steps : Layout → ℕ
 small_steps layout = 3 + layout.passes + 2 * MOST_VISITED
 
--- how many steps a call makes at most that doesn't wait: a small round, and up to two attempts
-abbrev pub try_steps : Call → Layout → ℕ
+-- how many steps a call that doesn't wait makes at most: those of a small round, and of up to two attempts
+abbrev pub try_steps : (call : Call) (layout : Layout) → ℕ
 try_steps call layout = small_steps layout + twice_steps call layout
 
 -- how many steps a scan makes at most: three for its pin, one for the root, and its loads below
-abbrev pub scan_steps : ℕ → ℕ
+abbrev pub scan_steps : (limit : ℕ) → ℕ
 scan_steps limit = 4 + scan_loads limit

@@ -1,4 +1,4 @@
--- What a call that was refused as full leaves in an index of one pass: each record that it lacked is in the tree, or retired.
+-- What a call that was refused as full leaves in an index of one pass. Each record that it could have taken is in the tree, or retired.
 use Rattle.std.specs.Prelude.{◌≡◌, ℕ, ◌<◌, ◌≤◌, List, length, Contains, Result, Err}
 use Rattle.finite_map.specs.declared.Reply.{Reply}
 use Rattle.record_words.specs.Layout.{leaf_size}
@@ -21,12 +21,12 @@ IsUsed (Unlinked since last pass) = Unit {0}
 IsUsed (Marked since last epoch) = Unit {0}
 IsUsed fate = ⊥
 
--- The record is in the tree or retired after the steps that the table's only pass knows.
-abbrev pub IsUsedAt : Layout → SeatView → Rec → Type 0
+-- After the steps that the table's only pass knows, the record is in the tree or retired.
+abbrev pub IsUsedAt : (layout : Layout) (seat : SeatView) (rec : Rec) → Type 0
 IsUsedAt layout seat rec = (core : Core) → IsLone layout seat core → IsUsed (core.fate rec)
 
--- In an index of one pass, the records that a call lacked are in the tree or retired after it. They are the node records but its own, or
--- the leaf records with room for its key.
+-- Let a call be refused as full in an index of one pass. For want of a node record, all node records but `own` are in the tree or retired
+-- after it. For want of a leaf record, all leaf records with room for the key are.
 pub record LeavesUsed (layout : Layout) (key : Key) (own : List Rec) (result : Result Reply TryFault) (seat : SeatView) : Type 0 where
   pub nodes : layout.passes ≡ 1 → result ≡ Err FullNodes → (n : ℕ) → n < layout.nodes → ¬ (Contains own (a_node n)) →
       IsUsedAt layout seat (a_node n)

@@ -16,14 +16,14 @@ use Rattle.hot_index_calls.specs.Answers.{GoesOn, got}
 use Rattle.hot_index_calls.specs.Passes.{PassView}
 use Rattle.hot_index_calls.specs.Traces.{HasRead}
 
--- the gets of these keys, each with the reply that tells what it found
-abbrev pub gets : List Key → List (Option ℕ) → List (Call × Reply)
+-- the gets of these keys, each with the reply that says what it found
+abbrev pub gets : (keys : List Key) (found : List (Option ℕ)) → List (Call × Reply)
 gets [] found = []
 gets (key ∷ keys) [] = []
 gets (key ∷ keys) (value ∷ found) = (Get key, got value) ∷ gets keys found
 
--- Calls of the pass were answered, in some order, and its calls are legal. There is one note more for each, of the call and its reply. Its
--- place is from what the pass had seen at its last load of the root up to what it has seen now.
+-- The calls were answered with these replies. For each there is one note more, in some order. All calls of the pass are legal. The place of
+-- each new note is no lower than the number of changes seen by the last load of the root.
 pub record AreNoted (layout : Layout) (old new : PassView) (calls : List (Call × Reply)) : Type 0 where
   pub on : GoesOn layout old new
   pub added : List Note
@@ -32,8 +32,8 @@ pub record AreNoted (layout : Layout) (old new : PassView) (calls : List (Call �
   pub low : All (λ n. length new.fresh.front ≤ n.place) added
   pub legal : LegalCalls new.front new.number new.notes
 
--- The pass reads once for so many keys: it loads the root once, and one entry in each node on a key's path. It makes at most 26 steps for
--- each entry, 32 for each key, and 4 others. It touches at most eleven words for each entry. Which loads serve which key isn't said.
+-- The steps of one call that looks up `count` keys. It loads the root once, and one entry in each node on a key's path. It makes at most 26
+-- steps for each entry, 32 for each key, and 4 others. It touches at most eleven words for each entry.
 pub record HasMadeGetManySteps {G : Type 0} (index : TableView) (becomes : G → Event → G → Type 0) (count : ℕ) (old new : PassView × G) : Type 0 where
   pub read : HasRead index becomes old new
   pub depth : entries_in read.loads ≤ count * (9 * MAX_BYTES)

@@ -1,4 +1,4 @@
--- Where an answered call stands among the changes that its pass has seen.
+-- At which place among the changes that its pass has seen an answered call stands.
 use Rattle.std.specs.Prelude.{ℕ, zero, suc, ◌+◌, ◌-◌, List, [], ◌∷◌, length, take, Bool, true, false, is_some, nat_eq, if◌then◌else◌, Result, Ok, Err}
 use Rattle.finite_map.specs.declared.Call.{Call}
 use Rattle.finite_map.specs.declared.Change.{Change}
@@ -25,24 +25,25 @@ same_reply (Removed v) (Removed w) = nat_eq v w
 same_reply _ _ = false
 
 -- the first number from `low` to `low + more` that passes the test, and the last if none before it does
-abbrev pub first_from : (ℕ → Bool) → ℕ → ℕ → ℕ
+abbrev pub first_from : (test : ℕ → Bool) (low more : ℕ) → ℕ
 first_from test low zero = low
 first_from test low (suc more) = if test low then low else first_from test (low + 1) more
 
--- whether the call has this reply on the map of the first n changes
-abbrev pub answers_so : List Change → Call → Reply → ℕ → Bool
-answers_so front call reply n = same_reply (reply_of (map_of (take n front)) call) reply
+-- whether this is the reply to the call on the map of the first `count` changes
+abbrev pub answers_so : (front : List Change) (call : Call) (reply : Reply) (count : ℕ) → Bool
+answers_so front call reply count = same_reply (reply_of (map_of (take count front)) call) reply
 
--- the first place from `low` up to the front's end at which the map has this reply to the call
-unfoldable pub place_of : List Change → ℕ → Call → Reply → ℕ
+-- the first place from `low` on at which the map has this reply to the call; the front's end if no earlier place has
+unfoldable pub place_of : (front : List Change) (low : ℕ) (call : Call) (reply : Reply) → ℕ
 place_of front low call reply = first_from (answers_so front call reply) low (length front - low)
 
--- The place of a call that ends when the pass knows k. One that changed the map stands at its own change, the last that was seen.
-abbrev pub place_by : Bool → Call → Reply → Known → ℕ
-place_by true call reply k = length k.front - 1
-place_by false call reply k = place_of k.front (since k) call reply
+-- The place of an answered call, by what its pass knows at the end. A call that changed the map stands at its own change, the last that the
+-- pass has seen. Any other stands at the first place since its load of the root at which the map has the reply.
+abbrev pub place_by : (changed : Bool) (call : Call) (reply : Reply) (known : Known) → ℕ
+place_by true call reply known = length known.front - 1
+place_by false call reply known = place_of known.front (since known) call reply
 
--- the note of a call that may change the map, if it was answered
-abbrev pub change_notes : {F : Type 0} → Call → Result Reply F → Known → List Note
+-- the note of a call that may change the map; none if the call was refused
+abbrev pub change_notes : {F : Type 0} → (call : Call) (result : Result Reply F) (known : Known) → List Note
 change_notes call (Ok reply) known = record { place = place_by (is_some (effect_of call reply)) call reply known; call = call; reply = reply } ∷ []
 change_notes call (Err fault) known = []

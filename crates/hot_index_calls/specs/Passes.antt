@@ -12,9 +12,9 @@ use Rattle.rowex_core.specs.declared.known.Known.{Known}
 use Rattle.rowex_table.specs.Rule.{opening_of}
 use Rattle.rowex_table.specs.Seats.{TableView, SeatView}
 
--- What contracts see of a pass: its seat in the table, with all that it knows. Parts of that have names of their own: its number, its
--- front, and the front at its last load of the root. So have its answered calls, its count of steps, and its failed steps. `touches` says
--- how many words it has touched, beside its steps.
+-- What contracts see of a pass: its seat in the table, and what the seat knows, part by part. `front` are the changes that the pass has
+-- seen, and `fresh` says what its last load of the root showed. `notes` are its answered calls. `steps` counts its steps, `touches` the
+-- words that it has touched beside its steps, and `failed` are its failed steps.
 pub record PassView : Type 0 where
   pub seat : SeatView
   pub table : TableId
@@ -41,15 +41,15 @@ pass_of seat = record {
 }
 
 -- the pass belongs to this index
-abbrev pub Owns : TableView → PassView → Type 0
+abbrev pub Owns : (index : TableView) (pass : PassView) → Type 0
 Owns index pass = pass.table ≡ index.id
 
 -- each change was made by a pass of an index with this layout
-abbrev pub AreByPasses : Layout → List Change → Type 0
+abbrev pub AreByPasses : (layout : Layout) (changes : List Change) → Type 0
 AreByPasses layout changes = All (λ x. x.pass < layout.passes) changes
 
--- The pass is between two calls: it has no record of its own, no lock and no pin. Its last load of the root was in an earlier call, or is
--- still to come. Its calls are legal in its front.
+-- The pass is between two calls: it has no record of its own, no lock and no pin. Its front begins with what its last load of
+-- the root showed, which was an earlier step. Its calls are legal in its front.
 pub record IsSettled (known : Known) : Type 0 where
   pub own : known.own ≡ []
   pub locks : known.locks ≡ []
@@ -59,7 +59,7 @@ pub record IsSettled (known : Known) : Type 0 where
   pub loaded : known.fresh.step < known.steps
   pub legal : LegalCalls known.front known.pass known.notes
 
--- a pass that has made no call or step, and knows no step of any pass
-abbrev pub IsNewPass : ℕ → PassView → Type 0
-IsNewPass q pass =
-    (pass.number ≡ q) × (pass.front ≡ []) × (pass.notes ≡ []) × (pass.seat.known ≡ opening_of q) × (pass.seat.trace ≡ []) × (pass.seat.asides ≡ 0)
+-- the pass has this number, has made no call or step, and knows no step of any pass
+abbrev pub IsNewPass : (number : ℕ) (pass : PassView) → Type 0
+IsNewPass number pass =
+    (pass.number ≡ number) × (pass.front ≡ []) × (pass.notes ≡ []) × (pass.seat.known ≡ opening_of number) × (pass.seat.trace ≡ []) × (pass.seat.asides ≡ 0)

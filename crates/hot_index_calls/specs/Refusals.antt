@@ -1,4 +1,4 @@
--- Why a change is refused that found no record free: by a count of all records, made after its try was undone.
+-- What follows a try of a change that found no record free: a count of all records says whether the refusal is final.
 use Rattle.std.specs.Prelude.{◌≡◌, ◌⊎◌, ℕ, suc, ◌<◌, ◌≤◌, List, length, Result, Ok, Err}
 use Rattle.finite_map.specs.declared.Call.{Call}
 use Rattle.finite_map.specs.declared.Reply.{Reply}
@@ -23,7 +23,7 @@ use Rattle.hot_index_calls.specs.declared.census.StateCounts.{StateCounts}
 use Rattle.hot_index_calls.specs.declared.refusals.Refusal.{Refusal}
 use Rattle.hot_index_calls.specs.declared.refusals.Refusal.TheVariants.{Busy as IsBusy, HeldBack, Full as IsFull}
 
--- Of one kind and class, fewer records are free than are needed. None is claimed, and none is retired and not given back.
+-- Of one kind and class, fewer than `needs` records are free. None is claimed, and none is retired and not given back.
 pub record AreShort (needs : ℕ) (counts : StateCounts) : Type 0 where
   pub free : counts.free < needs
   pub held : counts.held ≡ 0
@@ -51,71 +51,73 @@ pub record OfLeaves (IsSo : StateCounts → Type 0) (length : ℕ) (counts : Rec
   pub wide : length ≤ WIDE_BYTES → IsSo counts.wide
   pub long : IsSo counts.long
 
--- By the count, the index is full for a change that lacks a record of this kind. It needs so many node records, or one leaf record with
--- room.
-abbrev pub IsShortOf : Full → (needs length : ℕ) → RecordCounts → Type 0
+-- By the count, the index is full for a change that lacks a record of this kind. The change needs so many node records, or one leaf record
+-- with room for a key of this length.
+abbrev pub IsShortOf : (lacks : Full) (needs length : ℕ) (counts : RecordCounts) → Type 0
 IsShortOf Nodes needs length counts = AreShort needs counts.nodes
 IsShortOf Leaves needs length counts = OfLeaves (AreShort 1) length counts
 
--- The refusal is final. The index is full by the count, or no other pass may give a record back.
-abbrev pub IsFinal : (passes : ℕ) → Full → (needs length : ℕ) → RecordCounts → Type 0
+-- A refusal for want of such a record is final. The index is full by the count, or has no other pass that might give a record back.
+abbrev pub IsFinal : (passes : ℕ) (lacks : Full) (needs length : ℕ) (counts : RecordCounts) → Type 0
 IsFinal passes lacks needs length counts = (passes ≡ 1) ⊎ IsShortOf lacks needs length counts
 
--- the refusal for want of a record that the count gives: it is held back, or final
-abbrev pub Judges : (passes : ℕ) → Full → (needs length : ℕ) → RecordCounts → Refusal → Type 0
+-- The count decides on a refusal for want of a record: the call is held back, or the refusal is final.
+abbrev pub Judges : (passes : ℕ) (lacks : Full) (needs length : ℕ) (counts : RecordCounts) (refusal : Refusal) → Type 0
 Judges passes lacks needs length counts IsBusy = ⊥
 Judges passes lacks needs length counts (HeldBack full) = (full ≡ lacks) × ¬ (IsFinal passes lacks needs length counts)
 Judges passes lacks needs length counts (IsFull full shown) = (full ≡ lacks) × (shown ≡ counts) × IsFinal passes lacks needs length counts
 
--- the refusal isn't final: the call was busy or held back
+-- the refusal isn't final: it says busy, or held back
 abbrev pub IsPassing : Refusal → Type 0
 IsPassing IsBusy = Unit {0}
 IsPassing (HeldBack lacks) = Unit {0}
 IsPassing (IsFull lacks counts) = ⊥
 
--- the fault of the try that this refusal follows
+-- the fault of a try that ends in this refusal
 abbrev pub fault_in : Refusal → TryFault
 fault_in IsBusy = Busy
 fault_in (HeldBack lacks) = fault_of lacks
 fault_in (IsFull lacks counts) = fault_of lacks
 
--- the result of the try, before the count
+-- the result of a try, from its result after the count
 abbrev pub as_tried : Result Reply Refusal → Result Reply TryFault
 as_tried (Ok reply) = Ok reply
 as_tried (Err refusal) = Err (fault_in refusal)
 
--- how many records of the kind a try needs that lacks one: of the nodes one more than its own
-abbrev pub NeedsBeside : Layout → PassView → PassView → Full → ℕ → Type 0
+-- How many records of the kind a try that lacks one needs. Of node records, one more than it had claimed. Of leaf records nothing is said.
+abbrev pub NeedsBeside : (layout : Layout) (old new : PassView) (lacks : Full) (needs : ℕ) → Type 0
 NeedsBeside layout old new Nodes needs = (own : List Rec) × LacksNodes layout new.number new.failed old.steps own × (needs ≡ suc (length own))
 NeedsBeside layout old new Leaves needs = Unit {0}
 
--- After the try, from a to m, all records were counted, and the count judges what it lacked. In an index of one pass it finds no record
--- claimed or retired, and fewer free than the try needs. That asks for fewer steps so far than there are epochs.
+-- After a try, from `old` to `middle`, all records were counted, and the count decides on the refusal. In an index of one pass it finds no
+-- record claimed or retired, and fewer free than the try needs. That holds while fewer steps have been made than there are epochs.
 pub record IsCountedAfter {G : Type 0} (call : Call) (lacks : Full) (refusal : Refusal) (index : TableView) (becomes : G → Event → G → Type 0)
-    (a m b : PassView × G) : Type 0 where
+    (old middle new : PassView × G) : Type 0 where
   pub needs : ℕ
-  pub needed : NeedsBeside index.layout a.0 m.0 lacks needs
+  pub needed : NeedsBeside index.layout old.0 middle.0 lacks needs
   pub counts : RecordCounts
-  pub counted : HasCounted index becomes m b counts
+  pub counted : HasCounted index becomes middle new counts
   pub judged : Judges index.layout.passes lacks needs (length (key_of call)) counts refusal
-  pub alone : index.layout.passes ≡ 1 → IsEarly b.0.seat → AreAllAtRest counts
-  pub short : index.layout.passes ≡ 1 → IsEarly b.0.seat → IsShortOf lacks needs (length (key_of call)) counts
+  pub alone : index.layout.passes ≡ 1 → IsEarly new.0.seat → AreAllAtRest counts
+  pub short : index.layout.passes ≡ 1 → IsEarly new.0.seat → IsShortOf lacks needs (length (key_of call)) counts
 
--- The call is a removal in an index of several passes. Insertions leave a node record for it. If it finds none free, another call has that
--- one, or holds back one that was retired since.
-abbrev pub HasNodeLeft : (passes : ℕ) → Call → Type 0
+-- The call is a removal in an index of several passes. Insertions leave one node record for removals. A removal that finds none free is
+-- held back: another call has that record, or keeps a retired one from reuse.
+abbrev pub HasNodeLeft : (passes : ℕ) (call : Call) → Type 0
 HasNodeLeft passes call = (1 < passes) × IsRemoval call
 
--- What follows a refused try. If it was busy, nothing is counted. So it is if a removal lacked the node record that is left for it: that is
--- held back, and never full.
-abbrev pub IsToldAfter : {G : Type 0} → Call → TableView → (G → Event → G → Type 0) → (old middle new : PassView × G) → Refusal → Type 0
+-- What follows a refused try, from `old` to `middle`. After a busy one, nothing is counted. Nor is it after a removal that lacked the node
+-- record left for removals, which is held back. After any other, all records are counted.
+abbrev pub IsToldAfter : {G : Type 0} → (call : Call) (index : TableView) (becomes : G → Event → G → Type 0)
+    (old middle new : PassView × G) (refusal : Refusal) → Type 0
 IsToldAfter call index becomes old middle new IsBusy = new ≡ middle
 IsToldAfter call index becomes old middle new (HeldBack lacks) =
     (HasNodeLeft index.layout.passes call × (new ≡ middle)) ⊎ IsCountedAfter call lacks (HeldBack lacks) index becomes old middle new
 IsToldAfter call index becomes old middle new (IsFull lacks counts) =
     ¬ (HasNodeLeft index.layout.passes call) × IsCountedAfter call lacks (IsFull lacks counts) index becomes old middle new
 
--- what follows a try: a count if it was refused for want of a record
-abbrev pub IsCountTold : {G : Type 0} → Call → Result Reply Refusal → TableView → (G → Event → G → Type 0) → (old middle new : PassView × G) → Type 0
+-- what follows a try, from `old` to `middle`: nothing if it was answered, and else what follows a refused one
+abbrev pub IsCountTold : {G : Type 0} → (call : Call) (result : Result Reply Refusal) (index : TableView)
+    (becomes : G → Event → G → Type 0) (old middle new : PassView × G) → Type 0
 IsCountTold call (Ok reply) index becomes old middle new = new ≡ middle
 IsCountTold call (Err refusal) index becomes old middle new = IsToldAfter call index becomes old middle new refusal

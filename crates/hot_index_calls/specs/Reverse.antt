@@ -8,9 +8,10 @@ use Rattle.hot_index_calls.specs.Answers.{IsFoundBy, IsListedBy}
 use Rattle.hot_index_calls.specs.Passes.{PassView}
 
 -- A scan downwards into a list was answered, with whether there is a further key, as `IsListedBy` says.
-abbrev pub IsReverseListed : Layout → PassView → PassView → Range → List (Key × ℕ) → Bool → Type 0
+abbrev pub IsReverseListed : (layout : Layout) (old new : PassView) (range : Range) (pairs : List (Key × ℕ)) (more : Bool) → Type 0
 IsReverseListed = IsListedBy IsLawfulReverseScan
 
--- The last pair up to the key was asked for. A scan downwards of one pair, from this key to the first key of all, has found it, or none.
-abbrev pub IsLastFound : Layout → PassView → PassView → Key → Option (Key × ℕ) → Type 0
+-- The call asked for the last pair up to the key. A scan downwards with limit 1, from this key to the least key of all, has found this
+-- pair, or none.
+abbrev pub IsLastFound : (layout : Layout) (old new : PassView) (upto : Key) (found : Option (Key × ℕ)) → Type 0
 IsLastFound layout old new upto found = IsFoundBy IsLawfulReverseScan layout old new [] upto found

@@ -1,4 +1,4 @@
--- What a call does, step by step, and what its gate is told.
+-- Which steps a call makes, one after the other, and what its gate is told.
 use Rattle.std.specs.Prelude.{◌≡◌, ◌⊎◌, ◌+◌, ◌*◌, ◌<◌, ◌≤◌, ℕ, All, List, [], ◌∷◌, ◌++◌, length, count_by, Bool, true, false, Result, Ok, Err, IfOk, IfErr}
 use Rattle.key_bits.specs.declared.TheConstants.{MAX_BYTES}
 use Rattle.finite_map.specs.declared.Call.{Call}
@@ -30,15 +30,15 @@ use Rattle.hot_index_calls.specs.Noting.{change_notes}
 use Rattle.hot_index_calls.specs.Passes.{PassView, pass_of}
 
 -- a gate that is told nothing
-abbrev pub untold : Unit {0} → Event → Unit {0} → Type 0
-untold g event h = Unit {0}
+abbrev pub untold : (before : Unit {0}) (event : Event) (after : Unit {0}) → Type 0
+untold before event after = Unit {0}
 
--- the acts of a call that only reads, but for its last one: it sets the pin, loads the root, and then words below it
-abbrev pub reading : (epoch root : ℕ) → List Act → List Act
+-- All acts but the last of a call that only reads. It sets the pin, loads the root, and makes these loads of words below the root.
+abbrev pub reading : (epoch root : ℕ) (loads : List Act) → List Act
 reading epoch root loads = LoadEpoch epoch ∷ SetPin epoch ∷ LoadRef Root root ∷ loads
 
--- The call sets the pass's pin, loads the root and then words below it, and clears the pin. It makes no other step. The gate is told each,
--- and with the last come the call's notes. The load of the root shows the pass all changes made by then, and so all that any pass had seen.
+-- The steps of a call that only reads. It sets the pass's pin, loads the root and then words below the root, and clears the pin. The gate
+-- is told each step, and with the last come the call's notes. The load of the root shows the pass all changes made by then.
 pub record HasRead {G : Type 0} (index : TableView) (becomes : G → Event → G → Type 0) (old new : PassView × G) : Type 0 where
   pub epoch : ℕ
   pub root : ℕ
@@ -51,15 +51,15 @@ pub record HasRead {G : Type 0} (index : TableView) (becomes : G → Event → G
   pub sees : SeesAllOfRun index.layout old.0.seat new.0.seat
   pub told : IsTold becomes (events_of old.0.number (reading epoch root loads ++ ClearPin ∷ [])) old.1 new.1
 
--- What a get does. It loads one entry in each node on its key's path. It makes at most 26 steps for each entry, and 36 others. It touches
--- at most four words for each.
+-- The steps of a get. It loads one entry in each node on its key's path. It makes at most 26 steps for each entry, and 36 others. It
+-- touches at most four words for each entry.
 pub record HasMadeGetSteps {G : Type 0} (index : TableView) (becomes : G → Event → G → Type 0) (old new : PassView × G) : Type 0 where
   pub read : HasRead index becomes old new
   pub depth : entries_in read.loads ≤ 9 * MAX_BYTES
   pub few : new.0.steps ≤ old.0.steps + 36 + 26 * entries_in read.loads
   pub touched : new.0.touches ≤ old.0.touches + search_touches * entries_in read.loads
 
--- What a scan does. It loads one entry for each node to which it goes, and one for each leaf. It makes at most 26 steps for each entry, 8
+-- The steps of a scan. It loads one entry for each node that it visits, and one for each leaf. It makes at most 26 steps for each entry, 8
 -- for each pair of its limit, and 101 others. It touches at most eleven words for each entry.
 pub record HasMadeScanSteps {G : Type 0} (index : TableView) (becomes : G → Event → G → Type 0) (limit : ℕ) (old new : PassView × G) : Type 0 where
   pub read : HasRead index becomes old new
@@ -67,15 +67,15 @@ pub record HasMadeScanSteps {G : Type 0} (index : TableView) (becomes : G → Ev
   pub few : new.0.steps ≤ old.0.steps + 101 + 26 * entries_in read.loads + 8 * limit
   pub touched : new.0.touches ≤ old.0.touches + entry_touches * entries_in read.loads
 
--- The steps of an attempt, but for the last, which clears the pin. It sets the pin, and tries each lock once at most. Their number is
--- bounded by the entries that its search loads, the locks that it tries, and the records of the table.
+-- The steps of an attempt at a change, but for the last, which clears the pin. It sets the pin, and tries each lock once at most. The
+-- number of steps is bounded by the entries that its search loads, the locks that it tries, and the records of the table.
 pub record IsAttempt (layout : Layout) (acts : List Act) : Type 0 where
   pub epoch : ℕ
   pub rest : List Act
   pub acts_are : acts ≡ LoadEpoch epoch ∷ SetPin epoch ∷ rest
   pub steps : AreAttemptSteps layout rest
 
--- The steps of a round of collection. It loads the epoch, raises it, loads it again and loads each pin. Then it visits each record, nodes
+-- The steps of a round of collection. It loads the epoch, raises it, loads it again, and loads each pin. Then it visits each record, nodes
 -- first.
 pub record AreRoundSteps (layout : Layout) (acts : List Act) : Type 0 where
   pub epoch : ℕ
@@ -90,7 +90,7 @@ pub record AreRoundSteps (layout : Layout) (acts : List Act) : Type 0 where
   pub visits_nodes : InTurn (λ n. Visits bound (a_node n)) layout.nodes nodes
   pub visits_leaves : InTurn (λ n. Visits bound (a_leaf n)) layout.leaves leaves
 
--- The steps of a small round: it begins as a round does, and then visits at most so many records.
+-- The steps of a small round of collection. It begins as a whole round does, and then visits at most `most` records.
 pub record AreSmallSteps (layout : Layout) (most : ℕ) (acts : List Act) : Type 0 where
   pub epoch : ℕ
   pub found : ℕ
@@ -104,34 +104,35 @@ pub record AreSmallSteps (layout : Layout) (most : ℕ) (acts : List Act) : Type
   pub visits_each : VisitEach bound recs visits
   pub few : length recs ≤ most
 
--- The steps between two attempts. They are those of a round or, with several passes, of one that is spared and visits no record.
-abbrev pub AreStepsBetween : Layout → List Act → Type 0
+-- The steps between two attempts at a change: those of a round of collection. With several passes the round may be spared, and visit no
+-- record.
+abbrev pub AreStepsBetween : (layout : Layout) (acts : List Act) → Type 0
 AreStepsBetween layout acts = AreRoundSteps layout acts ⊎ ((1 < layout.passes) × AreSmallSteps layout 0 acts)
 
--- of two numbers, for nodes and for leaves, the one of this kind
+-- the number for this kind of records: `nodes` or `leaves`
 abbrev pub of_kind : Full → (nodes leaves : ℕ) → ℕ
 of_kind Nodes nodes leaves = nodes
 of_kind Leaves nodes leaves = leaves
 
--- The steps are those between two attempts, and none gives back a record of this kind. A round that is spared gives none back.
-abbrev pub GiveNoneBetween : Layout → Full → List Act → Type 0
+-- The steps are those between two attempts, and none gives back a record of this kind. A spared round gives none back.
+abbrev pub GiveNoneBetween : (layout : Layout) (kind : Full) (acts : List Act) → Type 0
 GiveNoneBetween layout kind acts =
     ((round : AreRoundSteps layout acts) × (of_kind kind (count_by has_given round.nodes) (count_by has_given round.leaves) ≡ 0)) ⊎
     ((1 < layout.passes) × AreSmallSteps layout 0 acts)
 
--- What a call returned follows from what its pass has done between these views of its seat. It was answered and is noted with its reply, or
--- refused, for a cause found since.
-abbrev pub StandsSince : Layout → Call → Result Reply TryFault → SeatView → SeatView → Type 0
+-- What a call returned follows from what its pass did from the seat's view `old` to its view `new`. The call was answered, and is noted.
+-- Or it was refused, and the fault's cause lies between these views.
+abbrev pub StandsSince : (layout : Layout) (call : Call) (result : Result Reply TryFault) (old new : SeatView) → Type 0
 StandsSince layout call result old new =
     IfOk result (IsNoted layout (pass_of old) (pass_of new) call) × IfErr result (IsRefusedFor layout call (pass_of old) (pass_of new))
 
 -- the steps are those of one attempt
-abbrev pub IsOneAttempt : {G : Type 0} → TableView → SeatView × G → SeatView × G → List Act → Type 0
+abbrev pub IsOneAttempt : {G : Type 0} → (table : TableView) (old new : SeatView × G) (acts : List Act) → Type 0
 IsOneAttempt table old new acts = IsAttempt table.layout acts
 
--- Two attempts, with a round of collection between them, whole or spared. The first was full. The call's notes come with the last step. The
--- call returns what the second attempt alone came to. But if the round gave back no record of the kind that the first lacked, it returns
--- what both came to.
+-- Two attempts, with a whole or spared round of collection between them. The first was full. The call's note comes with the last step. The
+-- call returns what the second attempt came to. But if the round gave back no record of the kind that the first lacked, the cause of a
+-- refusal lies in both.
 pub record AreTwoAttempts {G : Type 0} (table : TableView) (becomes : G → Event → G → Type 0) (call : Call) (result : Result Reply TryFault)
     (old new : SeatView × G) (acts : List Act) : Type 0 where
   pub first : List Act
@@ -150,19 +151,20 @@ pub record AreTwoAttempts {G : Type 0} (table : TableView) (becomes : G → Even
   pub goes_on : Ends table becomes second ClearPin (change_notes call result) rounded new
   pub stands : StandsSince table.layout call result rounded.0 new.0 ⊎ GiveNoneBetween table.layout full between
 
--- whether the call was refused as full
+-- whether the call was refused as full, for want of a node or of a leaf record
 abbrev pub is_full : Result Reply TryFault → Bool
 is_full (Ok reply) = false
 is_full (Err Busy) = false
 is_full (Err FullNodes) = true
 is_full (Err FullLeaves) = true
 
--- One attempt, whose answer stands unless it is full. Or two, with a round between them, if the first was full.
-abbrev pub AreTries : {G : Type 0} → TableView → (G → Event → G → Type 0) → Call → Result Reply TryFault → SeatView × G → SeatView × G → List Act → Type 0
+-- One attempt, which was not full. Or two, with a round of collection between them, if the first was full.
+abbrev pub AreTries : {G : Type 0} → (table : TableView) (becomes : G → Event → G → Type 0) (call : Call) (result : Result Reply TryFault)
+    (old new : SeatView × G) (acts : List Act) → Type 0
 AreTries table becomes call result old new acts =
     (IsAttempt table.layout acts × (is_full result ≡ false)) ⊎ AreTwoAttempts table becomes call result old new acts
 
--- The attempts of a change, and before them a small round or nothing.
+-- The steps of a change but for its last: a small round or none, and then its attempts.
 pub record AreAttempts {G : Type 0} (table : TableView) (becomes : G → Event → G → Type 0) (call : Call) (result : Result Reply TryFault)
     (old new : SeatView × G) (acts : List Act) : Type 0 where
   pub before : List Act
@@ -174,28 +176,29 @@ pub record AreAttempts {G : Type 0} (table : TableView) (becomes : G → Event �
   pub tries : AreTries table becomes call result tidied new rest
 
 -- the pass makes a small round, or no step
-abbrev pub Tidies : {G : Type 0} → TableView → (G → Event → G → Type 0) → SeatView × G → SeatView × G → Type 0
+abbrev pub Tidies : {G : Type 0} → (table : TableView) (becomes : G → Event → G → Type 0) (old new : SeatView × G) → Type 0
 Tidies table becomes old new = (new ≡ old) ⊎ IsSmallRound table becomes MOST_VISITED old new
 
--- the pass makes a round of collection or, with several passes, one that is spared
-abbrev pub Collects : {G : Type 0} → TableView → (G → Event → G → Type 0) → SeatView × G → SeatView × G → Type 0
+-- the pass makes a whole round of collection or, with several passes, a spared one
+abbrev pub Collects : {G : Type 0} → (table : TableView) (becomes : G → Event → G → Type 0) (old new : SeatView × G) → Type 0
 Collects table becomes old new =
     ((nodes : ℕ) × (leaves : ℕ) × IsRound table becomes old new nodes leaves) ⊎ ((1 < table.layout.passes) × IsSparedRound table becomes old new)
 
--- the pass makes a round of collection that gives back no record of this kind or, with several passes, one that is spared
-abbrev pub CollectsNone : {G : Type 0} → TableView → (G → Event → G → Type 0) → Full → SeatView × G → SeatView × G → Type 0
+-- the pass makes a whole round of collection that gives back no record of this kind or, with several passes, a spared one
+abbrev pub CollectsNone : {G : Type 0} → (table : TableView) (becomes : G → Event → G → Type 0) (kind : Full) (old new : SeatView × G) → Type 0
 CollectsNone table becomes kind old new =
     ((nodes : ℕ) × (leaves : ℕ) × IsRound table becomes old new nodes leaves × (of_kind kind nodes leaves ≡ 0)) ⊎
     ((1 < table.layout.passes) × IsSparedRound table becomes old new)
 
--- The call makes steps of this sort, and then clears its pass's pin, with these notes.
-abbrev pub HasEnded : {G : Type 0} → TableView → (G → Event → G → Type 0) → (List Act → Type 0) → (Known → List Note) → SeatView × G → SeatView × G → Type 0
+-- The call makes steps of which `Are` holds, and then clears its pass's pin. With that last step come the notes that `said` gives.
+abbrev pub HasEnded : {G : Type 0} → (table : TableView) (becomes : G → Event → G → Type 0) (Are : List Act → Type 0)
+    (said : Known → List Note) (old new : SeatView × G) → Type 0
 HasEnded table becomes Are said old new = (acts : List Act) × Are acts × Ends table becomes acts ClearPin said old new
 
--- What a change does: one attempt, or two with a round of collection between them, and before them a small round or nothing. A second
--- attempt follows only a first that was full. The last step clears the pin, with the call's note, if it was answered. The gate is told each
--- step, and their number is bounded. For each entry loaded it touches at most eleven words. Its last load of the root has shown the pass
--- all changes made by then, and so all that any pass had seen.
+-- The steps of a change: a small round or none, and then one attempt, or two with a round of collection between them. A second attempt
+-- follows only a first that was full. The last step clears the pin, and the call's note comes with it, if the call was answered. The gate
+-- is told each step. The number of steps is bounded, and that of touched words is at most eleven for each loaded entry. The last load of
+-- the root shows the pass all changes made by then.
 pub record HasMadeChangeSteps {G : Type 0} (index : TableView) (becomes : G → Event → G → Type 0) (call : Call) (result : Result Reply TryFault)
     (old new : PassView × G) : Type 0 where
   pub acts : List Act
@@ -208,12 +211,13 @@ pub record HasMadeChangeSteps {G : Type 0} (index : TableView) (becomes : G → 
   pub few : new.0.steps ≤ old.0.steps + try_steps call index.layout
   pub touched : new.0.touches ≤ old.0.touches + entry_touches * entries_in acts
 
--- the call makes some steps, one after the other, and these notes come with the last
-abbrev pub HasStepped : {G : Type 0} → TableView → (G → Event → G → Type 0) → (Known → List Note) → SeatView × G → SeatView × G → Type 0
+-- the call makes some steps, one after the other, and with the last come the notes that `said` gives
+abbrev pub HasStepped : {G : Type 0} → (table : TableView) (becomes : G → Event → G → Type 0) (said : Known → List Note)
+    (old new : SeatView × G) → Type 0
 HasStepped table becomes said old new = (acts : List Act) × (last : Act) × Ends table becomes acts last said old new
 
--- A call that loads the root makes these steps and no other, and its notes come with the last. The gate is told each of them, in order, and
--- nothing else. Its last load of the root has shown the pass all changes made by then, and so all that any pass had seen.
+-- A call that loads the root makes these steps and no other, and its notes come with the last. The gate is told each step, in order, and
+-- nothing else. The last load of the root shows the pass all changes made by then.
 pub record HasMadeCallSteps {G : Type 0} (index : TableView) (becomes : G → Event → G → Type 0) (old new : PassView × G) : Type 0 where
   pub acts : List Act
   pub last : Act
@@ -224,8 +228,8 @@ pub record HasMadeCallSteps {G : Type 0} (index : TableView) (becomes : G → Ev
   pub sees : SeesAllOfRun index.layout old.0.seat new.0.seat
   pub told : IsTold becomes (events_of old.0.number (acts ++ last ∷ [])) old.1 new.1
 
--- The pass makes one round of collection, whose own exchanges give back so many nodes and leaves. It sees no change by it. The gate is told
--- each step, and their number is bounded.
+-- The pass makes one round of collection, which gives back so many node and leaf records. The front stays the same. The gate is told each
+-- step, and their number is bounded.
 pub record HasCollected {G : Type 0} (index : TableView) (becomes : G → Event → G → Type 0) (old new : PassView × G) (nodes leaves : ℕ) : Type 0 where
   pub begins : old.0 ≡ pass_of old.0.seat
   pub ends : new.0 ≡ pass_of new.0.seat
