@@ -1,4 +1,4 @@
--- Executions of an index: runs in which calls end as their contracts say.
+-- Executions of an index: runs of which each call ends as its contract says.
 use Rattle.std.specs.Prelude.{◌≡◌, ◌⊎◌, ℕ, suc, ◌<◌, ◌≤◌, List, [], ◌∷◌, None, Some, map}
 use Rattle.finite_map.specs.declared.Call.{Call}
 use Rattle.finite_map.specs.declared.Call.TheVariants.{Insert}
@@ -17,7 +17,7 @@ use Rattle.hot_index_calls.specs.Many.{AreNoted}
 use Rattle.hot_index_calls.specs.Passes.{PassView, pass_of}
 use Rattle.linearizability.specs.Configurations.{Continues, Happening, IsCallTurn, IsNewIndex, Configuration, Pending, invokes, refuses, responds, shows, steps}
 
--- Pass q's call is pending at time t. The seat s knows what the pass knew when it invoked the call, and e what it knows now.
+-- Pass q's call is pending at time t. Seat s knows what the pass knew when it invoked the call, and seat e what the pass knows at time t.
 pub record IsReturning (at : ℕ → Configuration) (q t : ℕ) (call : Pending) (s e : SeatView) : Type 0 where
   pub pending : (at t).pending q ≡ Some call
   pub before : s.known ≡ (at call.since).known q
@@ -25,7 +25,7 @@ pub record IsReturning (at : ℕ → Configuration) (q t : ℕ) (call : Pending)
   pub pass : e.known.pass ≡ q
   pub later : call.since ≤ t
 
--- The call asked one call of the map, which was noted.
+-- The call asked one call of the map, which was answered. `notes` is the one note of it.
 pub record IsAnswered (layout : Layout) (call : Pending) (old new : PassView) (notes : List Note) : Type 0 where
   pub asked : Call
   pub reply : Reply
@@ -33,30 +33,30 @@ pub record IsAnswered (layout : Layout) (call : Pending) (old new : PassView) (n
   pub noted : IsNoted layout old new asked reply
   pub notes_are : notes ≡ record { place = noted.place; call = asked; reply = reply } ∷ []
 
--- The call asked look-ups, which were noted in some order.
+-- The call asked look-ups of the map, which were answered. `notes` has a note of each, in some order.
 pub record HasAnsweredMany (layout : Layout) (call : Pending) (old new : PassView) (notes : List Note) : Type 0 where
   pub asked : List (Call × Reply)
   pub calls : map (λ x. x.0) asked ≡ call.calls
   pub noted : AreNoted layout old new asked
   pub notes_are : notes ≡ noted.added
 
--- The call asked nothing of the map, and added no note. `IsScannedBy` and `IsListedBy` say so of scans, `IsUnnoted` of collections and
--- counts.
+-- The call asked nothing of the map, and added no note. Of scans `IsScannedBy` and `IsListedBy` say so, and of collections and counts
+-- `IsUnnoted`.
 pub record IsQuiet (call : Pending) (old new : PassView) (notes : List Note) : Type 0 where
   pub calls : call.calls ≡ []
   pub same : new.notes ≡ old.notes
   pub legal : LegalCalls new.front new.number new.notes
   pub notes_are : notes ≡ []
 
--- the insertions of the pairs that these words of a table show, in the order of their keys
-abbrev pub insertions : Layout → List ℕ → List Call
+-- the insertions of the pairs of a loaded table with these words, in the order of their keys
+abbrev pub insertions : (layout : Layout) (words : List ℕ) → List Call
 insertions layout words = map (λ x. Insert x.key x.value) (items_of (loaded_tree layout words))
 
--- the notes of the insertions of the pairs that these words of a table show
-abbrev pub insertion_notes : Layout → List ℕ → List Note
+-- the notes of the insertions of the pairs of a loaded table with these words
+abbrev pub insertion_notes : (layout : Layout) (words : List ℕ) → List Note
 insertion_notes layout words = added_notes 0 (items_of (loaded_tree layout words))
 
--- The call was the bulk load with which the table was made (`IsLoaderSeat`). Pass 0 was new, and asked for these insertions.
+-- The call was the bulk load with which the table was made (`IsLoaderSeat`). Pass 0 was new before, and asked for the insertions `calls`.
 pub record HasBulkLoaded (layout : Layout) (calls : List Call) (before later : Known) (notes : List Note) : Type 0 where
   pub words : List ℕ
   pub load : IsLoad layout words
@@ -65,23 +65,23 @@ pub record HasBulkLoaded (layout : Layout) (calls : List Call) (before later : K
   pub calls_are : calls ≡ insertions layout words
   pub notes_are : notes ≡ insertion_notes layout words
 
--- The call returns at time t with these notes.
-abbrev pub HasReturned : Layout → (ℕ → Configuration) → ℕ → ℕ → Pending → List Note → Type 0
+-- The pass's call returns at time t with these notes: answered as one call or as look-ups, or with none, or as the bulk load.
+abbrev pub HasReturned : (layout : Layout) (at : ℕ → Configuration) (pass t : ℕ) (call : Pending) (notes : List Note) → Type 0
 HasReturned layout at pass t call notes =
     (start : SeatView) × (end : SeatView) × IsReturning at pass t call start end ×
     (IsAnswered layout call (pass_of start) (pass_of end) notes ⊎
     (HasAnsweredMany layout call (pass_of start) (pass_of end) notes ⊎
     (IsQuiet call (pass_of start) (pass_of end) notes ⊎ HasBulkLoaded layout call.calls start.known end.known notes)))
 
--- The call asked one of the map, and is refused at time t.
-abbrev pub HasBeenRefused : Layout → (ℕ → Configuration) → ℕ → ℕ → Pending → Type 0
+-- The pass's call, which asked one call of the map, is refused at time t, as its contract says.
+abbrev pub HasBeenRefused : (layout : Layout) (at : ℕ → Configuration) (pass t : ℕ) (call : Pending) → Type 0
 HasBeenRefused layout at pass t call =
-    (start : SeatView) × (end : SeatView) × (asked : Call) × (fault : TryFault) × IsReturning at pass t call start end × (call.calls ≡ asked ∷ []) ×
+    (start : SeatView) × (end : SeatView) × (asked : Call) × (fault : TryFault) ×
+    IsReturning at pass t call start end × (call.calls ≡ asked ∷ []) ×
     IsRefusedFor layout asked (pass_of start) (pass_of end) fault × MayRefuse asked fault
 
--- What happens at time t of an execution leads to the next time. It does as in a run, and each call that ends has ended as its contract
--- says.
-abbrev pub LeadsOn : Layout → (ℕ → Configuration) → ℕ → Happening → Type 0
+-- What happens at time t of an execution leads to the next time as in a run (`Continues`). A call that ends then ends as its contract says.
+abbrev pub LeadsOn : (layout : Layout) (at : ℕ → Configuration) (t : ℕ) (happening : Happening) → Type 0
 LeadsOn layout at t (steps pass act notes) = Continues layout at t (steps pass act notes)
 LeadsOn layout at t (shows pass front) = Continues layout at t (shows pass front)
 LeadsOn layout at t (invokes pass calls) = Continues layout at t (invokes pass calls)

@@ -1,12 +1,12 @@
--- What is promised of an index, in one place. Most promises say what a definition comes to that contracts of its calls name, alone or over
--- whole runs. The last three say of each lawful core what stands in records that a pinned pass may reach.
+-- What is promised of an index, in one place. Most promises say what the contracts of its calls come to, of one call or over whole runs.
+-- The last three say what stands in records that a pinned pass may reach.
 --
 -- What no contract can say, and so is no promise here:
 -- - that the code runs, and that a call returns at all;
 -- - what a call does that never returns, but for its steps on the table;
--- - when a call begins and ends, by the clock. The kit says of its table that each atomic step is one step of it, and that it has one state
---   between any two of them. By its rule all steps are one list, of which each pass knows a part, and contracts of steps say how they follow one
---   another in it: so what they tell is an execution (`traced`).
+-- - when a call begins and ends, by the clock. The kit says of its table that each atomic step is one step of it, and that it has one
+-- state   between any two of them. By its rule all steps are one list, of which each pass knows a part, and contracts of steps say how
+-- they follow one   another in it: so what they tell is an execution (`traced`).
 use Rattle.std.specs.Prelude.{◌≡◌, ◌≢◌, ◌⊎◌, ℕ, ◌+◌, ◌*◌, ◌<◌, ◌≤◌, All, List, [], ◌∷◌, ◌++◌, Result, Some, map}
 use Rattle.key_bits.specs.declared.TheConstants.{MAX_BYTES}
 use Rattle.finite_map.specs.declared.Call.{Call}
@@ -54,31 +54,33 @@ use Rattle.index_laws.specs.Joined.{OneRunIsAnExecution}
 use Rattle.index_laws.specs.Statements.{ExecutionsAreLinearizable, Responses}
 use Rattle.index_laws.specs.Traced.{EndedBeforeLoaded, TracedAreExecutions}
 
--- The answered calls of a pass, with the changes of others that it has seen, are a legal history of a finite map. Each call stands there
--- once, in the order in which they were made. A call that is noted comes last.
+-- The answered calls of a pass, with the changes of others that it has seen, are a legal history of a finite map. Each call of the pass
+-- stands in it once, in the order in which they were made. The call that was just answered is the last of them.
 abbrev pub History : Type 0
 History =
     (layout : Layout) (old new : PassView) (call : Call) (reply : Reply) → IsNoted layout old new call reply →
     LegalHistory (weave new.front new.notes) × (calls_in (weave new.front new.notes) ≡ calls_of new.notes) ×
     (calls_of new.notes ≡ calls_of old.notes ++ answered call reply ∷ [])
 
--- Passes that have met share one legal history, which has the calls of both.
+-- Two passes that have met share one legal history of a finite map. It has the calls of both, each once, in the order of each pass.
 abbrev pub OneHistory : Type 0
 OneHistory =
-    (layout : Layout) (j k j' k' : PassView) → HaveMet layout j k j' k' →
-    LegalHistory (weave j'.front (j'.notes ++ k'.notes)) × AreWoven (calls_of j'.notes) (calls_of k'.notes) (calls_in (weave j'.front (j'.notes ++ k'.notes)))
+    (layout : Layout) (one other one_after other_after : PassView) → HaveMet layout one other one_after other_after →
+    LegalHistory (weave one_after.front (one_after.notes ++ other_after.notes)) ×
+    AreWoven (calls_of one_after.notes) (calls_of other_after.notes) (calls_in (weave one_after.front (one_after.notes ++ other_after.notes)))
 
--- Once a bulk load has made the table, the calls of pass 0 are the insertions of its pairs, in the order of their keys. Each returned
--- `Inserted`, and they are a legal history. The words show the pairs.
+-- If a bulk load made the table, the calls of pass 0 are the insertions of the load's pairs, in the order of their keys. Each returned
+-- `Inserted`, and together they are a legal history of a finite map. No key of the load stands twice.
 abbrev pub LoadedHistory : Type 0
 LoadedHistory =
     (table : TableView) (words : List ℕ) (seat : SeatView) → IsLoad table.layout words → IsLoaderSeat table words seat →
     LegalHistory (weave (pass_of seat).front (pass_of seat).notes) ×
-    (calls_in (weave (pass_of seat).front (pass_of seat).notes) ≡ map (λ x. answered (Insert x.key x.value) Inserted) (items_of (loaded_tree table.layout words))) ×
+    (calls_in (weave (pass_of seat).front (pass_of seat).notes) ≡
+    map (λ x. answered (Insert x.key x.value) Inserted) (items_of (loaded_tree table.layout words))) ×
     IsRising (content (loaded_tree table.layout words))
 
--- The reply to a call, made from its invocation to time t of a run, is the map's at some time in between. So it misses nothing that had
--- been changed before it began.
+-- In a run, let a call be answered by time t. Its reply is the map's at some time from its invocation to t. So it misses no change made
+-- before its invocation.
 abbrev pub Freshness : Type 0
 Freshness =
     (layout : Layout) (last : ℕ) (at : ℕ → Configuration) (happens : ℕ → Happening) → IsWholeRun layout last at happens →
@@ -86,8 +88,8 @@ Freshness =
     (asked : Call) (reply : Reply) → IsNoted layout (pass_of start) (pass_of end) asked reply →
     (m : ℕ) × (call.since ≤ m) × (m ≤ t) × (reply ≡ reply_of (map_at at m) asked)
 
--- The replies to look-ups of many keys by one call are the map's at times of the call, one for each. So they miss nothing that had been
--- changed before it began.
+-- In a run, let a call that looks up many keys be answered by time t. Each reply is the map's at some time from the call's invocation to t,
+-- which may be another for each. So none misses a change made before the invocation.
 abbrev pub FreshnessOfMany : Type 0
 FreshnessOfMany =
     (layout : Layout) (last : ℕ) (at : ℕ → Configuration) (happens : ℕ → Happening) → IsWholeRun layout last at happens →
@@ -95,10 +97,10 @@ FreshnessOfMany =
     (notes : List Note) → HasAnsweredMany layout call (pass_of start) (pass_of end) notes →
     All (λ n. (m : ℕ) × (call.since ≤ m) × (m ≤ t) × (n.reply ≡ reply_of (map_at at m) n.call)) notes
 
--- A scan of a run is lawful from its last load of the root to what its pass has seen by its end. Each pair was in the map at a time of
--- the scan. No key of its range is missing that was there all the while, up to the last pair, if there are more. `IsListedBy` says it of
--- scans into a list, also of one cut for want of memory.
-abbrev pub ScansShow : ScanLaw → (Map → List ℕ → Type 0) → Type 0
+-- A scan of a run is lawful from its last load of the root to what its pass has seen by its end. Each pair was in the map at a time of the
+-- scan. No key of its range is missing that was in the map all the while; if there are more, none up to the last pair. So it is with scans
+-- into a list (`IsListedBy`), also with one that was refused memory.
+abbrev pub ScansShow : (IsLawful : ScanLaw) (IsReached : Map → List ℕ → Type 0) → Type 0
 ScansShow IsLawful IsReached =
     (layout : Layout) (last : ℕ) (at : ℕ → Configuration) (happens : ℕ → Happening) → IsWholeRun layout last at happens →
     (pass t : ℕ) → pass < layout.passes → t ≤ last → (call : Pending) (start end : SeatView) → IsReturning at pass t call start end →
@@ -106,9 +108,8 @@ ScansShow IsLawful IsReached =
     IsListedBy IsLawful layout (pass_of start) (pass_of end) (range_from from upto limit) scan.pairs.items scan.more →
     IsLawful (pass_of end).fresh.front (pass_of end).front from upto limit scan × IsScanInTime IsReached at call.since t from upto scan
 
--- A refused call has changed nothing. One that is busy found that another pass stood in its way, and with one pass it is never busy. One
--- that is full found each record not free that would have served. Its own were only some node records: at most two for each node that it
--- had locked, and one.
+-- A refused call has changed nothing. The cause of its fault is as `IsCause` says: another pass was in its way, or no record that would
+-- have served was free. In an index of one pass no call is busy.
 abbrev pub Refusals : Type 0
 Refusals =
     (layout : Layout) (call : Call) (old new : PassView) (fault : TryFault) → IsRefusedFor layout call old new fault →
@@ -116,23 +117,22 @@ Refusals =
     (new.notes ≡ old.notes) × (own_changes new.number new.front ≡ own_changes old.number old.front) × IsCause layout (key_of call) old new fault ×
     (layout.passes ≡ 1 → fault ≢ Busy)
 
--- A call that gives its key a value is full only if its key was absent. It is never full if the key was held all the while. In an index of
--- one pass it is never full if the key is held. A removal is never full if its key was absent all the while.
+-- When calls are never full. A call that gives its key a value is not, if the key was in the map all the while (`held`). A removal is not,
+-- if its key was absent all the while (`absent`). In an index of one pass, a new value of a key in the map is never refused (`alone`).
 pub record NeverFull : Type 0 where
   pub held : HeldIsNeverFull
   pub absent : AbsentIsNeverFull
   pub alone : OnePassRefusesOnlyNewKeys
 
--- With which faults calls are never refused. A get never is. An exchange and an addition are never full. A removal never lacks a leaf
--- record.
+-- Which faults no call has. A get is never refused. An exchange and an addition are never full. A removal never lacks a leaf record.
 abbrev pub FaultsByCall : Type 0
 FaultsByCall =
     (call : Call) (fault : TryFault) → MayRefuse call fault → (key : List ℕ) →
     (call ≢ Get key) × (fault ≡ FullLeaves → call ≢ Remove key) × (fault ≡ FullLeaves → (expected : ℕ) → call ≢ RemoveIf key expected) ×
     (fault ≢ Busy → (expected value : ℕ) → call ≢ Exchange key expected value) × (fault ≢ Busy → (delta : ℕ) → call ≢ Add key delta)
 
--- The steps of calls that wait for no other pass are bounded. These are a get, gets of many keys, a try of a change, a scan, a round of
--- collection, and a count of all records.
+-- Bounds on the atomic steps of each call that waits for no other pass. Such are gets, tries of changes, scans, rounds of collection, and
+-- counts of all records.
 pub record BoundedSteps : Type 0 where
   pub get : (index : TableView) (old new : PassView) → HasMadeGetSteps index untold (old, tt) (new, tt) →
       new.steps ≤ old.steps + 36 + 26 * (9 * MAX_BYTES)
@@ -148,9 +148,9 @@ pub record BoundedSteps : Type 0 where
   pub count : (index : TableView) (counts : RecordCounts) (old new : PassView) → HasCounted index untold (old, tt) (new, tt) counts →
       new.steps ≤ old.steps + (index.layout.nodes + index.layout.leaves)
 
--- The words that a call touches beside its steps are bounded. A get touches four for each node on its key's path, and gets of many keys
--- eleven for each on theirs. A path has at most 2,160 nodes. A scan touches eleven for each entry that it loads, and a try of a change at
--- most eleven for each step.
+-- Bounds on the words that a call touches beside its steps. A get touches at most four for each node on its key's path, and a call of many
+-- gets eleven. A path has at most 2,160 nodes. A scan touches at most eleven words for each entry that it loads, and a try of a change
+-- eleven for each step.
 pub record BoundedTouches : Type 0 where
   pub get : (index : TableView) (old new : PassView) → HasMadeGetSteps index untold (old, tt) (new, tt) →
       new.touches ≤ old.touches + 4 * (9 * MAX_BYTES)
@@ -162,49 +162,51 @@ pub record BoundedTouches : Type 0 where
   pub scan : (index : TableView) (limit : ℕ) (old new : PassView) → HasMadeScanSteps index untold limit (old, tt) (new, tt) →
       new.touches ≤ old.touches + 11 * scan_entries limit
 
--- Let a leaf have stood in a version m since a pass's pin. Its value is the one that it had when it stood last, which is now or in a
--- version since m.
+-- Let a leaf have stood in a version m since a pass's pin. Its value is the one that it had when it last stood in a version, which is m or
+-- a later one.
 abbrev pub ValuesInReach : Type 0
 ValuesInReach =
     (core : Core) → IsLawful core → (pass : ℕ) (pin : Pin) → core.pins pass ≡ Some pin → (m l : ℕ) (u : Tree) → pin.version ≤ m → m ≤ core.past.now →
     Stands core.past m (a_leaf l) u →
     (o : ℕ) × (v : Tree) × (m ≤ o) × StoodLast core.past o (a_leaf l) v × (head_value v ≡ Some (record_word core (a_leaf l) VALUE_OFFSET))
 
--- Most promises of the project, each as a field.
+-- The promises of an index, each as a field.
 pub record Headline : Type 0 where
   pub history : History
   pub one_history : OneHistory
-  -- any number of passes that have seen the same share one legal history, in which each call that they have lived through stands once
+  -- passes that have seen the same share one legal history, in which each call that they have lived through stands once
   pub one_history_of_all : OneHistoryOfAll
-  -- a bulk load is the history of its table at first; in an execution it is one call, of many insertions
+  -- the history of a table that a bulk load made begins with the insertions of the load; in an execution these are one call
   pub loaded_history : LoadedHistory
-  -- contracts of steps, of meetings and stamps and of calls make an execution, if each step's trace is what came before it in one order
+  -- what contracts say of steps, meetings, stamps and calls makes an execution, if each step's trace is what came before it in one order
   pub traced : TracedAreExecutions
-  -- the calls of passes whose traces have ended in one run, as those of two that have met, are such an execution, and linearizable
+  -- if the traces of passes have ended in one run, as after a meeting, their calls are an execution, and linearizable
   pub one_run : OneRunIsAnExecution
-  -- the look-ups and changes of an execution are linearizable; and what contracts say of calls that have ended makes an execution a run
+  -- the look-ups and changes of an execution are linearizable
   pub linearizable : ExecutionsAreLinearizable
+  -- what contracts say of calls that have ended makes an execution a run
   pub responses : Responses
   pub freshness : Freshness
   pub freshness_of_many : FreshnessOfMany
-  -- if passes hear of each other by a stamp or a meeting, a call that had returned stands no later than one that then began
+  -- if a pass has followed a stamp or met another, a call that had returned by then stands no later than one that then begins
   pub order_in_time : ReturnedBeforeBegun
-  -- of any passes, a call with one key stands no later than one that loads the root after its last step
+  -- a call with one key stands no later than any call that loads the root after its last step
   pub order_of_steps : EndedBeforeLoaded
   pub scans : ScansShow IsLawfulScan IsUpToLast
   pub reverse_scans : ScansShow IsLawfulReverseScan IsDownToLast
   pub refusals : Refusals
-  -- With one pass, each leaf record that a full call lacked was in the tree or retired. Of node records, at least a third were so, but one,
-  -- and all but at most 4,321.
+  -- With one pass, each leaf record that a full call lacked was in the tree or retired. Of the node records, at least a third, less one,
+  -- were so, and all but at most 4,321.
   pub full_alone : OnePassFullMeansTaken
   pub never_refused : FaultsByCall
   pub never_full : NeverFull
-  -- if no pass is changing the index, the counts that passes keep of their keys are those of its map
+  -- if no pass is changing the index, the counts of keys that its passes keep add up to the number of keys
   pub number_of_keys : CountsAddUp
   pub steps : BoundedSteps
   pub touches : BoundedTouches
-  -- A record that a pinned pass may reach is not reused. Its words are as they were when it stood in the tree, but for its state, a node's
-  -- entries, a leaf's value, and what stands behind a leaf's key. An entry or a value is one that the record had when it stood last.
+  -- A record that a pinned pass may reach is not reused. Its words are those with which it stood in the tree. This leaves out its state, a
+  -- node's entries, a leaf's value, and what stands behind a leaf's key.
   pub out_of_reach : ReachKeepsWords
+  -- an entry or a value in such a record is one that the record had when it last stood in the tree
   pub entries_in_reach : EntriesInReach
   pub values_in_reach : ValuesInReach

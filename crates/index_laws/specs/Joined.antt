@@ -1,5 +1,5 @@
--- Passes whose traces have ended in one run of the table: what each has done, as the contracts of its calls say one after the other, and the
--- execution that they make together.
+-- Passes whose traces have ended in one run of the table. What each has done, as the contracts of its calls say, and the execution that
+-- all make together.
 use Rattle.std.specs.Prelude.{◌≡◌, ℕ, zero, suc, ◌<◌, ◌≤◌, ◌^◌, List, [], ◌∷◌, ◌++◌, None, if◌then◌else◌, map, nat_eq}
 use Rattle.finite_map.specs.declared.Call.{Call}
 use Rattle.finite_map.specs.declared.Call.TheVariants.{Get, Insert}
@@ -32,8 +32,8 @@ use Rattle.index_laws.specs.Traced.{Instant, IsTracedExecution, configuration_of
 
 -- What one pass has done
 
--- How pass q's call, which asks these calls of the map, ended. Its seat was s when it began, and is e now. It was answered as one call, or
--- as look-ups, with the notes added. Or it asked nothing of the map, was the load of the table, or was refused.
+-- How a pass's call ended that asks these calls of the map: with this happening. The pass's seat was s when the call began, and is e at its
+-- end. The call was answered as one call, or as look-ups. Or it asked nothing of the map, was the load of the table, or was refused.
 pub data HasEndedAs (layout : Layout) (pass : ℕ) (calls : List Call) (s e : SeatView) : Happening → Type 0 where
   answered : (asked : Call) (reply : Reply) → calls ≡ asked ∷ [] → (noted : IsNoted layout (pass_of s) (pass_of e) asked reply) →
       HasEndedAs layout pass calls s e (responds pass (record { place = noted.place; call = asked; reply = reply } ∷ []))
@@ -42,46 +42,48 @@ pub data HasEndedAs (layout : Layout) (pass : ℕ) (calls : List Call) (s e : Se
   quiet : calls ≡ [] → e.known.notes ≡ s.known.notes → LegalCalls e.known.front e.known.pass e.known.notes →
       HasEndedAs layout pass calls s e (responds pass [])
   loaded : {notes : List Note} → HasBulkLoaded layout calls s.known e.known notes → HasEndedAs layout pass calls s e (responds pass notes)
-  refused : (asked : Call) (fault : TryFault) → calls ≡ asked ∷ [] → IsRefusedFor layout asked (pass_of s) (pass_of e) fault → MayRefuse asked fault →
-      HasEndedAs layout pass calls s e (refuses pass)
+  refused : (asked : Call) (fault : TryFault) → calls ≡ asked ∷ [] →
+      IsRefusedFor layout asked (pass_of s) (pass_of e) fault → MayRefuse asked fault → HasEndedAs layout pass calls s e (refuses pass)
 
--- these steps of pass q, with no notes, as happenings
-abbrev pub steps_of : ℕ → List Act → List Happening
-steps_of q acts = map (λ act. steps q act []) acts
+-- the acts of the pass as happenings: steps with no notes
+abbrev pub steps_of : (pass : ℕ) (acts : List Act) → List Happening
+steps_of pass acts = map (λ act. steps pass act []) acts
 
--- the notes with which a call's last step comes
+-- the notes that come with the last step of a call
 abbrev pub notes_of_end : (table : TableView) (acts : List Act) (last : Act) (said : Known → List Note) (start end : SeatView) →
     Ends table untold acts last said (start, tt) (end, tt) → List Note
-notes_of_end table acts last said s e ends = said (learned ends.2.event.core last ends.0.0.known)
+notes_of_end table acts last said start end ends = said (learned ends.2.event.core last ends.0.0.known)
 
--- a call of pass q: it is invoked, makes these steps, the last one with these notes, and ends
-abbrev pub call_of : ℕ → List Call → List Act → Act → List Note → Happening → List Happening
-call_of q calls acts last notes ended = invokes q calls ∷ (steps_of q acts ++ steps q last notes ∷ ended ∷ [])
+-- a whole call of the pass as happenings: it is invoked, makes these steps, of which the last comes with these notes, and ends
+abbrev pub call_of : (pass : ℕ) (calls : List Call) (acts : List Act) (last : Act) (notes : List Note) (ended : Happening) → List Happening
+call_of pass calls acts last notes ended = invokes pass calls ∷ (steps_of pass acts ++ steps pass last notes ∷ ended ∷ [])
 
--- The bulk load of these words by pass q, with which its table is made. It is a call of many insertions and of one step.
-abbrev pub load_call : Layout → ℕ → List ℕ → List Happening
-load_call layout q words =
-    let notes = insertion_notes layout words in invokes q (insertions layout words) ∷ steps q (load_of words) notes ∷ responds q notes ∷ []
+-- the bulk load that makes a table of these words, as happenings: a call of the pass, of many insertions and one step
+abbrev pub load_call : (layout : Layout) (pass : ℕ) (words : List ℕ) → List Happening
+load_call layout pass words =
+    let notes = insertion_notes layout words in invokes pass (insertions layout words) ∷ steps pass (load_of words) notes ∷ responds pass notes ∷ []
 
--- What pass q of the table has done since it was new, up to this seat. Pass 0 of a table that was loaded has made this load first. Its
--- calls are made by their steps (`HasRead`, `HasMadeChangeSteps`, `HasMadeCallSteps`), and ended as their contracts say. It may have met
--- another pass (`IsShownAll`, `HasSeenMore`), followed a stamp (`HasCaughtUp`) or made one (`HasStamped`).
+-- What pass q of the table has done since it was new, up to this seat. If the table was loaded, pass 0 has made the load first. Calls of
+-- the pass made the steps that contracts name (`HasRead`, `HasMadeChangeSteps`, `HasMadeCallSteps`), and ended as these say. The pass may
+-- have met another (`IsShownAll`, `HasSeenMore`), followed a stamp (`HasCaughtUp`), or made one (`HasStamped`).
 pub data HasGoneThrough (table : TableView) (q : ℕ) : List Happening → SeatView → Type 0 where
   new : {s : SeatView} → IsNewSeatOf table q s → HasGoneThrough table q [] s
   loader : {s : SeatView} → q ≡ 0 → (words : List ℕ) → IsLoad table.layout words → IsLoaderSeat table words s →
       HasGoneThrough table q (load_call table.layout q words) s
-  called : {done : List Happening} {s e : SeatView} → HasGoneThrough table q done s → (calls : List Call) (acts : List Act) (last : Act) (said : Known → List Note) →
+  called : {done : List Happening} {s e : SeatView} → HasGoneThrough table q done s →
+      (calls : List Call) (acts : List Act) (last : Act) (said : Known → List Note) →
       (ends : Ends table untold acts last said (s, tt) (e, tt)) → {ended : Happening} → HasEndedAs table.layout q calls s e ended →
       HasGoneThrough table q (done ++ call_of q calls acts last (notes_of_end table acts last said s e ends) ended) e
-  shown : {done : List Happening} {s e : SeatView} → HasGoneThrough table q done s → IsShownAll table.layout s e → BeginsWith e.known.front s.known.front →
+  shown : {done : List Happening} {s e : SeatView} → HasGoneThrough table q done s →
+      IsShownAll table.layout s e → BeginsWith e.known.front s.known.front →
       e.known ≡ with_front e.known.front s.known → HasGoneThrough table q (done ++ shows q e.known.front ∷ []) e
   stamped : {done : List Happening} {s e : SeatView} → HasGoneThrough table q done s → e ≡ record s { asides = suc s.asides } →
       HasGoneThrough table q (done ++ shows q s.known.front ∷ []) e
 
--- What all have done
+-- What all passes have done
 
--- Each pass of the table has done this, up to this seat. The steps are a run of the table. It begins with those that each pass knows there,
--- and goes on by steps of others. So all steps of the passes stand in it.
+-- Each pass of the table has done `done`, up to the seat `seat`. The run is one of the table. For each pass, the run is what its seat
+-- knows, and then steps of other passes. So all steps of all passes stand in the run.
 pub record HaveEndedInOneRun (table : TableView) (run : List Event) (done : ℕ → List Happening) (seat : ℕ → SeatView) : Type 0 where
   pub led : IsTableRun table.layout run
   pub each : (pass : ℕ) → pass < table.layout.passes → HasGoneThrough table pass (done pass) (seat pass)
@@ -95,25 +97,27 @@ pass_in (invokes pass calls) = pass
 pass_in (responds pass notes) = pass
 pass_in (refuses pass) = pass
 
--- the happenings of pass q before time t, in their order
-abbrev pub happenings_of : ℕ → (ℕ → Happening) → ℕ → List Happening
-happenings_of q happens zero = []
-happenings_of q happens (suc t) = if nat_eq (pass_in (happens t)) q then happenings_of q happens t ++ happens t ∷ [] else happenings_of q happens t
+-- the happenings of the pass before time t, in their order
+abbrev pub happenings_of : (pass : ℕ) (happens : ℕ → Happening) (t : ℕ) → List Happening
+happenings_of pass happens zero = []
+happenings_of pass happens (suc t) =
+    if nat_eq (pass_in (happens t)) pass then happenings_of pass happens t ++ happens t ∷ [] else happenings_of pass happens t
 
--- the happening is a step of pass q
-abbrev pub IsStepOf : ℕ → Happening → Type 0
-IsStepOf q (steps p act notes) = p ≡ q
-IsStepOf q _ = ⊥
+-- the happening is a step of this pass
+abbrev pub IsStepOf : (pass : ℕ) (happening : Happening) → Type 0
+IsStepOf pass (steps p act notes) = p ≡ pass
+IsStepOf pass _ = ⊥
 
--- If the first invokes a call, the second is a step of its pass. If the second ends a call, the first is a step of its pass.
-abbrev pub KeepCallsWhole : Happening → Happening → Type 0
-KeepCallsWhole (invokes pass calls) happening = IsStepOf pass happening
+-- Two happenings, one after the other, keep calls whole. If the first invokes a call, the next is a step of its pass. If the next ends a
+-- call, the first is a step of its pass.
+abbrev pub KeepCallsWhole : (happening next : Happening) → Type 0
+KeepCallsWhole (invokes pass calls) next = IsStepOf pass next
 KeepCallsWhole happening (responds pass notes) = IsStepOf pass happening
 KeepCallsWhole happening (refuses pass) = IsStepOf pass happening
-KeepCallsWhole happening y = Unit {0}
+KeepCallsWhole happening next = Unit {0}
 
--- The execution is of this run. In it each pass has done just this, up to this seat, and no call is pending at last. Each call is invoked
--- right before its first step, and ends right after its last. So the order of calls in time is that of their steps.
+-- An execution of this run, in which each pass does just what `done` says, up to the seat `seat`. No call is pending at the last time. Each
+-- call is invoked right before its first step, and ends right after its last. So calls stand in the order of their steps.
 pub record IsExecutionOf (table : TableView) (run : List Event) (done : ℕ → List Happening) (seat : ℕ → SeatView)
     (last : ℕ) (at : ℕ → Instant) (happens : ℕ → Happening) : Type 0 where
   pub traced : IsTracedExecution table last at happens
@@ -123,18 +127,19 @@ pub record IsExecutionOf (table : TableView) (run : List Event) (done : ℕ → 
   pub idle : (pass : ℕ) → pass < table.layout.passes → (at last).pending pass ≡ None
   pub next_to : (t : ℕ) → suc t < last → KeepCallsWhole (happens t) (happens (suc t))
 
--- Calls of passes whose traces have ended in one run are an execution, and linearizable. No premise about executions is needed.
+-- If the traces of all passes have ended in one run, their calls are an execution, and this is linearizable.
 abbrev pub OneRunIsAnExecution : Type 0
 OneRunIsAnExecution =
     (table : TableView) (run : List Event) (done : ℕ → List Happening) (seat : ℕ → SeatView) → HaveEndedInOneRun table run done seat →
     (last : ℕ) × (at : ℕ → Instant) × (happens : ℕ → Happening) ×
-    IsExecutionOf table run done seat last at happens × IsLinearizable table.layout last (λ t. configuration_of table.layout (at t)) happens
+    IsExecutionOf table run done seat last at happens ×
+    IsLinearizable table.layout last (λ t. configuration_of table.layout (at t)) happens
 
 -- Where passes have ended in one run
 
--- Let each pass have done this, up to this seat, and let a run of the table begin with the steps that each knew. Let each then be shown
--- steps that begin with the run. They have ended in this run. Passes come to that by two rounds of stamps. In the first, each follows a
--- stamp of the pass before it. In the second, each follows one of the last pass.
+-- Let a run of the table begin with the steps that each pass knows at its seat. Let each pass then be shown steps that begin with the run.
+-- The passes have ended in this run at their seats. Two rounds of stamps do it. In the first, each pass follows a stamp of the pass before
+-- it. In the second, each follows a stamp of the last pass.
 abbrev pub ShownHaveEnded : Type 0
 ShownHaveEnded =
     (table : TableView) (run : List Event) (done : ℕ → List Happening) (seat shown : ℕ → SeatView) → IsTableRun table.layout run →
@@ -146,65 +151,71 @@ ShownHaveEnded =
 
 -- Handles of one index
 
--- The handle is at this index, and its pass, of this number, is that of its seat. The pass has done this.
-abbrev pub HandleHasDone : TableView → ℕ → List Happening → HandleView → Type 0
+-- The handle is at this index, and its pass, of this number, has done `done`.
+abbrev pub HandleHasDone : (index : TableView) (pass : ℕ) (done : List Happening) (handle : HandleView) → Type 0
 HandleHasDone index pass done handle =
     (handle.index ≡ index) × (handle.pass ≡ pass_of handle.pass.seat) × HasGoneThrough index pass done handle.pass.seat
 
--- A handle has seen what its leader had, as `hot_see` of C and `stamp` with `follow` say. The leader has made a stamp, and the handle has
--- followed it.
+-- A handle has seen what its leader had seen, as `hot_see` of C says, or `stamp` with `follow`. The leader has made a stamp, and the handle
+-- has followed this stamp.
 pub record HasSeenLeader (was now leader led : HandleView) : Type 0 where
   pub follows : Stays (λ index before later. HasCaughtUp index.layout leader.pass.front before later) was now
   pub traced : RunBeginsWith now.pass.seat.trace leader.pass.seat.trace
-  pub stamped : Stays (λ index k j. HasStamped k j) leader led
+  pub stamped : Stays (λ index before later. HasStamped before later) leader led
 
--- A handle that sees its leader has done one thing more, and so has the leader. The steps that the handle then knows are a run of the
--- table. They begin with those that the leader knew.
+-- Let a handle with pass p see what its leader, with pass q, has seen. The passes of both have then done one thing more: they were shown
+-- changes. The steps that the handle then knows are a run of the table, and begin with those that the leader knew.
 abbrev pub SeeingIsDone : Type 0
 SeeingIsDone =
     (index : TableView) (p q : ℕ) (ours theirs : List Happening) (was now leader led : HandleView) → HandleHasDone index p ours was →
     HandleHasDone index q theirs leader → HasSeenLeader was now leader led →
-    HandleHasDone index p (ours ++ shows p now.pass.seat.known.front ∷ []) now × HandleHasDone index q (theirs ++ shows q leader.pass.seat.known.front ∷ []) led ×
+    HandleHasDone index p (ours ++ shows p now.pass.seat.known.front ∷ []) now ×
+    HandleHasDone index q (theirs ++ shows q leader.pass.seat.known.front ∷ []) led ×
     IsTableRun index.layout now.pass.seat.trace × RunBeginsWith now.pass.seat.trace leader.pass.seat.trace
 
--- Each pass of an index has a handle, which has done this. A run of the table begins with the steps that each knew. Then each has seen what
--- a leader had whose steps begin with this run. The calls of all are one execution, and linearizable. Look-ups and changes have one order
--- that a map could have run. Of two calls that don't overlap the earlier stands first.
+-- Let each pass of an index have a handle, and let a run of the table begin with the steps that each handle knows. Let each handle then
+-- see what a leader has seen, whose steps begin with this run. The calls of all handles are one execution, and linearizable: they have one
+-- order that a map could have run. Of two calls that don't overlap, the earlier stands first.
 abbrev pub HandlesAreLinearizable : Type 0
 HandlesAreLinearizable =
     (index : TableView) (run : List Event) (done : ℕ → List Happening) (was now leader led : ℕ → HandleView) → IsTableRun index.layout run →
-    ((q : ℕ) → q < index.layout.passes → HandleHasDone index q (done q) (was q)) → ((q : ℕ) → q < index.layout.passes → RunBeginsWith run (was q).pass.seat.trace) →
-    ((q : ℕ) → q < index.layout.passes → HasSeenLeader (was q) (now q) (leader q) (led q)) →
-    ((q : ℕ) → q < index.layout.passes → RunBeginsWith (leader q).pass.seat.trace run) →
+    ((pass : ℕ) → pass < index.layout.passes → HandleHasDone index pass (done pass) (was pass)) →
+    ((pass : ℕ) → pass < index.layout.passes → RunBeginsWith run (was pass).pass.seat.trace) →
+    ((pass : ℕ) → pass < index.layout.passes → HasSeenLeader (was pass) (now pass) (leader pass) (led pass)) →
+    ((pass : ℕ) → pass < index.layout.passes → RunBeginsWith (leader pass).pass.seat.trace run) →
     (last : ℕ) × (at : ℕ → Instant) × (happens : ℕ → Happening) ×
-    IsExecutionOf index run done (λ q. (was q).pass.seat) last at happens × IsLinearizable index.layout last (λ t. configuration_of index.layout (at t)) happens
+    IsExecutionOf index run done (λ pass. (was pass).pass.seat) last at happens ×
+    IsLinearizable index.layout last (λ t. configuration_of index.layout (at t)) happens
 
--- what is said of pass 0, and of every other
-abbrev pub of_two : {A : Type 0} → A → A → ℕ → A
-of_two x y pass = if nat_eq pass 0 then x else y
+-- the first value for pass 0, and the other for each other pass
+abbrev pub of_two : {A : Type 0} → (first others : A) (pass : ℕ) → A
+of_two first others pass = if nat_eq pass 0 then first else others
 
--- Two passes of a table that has no other meet, as the clauses `shown` and `traces` of a meeting say. They have ended in the run that both
--- know then.
+-- Let the only two passes of a table meet, as the clauses `shown` and `traces` of a meeting say. They have ended in the run that both know
+-- after the meeting.
 abbrev pub TwoThatMeetHaveEnded : Type 0
 TwoThatMeetHaveEnded =
-    (table : TableView) (ours theirs : List Happening) (s t u v : SeatView) → table.layout.passes ≡ 2 → HasGoneThrough table 0 ours s → HasGoneThrough table 1 theirs t →
-    IsShownAll table.layout s u → IsShownAll table.layout t v → u.trace ≡ v.trace → HaveEndedInOneRun table u.trace (of_two ours theirs) (of_two s t)
+    (table : TableView) (ours theirs : List Happening) (our their our_new their_new : SeatView) → table.layout.passes ≡ 2 →
+    HasGoneThrough table 0 ours our → HasGoneThrough table 1 theirs their →
+    IsShownAll table.layout our our_new → IsShownAll table.layout their their_new → our_new.trace ≡ their_new.trace →
+    HaveEndedInOneRun table our_new.trace (of_two ours theirs) (of_two our their)
 
--- A table was just made by a bulk load. Pass 0 has the seat that has loaded, and the others are new. They have ended in one run, of which
--- the load is the one step.
+-- Let a bulk load just have made a table: pass 0 has the seat that has loaded, and all other passes are new. They have ended in one run,
+-- whose one step is the load.
 abbrev pub LoadedHaveEnded : Type 0
 LoadedHaveEnded =
-    (table : TableView) (words : List ℕ) (seat : ℕ → SeatView) → 0 < table.layout.passes → IsLoad table.layout words → IsLoaderSeat table words (seat 0) →
+    (table : TableView) (words : List ℕ) (seat : ℕ → SeatView) → 0 < table.layout.passes →
+    IsLoad table.layout words → IsLoaderSeat table words (seat 0) →
     ((pass : ℕ) → 1 ≤ pass → pass < table.layout.passes → IsNewSeatOf table pass (seat pass)) →
     HaveEndedInOneRun table (load_trace words).events (of_two (load_call table.layout 0 words) []) seat
 
--- Steps with no notes, as those of a round of collection and of a count, are the steps of a call. The last one is its end.
+-- Steps with no notes, as of a round of collection or a count, are those of a call that ends with the last of them.
 abbrev pub SilentStepsEnd : Type 0
 SilentStepsEnd =
     (table : TableView) (act : Act) (acts : List Act) (start end : SeatView) → Runs table untold (act ∷ acts) (start, tt) (end, tt) →
     (before : List Act) × (last : Act) × (act ∷ acts ≡ before ++ last ∷ []) × Ends table untold before last silent (start, tt) (end, tt)
 
--- There are two passes that end in one run: pass 0 inserts the key of no bytes, with any value, and pass 1 finds it.
+-- There is a run in which two passes have ended. Pass 0 inserts the key of no bytes, with any value, and pass 1 finds this value.
 abbrev pub AnInsertIsFound : Type 0
 AnInsertIsFound =
     (table : TableView) → table.layout.passes ≡ 2 → (value : ℕ) → value < 2 ^ 64 →
@@ -212,8 +223,8 @@ AnInsertIsFound =
     ((seat 0).known.notes ≡ record { place = 0; call = Insert [] value; reply = Inserted } ∷ []) ×
     ((seat 1).known.notes ≡ record { place = 1; call = Get []; reply = Value value } ∷ [])
 
--- Steps of which a gate is told are steps with no gate, too. So what contracts say of calls with a gate is what `HasGoneThrough` asks.
-abbrev pub StepsNeedNoGate : {G : Type 0} → (G → Event → G → Type 0) → Type 0
+-- Steps of which a gate is told are steps without a gate, too. So calls with a gate meet what `HasGoneThrough` asks.
+abbrev pub StepsNeedNoGate : {G : Type 0} → (becomes : G → Event → G → Type 0) → Type 0
 StepsNeedNoGate {G = G} becomes =
     (table : TableView) (acts : List Act) (before later : SeatView × G) →
     (Runs table becomes acts before later → Runs table untold acts (before.0, tt) (later.0, tt)) ×

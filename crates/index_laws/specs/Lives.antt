@@ -1,4 +1,4 @@
--- What passes have lived through, as the contracts of their calls say one after the other, and the one history of it.
+-- What passes have lived through, as the contracts of their calls say, and the one history that passes share.
 use Rattle.std.specs.Prelude.{◌≡◌, ◌≢◌, ℕ, All, List, [], ◌∷◌, ◌++◌, map}
 use Rattle.finite_map.specs.declared.Call.{Call}
 use Rattle.finite_map.specs.declared.Call.TheVariants.{Insert}
@@ -18,9 +18,9 @@ use Rattle.rowex_table.specs.Rule.{loader_of}
 use Rattle.rowex_table.specs.Seats.{SeatView}
 use Rattle.versions.specs.Told.{items_of}
 
--- The calls that a pass has lived through, with their replies. A new pass has none, and pass 0 of a loaded table has the insertions of its
--- pairs. An answered call adds itself, and many look-ups add themselves in the order of their notes. A pass that was refused, collected,
--- met another, followed a stamp (`IsUnnoted`) or scanned (`IsScannedBy`, `IsListedBy`) adds none.
+-- The calls that a pass has lived through, with their replies. A new pass has none, and pass 0 of a loaded table has the insertions of the
+-- table's pairs. An answered call adds itself, and a call of many look-ups adds each, in the order of their notes. A refused call, a round
+-- of collection, a meeting, a stamp (`IsUnnoted`) and a scan (`IsScannedBy`, `IsListedBy`) add none.
 pub data HasLived : Layout → List (Call × Reply) → PassView → Type 0 where
   new : {layout : Layout} {q : ℕ} {j : PassView} → IsNewPass q j → HasLived layout [] j
   loaded : {layout : Layout} {words : List ℕ} {s : SeatView} → IsLoad layout words → s.known ≡ loader_of layout words →
@@ -33,27 +33,27 @@ pub data HasLived : Layout → List (Call × Reply) → PassView → Type 0 wher
   scanned : {layout : Layout} {calls : List (Call × Reply)} {k j : PassView} → HasLived layout calls k → GoesOn layout k j → j.notes ≡ k.notes →
       LegalCalls j.front j.number j.notes → HasLived layout calls j
 
--- a pass, and the calls that it has lived through, with their replies
+-- the life of a pass: the calls that it has lived through, with their replies, and the pass now
 abbrev pub PassLife : Type 0
 PassLife = List (Call × Reply) × PassView
 
--- the passes of these lives have different numbers, have lived through their calls, and have all seen this front
-abbrev pub AreLives : Layout → List Change → List PassLife → Type 0
+-- The lives are of passes with different numbers, which have lived through these calls, and have all seen this front.
+abbrev pub AreLives : (layout : Layout) (front : List Change) (lives : List PassLife) → Type 0
 AreLives layout front [] = Unit {0}
 AreLives layout front (life ∷ lives) =
     HasLived layout life.0 life.1 × (life.1.front ≡ front) × All (λ other. other.1.number ≢ life.1.number) lives × AreLives layout front lives
 
--- A list that the calls of these lives make together. It has each of them once, those of each life in their order.
-abbrev pub LivesAreWoven : List PassLife → List Event → Type 0
+-- The list has the calls of all these lives, each once, and those of each life in their order.
+abbrev pub LivesAreWoven : (lives : List PassLife) (events : List Event) → Type 0
 LivesAreWoven [] es = es ≡ []
 LivesAreWoven (life ∷ lives) es = (others : List Event) × LivesAreWoven lives others × AreWoven (map (λ x. answered x.0 x.1) life.0) others es
 
--- the notes of these lives, one life after the other
+-- the notes of the passes of these lives, one pass after the other
 abbrev pub notes_of_lives : List PassLife → List Note
 notes_of_lives lives = notes_of (map (λ life. (life.1.number, life.1.notes)) lives)
 
--- Passes of different numbers that have seen the same have one legal history of a finite map. Each call that they have lived through stands
--- there once, those of each pass in their order.
+-- Passes that have seen the same changes share one legal history of a finite map. Each call that they have lived through stands in it once,
+-- those of each pass in their order.
 abbrev pub OneHistoryOfAll : Type 0
 OneHistoryOfAll =
     (layout : Layout) (front : List Change) (lives : List PassLife) → AreLives layout front lives →

@@ -1,5 +1,4 @@
--- An index whose passes are idle: which records are free and which stand in the tree after a round of collection, and what a count of all
--- finds.
+-- An index whose passes are idle. Which records are free after a round of collection, which stand in the tree, and what a count finds.
 use Rattle.std.specs.Prelude.{◌≡◌, ◌⊎◌, ℕ, ◌+◌, ◌-◌, ◌<◌, ◌≤◌, All, List, [], ◌++◌, length, Bool, true, false, if◌then◌else◌, nat_eq, None, count_by}
 use Rattle.std.specs.List.{range_with_len}
 use Rattle.finite_map.specs.Fronts.{map_of}
@@ -25,20 +24,20 @@ use Rattle.index_laws.specs.Joined.{HasGoneThrough, HaveEndedInOneRun}
 
 -- Who is at work
 
--- The traces of all passes have ended in this run, and each pass is between two calls (`IsSettled`, the invariant of a pass).
+-- All passes are idle after this run: their traces have ended in it, and each pass is between two calls (`IsSettled`).
 pub record AreAllIdle (table : TableView) (run : List Event) (seat : ℕ → SeatView) : Type 0 where
   pub done : ℕ → List Happening
   pub ended : HaveEndedInOneRun table run done seat
   pub settled : (pass : ℕ) → pass < table.layout.passes → IsSettled (seat pass).known
 
--- No pass has a record that it has claimed, or has unlinked and not retired yet, and none is pinned.
+-- In this core no pass holds a record, claimed or unlinked and not retired yet, and no pass is pinned.
 pub record HasNoneAtWork (core : Core) : Type 0 where
   pub unowned : (rec : Rec) → holder_of (core.fate rec) ≡ None
   pub unpinned : (pass : ℕ) → core.pins pass ≡ None
 
--- Behind these steps only pass q makes some.
-abbrev pub StepsAlone : ℕ → List Event → List Event → Type 0
-StepsAlone q earlier later = (more : List Event) × (later ≡ earlier ++ more) × All (λ x. x.pass ≡ q) more
+-- The later steps are the earlier ones, and then steps of this pass alone.
+abbrev pub StepsAlone : (pass : ℕ) (earlier later : List Event) → Type 0
+StepsAlone pass earlier later = (more : List Event) × (later ≡ earlier ++ more) × All (λ x. x.pass ≡ pass) more
 
 -- What becomes of the records
 
@@ -47,11 +46,11 @@ abbrev pub is_free_fate : Fate → Bool
 is_free_fate Free = true
 is_free_fate fate = false
 
--- how many of the records of one kind below this number are free
-abbrev pub free_below : Core → (ℕ → Rec) → ℕ → ℕ
-free_below core kind n = count_by (λ i. is_free_fate (core.fate (kind i))) (range_with_len 0 n)
+-- how many of the first `count` records of one kind are free
+abbrev pub free_below : (core : Core) (kind : ℕ → Rec) (count : ℕ) → ℕ
+free_below core kind count = count_by (λ i. is_free_fate (core.fate (kind i))) (range_with_len 0 count)
 
--- how many keys the map has
+-- how many keys the core's map has
 abbrev pub number_of_keys : Core → ℕ
 number_of_keys core = length (map_of core.changes)
 
@@ -64,18 +63,18 @@ pub record NoneIsLost (core : Core) : Type 0 where
 
 -- What a count finds
 
--- the sum of a number over all classes of leaf records
-abbrev pub of_leaves : (StateCounts → ℕ) → RecordCounts → ℕ
+-- the sum of one of the counts over all classes of leaf records
+abbrev pub of_leaves : (many : StateCounts → ℕ) (counts : RecordCounts) → ℕ
 of_leaves many counts = many counts.short + many counts.medium + many counts.large + many counts.wide + many counts.long
 
--- By the count, as many leaf records are live as there are keys, and fewer node records. None is claimed.
+-- By the count, there are as many live leaf records as keys, and fewer live node records. No record is claimed.
 pub record CountsKeys (keys : ℕ) (counts : RecordCounts) : Type 0 where
   pub leaves : of_leaves (λ s. s.live) counts ≡ keys
   pub nodes : counts.nodes.live ≤ keys - 1
   pub leaves_held : of_leaves (λ s. s.held) counts ≡ 0
   pub nodes_held : counts.nodes.held ≡ 0
 
--- By the count, the live records are those of the keys, and all others are free.
+-- By the count, the live records are those that the keys need, and all others are free.
 pub record CountsNoneLost (layout : Layout) (keys : ℕ) (counts : RecordCounts) : Type 0 where
   pub live : CountsKeys keys counts
   pub leaves_retired : of_leaves (λ s. s.obsolete) counts ≡ 0
@@ -85,7 +84,7 @@ pub record CountsNoneLost (layout : Layout) (keys : ℕ) (counts : RecordCounts)
 
 -- The laws
 
--- The passes of an index are idle after a run. From there the pass of this seat goes on alone.
+-- All passes of the index are idle after the run. From there one pass goes on alone, from the seat `start` to the seat `end`.
 pub record GoesOnAlone (index : TableView) (run : List Event) (start end : SeatView) : Type 0 where
   pub seat : ℕ → SeatView
   pub idle : AreAllIdle index run seat
@@ -93,39 +92,45 @@ pub record GoesOnAlone (index : TableView) (run : List Event) (start end : SeatV
   pub seat_is : seat start.known.pass ≡ start
   pub alone : StepsAlone start.known.pass run end.trace
 
--- the seats of all passes, of which this is one
-abbrev pub with_seat : (ℕ → SeatView) → SeatView → ℕ → SeatView
+-- the seats of all passes, with this view as that of its pass
+abbrev pub with_seat : (seat : ℕ → SeatView) (view : SeatView) (pass : ℕ) → SeatView
 with_seat seat view pass = if nat_eq pass view.known.pass then view else seat pass
 
--- The core to which these steps lead has the property. To the trace of a pass that has made a step there is such a core (`IsInOneRun`).
-abbrev pub LeadsTo : TableView → List Event → (Core → Type 0) → Type 0
-LeadsTo index run P = (core : Core) → EventsLead (opening index.layout) run core → P core
+-- The property holds of the core to which the run leads from the new index. If a pass knows the run and has made a step, there is such a
+-- core (`IsInOneRun`).
+abbrev pub LeadsTo : (index : TableView) (run : List Event) (Holds : Core → Type 0) → Type 0
+LeadsTo index run Holds = (core : Core) → EventsLead (opening index.layout) run core → Holds core
 
--- Let all passes be idle, and one of them call `collect` or `census`, while no other makes a step. A round loses no record, while fewer
--- steps have been made than there are epochs. A count finds the keys, and behind a round that none is lost. The passes of a new index are
--- idle, and again once one has gone on alone and is between two calls.
+-- An index in which all passes are idle loses no record, while one pass goes on alone.
 pub record NoRecordIsLost {G : Type 0} (becomes : G → Event → G → Type 0) : Type 0 where
+  -- the passes of a new index are idle
   pub begins : (index : TableView) (seat : ℕ → SeatView) → ((pass : ℕ) → pass < index.layout.passes → IsNewSeatOf index pass (seat pass)) →
       AreAllIdle index [] seat
+  -- all passes are idle again once one has gone on alone, and is between two calls
   pub goes_on : (index : TableView) (run : List Event) (start end : SeatView) (done : List Happening) (on : GoesOnAlone index run start end) →
       IsTableRun index.layout end.trace → HasGoneThrough index start.known.pass done end → IsSettled end.known →
       AreAllIdle index end.trace (with_seat on.seat end)
+  -- after a round of collection no record is lost, if fewer steps have been made than there are epochs
   pub round : (index : TableView) (run : List Event) (old new : PassView × G) (nodes leaves : ℕ) → GoesOnAlone index run old.0.seat new.0.seat →
       length run + 2 < EPOCHS → HasCollected index becomes old new nodes leaves → LeadsTo index new.0.seat.trace NoneIsLost
+  -- a count finds as many live records as the keys need
   pub count : (index : TableView) (run : List Event) (old new : PassView × G) (counts : RecordCounts) → GoesOnAlone index run old.0.seat new.0.seat →
       HasCounted index becomes old new counts → LeadsTo index new.0.seat.trace (λ c. CountsKeys (number_of_keys c) counts)
+  -- a count after a round finds that all other records are free
   pub both : (index : TableView) (run : List Event) (old middle new : PassView × G) (nodes leaves : ℕ) (counts : RecordCounts) →
       GoesOnAlone index run old.0.seat middle.0.seat → length run + 2 < EPOCHS → HasCollected index becomes old middle nodes leaves →
       StepsAlone middle.0.seat.known.pass middle.0.seat.trace new.0.seat.trace → HasCounted index becomes middle new counts →
       LeadsTo index new.0.seat.trace (λ c. CountsNoneLost index.layout (number_of_keys c) counts)
 
--- In an index of one pass, a round between any two calls loses no record, and a count finds the keys. The pass has made all changes itself,
--- so its front tells the keys.
+-- An index of one pass loses no record. Its pass has made all changes itself, so the map of its front has the keys.
 pub record OnePassLosesNone {G : Type 0} (becomes : G → Event → G → Type 0) : Type 0 where
+  -- after a round of collection between two calls no record is lost, if fewer steps have been made than there are epochs
   pub round : (index : TableView) (old new : PassView × G) (nodes leaves : ℕ) → index.layout.passes ≡ 1 → IsSettled old.0.seat.known →
       length old.0.seat.trace + 2 < EPOCHS → HasCollected index becomes old new nodes leaves → LeadsTo index new.0.seat.trace NoneIsLost
+  -- a count finds as many live records as the keys need
   pub count : (index : TableView) (old new : PassView × G) (counts : RecordCounts) → index.layout.passes ≡ 1 → IsSettled old.0.seat.known →
       0 < index.layout.nodes → HasCounted index becomes old new counts → CountsKeys (length (map_of new.0.front)) counts
+  -- a count after a round finds that all other records are free
   pub both : (index : TableView) (old middle new : PassView × G) (nodes leaves : ℕ) (counts : RecordCounts) → index.layout.passes ≡ 1 →
       IsSettled old.0.seat.known → length old.0.seat.trace + 2 < EPOCHS → HasCollected index becomes old middle nodes leaves →
       HasCounted index becomes middle new counts →

@@ -1,4 +1,4 @@
--- What the contracts of the index say of a run, as the functions of the module `laws` promise it.
+-- What the contracts of the index say of whole runs, as the functions of the module `laws` promise it.
 use Rattle.std.specs.Prelude.{◌≡◌, ℕ, ◌<◌, ◌≤◌, List, [], ◌∷◌, None}
 use Rattle.atomic_table.specs.Seated.{TableId}
 use Rattle.finite_map.specs.declared.Call.{Call}
@@ -19,43 +19,49 @@ use Rattle.index_laws.specs.Executions.{HasBeenRefused, HasReturned, IsExecution
 abbrev pub OpeningIsNew : Type 0
 OpeningIsNew = (layout : Layout) → IsNewIndex layout (record { core = opening layout; known = opening_of; pending = λ _. None })
 
--- A call that has returned as its contract says responds in the run, with these notes.
+-- In a run, a call that has returned as its contract says responds (`IsResponse`), with the same notes.
 abbrev pub ReturnedResponds : Type 0
 ReturnedResponds =
     (layout : Layout) (last : ℕ) (at : ℕ → Configuration) (happens : ℕ → Happening) → IsWholeRun layout last at happens → (pass t : ℕ) →
     pass < layout.passes → t ≤ last →
     (call : Pending) (notes : List Note) → HasReturned layout at pass t call notes → IsResponse at t pass call notes
 
--- A call that was refused as its contract says is refused in the run.
+-- A call that was refused as its contract says is refused in the sense of runs (`IsRefusal`).
 abbrev pub RefusedIsRefused : Type 0
 RefusedIsRefused =
     (layout : Layout) (at : ℕ → Configuration) (pass t : ℕ) (call : Pending) → HasBeenRefused layout at pass t call → IsRefusal at t pass call
 
--- A call that may find no record of a kind free may be refused with the fault of that kind.
+-- If a call may find no record of a kind free, it may be refused with the fault of this kind.
 abbrev pub LackMayRefuse : Type 0
 LackMayRefuse = (call : Call) (full : Full) → MayLack call full → MayRefuse call (fault_of full)
 
--- An execution is a run, by what contracts say of calls that have ended.
+-- Each execution, in which calls end as their contracts say, is a run.
 abbrev pub ExecutionsAreRuns : Type 0
 ExecutionsAreRuns =
-    (layout : Layout) (last : ℕ) (at : ℕ → Configuration) (happens : ℕ → Happening) → IsExecution layout last at happens → IsWholeRun layout last at happens
+    (layout : Layout) (last : ℕ) (at : ℕ → Configuration) (happens : ℕ → Happening) → IsExecution layout last at happens →
+    IsWholeRun layout last at happens
 
--- Executions are linearizable (Herlihy and Wing, 1990) up to any time. The calls that are pending then must end later, or change the map
--- as they ask.
+-- Executions are linearizable (Herlihy and Wing, 1990) up to any time. Each call that is pending at this time must end by a later one, or
+-- must have changed the map only as it asks.
 abbrev pub ExecutionsAreLinearizable : Type 0
 ExecutionsAreLinearizable =
-    (layout : Layout) (last later : ℕ) (at : ℕ → Configuration) (happens : ℕ → Happening) → last ≤ later → IsExecution layout later at happens →
-    PendingEndOrChangeAsAsked layout last later at → IsLinearizable layout last at happens
+    (layout : Layout) (last later : ℕ) (at : ℕ → Configuration) (happens : ℕ → Happening) → last ≤ later →
+    IsExecution layout later at happens → PendingEndOrChangeAsAsked layout last later at → IsLinearizable layout last at happens
 
--- The laws of calls and their responses, one by one.
+-- How contracts of calls fit runs, each law a field.
 pub record Responses : Type 0 where
+  -- a run may begin at a new table
   pub opening : OpeningIsNew
+  -- a call that has returned responds in the run
   pub returned : ReturnedResponds
+  -- a call that was refused is refused in the run
   pub refused : RefusedIsRefused
+  -- a call that may find no record of a kind free may be refused for want of one
   pub lacks : LackMayRefuse
+  -- an execution is a run
   pub runs : ExecutionsAreRuns
 
--- There are executions in which calls return. In an index that has a pass, pass 0 invokes a get, and makes the four steps of one in an
+-- There is an execution in which a call returns. In a new index with a pass, pass 0 invokes a get, and makes the four steps of a get in an
 -- empty index. The call responds that the key is absent.
 abbrev pub AGetReturns : Type 0
 AGetReturns =

@@ -1,4 +1,4 @@
--- What an atomic step makes of the state of the table, and of the core that shows it.
+-- What an atomic step makes of the state of the table, and of the core that shows this state.
 use Rattle.std.specs.Prelude.{◌≡◌, ℕ, List, [], ◌∷◌, ◌++◌, Some, get_or}
 use mathlib.Core.Option.{some}
 use lib.ListN.{get_elem?}
@@ -19,31 +19,32 @@ use Rattle.rowex_table.specs.declared.traces.TracedView.TheVariants.{Pass}
 use Rattle.rowex_table.specs.Rule.{MayStep, Ruled, found_by}
 use Rattle.linearizability.specs.Configurations.{IsConfigurationStep, Configuration, Pending}
 
--- the act with the word that the pass finds at this core
-abbrev pub made_at : Core → Known → Act → Act
+-- the act with the word that the pass finds if it makes the act at this core
+abbrev pub made_at : (core : Core) (known : Known) (act : Act) → Act
 made_at core known act = found_by act (word_at core (location_of known.pass act))
 
--- what the pass of a seat knows after the step, with which these notes come
-abbrev pub known_after : Core → Known → Act → List Note → Known
+-- what the pass knows after it has made this act at this core, with these notes
+abbrev pub known_after : (core : Core) (known : Known) (act : Act) (notes : List Note) → Known
 known_after core known act notes = record (learned core (made_at core known act) known) { notes = known.notes ++ notes }
 
--- the steps of the run, with this step behind them
-abbrev pub run_after : List Event → Core → Known → Act → List Event
+-- the run with one step more: the pass makes this act at this core
+abbrev pub run_after : (run : List Event) (core : Core) (known : Known) (act : Act) → List Event
 run_after run core known act = run ++ record { pass = known.pass; act = made_at core known act } ∷ []
 
--- The state of the table after the step of the seat's pass: one word is written, and the seat has this view.
-abbrev pub state_after : Layout → State (Unit {0}) TracedView → ℕ → Known → Act → TracedView → State (Unit {0}) TracedView
-state_after layout s id known act view =
-    let word = address layout (location_of known.pass act) in stepped s word (writes act (get_or s.words word 0)) id [] view keeps
+-- the state of the table after the act of the seat's pass: one word is written, and the seat has this view
+abbrev pub state_after : (layout : Layout) (state : State (Unit {0}) TracedView) (id : ℕ) (known : Known) (act : Act) (view : TracedView) →
+    State (Unit {0}) TracedView
+state_after layout state id known act view =
+    let word = address layout (location_of known.pass act) in stepped state word (writes act (get_or state.words word 0)) id [] view keeps
 
--- the view of the seat after the step of its pass
-abbrev pub view_after : List Event → Core → Known → Trace → Act → List Note → TracedView
+-- the view that the seat has after its pass has made this act at this core, with these notes
+abbrev pub view_after : (run : List Event) (core : Core) (known : Known) (trace : Trace) (act : Act) (notes : List Note) → TracedView
 view_after run core known trace act notes =
     Pass (known_after core known act notes) (record { events = run_after run core known act; asides = trace.asides; touches = trace.touches })
 
--- By the rule of the table its run leads to a core that shows its state. An atomic step that a pass may make, by what it knows, is legal in
--- this very core. The core after it shows the state after the step, and what the pass then knows. The table's run has one step more. So
--- cores of steps follow one another.
+-- By the rule of the table its run leads to a core that shows its state. Let a pass make an atomic step that it may make by what it knows.
+-- The step is legal in this very core. The core after the step shows the state after it, and what the pass then knows. The table's run has
+-- one step more.
 abbrev pub StepsFollow : Type 0
 StepsFollow =
     (layout : Layout) (s : State (Unit {0}) TracedView) (ruled : Ruled layout s) (id : ℕ) (known : Known) (trace : Trace) →
@@ -54,8 +55,9 @@ StepsFollow =
     (next.core ≡ after ruled.core known.pass (made_at ruled.core known act)) ×
     (next.run ≡ run_after ruled.run ruled.core known act)
 
--- Let a configuration of a run have this core, and know of the pass what its seat knows. Then the step is a step of the run. It leads to a
--- configuration with the core after the step, which knows of the pass what its seat then knows.
+-- Let a configuration of a run have the core of the table's state, and let the pass know there what its seat knows. An atomic step of the
+-- table is then a step of the run. It leads to a configuration with the core after the step, in which the pass knows what its seat then
+-- knows.
 abbrev pub StepsAreMoments : Type 0
 StepsAreMoments =
     (layout : Layout) (s : State (Unit {0}) TracedView) (ruled : Ruled layout s) (id : ℕ) (known : Known) (trace : Trace) →
