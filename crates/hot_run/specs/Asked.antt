@@ -1,4 +1,4 @@
--- What the program writes.
+-- What the program writes, and how it may end.
 use Rattle.std.specs.Prelude.{ℕ, List, [], ◌∷◌, map, Option}
 use Rattle.std.specs.Io.KnownBytes.{Appends}
 use Rattle.hot_scripts.specs.declared.fault.RunFault.{RunFault}
@@ -12,15 +12,15 @@ use Rattle.hot_scripts.specs.Options.{DoParse, IsAsked}
 use Rattle.script_runs.specs.Runs.{IsAnsweredScript, MayEndBy}
 use Rattle.script_runs.specs.Scripts.{LawfulScripts, MayEndScriptsBy}
 
--- The text answers the script alone if no files are named, or else the scripts in the files and the script after them. `bytes` are those of
--- the file of a name, if they are known.
-abbrev pub AnswersAll : (List ℕ → Option (List ℕ)) → List (List ℕ) → (nodes leaves : ℕ) → List ℕ → List ℕ → Type 0
+-- The text has the answers to the script, and before them, if files are named, those to the scripts in the files. `bytes` gives the bytes
+-- of a name's file, if they are known.
+abbrev pub AnswersAll : (bytes : List ℕ → Option (List ℕ)) (names : List (List ℕ)) (nodes leaves : ℕ) (script text : List ℕ) → Type 0
 AnswersAll bytes [] nodes leaves script text = IsAnsweredScript nodes leaves script text
 AnswersAll bytes (name ∷ names) nodes leaves script text =
     (files : List (List ℕ)) × AreFileStarts bytes (name ∷ names) files × LawfulScripts nodes leaves untold (map (λ f. (tt, tt)) files) files script text
 
--- What these words ask for was answered. The script is all that the reader had, and the answers were written behind what stood there. `old`
--- and `new` are what the reader has left, `before` and `after` what was written, if known.
+-- The program has answered what the words ask for. The script is all that the reader had left, and the text of the answers was written. If
+-- known, `old` and `new` are what the reader has left before and after, `before` and `after` what was written by then.
 pub record IsAnsweredAsAsked (bytes : List ℕ → Option (List ℕ)) (words : List (List ℕ)) (old new before after : Option (List ℕ)) : Type 0 where
   pub nodes : ℕ
   pub leaves : ℕ
@@ -32,12 +32,12 @@ pub record IsAnsweredAsAsked (bytes : List ℕ → Option (List ℕ)) (words : L
   pub answered : AnswersAll bytes names nodes leaves script text
   pub written : Appends before after text
 
--- a run of the scripts in these files, or of none, may end by this fault
-abbrev pub MayEndAllBy : (List ℕ → Option (List ℕ)) → List (List ℕ) → Option (List ℕ) → Option (List ℕ) → RunFault → Type 0
+-- by which fault a run of the script, and of the scripts in the named files, may end
+abbrev pub MayEndAllBy : (bytes : List ℕ → Option (List ℕ)) (names : List (List ℕ)) (old new : Option (List ℕ)) (fault : RunFault) → Type 0
 MayEndAllBy bytes [] old new fault = MayEndBy old new fault
 MayEndAllBy bytes (name ∷ names) old new fault = (files : List (List ℕ)) × AreFileStarts bytes (name ∷ names) files × MayEndScriptsBy files old new fault
 
--- the run that these words ask for may end by this fault
+-- the run that the words ask for may end by this fault
 pub record HasFaultAsAsked (bytes : List ℕ → Option (List ℕ)) (words : List (List ℕ)) (old new : Option (List ℕ)) (fault : RunFault) : Type 0 where
   pub nodes : ℕ
   pub leaves : ℕ
@@ -45,9 +45,9 @@ pub record HasFaultAsAsked (bytes : List ℕ → Option (List ℕ)) (words : Lis
   pub asked : IsAsked words nodes leaves names
   pub ended : MayEndAllBy bytes names old new fault
 
--- The program may end without answers. It may as wrong usage if the words don't parse, and always if memory is refused. If they parse, it
--- may by a failed read, or by a fault of the run.
-abbrev pub MayEndAsAsked : (List ℕ → Option (List ℕ)) → List (List ℕ) → Option (List ℕ) → Option (List ℕ) → Ending → Type 0
+-- How the program may end without answers. It may end as wrong usage only if the words don't parse, and by a failed read only if they parse.
+-- It may end by another fault only if the run that they ask for may. It may always end for want of memory.
+abbrev pub MayEndAsAsked : (bytes : List ℕ → Option (List ℕ)) (words : List (List ℕ)) (old new : Option (List ℕ)) (ending : Ending) → Type 0
 MayEndAsAsked bytes words old new Usage = DoParse words → ⊥
 MayEndAsAsked bytes words old new (Fault Read) = DoParse words
 MayEndAsAsked bytes words old new (Fault Memory) = Unit {0}

@@ -1,4 +1,4 @@
--- What the program says in place of its answers, and its exit status.
+-- What the program writes where it ends without answers, and its exit status.
 use Rattle.std.specs.Prelude.{ℕ, List, codes}
 use Rattle.clap.specs.declared.error.kind.ErrorKind.{ErrorKind}
 use Rattle.clap.specs.declared.error.kind.ErrorKind.TheVariants.{OutOfMemory}
@@ -7,12 +7,12 @@ use Rattle.hot_scripts.specs.Faults.{run_fault_text}
 use Rattle.hot_scripts.specs.declared.ending.Ending.{Ending}
 use Rattle.hot_scripts.specs.declared.ending.Ending.TheVariants.{Usage, Fault}
 
--- the line that the program writes to standard error
+-- the line that the program writes to standard error for this ending
 abbrev pub ending_text : Ending → List ℕ
 ending_text Usage = codes "usage: hot-run [--nodes N] [--leaves L] [FILE]..."
 ending_text (Fault fault) = run_fault_text fault
 
--- the ending for a fault of the command line's parser
+-- the ending for a fault that the command line's parser finds
 abbrev pub ending_of : ErrorKind → Ending
 ending_of OutOfMemory = Fault Memory
 ending_of _ = Usage

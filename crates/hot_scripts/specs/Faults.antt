@@ -5,14 +5,14 @@ use Rattle.hot_scripts.specs.declared.fault.Reason.TheVariants.{Command, Key, Va
 use Rattle.hot_scripts.specs.declared.fault.RunFault.{RunFault}
 use Rattle.hot_scripts.specs.declared.fault.RunFault.TheVariants.{Read, Write, Memory, Script, FileScript, Large}
 
--- what a reason reads as
+-- the text of a reason for which a line is bad
 abbrev pub reason_text : Reason → List ℕ
 reason_text Command = codes "bad command"
 reason_text Key = codes "bad key"
 reason_text Value = codes "bad value"
 reason_text Limit = codes "bad limit"
 
--- what a fault reads as
+-- the text of a fault of a run
 abbrev pub run_fault_text : RunFault → List ℕ
 run_fault_text Read = codes "read failed"
 run_fault_text Write = codes "write failed"

@@ -16,8 +16,8 @@ use Rattle.hot_scripts.specs.declared.command.Version.TheVariants.{First, Second
 use Rattle.hot_scripts.specs.declared.fault.Reason.{Reason}
 use Rattle.hot_scripts.specs.declared.fault.Reason.TheVariants as bad
 
--- the first step's fault, or what the second makes of its value
 infixl 10 ◌>>=◌
+-- the fault of the first step, or the result of the second step for the first one's value
 abbrev pub ◌>>=◌ : {A B : Type 0} → Result A Reason → (A → Result B Reason) → Result B Reason
 Ok x >>= f = f x
 Err e >>= f = Err e
@@ -26,15 +26,15 @@ Err e >>= f = Err e
 abbrev pub most_bytes : ℕ
 most_bytes = 1048576
 
--- The lines of a script, each up to a line end. What follows the last line end is a line too, though it may be empty.
+-- The lines of a script, each up to a line end. What follows the last line end is a line too, even if it is empty.
 abbrev pub lines_of : List ℕ → List (List ℕ)
 lines_of script = slice_split (λ b. b == 10) script
 
--- the words of a line, each up to a space; they may be empty
+-- the words of a line, each up to a space; a word may be empty
 abbrev pub line_words : List ℕ → List (List ℕ)
 line_words line = slice_split (λ b. b == 32) line
 
--- the bytes for which hexadecimal digits stand, or a bad key
+-- the bytes that were decoded from hexadecimal digits, or a bad key if they are no such digits
 abbrev pub decoded : Result (List ℕ) FromHexError → Result (List ℕ) Reason
 decoded (Ok bytes) = Ok bytes
 decoded (Err e) = Err bad.Key
@@ -44,8 +44,8 @@ abbrev pub most_digits : Version → ℕ
 most_digits First = 128
 most_digits Second = 480
 
--- the key that a word spells: a dash for the empty one, or two digits for each byte
-abbrev pub parsed_key : Version → List ℕ → Result (List ℕ) Reason
+-- the key that a word spells: a dash for the empty key, or two hexadecimal digits for each byte
+abbrev pub parsed_key : (version : Version) (word : List ℕ) → Result (List ℕ) Reason
 parsed_key version word =
     if bytes_eq word (codes "-") then Ok []
     else if nat_le 2 (length word) && nat_le (length word) (most_digits version) then decoded (decode_of word)
@@ -59,9 +59,9 @@ is_number word = nat_lt 0 (length word) && nat_le (length word) 20 && list_all i
 abbrev pub number_of : List ℕ → Option ℕ
 number_of word = if is_number word && nat_lt (digits_value 10 word) (2 ^ 64) then Some (digits_value 10 word) else None
 
--- the number, or this reason where there is none
-abbrev pub ok_or_reason : Reason → Option ℕ → Result ℕ Reason
-ok_or_reason reason (Some n) = Ok n
+-- the number as a result; this reason as its fault, if there is no number
+abbrev pub ok_or_reason : (reason : Reason) (number : Option ℕ) → Result ℕ Reason
+ok_or_reason reason (Some number) = Ok number
 ok_or_reason reason None = Err reason
 
 -- the value that a word spells: any number below 2^64
@@ -72,22 +72,22 @@ parsed_value word = ok_or_reason bad.Value (number_of word)
 abbrev pub limit_of : List ℕ → Result ℕ Reason
 limit_of word = ok_or_reason bad.Limit (number_of word) >>= λ n. if nat_le 1 n && nat_le n 1000000 then Ok n else Err bad.Limit
 
--- the command of a call with the key that a word spells
-abbrev pub with_key : Version → (List ℕ → Call) → List ℕ → Result Command Reason
+-- the command that asks this call of the key that a word spells
+abbrev pub with_key : (version : Version) (call : List ℕ → Call) (key : List ℕ) → Result Command Reason
 with_key version call key = parsed_key version key >>= λ k. Ok (Asks (call k))
 
--- the command of a call with the key and the value that two words spell
-abbrev pub parsed_change : Version → (List ℕ → ℕ → Call) → List ℕ → List ℕ → Result Command Reason
+-- the command that asks this call of the key and the value that two words spell
+abbrev pub parsed_change : (version : Version) (call : List ℕ → ℕ → Call) (key value : List ℕ) → Result Command Reason
 parsed_change version call key value = parsed_key version key >>= λ k. parsed_value value >>= λ v. Ok (Asks (call k v))
 
--- the command of a scan of the range and limit that three words spell
-abbrev pub with_range : Version → List ℕ → List ℕ → List ℕ → Result Command Reason
+-- the command for a scan of the range and the limit that three words spell
+abbrev pub with_range : (version : Version) (from upto limit : List ℕ) → Result Command Reason
 with_range version from upto limit =
     parsed_key version from >>= λ f. parsed_key version upto >>= λ u. limit_of limit >>= λ n. Ok (Scan (record { from = f; upto = u; limit = n }))
 
--- The command of these words: a name, and as many words as it takes. Of several faults it has the first. That of the name and of the number
--- of words comes before the others.
-abbrev pub command_of : Version → List (List ℕ) → Result Command Reason
+-- The command that the words of a line spell: a name, and as many words as the name takes. An unknown name or a wrong number of words is
+-- the first fault of the line. After that, the first bad word is.
+abbrev pub command_of : (version : Version) (words : List (List ℕ)) → Result Command Reason
 command_of version (name ∷ key ∷ []) =
     if bytes_eq name (codes "get") then with_key version Get key
     else if bytes_eq name (codes "remove") then with_key version Remove key
@@ -101,47 +101,48 @@ command_of version (name ∷ from ∷ upto ∷ limit ∷ []) =
     else Err bad.Command
 command_of version _ = Err bad.Command
 
--- What a line asks for. It is nothing if the line is empty or begins with #.
-abbrev pub reading_of : Version → List ℕ → Result (Option Command) Reason
+-- the command that a line asks for: none if the line is empty or begins with #
+abbrev pub reading_of : (version : Version) (line : List ℕ) → Result (Option Command) Reason
 reading_of version [] = Ok None
 reading_of version (b ∷ bs) = if b == 35 then Ok None else command_of version (line_words (b ∷ bs)) >>= λ c. Ok (Some c)
 
--- What each line asks for. A first line `hot 2` asks for nothing, and says that the script is of the second version.
-abbrev pub readings_of : List (List ℕ) → List (Result (Option Command) Reason)
+-- The commands that the lines ask for, one result for each line. A first line `hot 2` asks for none, and says that the script is of the
+-- second version.
+abbrev pub readings_of : (lines : List (List ℕ)) → List (Result (Option Command) Reason)
 readings_of [] = []
 readings_of (first ∷ rest) =
     if bytes_eq first (codes "hot 2") then Ok None ∷ map (reading_of Second) rest
     else map (reading_of First) (first ∷ rest)
 
--- the command of a line that is good and asks for one
+-- the command that a good line asks for, if any
 abbrev pub asked : Result (Option Command) Reason → Option Command
 asked (Ok c) = c
 asked (Err reason) = None
 
--- the number of the first bad line and its reason; the first of these lines has the number n
-abbrev pub first_bad : ℕ → List (Result (Option Command) Reason) → Option (ℕ × Reason)
-first_bad n [] = None
-first_bad n (Ok c ∷ readings) = first_bad (n + 1) readings
-first_bad n (Err reason ∷ readings) = Some (n, reason)
+-- the number of the first bad line, and its reason; the first line has the number `first`
+abbrev pub first_bad : (first : ℕ) (readings : List (Result (Option Command) Reason)) → Option (ℕ × Reason)
+first_bad first [] = None
+first_bad first (Ok command ∷ readings) = first_bad (first + 1) readings
+first_bad first (Err reason ∷ readings) = Some (first, reason)
 
--- the value, unless there is a fault
-abbrev pub ok_unless_fault : {A : Type 0} → Option (ℕ × Reason) → A → Result A (ℕ × Reason)
-ok_unless_fault (Some fault) x = Err fault
-ok_unless_fault None x = Ok x
+-- the value as a result, unless there is a fault
+abbrev pub ok_unless_fault : {A : Type 0} → (fault : Option (ℕ × Reason)) (value : A) → Result A (ℕ × Reason)
+ok_unless_fault (Some fault) value = Err fault
+ok_unless_fault None value = Ok value
 
--- the commands of lines, or the first bad one; the first of these lines has the number n
-abbrev pub commands_from : ℕ → List (Result (Option Command) Reason) → Result (List Command) (ℕ × Reason)
-commands_from n readings = ok_unless_fault (first_bad n readings) (filter_map asked readings)
+-- the commands of lines, or else the number and the reason of the first bad line; the first line has the number `first`
+abbrev pub commands_from : (first : ℕ) (readings : List (Result (Option Command) Reason)) → Result (List Command) (ℕ × Reason)
+commands_from first readings = ok_unless_fault (first_bad first readings) (filter_map asked readings)
 
--- the commands of a script, or its first bad line, counted from 1, and what is wrong with it
-abbrev pub commands_of : List ℕ → Result (List Command) (ℕ × Reason)
+-- the commands of a script, or else the number of its first bad line, counted from 1, and the reason
+abbrev pub commands_of : (script : List ℕ) → Result (List Command) (ℕ × Reason)
 commands_of script = commands_from 1 (readings_of (lines_of script))
 
--- the key of a call; for a scan, the empty one
+-- the key of a command that asks a call; the empty key for a scan
 abbrev pub called_key : Command → List ℕ
 called_key (Asks call) = key_of call
 called_key (Scan range) = []
 
--- the command's key has at most so many bytes
-abbrev pub HasKeyUpTo : ℕ → Command → Type 0
+-- the key of the command has at most `most` bytes
+abbrev pub HasKeyUpTo : (most : ℕ) (command : Command) → Type 0
 HasKeyUpTo most command = length (called_key command) ≤ most

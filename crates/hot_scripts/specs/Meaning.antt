@@ -13,20 +13,20 @@ use Rattle.hot_scripts.specs.declared.fault.RunFault.TheVariants.{Script, Large}
 use Rattle.hot_scripts.specs.declared.fault.Reason.{Reason}
 use Rattle.hot_scripts.specs.Grammar.{commands_of, most_bytes}
 
--- a text as a line, with its end
+-- the text as a line, with a line end
 abbrev pub line : List ℕ → List ℕ
 line text = text ++ 10 ∷ []
 
--- a text, and a number behind it in decimal digits without leading zeros
-abbrev pub with_number : List ℕ → ℕ → List ℕ
-with_number word n = word ++ decimal n
+-- a text, and then a number in decimal digits without leading zeros
+abbrev pub with_number : (word : List ℕ) (number : ℕ) → List ℕ
+with_number word number = word ++ decimal number
 
--- a key in lower case digits, or a dash for the empty one
+-- a key in lower case hexadecimal digits, or a dash for the empty key
 abbrev pub key_text : List ℕ → List ℕ
 key_text [] = codes "-"
 key_text (b ∷ bytes) = encode_lower (b ∷ bytes)
 
--- the answer to a call
+-- the text of a reply
 abbrev pub reply_text : Reply → List ℕ
 reply_text reply.Inserted = codes "inserted"
 reply_text (reply.Exists v) = with_number (codes "exists ") v
@@ -42,26 +42,26 @@ reply_text (reply.Removed v) = with_number (codes "removed ") v
 abbrev pub pair_line : List ℕ × ℕ → List ℕ
 pair_line (key, value) = line (codes "pair " ++ key_text key ++ codes " " ++ decimal value)
 
--- the answer to a scan: its pairs, and then how many they are, and whether there are more
-abbrev pub scan_lines : Map → Bool → List ℕ
+-- the lines that answer a scan with these pairs: one for each, and a last one with their number and whether there are more
+abbrev pub scan_lines : (pairs : Map) (more : Bool) → List ℕ
 scan_lines pairs more = flat_map pair_line pairs ++ line (with_number (if more then codes "more " else codes "end ") (length pairs))
 
--- the answer to a scan, which gives the first `limit` pairs of the map in the range
-abbrev pub scan_text : Map → KeyRange → List ℕ
+-- the lines that answer a scan of this range on the map: its first pairs in the range, as many as the limit allows
+abbrev pub scan_text : (pairs : Map) (range : KeyRange) → List ℕ
 scan_text pairs range =
     let found = range_of pairs range.from range.upto in scan_lines (take range.limit found) (nat_lt range.limit (length found))
 
--- the answers to commands, on the map as each finds it
-abbrev pub text_from : Map → List Command → List ℕ
+-- the lines that answer the commands, one after the other, from this map on
+abbrev pub text_from : (pairs : Map) (commands : List Command) → List ℕ
 text_from pairs [] = []
 text_from pairs (Asks call ∷ commands) = line (reply_text (reply_of pairs call)) ++ text_from (map_after pairs call) commands
 text_from pairs (Scan range ∷ commands) = scan_text pairs range ++ text_from pairs commands
 
--- what is printed for commands that begin with an empty map, or the fault of the script
+-- the lines that answer the commands from the empty map on, or the fault of the script
 abbrev pub text_or_fault : Result (List Command) (ℕ × Reason) → Result (List ℕ) RunFault
 text_or_fault (Ok commands) = Ok (text_from [] commands)
 text_or_fault (Err (number, reason)) = Err (Script number reason)
 
--- What a script means: its answers, from the empty map on, or that it is too long, or else its first bad line.
+-- What a script means: the lines that answer its commands, from the empty map on. Or it is too long, or has a first bad line.
 abbrev pub script_meaning : List ℕ → Result (List ℕ) RunFault
 script_meaning script = if nat_lt most_bytes (length script) then Err Large else text_or_fault (commands_of script)

@@ -8,42 +8,42 @@ use Rattle.clap.specs.declared.builder.value_parser.ValueParser.TheVariants.{Sig
 use Rattle.hot_scripts.specs.declared.script.TheConstants.{MAX_FILES}
 use Rattle.record_words.specs.declared.TheConstants.{MAX_LEAVES, MAX_NODES}
 
--- what the parser has as an option of this name: it takes a number from 1 to `most`
-abbrev pub count_rule : List ℕ → ℕ → Rule
+-- the parser's rule of an option of this name, which takes a number from 1 to `most`
+abbrev pub count_rule : (name : List ℕ) (most : ℕ) → Rule
 count_rule name most = record (new_rule name) { long = Some name; action = Some Set; parser = Some (Signed (pos 1) (pos most)) }
 
--- what the parser has as any number of words that are no options
-abbrev pub names_rule : List ℕ → Rule
+-- the parser's rule of words that are no options, any number of them
+abbrev pub names_rule : (name : List ℕ) → Rule
 names_rule name = record (new_rule name) { action = Some Append }
 
--- an argument of this name and rule, which shuts out no other
+-- the argument has this name and this rule, and excludes no other
 pub record IsArgument (name : List ℕ) (rule : Rule) (arg : Arg) : Type 0 where
   pub id : arg.id.now ≡ name
   pub plain : IsPlainArg arg
   pub local : arg.global ≡ false
   pub rule_is : rule_of arg ≡ rule
 
--- an option of this name, which takes a number from 1 to `most`
+-- the argument is an option of this name, which takes a number from 1 to `most`
 pub record IsCountOption (name : List ℕ) (most : ℕ) (option : Arg) : Type 0 where
   pub argument : IsArgument name (count_rule name most) option
   pub parser : option.value_parser ≡ Some (Signed (pos 1) (pos most))
 
--- the program's command line
+-- the program's command line, as the parser has it
 abbrev pub command_line : App
 command_line = with_rule (with_rule (with_rule (new_app (codes "hot-run")) (count_rule (codes "nodes") MAX_NODES))
     (count_rule (codes "leaves") MAX_LEAVES)) (names_rule (codes "FILE"))
 
--- The words give this option the number. Or they give it none, and it is the default.
+-- The number of this option is the one that the words give it. If they give none, it is the default.
 pub record IsOptionNumber (rows : List Row) (option : List ℕ) (default number : ℕ) : Type 0 where
   pub left_out : one_of option rows ≡ None → number ≡ default
-  pub given : (text : List ℕ) → one_of option rows ≡ Some text → IsNumeral 10 (without_leading_plus text) → digits_value 10 (without_leading_plus text) < 2 ^ 32
-      → number ≡ digits_value 10 (without_leading_plus text)
+  pub given : (text : List ℕ) → one_of option rows ≡ Some text →
+      IsNumeral 10 (without_leading_plus text) → digits_value 10 (without_leading_plus text) < 2 ^ 32 → number ≡ digits_value 10 (without_leading_plus text)
 
--- the names of files among these words, the program's name first
+-- the names of files among these words, of which the first is the program's name
 abbrev pub names_in : List (List ℕ) → List (List ℕ)
 names_in words = unwrap_or (all_of (codes "FILE") (matches_of command_line words)) []
 
--- The words parse: the parser of the command line finds no fault in them. They name no more files than there may be.
+-- The words parse: the parser of the command line finds no fault in them. They name at most `MAX_FILES` files.
 pub record DoParse (words : List (List ℕ)) : Type 0 where
   pub faultless : fault_of command_line words ≡ []
   pub few : length (names_in words) ≤ MAX_FILES

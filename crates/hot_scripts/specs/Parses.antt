@@ -1,4 +1,4 @@
--- A script that was parsed, and its commands that are left.
+-- A parsed script, and the commands that are left of it.
 use Rattle.std.specs.Prelude.{◌≡◌, ℕ, ◌+◌, ◌≤◌, List, [], ◌∷◌, length, map, filter_map, Option, Some, None, Result, Ok, Err}
 use Rattle.hot_scripts.specs.declared.command.Command.{Command}
 use Rattle.hot_scripts.specs.declared.fault.Reason.{Reason}
@@ -13,26 +13,26 @@ use Rattle.hot_scripts.specs.Words.{parts_left, text_len}
 abbrev pub script_commands : Script → List Command
 script_commands script = filter_map asked (readings_of (lines_of script.text.items))
 
--- a parse gave a script of these commands, or the first bad line
-abbrev pub Parses : Result Script RunFault → Result (List Command) (ℕ × Reason) → Type 0
+-- the parse returned a script of these commands, or the number and the reason of the first bad line
+abbrev pub Parses : (result : Result Script RunFault) (parsed : Result (List Command) (ℕ × Reason)) → Type 0
 Parses (Ok script) parsed = parsed ≡ Ok (script_commands script)
 Parses (Err (Bad number reason)) parsed = parsed ≡ Err (number, reason)
 Parses (Err _) parsed = ⊥
 
--- what each of the remaining lines asks for
+-- the commands that the remaining lines ask for, one result for each line
 abbrev pub readings_left : Commands → List (Result (Option Command) Reason)
 readings_left commands = map (reading_of commands.version) (parts_left 10 commands.left)
 
--- the commands of the remaining lines
+-- the commands that the remaining lines ask for
 abbrev pub commands_left : Commands → List Command
 commands_left commands = filter_map asked (readings_left commands)
 
--- the first of the commands was given, if there was one, and `after` are the others
-abbrev pub Gives : List Command → Option Command → List Command → Type 0
+-- `given` is the first of the commands, and `after` are the others; none is given if there are no commands
+abbrev pub Gives : (before : List Command) (given : Option Command) (after : List Command) → Type 0
 Gives before None after = before ≡ []
 Gives before (Some command) after = before ≡ command ∷ after
 
--- The lines from the number `first` on ask for what the script's lines ask for, and the lines before them for nothing.
+-- The remaining lines of the script begin with line `first`. They ask for all commands of the script, and have its first bad line, if any.
 pub record IsOpening (script : List ℕ) (first : ℕ) (commands : Commands) : Type 0 where
   pub bad : first_bad 1 (readings_of (lines_of script)) ≡ first_bad first (readings_left commands)
   pub asks : filter_map asked (readings_of (lines_of script)) ≡ commands_left commands

@@ -1,16 +1,16 @@
--- What a run reads of its last script, and how that may fail.
+-- What a run reads of its last script, and how the read may fail.
 use Rattle.std.specs.Prelude.{ℕ, ◌<◌, List, Option, length}
 use Rattle.std.specs.Io.KnownBytes.{Consumes, IsAtEnd}
 use Rattle.hot_scripts.specs.declared.fault.RunFault.{RunFault}
 use Rattle.hot_scripts.specs.declared.fault.RunFault.TheVariants.{Read, Memory, Large}
 use Rattle.hot_scripts.specs.Grammar.{most_bytes}
 
--- the script is all that a reader had left, and the reader has nothing left now
-abbrev pub TakesAll : Option (List ℕ) → Option (List ℕ) → List ℕ → Type 0
+-- the script is all that the reader had left, and nothing is left after it
+abbrev pub TakesAll : (old new : Option (List ℕ)) (script : List ℕ) → Type 0
 TakesAll old new script = Consumes old new script × IsAtEnd new
 
--- a read failed, memory was refused, or more was read than a script may have
-abbrev pub IsReadFault : Option (List ℕ) → Option (List ℕ) → RunFault → Type 0
+-- the fault of a read: it failed, memory was refused, or more was read than a script may have
+abbrev pub IsReadFault : (old new : Option (List ℕ)) (fault : RunFault) → Type 0
 IsReadFault old new Read = Unit {0}
 IsReadFault old new Memory = Unit {0}
 IsReadFault old new Large = (front : List ℕ) × Consumes old new front × (most_bytes < length front)

@@ -7,12 +7,11 @@ ghost use Rattle.hex.specs.Hex.{encode_lower, lower_digits};
 const DIGITS: &[u8; 16] = b"0123456789abcdef";
 
 /// Writes each of `bytes` to `room` as two lower case hexadecimal digits. `room` has exactly two bytes for each.
-///
-/// A compiler makes the first loop step over eight bytes at once, so long keys take a third of the time. The rest is cheaper to look up.
 pub fn write_hex(bytes: &[u8], room: &mut [u8])
     requires { length room.old ≡ 2 * length bytes.now }
     ensures { room.new ≡ encode_lower bytes.now }
 {
+    // A compiler makes the first loop step over eight bytes at once. What is left is cheaper to look up.
     let whole = bytes.len() / 8 * 8;
     'eights: for index in 0..whole {
         let byte = bytes[index];

@@ -29,7 +29,7 @@ pub fn split_once(separator: u8, text: &[u8]) -> (&[u8], Option<&[u8]>)
     }
 }
 
-/// The words of a line, if they are two, three or four; else `Other`.
+/// The words of a line that has two, three or four.
 #[derive(Drop)]
 enum Words<'a> {
     Two(&'a [u8], &'a [u8]),
@@ -38,7 +38,7 @@ enum Words<'a> {
     Other,
 }
 
-/// The words of `line`, parted by single spaces: `Other` for one word, or more than four.
+/// The words of `line`, between single spaces. `Other` if they are not two, three or four.
 fn split_words(line: &[u8]) -> Words<'_>
     ensures { AreWords result (line_words line.now) }
 {
@@ -118,7 +118,7 @@ fn parse_range_command(
     }
 }
 
-/// The command of `line` in a script of `version`, or the reason why its words are none.
+/// The command that the words of `line` spell in a script of `version`, or the reason why they spell none.
 fn parse_command(version: Version, line: &[u8]) -> Result<Command, Reason>
     ensures { result ≡ command_of version (line_words line.now) }
 {
@@ -132,8 +132,8 @@ fn parse_command(version: Version, line: &[u8]) -> Result<Command, Reason>
     }
 }
 
-/// The command of `line` in a script of `version`. `Ok(None)` if `line` is empty or begins with `#`. `Err` with the reason if `line` is
-/// anything else.
+/// The command that `line` asks for in a script of `version`. `Ok(None)` if `line` is empty or begins with `#`. An error with the reason if
+/// the line is bad.
 pub fn parse_line(version: Version, line: &[u8]) -> Result<Option<Command>, Reason>
     ensures { result ≡ reading_of version line.now }
 {

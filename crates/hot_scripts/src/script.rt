@@ -16,7 +16,7 @@ pub const MAX_SCRIPT: usize = 1_048_576;
 /// The most files that a run may have.
 pub const MAX_FILES: usize = 63;
 
-/// A script without a bad line, as `parse_line` tells them. It keeps its text, and no command.
+/// A script in which `parse_line` finds no bad line. It keeps the text, and no command.
 #[derive(Drop)]
 pub struct Script {
     text: Vec<u8>,
@@ -26,7 +26,8 @@ pub struct Script {
     ghost is_key: { longest ≤ MAX_BYTES },
 }
 
-/// The commands of a script that are left: those of the lines in the text `left`, by the grammar of `version`. None if there is no text.
+/// The commands that are left of a script: those of the lines in the text `left`, in the grammar of `version`. There are none if there is no
+/// text.
 #[derive(Clone, Copy)]
 pub struct Commands<'a> {
     version: Version,
@@ -36,7 +37,8 @@ pub struct Commands<'a> {
 impl Script {
     ghost use Rattle.hot_scripts.specs.Parses.{Parses, script_commands, commands_left};
 
-    /// The script with the text `text`, `MAX_SCRIPT` bytes at most; if it has a bad line, `RunFault::Script` with the first one.
+    /// The script with this text, `MAX_SCRIPT` bytes at most. If it has a bad line, `RunFault::Script` with the number and the reason of the
+    /// first one.
     pub fn parse(text: Vec<u8>) -> Result<Script, RunFault>
         requires { vec_len text ≤ MAX_SCRIPT }
         ensures { Parses result (commands_of text.items) }
@@ -48,7 +50,7 @@ impl Script {
         }
     }
 
-    /// How many bytes the longest key of its calls has, or 0 if it has no call.
+    /// A number of bytes that no key of its calls exceeds, `MAX_BYTES` at most.
     pub fn longest_key_length(&self) -> usize
         ensures keys { All (HasKeyUpTo result) (script_commands self.now) }
         ensures few { result ≤ MAX_BYTES }
@@ -68,7 +70,7 @@ impl Script {
 impl<'a> Commands<'a> {
     ghost use Rattle.hot_scripts.specs.Parses.{Gives, IsOpening, commands_left, readings_left};
 
-    /// Returns the next command, after which the lines behind its own are left; `None` if no line that is left has one.
+    /// Takes out the first of the commands and returns it. `None` if none is left.
     pub fn next_command(&mut self) -> Option<Command>
         ensures { Gives (commands_left self.old) result (commands_left self.new) }
     {
@@ -104,8 +106,8 @@ impl<'a> Commands<'a> {
         }
     }
 
-    /// The most bytes that the key of a call in these lines has; 0 if there is no call. If a line is bad, the error is the number of the
-    /// first such line, and what is wrong with it. The first line has the number `first`.
+    /// A number of bytes that no key of a call in these lines exceeds, `MAX_BYTES` at most. If a line is bad, the error is the number and the
+    /// reason of the first such line. The first line has the number `first`.
     fn longest_key_length(self, first: u32) -> Result<usize, (u32, Reason)>
         requires { first + text_len self.left < 2 ^ 32 }
         ensures good { IfOk result (λ longest. first_bad first (readings_left self.entry) ≡ None) }

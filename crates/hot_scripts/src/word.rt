@@ -60,7 +60,7 @@ fn are_digits(word: &[u8]) -> bool
     word.iter().all(|byte| byte.is_ascii_digit())
 }
 
-/// The number that `word` stands for; `None` if it is no number, or one above 2^64 - 1.
+/// The number that `word` stands for. `None` if `word` is no number, or stands for one above 2^64 - 1.
 fn parse_number(word: &[u8]) -> Option<u64>
     ensures { result ≡ number_of word.now }
 {
@@ -73,7 +73,7 @@ fn parse_number(word: &[u8]) -> Option<u64>
     }
 }
 
-/// The value that `word` stands for; `Reason::Value` if it is no number, or one above 2^64 - 1.
+/// The value that `word` stands for. `Reason::Value` if `word` is no number, or stands for one above 2^64 - 1.
 pub fn parse_value(word: &[u8]) -> Result<u64, Reason>
     ensures { result ≡ parsed_value word.now }
 {

@@ -1,4 +1,4 @@
--- What the commands of a script are answered, and the lines of that.
+-- The answers to the commands of a script, and their lines.
 use Rattle.std.specs.Prelude.{ℕ, List, Option, None, Some, codes}
 use Rattle.finite_map.specs.declared.Call.{Call}
 use Rattle.finite_map.specs.declared.Note.{Note}
@@ -12,7 +12,7 @@ use Rattle.hot_scripts.specs.Meaning.{line, reply_text, scan_lines}
 use Rattle.script_runs.specs.declared.answer.Answer.{Answer}
 use Rattle.script_runs.specs.declared.answer.Answer.TheVariants.{Reply, Full as Refused}
 
--- the text of a refusal for want of records
+-- the text of a refusal for want of records of this kind
 abbrev pub full_text : Full → List ℕ
 full_text Nodes = codes "full nodes"
 full_text Leaves = codes "full leaves"
@@ -22,14 +22,14 @@ abbrev pub answer_text : Answer → List ℕ
 answer_text (Reply reply) = reply_text reply
 answer_text (Refused full) = full_text full
 
--- A command with its answer. It is a call with its note, or one that lacked records of a kind. Or it is a scan, made while its pass's front
--- grew from one length to the other.
+-- A command with its answer. It is a call that was answered, with its note, a call that lacked records of a kind, or a scan. `before`
+-- and `after` are the lengths of the pass's front at the scan's load of the root and at its end.
 pub data Answered : Type 0 where
-  called : Note → Answered
-  refused : Call → Full → Answered
-  listed : KeyRange → Scan → ℕ → ℕ → Answered
+  called : (note : Note) → Answered
+  refused : (call : Call) (lacks : Full) → Answered
+  listed : (range : KeyRange) (scan : Scan) (before after : ℕ) → Answered
 
--- the command that was answered
+-- the command to which this is the answer
 abbrev pub answered_command : Answered → Command
 answered_command (called note) = Asks note.call
 answered_command (refused call full) = Asks call
@@ -41,13 +41,13 @@ lines_of_answer (called note) = line (reply_text note.reply)
 lines_of_answer (refused call full) = line (full_text full)
 lines_of_answer (listed range scan before after) = scan_lines scan.pairs.items scan.more
 
--- the note of an answered call
+-- the note of a call that was answered; none for a refused call or a scan
 abbrev pub note_of : Answered → Option Note
 note_of (called note) = Some note
 note_of (refused call full) = None
 note_of (listed range scan before after) = None
 
--- the command was not refused
+-- the command was not refused for want of records
 abbrev pub IsGranted : Answered → Type 0
 IsGranted (called note) = Unit {0}
 IsGranted (refused call full) = ⊥

@@ -1,4 +1,4 @@
--- What the functions of a run leave: what a pass goes through by commands, and the threads of scripts.
+-- What the functions of a run leave: what commands do to a pass, and what threads of scripts do.
 use Rattle.std.specs.Prelude.{◌≡◌, ℕ, ◌++◌, All, List, [], ◌∷◌, length, map, flat_map, codes}
 use Rattle.finite_map.specs.declared.Call.{Call}
 use Rattle.rowex_core.specs.declared.event.Event.{Event}
@@ -19,67 +19,71 @@ use Rattle.script_runs.specs.Answers.{Answered, called, refused, answered_comman
 use Rattle.script_runs.specs.Scripts.{sections}
 use Rattle.script_runs.specs.Told.{AreTold, IsCommandTold}
 
--- the call with its answer, at this place if it was not refused
-abbrev pub answered_as : Call → Answer → ℕ → Answered
+-- the call with its answer as a command with an answer; its note has this place
+abbrev pub answered_as : (call : Call) (answer : Answer) (place : ℕ) → Answered
 answered_as call (Reply reply) place = called (record { place = place; call = call; reply = reply })
 answered_as call (Refused full) place = refused call full
 
--- The pass was told the answer to this command, and its gate the steps. The answer's lines follow the text that stood before.
-pub record HasAnsweredCommand {G : Type 0} (index : TableView) (becomes : G → Event → G → Type 0) (old : PassView × G) (command : Command) (new : PassView × G)
-    (before after : List ℕ) : Type 0 where
+-- The pass has run this command: it was told the answer, and its gate was told the steps. `after` is the text `before` with the answer's
+-- lines behind it.
+pub record HasAnsweredCommand {G : Type 0} (index : TableView) (becomes : G → Event → G → Type 0)
+    (old : PassView × G) (command : Command) (new : PassView × G) (before after : List ℕ) : Type 0 where
   pub answer : Answered
   pub command_is : answered_command answer ≡ command
   pub told : IsCommandTold index.layout old.0 answer new.0
   pub steps : HasMadeCallSteps index becomes old new
   pub text_is : after ≡ before ++ lines_of_answer answer
 
--- The pass made these commands, one after another, and the text has the answers to them.
-pub record HasRunCommands {G : Type 0} (index : TableView) (becomes : G → Event → G → Type 0) (old : PassView × G) (commands : List Command) (new : PassView × G)
-    (text : List ℕ) : Type 0 where
+-- The pass has run these commands, one after another, and the text has their answers.
+pub record HasRunCommands {G : Type 0} (index : TableView) (becomes : G → Event → G → Type 0)
+    (old : PassView × G) (commands : List Command) (new : PassView × G) (text : List ℕ) : Type 0 where
   pub answers : List Answered
   pub commands_are : map answered_command answers ≡ commands
   pub text_is : text ≡ flat_map lines_of_answer answers
   pub told : AreTold index becomes old answers new
 
--- the index's pass of this number, which is new
-abbrev pub IsNewPassOf : TableView → ℕ → PassView → Type 0
-IsNewPassOf index q pass = Owns index pass × IsNewPass q pass
+-- the pass of this number belongs to the index, and is new
+abbrev pub IsNewPassOf : (index : TableView) (number : ℕ) (pass : PassView) → Type 0
+IsNewPassOf index number pass = Owns index pass × IsNewPass number pass
 
--- there are a script and a gate for each handle or pass
-abbrev pub AreReady : {H C G : Type 0} → List H → List C → List G → Type 0
+-- there are as many scripts and gates as handles
+abbrev pub AreReady : {H C G : Type 0} → (handles : List H) (scripts : List C) (gates : List G) → Type 0
 AreReady handles scripts gates = (length scripts ≡ length handles) × (length gates ≡ length handles)
 
--- the thread of this handle and gate ran these commands, and `ran` is what became of both
-abbrev pub IsDone : {G : Type 0} → (G → Event → G → Type 0) → HandleView × G → List Command → Done × G → Type 0
-IsDone becomes a commands ran =
-    (ran.0.handle.index ≡ a.0.index) × HasRunCommands a.0.index becomes (a.0.pass, a.1) commands (ran.0.handle.pass, ran.1) ran.0.text.items
+-- The thread with this handle and this gate has run these commands. `ran` is the handle after it with its text, and the gate after it.
+abbrev pub IsDone : {G : Type 0} → (becomes : G → Event → G → Type 0) (handle : HandleView × G) (commands : List Command) (ran : Done × G) → Type 0
+IsDone becomes handle commands ran =
+    (ran.0.handle.index ≡ handle.0.index) ×
+    HasRunCommands handle.0.index becomes (handle.0.pass, handle.1) commands (ran.0.handle.pass, ran.1) ran.0.text.items
 
--- the thread's order has this handle, these commands and this gate
-abbrev pub IsOrderOf : {G : Type 0} → HandleView × G → List Command → Order G → Type 0
-IsOrderOf a commands order = (order.handle.value ≡ a.0) × (order.gate.value ≡ a.1) × (script_commands order.script.value ≡ commands)
+-- a thread's order has this handle, this gate and these commands
+abbrev pub IsOrderOf : {G : Type 0} → (handle : HandleView × G) (commands : List Command) (order : Order G) → Type 0
+IsOrderOf handle commands order =
+    (order.handle.value ≡ handle.0) × (order.gate.value ≡ handle.1) × (script_commands order.script.value ≡ commands)
 
--- the thread did what its order says
-abbrev pub HasKept : {G : Type 0} → (G → Event → G → Type 0) → Order G → Done × G → Type 0
+-- the thread has run the commands of its order, with the handle and the gate of its order
+abbrev pub HasKept : {G : Type 0} → (becomes : G → Event → G → Type 0) (order : Order G) (ran : Done × G) → Type 0
 HasKept becomes order ran = IsDone becomes (order.handle.value, order.gate.value) (script_commands order.script.value) ran
 
--- R holds of the items of three lists, one after another
-abbrev pub AllThree : {A B C : Type 0} → (A → B → C → Type 0) → List A → List B → List C → Type 0
-AllThree R [] [] [] = Unit {0}
-AllThree R (x ∷ xs) (y ∷ ys) (z ∷ zs) = R x y z × AllThree R xs ys zs
-AllThree R _ _ _ = ⊥
+-- `Holds` holds of the items of three lists, which are equally long, place by place
+abbrev pub AllThree : {A B C : Type 0} → (Holds : A → B → C → Type 0) (first : List A) (second : List B) (third : List C) → Type 0
+AllThree Holds [] [] [] = Unit {0}
+AllThree Holds (x ∷ xs) (y ∷ ys) (z ∷ zs) = Holds x y z × AllThree Holds xs ys zs
+AllThree Holds _ _ _ = ⊥
 
--- the handle, and those of scripts that have run, are at the index
-abbrev pub AreAt : TableView → HandleView → List Done → Type 0
+-- this handle, and the handles of scripts that have run, are at the index
+abbrev pub AreAt : (index : TableView) (handle : HandleView) (done : List Done) → Type 0
 AreAt index handle done = (handle.index ≡ index) × All (λ d. d.handle.index ≡ index) done
 
--- the pass meets those of the scripts that have run, one after another
-abbrev pub MeetInTurn : TableView → PassView → List Done → PassView → List Done → Type 0
+-- The pass meets the passes of the scripts that have run, one after another. `old` and `ran` become `new` and `met`, with the same texts.
+abbrev pub MeetInTurn : (index : TableView) (old : PassView) (ran : List Done) (new : PassView) (met : List Done) → Type 0
 MeetInTurn index old [] new [] = new ≡ old
 MeetInTurn index old (before ∷ befores) new (after ∷ afters) =
-    (m : PassView) × HaveMet index.layout old before.handle.pass m after.handle.pass × (after.text ≡ before.text) × MeetInTurn index m befores new afters
+    (middle : PassView) × HaveMet index.layout old before.handle.pass middle after.handle.pass ×
+    (after.text ≡ before.text) × MeetInTurn index middle befores new afters
 MeetInTurn index old _ new _ = ⊥
 
--- The handle's pass ran the last script's commands, and then met those of the files again. The text has all answers.
+-- The handle's pass has run the last script's commands, and then met the passes of the files again. The text has all answers.
 pub record HasAnsweredLast (handle : HandleView) (met : List Done) (commands : List Command) (text : List ℕ) : Type 0 where
   pub after : PassView
   pub last : PassView
@@ -90,8 +94,8 @@ pub record HasAnsweredLast (handle : HandleView) (met : List Done) (commands : L
   pub meet : MeetInTurn handle.index after met last again
   pub text_is : text ≡ sections 1 (map (λ d. d.text.items) again) ++ line (codes "last") ++ answers
 
--- The handle's pass met those of scripts that had run, one after another, and the last script was answered. The gates are those of the
--- scripts that had run.
+-- The handle's pass met the passes of the scripts in files, which had run, and then answered the last script. The results have the gates of
+-- the scripts in files, and all answers as texts.
 pub record HaveAnswered {G : Type 0} (ran : List (Done × G)) (commands : List Command) (handle : HandleView) (results : Results G) : Type 0 where
   pub met : List Done
   pub after : PassView

@@ -1,4 +1,4 @@
--- What a run of a script reads, writes and returns.
+-- What a run of one script writes, and how the run may end.
 use Rattle.std.specs.Prelude.{◌≡◌, ℕ, ◌≤◌, ◌++◌, List, [], ◌∷◌, length, map, All, Option, Ok, Err, IsOk}
 use Rattle.finite_map.specs.declared.Change.{Change}
 use Rattle.finite_map.specs.Maps.{Map, map_after, reply_of}
@@ -13,16 +13,16 @@ use Rattle.hot_scripts.specs.Streams.{IsReadFault, TakesAll}
 use Rattle.script_runs.specs.Answers.{Answered, called, refused, listed, IsGranted, answered_command, full_text}
 use Rattle.script_runs.specs.Told.{IsSizedFor, WasToldAnew}
 
--- The text of answers, each on the map as the command found it. A refusal leaves the map, so the others are answered as if the refused
--- commands weren't there.
-abbrev pub text_told : Map → List Answered → List ℕ
+-- The lines of the answers to commands, one after the other, from this map on. A refused command leaves the map. So all others are answered
+-- as if the refused ones weren't there.
+abbrev pub text_told : (pairs : Map) (answers : List Answered) → List ℕ
 text_told pairs [] = []
 text_told pairs (called note ∷ answers) = line (reply_text (reply_of pairs note.call)) ++ text_told (map_after pairs note.call) answers
 text_told pairs (refused call full ∷ answers) = line (full_text full) ++ text_told pairs answers
 text_told pairs (listed range scan before after ∷ answers) = scan_text pairs range ++ text_told pairs answers
 
 -- The text has the answers to the commands on a new index with one pass and so many records. Each answer is that of the map that the
--- earlier ones left. A command was refused only if its call found no record of the kind free (`IsCommandTold`). All steps of its calls
+-- earlier commands left. A command was refused only if its call found no record of the kind free (`IsCommandTold`). All steps of the calls
 -- stand in one run from the new table on.
 pub record AreAnswered (nodes leaves : ℕ) (commands : List Command) (text : List ℕ) : Type 0 where
   pub index : TableView
@@ -33,7 +33,7 @@ pub record AreAnswered (nodes leaves : ℕ) (commands : List Command) (text : Li
   pub commands_are : map answered_command answers ≡ commands
   pub text_is : text ≡ text_told [] answers
 
--- The text has the answers to the script's commands. It is what the script means, if no command was refused.
+-- The text has the answers to the commands of the script. If no command was refused, the text is what the script means.
 pub record IsAnsweredScript (nodes leaves : ℕ) (script text : List ℕ) : Type 0 where
   pub short : length script ≤ most_bytes
   pub commands : List Command
@@ -41,9 +41,9 @@ pub record IsAnsweredScript (nodes leaves : ℕ) (script text : List ℕ) : Type
   pub run : AreAnswered nodes leaves commands text
   pub meaning : All IsGranted run.answers → script_meaning script ≡ Ok text
 
--- A run may end by its script's first bad line, or by a failed write if the script has a text. It may end by a fault of its reads or of
--- memory.
-abbrev pub MayEndBy : Option (List ℕ) → Option (List ℕ) → RunFault → Type 0
+-- By which fault a run of one script may end. It is the first bad line of the script, or a fault of its reads or of memory. If the script
+-- has no bad line, it may be a failed write.
+abbrev pub MayEndBy : (old new : Option (List ℕ)) (fault : RunFault) → Type 0
 MayEndBy old new (Script number reason) = (script : List ℕ) × TakesAll old new script × (script_meaning script ≡ Err (Script number reason))
 MayEndBy old new Write = (script : List ℕ) × TakesAll old new script × IsOk (script_meaning script)
 MayEndBy old new fault = IsReadFault old new fault

@@ -1,4 +1,4 @@
--- Scripts that run on one index, each with a pass of its own: what they may be answered, and how such a run may end.
+-- Scripts that run on one index, each with a pass of its own: what answers they may have, and how such a run may end.
 use Rattle.std.specs.Prelude.{◌≡◌, ◌⊎◌, ℕ, ◌+◌, ◌≤◌, ◌++◌, List, [], ◌∷◌, length, map, filter_map, flat_map, take, All, Option, Ok, Err, IsOk, codes}
 use Rattle.finite_map.specs.declared.Change.{Change}
 use Rattle.finite_map.specs.declared.Note.{Note}
@@ -20,26 +20,26 @@ use Rattle.script_runs.specs.Answers.{Answered, called, refused, listed, answere
 use Rattle.script_runs.specs.Runs.{MayEndBy}
 use Rattle.script_runs.specs.Told.{IsOfSize, WasTold, WasToldAnew}
 
--- A script that was run: its commands with their answers, in their order, and the changes that its pass had seen at the end.
+-- A script that has run: its commands with their answers, in order, and the changes that its pass has seen by the end.
 pub record Ran : Type 0 where
   pub answers : List Answered
   pub front : List Change
 
--- the commands of a script that was run
+-- the commands of the script that has run
 abbrev pub commands_in : Ran → List Command
 commands_in ran = map answered_command ran.answers
 
--- the notes of a script that was run
+-- the notes of the answered calls of the script that has run
 abbrev pub notes_in : Ran → List Note
 notes_in ran = filter_map note_of ran.answers
 
--- the text of the answers to a script that was run
+-- the lines of the answers to the script that has run
 abbrev pub text_in : Ran → List ℕ
 text_in ran = flat_map lines_of_answer ran.answers
 
 -- The answers stand in the front in their order, none before the place `low`. A scan is lawful between two prefixes of the front. The
--- shorter has the changes of all commands before it. No later command stands before the end of the longer.
-abbrev pub StandFrom : List Change → ℕ → List Answered → Type 0
+-- shorter one has the changes of all earlier commands. No later command stands before the end of the longer one.
+abbrev pub StandFrom : (front : List Change) (low : ℕ) (answers : List Answered) → Type 0
 StandFrom front low [] = Unit {0}
 StandFrom front low (called note ∷ rest) = (low ≤ note.place) × StandFrom front (place_after note) rest
 StandFrom front low (refused call full ∷ rest) = MayLack call full × StandFrom front low rest
@@ -48,29 +48,29 @@ StandFrom front low (listed range scan before after ∷ rest) =
     × IsLawfulScan (take before front) (take after front) range.from range.upto range.limit scan
     × StandFrom front after rest
 
--- The calls of pass q that the script made are legal in its front. All its commands stand there from the place `low` on.
+-- The script has run with pass q. The calls of the pass are legal in its front, and all commands stand there in order, from `low` on.
 pub record IsLegalRun (q low : ℕ) (ran : Ran) : Type 0 where
   pub legal : LegalCalls ran.front q (notes_in ran)
   pub stand : StandFrom ran.front low ran.answers
 
--- each element has the property by its number, which counts up from `first`
-abbrev pub AllFrom : {A : Type 0} → ℕ → (ℕ → A → Type 0) → List A → Type 0
-AllFrom first p [] = Unit {0}
-AllFrom first p (x ∷ xs) = p first x × AllFrom (first + 1) p xs
+-- `Holds` holds of each item and its number, which counts up from `first`
+abbrev pub AllFrom : {A : Type 0} → (first : ℕ) (Holds : ℕ → A → Type 0) (items : List A) → Type 0
+AllFrom first Holds [] = Unit {0}
+AllFrom first Holds (item ∷ items) = Holds first item × AllFrom (first + 1) Holds items
 
--- R holds of the items of two lists, one after another, by their number, which counts up from `first`
-abbrev pub AllTwoFrom : {A B : Type 0} → ℕ → (ℕ → A → B → Type 0) → List A → List B → Type 0
-AllTwoFrom first R [] [] = Unit {0}
-AllTwoFrom first R (x ∷ xs) (y ∷ ys) = R first x y × AllTwoFrom (first + 1) R xs ys
-AllTwoFrom first R _ _ = ⊥
+-- `Holds` holds of the items of two lists, which are equally long, and of their number, which counts up from `first`
+abbrev pub AllTwoFrom : {A B : Type 0} → (first : ℕ) (Holds : ℕ → A → B → Type 0) (one : List A) (other : List B) → Type 0
+AllTwoFrom first Holds [] [] = Unit {0}
+AllTwoFrom first Holds (x ∷ xs) (y ∷ ys) = Holds first x y × AllTwoFrom (first + 1) Holds xs ys
+AllTwoFrom first Holds _ _ = ⊥
 
--- each script's notes with the number of its pass, which counts up from `first`
-abbrev pub by_pass : ℕ → List Ran → List (ℕ × List Note)
+-- the notes of each script with the number of its pass, which counts up from `first`
+abbrev pub by_pass : (first : ℕ) (scripts : List Ran) → List (ℕ × List Note)
 by_pass first [] = []
 by_pass first (ran ∷ more) = (first, notes_in ran) ∷ by_pass (first + 1) more
 
--- the answers to files, each below its heading with the file's number, which counts up from `first`
-abbrev pub sections : ℕ → List (List ℕ) → List ℕ
+-- the answers to the scripts in files, each behind a line with the file's number, which counts up from `first`
+abbrev pub sections : (first : ℕ) (texts : List (List ℕ)) → List ℕ
 sections first [] = []
 sections first (text ∷ texts) = line (with_number (codes "file ") first) ++ text ++ sections (first + 1) texts
 
@@ -94,9 +94,9 @@ pub record LawfulAnswers (scripts : List (List Command)) (last : List Command) (
   pub makers : All (λ c. c.pass ≤ length scripts) last_ran.front
   pub text_is : text ≡ sections 1 (map text_in files_ran) ++ line (codes "last") ++ text_in last_ran
 
--- The text has lawful answers, given on one index of so many records. The calls of each file's pass, a new one, went to its gate, step by
--- step. A command was refused only if its call found no record of the kind free (`IsCommandTold`). Each gate is given as it was before and
--- after.
+-- The text has lawful answers, given on one index of so many records. Each file has a new pass, and its gate was told the steps of the
+-- pass's calls. `gates` has each gate as it was before and after. A command was refused only if its call found no record of the kind free
+-- (`IsCommandTold`).
 pub record AreAllAnswered {G : Type 0} (nodes leaves : ℕ) (becomes : G → Event → G → Type 0) (gates : List (G × G))
     (scripts : List (List Command)) (last : List Command) (text : List ℕ) : Type 0 where
   pub lawful : LawfulAnswers scripts last text
@@ -105,8 +105,8 @@ pub record AreAllAnswered {G : Type 0} (nodes leaves : ℕ) (becomes : G → Eve
   pub files_told : AllTwoFrom 0 (λ pass gate ran. WasToldAnew index becomes pass gate ran.answers ran.front) gates lawful.files_ran
   pub last_told : WasTold index untold (length scripts) (tt, tt) lawful.met lawful.last_ran.answers lawful.last_ran.front
 
--- Several scripts, after Herlihy and Wing. These files and the last script have commands, and the text answers them lawfully, on an index
--- of so many records. Each file's gate, given as it was before and after, was told the steps of its calls.
+-- What a run of several scripts writes. The scripts in files and the last script have commands. The text has lawful answers to them, given
+-- on one index of so many records. Each file's gate, in `gates` as it was before and after, was told the steps of the file's calls.
 pub record LawfulScripts {G : Type 0} (nodes leaves : ℕ) (becomes : G → Event → G → Type 0) (gates : List (G × G))
     (files : List (List ℕ)) (script text : List ℕ) : Type 0 where
   pub scripts : List (List Command)
@@ -116,8 +116,8 @@ pub record LawfulScripts {G : Type 0} (nodes leaves : ℕ) (becomes : G → Even
   pub last_is : commands_of script ≡ Ok last
   pub answers : AreAllAnswered nodes leaves becomes gates scripts last text
 
--- A run of several scripts may end by want of memory, or by the fault of the first file that has one. If none has, it may end as a run of
--- the last script alone may.
-abbrev pub MayEndScriptsBy : List (List ℕ) → Option (List ℕ) → Option (List ℕ) → RunFault → Type 0
+-- By which fault a run of several scripts may end: want of memory, or the fault of the first file that has one. If no file has one, any by
+-- which a run of the last script alone may end.
+abbrev pub MayEndScriptsBy : (files : List (List ℕ)) (old new : Option (List ℕ)) (fault : RunFault) → Type 0
 MayEndScriptsBy files old new Memory = Unit {0}
 MayEndScriptsBy files old new fault = (commands_of_files 1 files ≡ Err fault) ⊎ (IsOk (commands_of_files 1 files) × MayEndBy old new fault)

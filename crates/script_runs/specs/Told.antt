@@ -1,4 +1,4 @@
--- What a pass of an index is told by the commands of a script, and its gate by their steps.
+-- What a pass is told by the commands of a script, and what its gate is told by their steps.
 use Rattle.std.specs.Prelude.{◌≡◌, ℕ, ◌<◌, ◌≤◌, ◌++◌, All, List, [], ◌∷◌, length}
 use Rattle.finite_map.specs.declared.Change.{Change}
 use Rattle.finite_map.specs.declared.Note.{Note}
@@ -18,7 +18,7 @@ use Rattle.hot_scripts.specs.declared.command.Command.{Command}
 use Rattle.hot_scripts.specs.Grammar.{called_key}
 use Rattle.script_runs.specs.Answers.{Answered, called, refused, listed}
 
--- The pass has made a call, which stands behind all that it had seen before.
+-- The pass has made a call, with this note. The call stands behind all changes that the pass had seen before.
 pub record IsCalled (layout : Layout) (old new : PassView) (note : Note) : Type 0 where
   pub number : new.number ≡ old.number
   pub front : BeginsWith new.front old.front
@@ -27,47 +27,48 @@ pub record IsCalled (layout : Layout) (old new : PassView) (note : Note) : Type 
   pub legal : LegalCalls new.front new.number new.notes
   pub makers : AreByPasses layout new.front
 
--- The pass was told this answer to a command. A call that was refused has found each record of the kind not free, in its own steps. Of leaf
--- records these are those with room for its key.
-abbrev pub IsCommandTold : Layout → PassView → Answered → PassView → Type 0
+-- The pass was told this answer to a command. A call was refused only if it found no node record free, or no leaf record with room for its
+-- key. A scan is lawful between the two lengths of the front.
+abbrev pub IsCommandTold : (layout : Layout) (old : PassView) (answer : Answered) (new : PassView) → Type 0
 IsCommandTold layout old (called note) new = IsCalled layout old new note
 IsCommandTold layout old (refused call full) new = MayLack call full × IsRefusedFor layout call old new (fault_of full)
 IsCommandTold layout old (listed range scan before after) new =
     IsScanned layout old new (range_from range.from range.upto range.limit) scan × (before ≡ length new.fresh.front) × (after ≡ length new.front)
 
--- The pass was told these answers, one after another. It makes each command's steps and no other between them. Its gate is told each of
--- these, in order, and nothing else.
-abbrev pub AreTold : {G : Type 0} → TableView → (G → Event → G → Type 0) → PassView × G → List Answered → PassView × G → Type 0
+-- The pass was told these answers, one after another. It has made the steps of each command, and no other. Its gate was told each step, in
+-- order, and nothing else.
+abbrev pub AreTold : {G : Type 0} → (index : TableView) (becomes : G → Event → G → Type 0) (old : PassView × G) (answers : List Answered)
+    (new : PassView × G) → Type 0
 AreTold index becomes old [] new = new ≡ old
 AreTold {G = G} index becomes old (answer ∷ answers) new =
     (middle : PassView × G) × IsCommandTold index.layout old.0 answer middle.0 × HasMadeCallSteps index becomes old middle ×
     AreTold index becomes middle answers new
 
--- The gate, given as it was before and after, was told steps of this pass and no others, one after another.
-abbrev pub IsToldOf : {G : Type 0} → (G → Event → G → Type 0) → ℕ → G × G → Type 0
+-- `gate` is a gate as it was before and after. It was told steps of this pass, one after another, and no others.
+abbrev pub IsToldOf : {G : Type 0} → (becomes : G → Event → G → Type 0) (pass : ℕ) (gate : G × G) → Type 0
 IsToldOf becomes pass gate = (events : List Event) × All (λ e. e.pass ≡ pass) events × IsTold becomes events gate.0 gate.1
 
--- An index of so many passes, node records, with one more that is kept, and leaf records. Each leaf record has room for each key.
+-- The index has so many passes, node records, with one more that is kept, and leaf records. Each leaf record has room for any key.
 pub record IsOfSize (passes nodes leaves : ℕ) (index : TableView) : Type 0 where
   pub passes_are : index.layout.passes ≡ passes
   pub nodes_are : index.layout.nodes ≡ with_one_kept nodes
   pub leaves_are : index.layout.leaves ≡ leaves
   pub all_long : index.layout.long_from ≡ 0
 
--- each leaf record has room for the key of the call
-abbrev pub HasRoomFor : Layout → Command → Type 0
+-- each leaf record has room for the key of the command's call
+abbrev pub HasRoomFor : (layout : Layout) (command : Command) → Type 0
 HasRoomFor layout command = (leaf : ℕ) → leaf < layout.leaves → words_for (length (called_key command)) ≤ leaf_size layout leaf
 
--- An index of so many passes, node records, with one more that is kept, and leaf records. Each leaf record has room for the key of each of
--- these calls.
+-- The index has so many passes, node records, with one more that is kept, and leaf records. Each leaf record has room for the key of each
+-- of these commands.
 pub record IsSizedFor (commands : List Command) (passes nodes leaves : ℕ) (index : TableView) : Type 0 where
   pub passes_are : index.layout.passes ≡ passes
   pub nodes_are : index.layout.nodes ≡ with_one_kept nodes
   pub leaves_are : index.layout.leaves ≡ leaves
   pub room : All (HasRoomFor index.layout) commands
 
--- The pass of this number, which had seen the changes `before`, was told the answers by the index, and has then seen `after`. Its gate,
--- given as it was before and after, was told the steps.
+-- The pass of this number of the index was told the answers. It had seen the changes `before`, and has seen `after` then. `gate` is its
+-- gate before and after, which was told the steps.
 pub record WasTold {G : Type 0} (index : TableView) (becomes : G → Event → G → Type 0) (pass : ℕ) (gate : G × G)
     (before : List Change) (answers : List Answered) (after : List Change) : Type 0 where
   pub first : PassView
@@ -78,8 +79,8 @@ pub record WasTold {G : Type 0} (index : TableView) (becomes : G → Event → G
   pub ends : last.front ≡ after
   pub told : AreTold index becomes (first, gate.0) answers (last, gate.1)
 
--- A new pass was told the answers by the index. It knew no step of any pass, so the steps of its calls stand in one run from the new table
--- on.
+-- A new pass of the index was told the answers. It knew no step of any pass before. So the steps of its calls stand in one run from the new
+-- table on.
 pub record WasToldAnew {G : Type 0} (index : TableView) (becomes : G → Event → G → Type 0) (pass : ℕ) (gate : G × G)
     (answers : List Answered) (after : List Change) : Type 0 where
   pub told : WasTold index becomes pass gate [] answers after

@@ -16,7 +16,7 @@ use hot_scripts::command::{Command, KeyRange};
 use hot_scripts::script::Script;
 use std::alloc::{AllocError, Global};
 
-/// What commands were answered, and room for the pairs of a scan.
+/// The answers to commands so far, and room for the pairs of a scan.
 #[derive(Drop)]
 struct Output {
     /// The lines of the answers so far.
@@ -25,7 +25,7 @@ struct Output {
     pairs: Pairs,
 }
 
-/// Makes `call` through `handle` by `caller`, which fits its index, and returns the answer. `gate` is told each of its steps.
+/// Makes `call` through `handle`, by `caller`, which fits the index, and returns the answer. `gate` is told each step.
 fn make_call<C: Caller, G: Gate>(
     caller: &C,
     handle: &mut Handle<&Index>,
@@ -42,8 +42,8 @@ fn make_call<C: Caller, G: Gate>(
     }
 }
 
-/// Makes a scan of `range` into the pairs of `output`, whose earlier pairs are dropped. `gate` is told each of its steps. The lines of its
-/// answer go to the end of the text. If memory is refused, an error, and perhaps a part of these.
+/// Runs a scan of `range` through `handle`, and adds the lines of its answer to the text of `output`. `gate` is told each step. If memory is
+/// refused, an error, and perhaps a part of the lines.
 fn run_scan<G: Gate>(
     handle: &mut Handle<&Index>,
     range: &KeyRange,
@@ -65,8 +65,8 @@ fn run_scan<G: Gate>(
     push_scan(&mut output.text, &output.pairs, more)
 }
 
-/// Makes `command` through `handle`, a call by `caller`, which fits its index. `gate` is told each of its steps. The lines of the answer go
-/// to the end of the text of `output`; a scan replaces its pairs. If memory is refused, an error, and perhaps a part of these.
+/// Runs `command` through `handle`, and adds the lines of its answer to the text of `output`. A call is made by `caller`, which fits the
+/// index. `gate` is told each step. If memory is refused, an error, and perhaps a part of the lines.
 fn run_command<C: Caller, G: Gate>(
     caller: &C,
     handle: &mut Handle<&Index>,
@@ -88,8 +88,8 @@ fn run_command<C: Caller, G: Gate>(
     }
 }
 
-/// Makes the commands of `script` through `handle`, one after another, calls by `caller`, which fits its index. `gate` is told each of
-/// their steps. Returns the lines of their answers. If memory is refused, an error; the commands so far were made.
+/// Runs the commands of `script` through `handle`, one after another, and returns the lines of their answers. Calls are made by `caller`,
+/// which fits the index. `gate` is told each step. If memory is refused, an error, and the commands so far were run.
 pub fn run_script<C: Caller, G: Gate>(
     caller: &C,
     alloc: Global,

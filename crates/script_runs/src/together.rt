@@ -20,7 +20,7 @@ use std::snapshot::Snapshot;
 use std::sync::Wait;
 use std::thread::{Promise, PromisedHandle, Scope, Threads, scope, scope_env};
 
-/// What all scripts were answered, and what has become of their gates.
+/// The answers to all scripts, and what became of the gates of files.
 #[derive(Drop)]
 pub struct Results<G> {
     /// Texts that follow one another: each script's answers below its heading.
@@ -69,8 +69,8 @@ pub fn run_all_scripts<T: AllocGlobal + Threads + Wait + Sync, G: Gate + Send + 
     end_run(rt, Handle::new(&index, pass), ran, last)
 }
 
-/// Lets the pass of `handle` meet those of the scripts of `ran`, which ran at the same index, `MAX_FILES` at most. Then it runs `last`, and
-/// meets them again. Returns all answers, and the gates in the order of `ran`; an error if memory is refused.
+/// Lets the pass of `handle` meet the passes of the scripts of `ran`, which ran at the same index, `MAX_FILES` at most. Then runs `last` with
+/// it, and lets it meet them again. Returns all answers, and the gates in the order of `ran`. An error if memory is refused.
 fn end_run<'a, T: AllocGlobal + Wait, G: Gate + Drop>(
     rt: &T,
     handle: Handle<&'a Index>,
@@ -105,8 +105,8 @@ fn split_gates<'a, G: Drop>(
     Ok((scripts, gates))
 }
 
-/// Runs `last`, the last script, by `handle`, whose pass has met those of `met` and meets them again. Returns the answers of all as texts
-/// that follow one another; an error if memory is refused.
+/// Runs `last`, the last script, through `handle`, whose pass then meets the passes of `met`. Returns the answers to all scripts, as texts
+/// that follow one another. An error if memory is refused.
 fn run_last_script<'a, T: AllocGlobal + Wait>(
     rt: &T,
     handle: Handle<&'a Index>,
