@@ -52,17 +52,17 @@ AreTakenButOwn layout old new =
     (own : List Rec) × (length own ≤ 2 * most_nodes + 1) ×
     AllMissed (λ r by. IsNobodys r by ⊎ Contains own r) a_node layout.nodes new.failed old.steps
 
--- At least a third of the node records, less one, were in the tree or retired when the call looked at them. `nodes` lists the numbers of
--- these, each once.
+-- At least a third of the node records but one were in the tree or retired when the call looked at them. `nodes` lists the numbers of these,
+-- each once.
 pub record ThirdIsTaken (layout : Layout) (old new : PassView) : Type 0 where
   pub nodes : List ℕ
   pub apart : AreApart nodes
   pub many : layout.nodes ≤ 3 * length nodes + 1
   pub each : (n : ℕ) → IsOneOf n nodes → (n < layout.nodes) × HasMissedSince IsNobodys new.failed (a_node n) old.steps
 
--- Let a call of an index's only pass be full. For want of a leaf record, each one with room for its key was in the tree or retired when
--- the call looked at it. For want of a node record, a third of these, less one, were so, and all but those that the call may have claimed
--- itself.
+-- Let a call of an index's only pass be refused as full. If it lacked a leaf record, each one with room for its key was in the tree or
+-- retired when the call looked at it. If it lacked a node record, so was each node record but those that the call may have claimed itself,
+-- and in any case at least a third of all node records but one.
 abbrev pub OnePassFullMeansTaken : Type 0
 OnePassFullMeansTaken =
     (layout : Layout) (key : Key) (old new : PassView) → layout.passes ≡ 1 → new.number < layout.passes →

@@ -16,14 +16,15 @@ pub fn one_pass_is_never_busy()
     ensures { OnePassIsNeverBusy }
 {}
 
-/// Let a call be alone. No other pass had a lock, a record of its own or a pin when it began, and none makes a step while it runs. It is
-/// never busy. It gets its reply if it may take no record, as a new value of a held key. If it waits, it makes one try then.
+/// Let a call be alone: no other pass had a lock, a record of its own or a pin when it began, and none makes a step while it runs. It is
+/// never busy. If it takes no record, as one that gives a held key a new value, it gets its reply. A form that waits makes just one try
+/// then.
 pub fn alone_calls_end<G: Gate>()
     ensures { AloneCallsEnd G.becomes }
 {}
 
 /// In an index of one pass a call returns `FullLeaves` only if each leaf record with room for the key was in the tree or retired. It
-/// returns `FullNodes` only if at least a third of the node records were so, and all but 4,321, which it may have claimed itself.
+/// returns `FullNodes` only if at least a third of the node records but one were so, and all but 4,321, which it may have claimed itself.
 pub fn one_pass_full_means_taken()
     ensures { OnePassFullMeansTaken }
 {}

@@ -195,8 +195,8 @@ pub record Headline : Type 0 where
   pub scans : ScansShow IsLawfulScan IsUpToLast
   pub reverse_scans : ScansShow IsLawfulReverseScan IsDownToLast
   pub refusals : Refusals
-  -- With one pass, each leaf record that a full call lacked was in the tree or retired. Of the node records, at least a third, less one,
-  -- were so, and all but at most 4,321.
+  -- With one pass, each leaf record that a full call lacked was in the tree or retired. At least a third of the node records but one were so,
+  -- and all but at most 4,321.
   pub full_alone : OnePassFullMeansTaken
   pub never_refused : FaultsByCall
   pub never_full : NeverFull
