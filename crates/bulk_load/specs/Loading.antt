@@ -154,6 +154,7 @@ pub record KeepsNodes (old new : Builder) : Type 0 where
   pub few : (n : ℕ) → old.nodes + length old.tips.items ≤ n → new.nodes + length new.tips.items ≤ n
 
 -- ---- closing a piece
+
 -- the number of entries of the piece to the right, 0 where there is none
 abbrev pub size_right : Option LeftPiece → ℕ
 size_right None = 0
@@ -174,6 +175,7 @@ pub record IsPiece (builder : Builder) (ls : List LeftPiece) (z : Tree) (right :
   pub behind_is : behind ≡ size_right right
 
 -- ---- a new leaf
+
 -- A key that parts from the last one at this position may be taken next. No leaf was taken yet, or the new one belongs beside the top
 -- piece.
 abbrev pub MayTakeNext : (builder : Builder) → (taken : List Item) → (position : ℕ) → (key : Key) → Type 0
@@ -181,6 +183,7 @@ MayTakeNext builder taken position key =
     (HasTakenNone builder taken × (position ≡ 0)) ⊎ (IsStackBehind builder taken position × IsParted position builder.last key)
 
 -- ---- joining pieces
+
 -- the builder's last two pieces have become one, at the fork between them
 pub record IsJoined (builder : Builder) (xs : List Item) (before : List LeftPiece) : Type 0 where
   pub joint : LeftPiece

@@ -12,6 +12,7 @@ use Rattle.partial_keys.specs.Shows.{ShowsPiece}
 use Rattle.node_tries.specs.Piece.{Piece}
 
 -- ---- entries
+
 -- the height of an entry: 0 for a leaf, and that of a node
 abbrev pub height_of : Entry → ℕ
 height_of (Leaf number) = 0
@@ -32,6 +33,7 @@ greatest_height [] = 0
 greatest_height (entry ∷ entries) = max (height_of entry) (greatest_height entries)
 
 -- ---- nodes
+
 -- what contracts see of a node: its stored height, its columns, and each entry with its sparse partial key
 pub record NodeView : Type 0 where
   pub height : ℕ
@@ -84,6 +86,7 @@ pub record IsNode (height : ℕ) (columns padded_rows : List ℕ) (entries : Lis
   pub lawful : IsLawfulNode (node_from height columns padded_rows entries)
 
 -- ---- heads
+
 -- what contracts see of a head: a node's stored height, columns and rows
 pub record HeadView : Type 0 where
   pub height : ℕ

@@ -16,8 +16,9 @@ use Rattle.hot_c.specs.declared.pairs.Order.{Order}
 use Rattle.hot_c.specs.declared.pairs.Pair.{Pair}
 use Rattle.hot_c.specs.declared.status.TheConstants.{CLOSED, KEY_TOO_LONG, NO_MEMORY}
 
--- A search for one pair through a handle. If the handle is closed or a key too long, the status says so, and nothing has changed. Else the
--- search is made, and its pair is told. Or memory for the pair was refused, and C's pair is as it was. The number of steps is bounded.
+-- A search for one pair through a handle. If the handle is closed, or a key that it takes is too long (not `Fits`), the status says so, and
+-- nothing has changed. Else the search is made (`IsFound`), and what it found is told: C's pair is that pair, or the status says that there
+-- is none. Or memory was refused for a pair that was there (`HasPair`), and C's pair is as it was. Its steps are bounded as a scan's of one.
 pub record FindsBy (Fits : Type 0) (IsFound : Layout → PassView → PassView → Option (List ℕ × ℕ) → Type 0)
     (HasPair : Layout → PassView → PassView → Type 0) (old new : Option Opened) (before after : Pair) (status : ℕ) : Type 0 where
   pub closed : old ≡ None → (status ≡ CLOSED) × (new ≡ old) × (after ≡ before)

@@ -51,8 +51,8 @@ pub record HasRead {G : Type 0} (index : TableView) (becomes : G → Event → G
   pub sees : SeesAllOfRun index.layout old.0.seat new.0.seat
   pub told : IsTold becomes (events_of old.0.number (reading epoch root loads ++ ClearPin ∷ [])) old.1 new.1
 
--- The steps of a get. It loads one entry in each node on its key's path. It makes at most 26 steps for each entry, and 36 others. It
--- touches at most four words for each entry.
+-- The steps of a get. It loads one entry in each node on its key's path, at most 2,160: nine for each byte of the longest key. It makes at
+-- most 26 steps for each such load, and 36 others. For each such load it touches at most four words.
 pub record HasMadeGetSteps {G : Type 0} (index : TableView) (becomes : G → Event → G → Type 0) (old new : PassView × G) : Type 0 where
   pub read : HasRead index becomes old new
   pub depth : entries_in read.loads ≤ 9 * MAX_BYTES

@@ -36,6 +36,7 @@ abbrev pub DoesCase : (nodes : List NodeView) → (number : ℕ) → (case : Cas
 DoesCase nodes n case old first shown = (new : NodeView) × (slice_get nodes n ≡ Some new) × IsCaseDone case old new first shown
 
 -- ---- above the affected node
+
 -- what rises is a fork of two, and not one entry
 abbrev pub is_split : Risen → Bool
 is_split (Whole entry) = false
@@ -86,6 +87,7 @@ DoesLevels old new key (suc l) (node number fixed body) low up =
 DoesLevels old new key (suc l) (fork position left right) low up = ⊥
 
 -- ---- an insertion
+
 -- The records before and after a new leaf was added below t; `up` says whether a fork rises from t. The affected node was changed by its
 -- case, and each node above did its part with what rose to it.
 pub record IsByCase (old new : List NodeView) (key : Key) (position number : ℕ) (t : Tree) (up : Bool) : Type 0 where

@@ -14,6 +14,7 @@ use Rattle.record_words.specs.declared.kind.HeadKind.TheVariants.{Wide, Narrow, 
 use Rattle.record_words.specs.declared.TheConstants.{FIRST_KEY_WORD, FIRST_MIDDLE_ROWS, FIRST_NARROW_ROWS, FIRST_POSITIONS, FIRST_ROWS, HEIGHT_BIT, LENGTH_INDEX, NUMBERS_INDEX, VALUE_INDEX}
 
 -- ---- an entry word
+
 -- the entry that a word spells
 unfoldable pub entry_of : ℕ → Option Entry
 entry_of word =
@@ -21,6 +22,7 @@ entry_of word =
     (if nat_eq (word % 4) 1 then Some (Leaf (word / 4)) else Some (Node (word / 4 % 2 ^ 32) (word / 2 ^ HEIGHT_BIT)))
 
 -- ---- the words of a head
+
 -- the number of entries that the first word tells
 abbrev pub count_in : ℕ → ℕ
 count_in word = word % 256
@@ -72,11 +74,13 @@ abbrev pub rows_in : List ℕ → List ℕ
 rows_in head = map (row_in (kind_in (numbers_in head)) head) (range_with_len 0 (count_in (numbers_in head)))
 
 -- ---- the words of entries
+
 -- the first `count` entries in the words of a node's entries
 abbrev pub entries_of : (count : ℕ) → (tail : List ℕ) → List Entry
 entries_of count tail = take count (map (λ w. unwrap_or (entry_of w) (Leaf 0)) tail)
 
 -- ---- the words of a leaf
+
 -- the bytes in the words of a key: eight in each, the first in its highest bits
 abbrev pub bytes_in : List ℕ → List ℕ
 bytes_in words = map (λ i. get_or (to_be_bytes w64 (get_or words (i / 8) 0)) (i % 8) 0) (range_with_len 0 MAX_BYTES)

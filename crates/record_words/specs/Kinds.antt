@@ -9,7 +9,7 @@ use Rattle.record_words.specs.declared.kind.HeadKind.{HeadKind}
 use Rattle.record_words.specs.declared.kind.HeadKind.TheVariants.{Wide, Narrow, Middle}
 use Rattle.record_words.specs.declared.TheConstants.{FIRST_MIDDLE_ROWS, FIRST_NARROW_ROWS, FIRST_POSITIONS, FIRST_ROWS, HEAD_WORDS, MIDDLE_COLUMNS, MIDDLE_HEAD_WORDS, NARROW_COLUMNS, NARROW_HEAD_WORDS, WINDOW_BYTES}
 
--- the byte of a key that has the bit at the first column
+-- the index of the byte of a key that has the bit at the first column
 abbrev pub first_byte : List ℕ → ℕ
 first_byte columns = slice_index columns 0 / 9
 

@@ -42,6 +42,7 @@ pub record HasNodeWords (node : NodeView) : Type 0 where
   pub entries : HaveEntryWords node.entries
 
 -- ---- words that get a new leaf
+
 -- the node has leaves alone, and room for one more
 abbrev pub CanTakeLeaf : NodeView → Type 0
 CanTakeLeaf node = (node.height ≡ 1) × (length node.entries < MAX_ENTRIES)
@@ -65,6 +66,7 @@ pub record SpellBuilt (words : List ℕ) (shown : Piece Entry) : Type 0 where
   pub built : IsBuiltFrom node shown
 
 -- ---- words that lose an entry
+
 -- the words spell these entries, all of which can stand in a node of this height
 pub record SpellEntries (height : ℕ) (words : List ℕ) (entries : List Entry) : Type 0 where
   pub spells : map (λ entry. entry_word (Some entry)) entries ≡ words

@@ -72,7 +72,7 @@ RootLoadSeesAll =
     let j = learned core (LoadRef Root word) k in (j.front ≡ core.changes) × (j.fresh.front ≡ core.changes) ×
     ((o : Known) → Knows core o → BeginsWith j.fresh.front o.front)
 
--- a pass whose knowledge is true has what it knows that it has, and no more
+-- If what a pass knows is true, the records and the locks that it has are just those that it knows of, with the words that it knows.
 abbrev pub PassKnowsAllItHas : Type 0
 PassKnowsAllItHas = (core : Core) (known : Known) → Knows core known → HasAll core known
 

@@ -42,7 +42,8 @@ RootIs known (Some entry) = Sure known (λ past. IsRooted past (since known) ent
 abbrev pub IsAtRoot : Known → Entry → Type 0
 IsAtRoot known entry = IsPinnedSince known (since known) × Sure known (λ past. IsRooted past (since known) entry)
 
--- since this version, to which its pin goes back, the pass was led to the record that the entry names
+-- The pass is pinned since this version, or since an earlier one. It can be sure that in this version or a later one the entry's record
+-- stood in the tree, with the entry's height.
 abbrev pub IsLedTo : (known : Known) → (version : ℕ) → (entry : Entry) → Type 0
 IsLedTo known version entry = IsPinnedSince known version × Sure known (λ past. EntryStoodSince past version entry)
 

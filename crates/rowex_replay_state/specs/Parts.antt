@@ -24,7 +24,8 @@ IsForkedFrom least (leaf number key value) = Unit {0}
 IsForkedFrom least (node number fixed body) = IsForkedFrom least body
 IsForkedFrom least (fork position left right) = least ≤ position
 
--- The words show a lawful tree for the subtrie. Its records stand in the table and spell values, and its first fork is at `least` or later.
+-- The words show the tree, whose subtrie is `trie`. The tree is lawful: its forks rise and part its keys, and its nodes are built as they
+-- must be. Each of its records is in the table, with the words of a node or a leaf. Its first fork, if any, is at `least` or later.
 pub record ShowsPart (table : Table) (words : Rec → List ℕ) (least : ℕ) (trie : Subtrie) (tree : Tree) : Type 0 where
   pub subtrie_is : subtrie tree ≡ trie
   pub shown : IsShown (heap_of words) tree

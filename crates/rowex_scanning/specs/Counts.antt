@@ -12,8 +12,9 @@ use Rattle.rowex_scanning.specs.declared.ahead.TheConstants.{MOST_AHEAD}
 abbrev pub walk_entries : (limit : ℕ) → ℕ
 walk_entries limit = 2 * (9 * MAX_BYTES) + 2 * limit + 1
 
--- How many loads a walk makes, of which so many are of entries. They are at most 26 for each entry, with the head of the node to which it
--- leads. They are 8 more for each leaf, of which one more than the limit may be loaded, and `beside` others.
+-- A walk with this limit may make so many loads, `entries` of them of entries. The entries are bounded by the limit. The loads are at most
+-- 26 for each entry, with those of the head of the node that it names, 8 for each leaf, and `beside` others. One leaf more than the limit
+-- may be loaded.
 pub record AreWalkLoads (beside limit entries loads : ℕ) : Type 0 where
   pub most : entries ≤ walk_entries limit
   pub few : loads ≤ beside + 26 * entries + 8 * (limit + 1)

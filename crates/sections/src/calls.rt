@@ -82,7 +82,8 @@ impl Sections {
     }
 }
 
-/// Whether a section with this word isn't open, or was entered when the moment of this number had been taken.
+/// Whether a section with the word `word` isn't open, or was entered when moment `moment` had been taken. The word of an open section is
+/// one more than the number of moments that had been taken when it was entered. That of another is 0.
 fn is_newer(word: u64, moment: u64) -> bool
     ensures newer { result ≡ true → IsNewer moment word }
     ensures older { result ≡ false → (0 < word) × (word ≤ moment) }

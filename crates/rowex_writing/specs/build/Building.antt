@@ -106,6 +106,7 @@ pub record HasLeafMade (table : TableView) (seat : SeatView) (made : List Rec) (
   pub building : IsBuilding table seat made (made_of_leaf item fresh ∷ [])
 
 -- ---- on the way up
+
 -- A pass is adding the newcomer, whose record is made. The subtrie is to take the place of the node's body or entry, as `side` says. The
 -- records `gone` are to be unlinked.
 pub record IsRaising (table : TableView) (seat : SeatView) (made : List Rec) (gone : List Rec) (newcomer : Newcomer) (side : Side)
@@ -169,6 +170,7 @@ FitsOnWay known way end answer =
     (node : PathNode) (words : List ℕ) → slice_get way end ≡ Some node → HasLocked known node.number words → IfSome answer (FitsAbove words)
 
 -- ---- at the lower end
+
 -- The new leaf's record is made, and no other. The leaf goes into this locked node, at the slot to which its key leads there.
 pub record GetsLeaf (table : TableView) (seat : SeatView) (made : List Rec) (number : ℕ) (new : NewLeaf) : Type 0 where
   pub since : ℕ
@@ -192,8 +194,10 @@ abbrev pub gone_unless_whole : (stays : Bool) → (number : ℕ) → List Rec
 gone_unless_whole stays number = if stays then [] else a_node number ∷ []
 
 -- ---- a span
--- The nodes of the path from `end` to `level` are locked. Each is named by the one above, which is higher. An insertion at the position
--- affects no more of the upper one than that entry. The nodes between the ends are full.
+
+-- The nodes of the path from index `end`, the topmost, down to index `level`. Of each two that follow each other both are locked, and the
+-- upper one names the lower one and is higher. An insertion of the key at this position affects no more of the upper one than that entry.
+-- The nodes strictly between the ends are full. The path's nodes above `level` are of the table's `nodes` node records.
 pub record IsLockedSpan (nodes : ℕ) (held : List Locked) (way : List PathNode) (key : Key) (position end level : ℕ) : Type 0 where
   pub there : (i : ℕ) (s : PathNode) → i < level → slice_get way i ≡ Some s → s.number < nodes
   pub above : (i : ℕ) (s u : PathNode) → end ≤ i → i < level → slice_get way i ≡ Some s → slice_get way (i + 1) ≡ Some u →

@@ -35,6 +35,7 @@ use Rattle.rowex_writing.specs.declared.plan.Full.{Full}
 use Rattle.rowex_writing.specs.declared.plan.Full.TheVariants.{Nodes, Leaves}
 
 -- ---- the plan
+
 -- the job's span and its deed are planned by what a search for its key has found since some version
 abbrev pub HasPlanned : (layout : Layout) → (known : Known) → (job : Job) → (deed : Deed) → Type 0
 HasPlanned layout known job deed =
@@ -42,6 +43,7 @@ HasPlanned layout known job deed =
     IsPlanned known m job.key.now job.way.now aim job.found (change job.span.len job.span.end deed)
 
 -- ---- the store
+
 -- the pass has loaded this value of each leaf among the records
 abbrev pub KnowsWas : (known : Known) → (gone : List Rec) → (was : Option ℕ) → Type 0
 KnowsWas known gone was = (leaf : ℕ) → IsOneOf (a_leaf leaf) gone → (value : ℕ) × (was ≡ Some value) × HasLoaded known leaf value
@@ -57,6 +59,7 @@ pub record MayPublishOnceReady (table : TableView) (seat : SeatView) (made : Lis
       Publishes table.layout known spot word x was gone
 
 -- ---- what is left
+
 -- The pass has made the change x, and `was` was the key's value. It is the last change that the pass has seen, and others have made those
 -- before. The last load of the root was before x. The pass has no records of its own and no locks.
 pub record HasChanged (old new : Known) (x : Change) (was : Option ℕ) : Type 0 where

@@ -40,6 +40,7 @@ use Rattle.rowex_writing.specs.declared.plan.job.Merge.{Merge}
 use Rattle.rowex_writing.specs.declared.plan.Span.{Span}
 
 -- ---- before the change
+
 -- In the upper node, by the words under its lock, this one slot is beside that of the lower node. It names the node to merge with.
 pub record IsNeighbour (known : Known) (job : Job) (merge : Merge) : Type 0 where
   pub words : List ℕ
@@ -59,6 +60,7 @@ abbrev pub AreNoNode : (left other : Subtrie) → Type 0
 AreNoNode left other = ((entry : Entry) × (left ≡ Place entry)) ⊎ (32 < size left + size other)
 
 -- ---- wider locks
+
 -- the number is that of no node of the span, nor of the two above it
 abbrev pub IsFarFromSpan : (way : List PathNode) → (span : Span) → (number : ℕ) → Type 0
 IsFarFromSpan way span number = (node : PathNode) (i : ℕ) → slice_get way i ≡ Some node → span.end ≤ i + 2 → i < span.len → number ≢ node.number
@@ -119,6 +121,7 @@ EndsChange {G} table becomes job room old new =
     ((0 < job.span.end) × (job.span.end + 1 ≡ job.span.len) × HasChangeStepsAfterTries table becomes (span_numbers job.way.now job.span) room old new)
 
 -- ---- the store
+
 -- the records that a merge unlinks: both nodes of the span, the one beside, and the leaf
 abbrev pub merged_gone : Job → (number leaf : ℕ) → List Rec
 merged_gone job number leaf = a_node (upper job).number ∷ a_node (lower job).number ∷ a_node number ∷ a_leaf leaf ∷ []

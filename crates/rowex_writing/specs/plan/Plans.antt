@@ -22,6 +22,7 @@ abbrev pub change : (len end : ℕ) → Deed → Plan
 change len end deed = Change (record { len = len; end = end }) deed
 
 -- ---- a removal
+
 -- the deed of a removal on this path
 abbrev pub removal_deed : List PathNode → Deed
 removal_deed [] = Empty
@@ -36,6 +37,7 @@ TakesLeaf Empty = Unit {0}
 TakesLeaf deed = ⊥
 
 -- ---- a new leaf beside affected entries
+
 -- the plan for a new leaf in the chosen node, in this case of an insertion
 abbrev pub IsCase : (way : List PathNode) → (position : ℕ) → (chosen : Choice) → (kind : Case) → (plan : Plan) → Type 0
 IsCase way position chosen LeafPushdown plan = plan ≡ change (chosen.level + 1) (chosen.level + 1) (PushDown position)
@@ -53,6 +55,7 @@ IsNewLeafPlan (step ∷ way) position first last plan =
     (level : ℕ) × IsLevel (step ∷ way) position level × IsBeside (step ∷ way) position level first last plan
 
 -- ---- all calls
+
 -- The plan of a call on this path, where a new leaf affects the entries in slots `first` to `last` at its level.
 abbrev pub IsPlan : (way : List PathNode) → (first last : ℕ) → (aim : Aim) → (found : Found) → (plan : Plan) → Type 0
 -- the first key
@@ -70,6 +73,7 @@ IsPlan way first last Remove (Leaf number value (Some position)) plan = plan ≡
 IsPlan way first last Remove (Leaf number value None) plan = plan ≡ change (length way) (length way - 1) (removal_deed way)
 
 -- ---- before the affected entries are known
+
 -- The outline of a new leaf. Its plan asks for the affected entries if the path has nodes.
 abbrev pub IsBesideFound : (way : List PathNode) → (position : ℕ) → (outline : Outline) → Type 0
 IsBesideFound way position (Known plan) = (first last : ℕ) → IsNewLeafPlan way position first last plan

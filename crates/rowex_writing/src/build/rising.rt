@@ -279,8 +279,9 @@ fn raise_to_end<G: Gate>(
     make_one_entry(table, seat, gate, build, rise.risen)
 }
 
-/// The one entry that takes the place of the topmost node of `job`'s span, when the lowest gets the leaf `new`. The flag tells whether
-/// the lowest node stays as it is. `None` if no node record was free: those made by then stay in `build.made`.
+/// The one entry that takes the place of the node at `job.span.end`, the topmost of the span, when the lowest one, the last of the span,
+/// gets the leaf `new`. The flag tells whether the lowest node stays as it is. `None` if no node record was free: those made by then stay in
+/// `build.made`.
 pub(crate) fn raise_with_leaf<G: Gate>(
     table: &HotTable,
     seat: &mut TableSeat,
@@ -303,19 +304,19 @@ pub(crate) fn raise_with_leaf<G: Gate>(
 {
     let way = job.way;
     let end = job.span.end;
-    let top = job.span.len - 1;
+    let lowest = job.span.len - 1;
     let (risen, stays) = raise_lowest_node_with_leaf(
         table,
         seat,
         gate,
         build,
-        way[top].number,
+        way[lowest].number,
         new,
     )?;
     let rise = Rise {
         key: new.key,
         end,
-        level: top,
+        level: lowest,
         risen,
     };
     let entry = raise_to_end(table, seat, gate, build, way, rise)?;

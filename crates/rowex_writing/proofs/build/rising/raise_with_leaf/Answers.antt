@@ -5,8 +5,8 @@ use Rattle.rowex_writing.proofs.build.rising.Rising.{low_at, number_is, up_first
 use Rattle.rowex_writing.proofs.build.Walks.{makes_as, makes_failed, makes_then, makes_within}
 use Rattle.rowex_writing.proofs.build.rising.raise_with_leaf.Goals as goal
 
-pub offset_bounds-way-top : goal.offset_bounds-way-top
-offset_bounds-way-top g c = let h = slice_get_within c.args.job.now.way.now (c.args.job.now.span.len - 1) c.requires.growing.step c.requires.growing.at in search (rules, h)
+pub offset_bounds-way-lowest : goal.offset_bounds-way-lowest
+offset_bounds-way-lowest g c = let h = slice_get_within c.args.job.now.way.now (c.args.job.now.span.len - 1) c.requires.growing.step c.requires.growing.at in search (rules, h)
 
 pub raise_lowest_node_with_leaf-requires-clause-range : goal.raise_lowest_node_with_leaf-requires-clause-range
 raise_lowest_node_with_leaf-requires-clause-range g c =
