@@ -19,16 +19,25 @@ from table import origin
 
 FEW, MANY = 2_000, 12_000
 
-# The calls from Python: a loop over them has the keys that are there, and others.
-PYTHON = {"": "pass", "look-up": "m[k]", "new value": "m[k] = 1", "insert": "m[n] = 1", "removal": "del m[k]"}
+# The calls from Python: a loop over them has the keys that are there, and others, and beside them the items of a range, or nothing.
+NOTHING, RANGE, OF_RANGE = "repeat(None)", "m.irange(keys[0])", "row or item of a range"
+PYTHON = {
+    "": ("pass", NOTHING),
+    "look-up": ("m[k]", NOTHING),
+    "new value": ("m[k] = 1", NOTHING),
+    "insert": ("m[n] = 1", NOTHING),
+    "removal": ("del m[k]", NOTHING),
+    OF_RANGE: ("pass", RANGE),
+}
 MAPS = {"hot": "from hot import SortedMap as Map", "SortedDict": "from sortedcontainers import SortedDict as Map"}
 PROGRAM = """
+from itertools import repeat
 {of}
 keys = [f"key{{i * 7919 % 1000003:09}}" for i in range({keys})]
 m = Map()
 for i, k in enumerate(keys): m[k] = i
 new = [f"new{{k[3:]}}" for k in keys]
-for k, n in zip(keys[:{calls}], new): {call}
+for k, n, _ in zip(keys[:{calls}], new, {items}): {call}
 """
 
 # The statements of SQLite, over the first numbers; the first one is all that the others have around their calls.
@@ -39,7 +48,7 @@ SQL = {
     "new value": f"INSERT OR REPLACE INTO t SELECT {KEY}, x + 1 FROM n",
     "insert": f"INSERT INTO t SELECT {NEW}, x FROM n",
     "removal": f"DELETE FROM t WHERE key IN (SELECT {KEY} FROM n)",
-    "row of a range": f"SELECT sum(value) FROM (SELECT value FROM t WHERE key >= 'key' LIMIT (SELECT count({KEY}) FROM n))",
+    OF_RANGE: f"SELECT sum(value) FROM (SELECT value FROM t WHERE key >= 'key' LIMIT (SELECT count({KEY}) FROM n))",
 }
 TABLES = {"hot": "VIRTUAL TABLE t USING hot(keys=100000, longest=12)", "ordinary": "TABLE t(key TEXT PRIMARY KEY, value INTEGER) WITHOUT ROWID"}
 NUMBERS = "WITH RECURSIVE n(x) AS (SELECT 0 UNION ALL SELECT x + 1 FROM n LIMIT {})"
@@ -49,10 +58,10 @@ FIELDS = ["date", "commit", "language", "call", "hot", "beside"]
 
 
 def counted(*command: str) -> int:
-    """How many instructions a command takes."""
+    """How many instructions a command takes: in each run of Python keys have the same hashes, by which tables grow or not."""
     with tempfile.NamedTemporaryFile() as file:
         run = ["valgrind", "--tool=callgrind", f"--callgrind-out-file={file.name}", *command]
-        said = subprocess.run(run, capture_output=True, text=True, check=False)
+        said = subprocess.run(run, capture_output=True, text=True, check=False, env={**os.environ, "PYTHONHASHSEED": "0"})
     found = re.search(r"Collected : (\d+)", said.stderr)
     if said.returncode or not found:
         sys.exit(f"bindings: a run failed\n{said.stdout}{said.stderr}")
@@ -64,9 +73,9 @@ def each(command) -> float:
     return (counted(*command(MANY)) - counted(*command(FEW))) / (MANY - FEW)
 
 
-def python(of: str, keys: int, call: str):
+def python(of: str, keys: int, call: str, items: str):
     """The command that makes so many calls from Python."""
-    return lambda calls: [sys.executable, "-c", PROGRAM.format(of=of, keys=keys, calls=calls, call=call)]
+    return lambda calls: [sys.executable, "-c", PROGRAM.format(of=of, keys=keys, calls=calls, call=call, items=items)]
 
 
 def sql(folder: Path, table: str, keys: int, statement: str):
@@ -99,7 +108,7 @@ def main() -> None:
         words.error(f"{MANY:,} keys or more")
     with open(folder.parent / "bindings.csv", "w", newline="") as file:
         csv.writer(file, lineterminator="\n").writerow(FIELDS)
-        show(file, "Python", PYTHON, MAPS, lambda of, call: python(of, keys, call))
+        show(file, "Python", PYTHON, MAPS, lambda of, call: python(of, keys, *call))
         show(file, "SQLite", SQL, TABLES, lambda of, statement: sql(folder, of, keys, statement))
 
 
