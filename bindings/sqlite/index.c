@@ -274,8 +274,8 @@ hot_status part_get(index_part *part, const uint8_t *key, size_t length, uint64_
     return status == HOT_KEY_TOO_LONG ? HOT_ABSENT : status;
 }
 
-int key_beyond(const hot_pair *pair, int falls, key_bound *to) {
-    return (falls ? hot_before : hot_after)(pair->key, pair->length, to->key, &to->length) == HOT_DONE;
+int key_beyond(const uint8_t *key, size_t length, int falls, key_bound *to) {
+    return (falls ? hot_before : hot_after)(key, length, to->key, &to->length) == HOT_DONE;
 }
 
 static void pair_of(const log_entry *it, hot_pair *pair) {
@@ -284,8 +284,9 @@ static void pair_of(const log_entry *it, hot_pair *pair) {
     pair->value = it->value;
 }
 
-/* The first pair of a range, or its last one, where something is aside. Under the mutex. */
-static hot_status one_pair(index_part *part, key_bound *from, key_bound *upto, int falls, key_page *page) {
+/* The first pair of a range, or its last one, where something is aside: whether there is one, and whether more may be, to the page. Under the
+ * mutex. */
+static hot_status one_pair(index_part *part, key_bound *from, key_bound *upto, int falls, hot_pair *pair, key_page *page) {
     key_bound *near = falls ? upto : from;
     const key_bound *far = falls ? from : upto;
     for (;;) {
@@ -294,35 +295,46 @@ static hot_status one_pair(index_part *part, key_bound *from, key_bound *upto, i
         hot_pair beside;
         if (it && (falls ? order(it, far->key, far->length) < 0 : order(it, far->key, far->length) > 0))
             it = NULL;
-        status = (falls ? hot_scan_reverse : hot_scan)(&part->handle, from->key, from->length, upto->key, upto->length, page->pairs,
-                                                       1, &page->count, &page->more);
+        status = (falls ? hot_scan_reverse : hot_scan)(&part->handle, from->key, from->length, upto->key, upto->length, pair, 1, &page->count,
+                                                       &page->more);
         if (status != HOT_DONE || (!it && !page->count))
             return status;
         page->more = 1;
-        if (!it || (page->count && (falls ? order(it, page->pairs->key, page->pairs->length) < 0
-                                          : order(it, page->pairs->key, page->pairs->length) > 0)))
+        if (!it || (page->count && (falls ? order(it, pair->key, pair->length) < 0 : order(it, pair->key, pair->length) > 0)))
             return HOT_DONE;
         page->count = 1;
-        pair_of(it, it->is_there ? page->pairs : &beside);
+        pair_of(it, it->is_there ? pair : &beside);
         if (it->is_there)
             return HOT_DONE;
         page->count = page->more = 0;
-        if (!key_beyond(&beside, falls, near))
+        if (!key_beyond(beside.key, beside.length, falls, near))
             return HOT_DONE;
     }
+}
+
+void page_set(key_page *page, const uint8_t *key, size_t length, uint64_t value) {
+    if (length)
+        memcpy(page->bytes, key, length);
+    page->heads->length = (uint8_t)length;
+    page->heads->value = value;
+    page->count = 1;
 }
 
 hot_status part_list(index_part *part, const key_bound *from, const key_bound *upto, int falls, key_page *page) {
     if (has_aside(part->of)) {
         key_bound from_here = *from, upto_here = *upto;
+        hot_pair pair;
         hot_status status;
         sqlite3_mutex_enter(part->of->mutex);
-        status = one_pair(part, &from_here, &upto_here, falls, page);
+        status = one_pair(part, &from_here, &upto_here, falls, &pair, page);
         sqlite3_mutex_leave(part->of->mutex);
+        if (status == HOT_DONE && page->count)
+            page_set(page, pair.key, pair.length, pair.value);
         return status;
     }
-    return (falls ? hot_scan_reverse : hot_scan)(&part->handle, from->key, from->length, upto->key, upto->length, page->pairs,
-                                                 page->limit, &page->count, &page->more);
+    return (falls ? hot_scan_packed_reverse : hot_scan_packed)(&part->handle, from->key, from->length, upto->key, upto->length, page->bytes,
+                                                               page->limit * HOT_MAX_KEY, page->heads, page->limit, &page->count,
+                                                               &page->more);
 }
 
 int part_count(index_part *part, const key_bound *from, const key_bound *upto, size_t listed, size_t *count) {

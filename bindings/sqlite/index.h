@@ -61,24 +61,28 @@ void part_leave(index_part *part);
 /* The key's value. It is absent if it is too long. */
 hot_status part_get(index_part *part, const uint8_t *key, size_t length, uint64_t *value);
 
-/* Lists pairs from `from` up to `upto`, or down from `upto`, as hot_scan and hot_scan_reverse do. */
+/* Lists pairs from `from` up to `upto`, or down from `upto`, as hot_scan_packed and hot_scan_packed_reverse do. */
 typedef struct key_bound {
     size_t length;
     uint8_t key[HOT_MAX_KEY];
 } key_bound;
 typedef struct key_page {
-    hot_pair *pairs;
+    hot_head *heads; /* with room for as many as the limit is */
+    uint8_t *bytes;  /* the keys, one after another, with room for as many of the longest */
     size_t limit, count;
     uint32_t more;
 } key_page;
 hot_status part_list(index_part *part, const key_bound *from, const key_bound *upto, int falls, key_page *page);
 
+/* Has this pair be all that the page has. */
+void page_set(key_page *page, const uint8_t *key, size_t length, uint64_t value);
+
 /* Counts the pairs from `from` up to `upto`, as hot_count does: 1. It does not, and returns 0, where the index has so many keys that this
  * may take much longer than to list `listed` pairs, or where something is beside it. */
 int part_count(index_part *part, const key_bound *from, const key_bound *upto, size_t listed, size_t *count);
 
-/* Writes the least key above the pair's, or the greatest one below it: 0 if there is none. */
-int key_beyond(const hot_pair *pair, int falls, key_bound *to);
+/* Writes the least key above this one, or the greatest one below it: 0 if there is none. */
+int key_beyond(const uint8_t *key, size_t length, int falls, key_bound *to);
 
 /* Room for an entry of the log, which a change then fills; NULL if there is no memory. */
 log_entry *entry_new(const uint8_t *key, size_t length);

@@ -23,7 +23,10 @@ SQLITE_EXTENSION_INIT1
 /* How a cursor is to go, as a number from best_index to filter_rows. ABOVE comes with FROM, BELOW with UPTO, and LIMITED where SQLite may
  * stop or begin to read at a row of its choice. */
 enum { EQUAL = 1, FROM = 2, UPTO = 4, CASELESS = 8, FALLING = 16, ABOVE = 32, BELOW = 64, LIMITED = 128 };
-enum { FIRST_PAGE = 4, PAGE = 128 };
+enum { FIRST_PAGE = 4, PAGE = 256 };
+
+/* The columns. */
+enum { KEY, VALUE };
 
 /* Of how many rows one is in a range with one end, and with both: as SQLite guesses of its own trees. With more in a range it would begin a join
  * at this table, and read all of it: it takes such a plan for one that sorts nothing. */
@@ -41,19 +44,22 @@ typedef struct table {
 } table;
 
 /* A scan of a table: a page of it, and the keys that are still to be listed. Where SQLite passes row after row and reads no column, as for
- * count(*), the rest is counted, and not listed. */
+ * count(*), the rest is counted, and not listed. What each row takes is in a few fields, and the rest is done apart. */
 typedef struct cursor {
     sqlite3_vtab_cursor base;
     key_bound from, upto;
     int falls;
     key_bound folded; /* CASELESS: what keys begin with, in capitals */
     key_page page;
-    size_t at;
-    int counts;    /* whether it may count rows */
-    int is_read;   /* whether a column of the page was read */
-    size_t unread; /* how many rows of the pages before it were passed since one was read */
-    size_t left;   /* how many rows are counted, from this one on; 0 where they are listed */
-    size_t passed; /* how many counted rows come before it */
+    const hot_head *row;  /* in the page; behind its last row where there is none */
+    const hot_head *last; /* up to here the row behind one is the next one of the page */
+    const uint8_t *key;   /* the row's key; behind the last row the end of its key */
+    int is_over;          /* whether there is no row */
+    int counts;           /* whether it may count rows */
+    int is_read;          /* whether a column of the page was read */
+    size_t unread;        /* how many rows of the pages before it were passed since one was read */
+    size_t left;          /* how many rows are counted, from this one on; 0 where they are listed */
+    size_t passed;        /* how many counted rows come before it */
 } cursor;
 
 static int fails(sqlite3_vtab *vtab, int code, const char *text) {
@@ -383,17 +389,18 @@ static int open_cursor(sqlite3_vtab *vtab, sqlite3_vtab_cursor **made) {
     if (!it)
         return code == SQLITE_OK ? SQLITE_NOMEM : code;
     memset(it, 0, sizeof *it);
-    if (!(it->page.pairs = sqlite3_malloc64(PAGE * sizeof *it->page.pairs))) {
+    if (!(it->page.heads = sqlite3_malloc64(PAGE * (sizeof *it->page.heads + HOT_MAX_KEY)))) {
         sqlite3_free(it);
         return SQLITE_NOMEM;
     }
+    it->page.bytes = (uint8_t *)(it->page.heads + PAGE);
     *made = &it->base;
     return SQLITE_OK;
 }
 
 static int close_cursor(sqlite3_vtab_cursor *of) {
     cursor *it = (cursor *)of;
-    sqlite3_free(it->page.pairs);
+    sqlite3_free(it->page.heads);
     sqlite3_free(it);
     return SQLITE_OK;
 }
@@ -402,19 +409,33 @@ static index_part *part_of(cursor *it) {
     return &((table *)it->base.pVtab)->in->part;
 }
 
-static int load(cursor *it) {
-    hot_status status = part_list(part_of(it), &it->from, &it->upto, it->falls, &it->page);
-    it->at = 0;
-    if (status == HOT_DONE)
-        return SQLITE_OK;
-    it->page.count = 0;
-    return refused(it->base.pVtab, status);
+/* Has the page so many rows, of which the first one is next. */
+static void begin_page(cursor *it, size_t count) {
+    it->page.count = count;
+    it->row = it->page.heads;
+    it->last = it->row + (count && !it->folded.length ? count - 1 : 0);
+    it->key = it->page.bytes;
 }
 
-/* Goes on behind the page: 0 if no key comes there. */
+static int load(cursor *it) {
+    hot_status status = part_list(part_of(it), &it->from, &it->upto, it->falls, &it->page);
+    begin_page(it, status == HOT_DONE ? it->page.count : 0);
+    return status == HOT_DONE ? SQLITE_OK : refused(it->base.pVtab, status);
+}
+
+static int is_behind_page(const cursor *it) {
+    return it->row == it->page.heads + it->page.count;
+}
+
+static void pass_row(cursor *it) {
+    it->key += it->row->length;
+    it->row++;
+}
+
+/* Goes on behind the page, whose rows are passed: 0 if no key comes there. */
 static int go_beyond(cursor *it) {
-    const hot_pair *last = &it->page.pairs[it->page.count - 1];
-    return key_beyond(last, it->falls, it->falls ? &it->upto : &it->from);
+    size_t length = it->row[-1].length;
+    return key_beyond(it->key - length, length, it->falls, it->falls ? &it->upto : &it->from);
 }
 
 /* Counts what comes after the page, if no column was read for long, so that none may be: 0 if it is to be listed. */
@@ -423,7 +444,8 @@ static int count_rest(cursor *it) {
     it->is_read = 0;
     if (!it->counts || !it->unread || !part_count(part_of(it), &it->from, &it->upto, it->unread, &it->left))
         return 0;
-    it->page.count = it->at = it->passed = 0;
+    begin_page(it, 0);
+    it->passed = 0;
     return 1;
 }
 
@@ -431,7 +453,7 @@ static int count_rest(cursor *it) {
 static int load_next(cursor *it) {
     it->page.limit = it->page.limit * 4 < PAGE ? it->page.limit * 4 : PAGE;
     if (!go_beyond(it)) {
-        it->page.count = it->at = 0;
+        begin_page(it, 0);
         return SQLITE_OK;
     }
     return count_rest(it) ? SQLITE_OK : load(it);
@@ -442,12 +464,14 @@ static int list_counted(cursor *it) {
     int code;
     it->left = 0;
     it->page.limit = PAGE;
-    while ((code = load(it)) == SQLITE_OK && it->page.count <= it->passed) {
-        it->passed -= it->page.count;
+    while ((code = load(it)) == SQLITE_OK) {
+        for (; it->passed && !is_behind_page(it); it->passed--)
+            pass_row(it);
+        if (!is_behind_page(it))
+            return SQLITE_OK;
         if (!it->page.count || !it->page.more || !go_beyond(it))
             return fails(it->base.pVtab, SQLITE_BUSY, "the row was removed meanwhile: try again");
     }
-    it->at = it->passed;
     return code;
 }
 
@@ -461,14 +485,14 @@ static uint8_t small_of(uint8_t byte) {
     return is_capital(byte) ? byte | 32 : byte;
 }
 
-/* The least bytes from the pair's key on that are the folded ones, whatever their case, if the key doesn't begin so: 0 if there are
- * none. If the key does, they are its own. */
-static int next_folded(const key_bound *folded, const hot_pair *pair, key_bound *to) {
+/* The least bytes from the key on that are the folded ones, whatever their case, if the key doesn't begin so: 0 if there are none. If the key
+ * does, they are its own. */
+static int next_folded(const key_bound *folded, const uint8_t *key, size_t length, key_bound *to) {
     size_t at, can_rise = HOT_MAX_KEY;
     to->length = folded->length;
     memcpy(to->key, folded->key, folded->length);
-    for (at = 0; at < folded->length && at < pair->length; at++) {
-        uint8_t capital = folded->key[at], small = small_of(capital), byte = pair->key[at];
+    for (at = 0; at < folded->length && at < length; at++) {
+        uint8_t capital = folded->key[at], small = small_of(capital), byte = key[at];
         if (byte < capital)
             return 1;
         if (byte > small) {
@@ -487,11 +511,11 @@ static int next_folded(const key_bound *folded, const hot_pair *pair, key_bound 
     return 1;
 }
 
-static int begins_so(const key_bound *folded, const hot_pair *pair) {
+static int begins_so(const key_bound *folded, const uint8_t *key, size_t length) {
     size_t at;
-    if (pair->length < folded->length)
+    if (length < folded->length)
         return 0;
-    for (at = 0; at < folded->length && capital_of(pair->key[at]) == folded->key[at]; at++) {
+    for (at = 0; at < folded->length && capital_of(key[at]) == folded->key[at]; at++) {
     }
     return at == folded->length;
 }
@@ -500,18 +524,17 @@ static int begins_so(const key_bound *folded, const hot_pair *pair) {
 static int find_row(cursor *it) {
     int code = SQLITE_OK;
     for (;;) {
-        if (it->at == it->page.count) {
+        if (is_behind_page(it)) {
             if (!it->page.count || !it->page.more)
                 return code;
             code = load_next(it);
             if (it->left)
                 return code;
-        } else if (begins_so(&it->folded, &it->page.pairs[it->at])) {
+        } else if (begins_so(&it->folded, it->key, it->row->length)) {
             return code;
         } else {
-            const hot_pair *pair = &it->page.pairs[it->at];
-            if (!next_folded(&it->folded, pair, &it->from)) {
-                it->page.count = it->at = 0;
+            if (!next_folded(&it->folded, it->key, it->row->length, &it->from)) {
+                begin_page(it, 0);
                 return SQLITE_OK;
             }
             it->page.limit = FIRST_PAGE;
@@ -522,15 +545,30 @@ static int find_row(cursor *it) {
     }
 }
 
-static int next_row(sqlite3_vtab_cursor *of) {
-    cursor *it = (cursor *)of;
+static void note_end(cursor *it) {
+    it->is_over = !it->left && is_behind_page(it);
+}
+
+/* Goes on from a row behind which may be none in the page. */
+__attribute__((noinline)) static int find_next_row(cursor *it) {
+    int code = SQLITE_OK;
     if (it->left) {
         it->left--;
         it->passed++;
-        return SQLITE_OK;
+    } else {
+        pass_row(it);
+        code = find_row(it);
     }
-    it->at++;
-    return find_row(it);
+    note_end(it);
+    return code;
+}
+
+static int next_row(sqlite3_vtab_cursor *of) {
+    cursor *it = (cursor *)of;
+    if (it->row >= it->last)
+        return find_next_row(it);
+    pass_row(it);
+    return SQLITE_OK;
 }
 
 /* A value's bytes as a key has them: 0 if it is of another type. */
@@ -598,28 +636,24 @@ static void set_caseless(cursor *it, sqlite3_value *from, sqlite3_value *below) 
 static int find_key(cursor *it, sqlite3_value *value, int *code) {
     const uint8_t *bytes;
     size_t length;
-    hot_pair *pair = it->page.pairs;
+    uint64_t found;
     hot_status status;
     if (!bytes_of((table *)it->base.pVtab, value, &bytes, &length))
         return 0;
-    status = part_get(part_of(it), bytes, length, &pair->value);
-    if (status == HOT_FOUND) {
-        memcpy(pair->key, bytes, length);
-        pair->length = (uint32_t)length;
-        it->page.count = 1;
-    }
+    status = part_get(part_of(it), bytes, length, &found);
+    if (status == HOT_FOUND)
+        page_set(&it->page, bytes, length, found);
     *code = status == HOT_FOUND || status == HOT_ABSENT ? SQLITE_OK : refused(it->base.pVtab, status);
     return 1;
 }
 
-static int filter_rows(sqlite3_vtab_cursor *of, int way, const char *text, int count, sqlite3_value **values) {
-    cursor *it = (cursor *)of;
-    const table *from_table = (table *)of->pVtab;
+/* Begins to go by the way. */
+static int begin_rows(cursor *it, int way, sqlite3_value **values) {
+    const table *from_table = (table *)it->base.pVtab;
     int code = SQLITE_OK, has_keys = 1;
-    (void)text;
-    (void)count;
     it->falls = (way & FALLING) != 0;
-    it->folded.length = it->from.length = it->at = it->page.count = it->page.more = 0;
+    it->folded.length = it->from.length = it->page.more = 0;
+    begin_page(it, 0);
     it->counts = !(way & (LIMITED | CASELESS));
     it->is_read = 0;
     it->unread = it->left = it->passed = 0;
@@ -641,25 +675,43 @@ static int filter_rows(sqlite3_vtab_cursor *of, int way, const char *text, int c
     return find_row(it);
 }
 
+static int filter_rows(sqlite3_vtab_cursor *of, int way, const char *text, int count, sqlite3_value **values) {
+    cursor *it = (cursor *)of;
+    int code = begin_rows(it, way, values);
+    (void)text;
+    (void)count;
+    note_end(it);
+    return code;
+}
+
 static int is_at_end(sqlite3_vtab_cursor *of) {
-    const cursor *it = (cursor *)of;
-    return !it->left && it->at >= it->page.count;
+    return ((const cursor *)of)->is_over;
+}
+
+static sqlite3_int64 value_of_row(const cursor *it) {
+    return (sqlite3_int64)it->row->value;
+}
+
+/* The key, or a column of a row that was counted. */
+__attribute__((noinline)) static int other_column(cursor *it, sqlite3_context *to, int number) {
+    int code = it->left ? list_counted(it) : SQLITE_OK;
+    if (code != SQLITE_OK)
+        return code;
+    if (number == VALUE)
+        sqlite3_result_int64(to, value_of_row(it));
+    else if (((table *)it->base.pVtab)->is_text)
+        sqlite3_result_text(to, (const char *)it->key, it->row->length, SQLITE_TRANSIENT);
+    else
+        sqlite3_result_blob(to, it->key, it->row->length, SQLITE_TRANSIENT);
+    return SQLITE_OK;
 }
 
 static int column_of(sqlite3_vtab_cursor *of, sqlite3_context *to, int number) {
     cursor *it = (cursor *)of;
-    const hot_pair *pair;
-    int code = it->left ? list_counted(it) : SQLITE_OK;
-    if (code != SQLITE_OK)
-        return code;
     it->is_read = 1;
-    pair = &it->page.pairs[it->at];
-    if (number == 1)
-        sqlite3_result_int64(to, (sqlite3_int64)pair->value);
-    else if (((table *)of->pVtab)->is_text)
-        sqlite3_result_text(to, (const char *)pair->key, (int)pair->length, SQLITE_TRANSIENT);
-    else
-        sqlite3_result_blob(to, pair->key, (int)pair->length, SQLITE_TRANSIENT);
+    if (number != VALUE || it->left)
+        return other_column(it, to, number);
+    sqlite3_result_int64(to, value_of_row(it));
     return SQLITE_OK;
 }
 
