@@ -15,9 +15,10 @@ typedef struct pairs {
     map *of; /* NULL at the end */
     int falls, what, is_asking;
     bound from, upto; /* what has not been asked for */
-    uint8_t *bytes;   /* the keys of a page, packed; and behind them their heads */
+    uint8_t *bytes;   /* the keys of a page, packed; and before them their heads */
     hot_head *heads;
-    size_t limit, count, at, place;
+    PyObject *text; /* the keys of the page as one str, or NULL */
+    size_t limit, found, count, at, place;
     uint32_t more;
 } pairs;
 
@@ -28,7 +29,7 @@ static hot_status ask(hot_handle *handle, void *what) {
     pairs *it = what;
     return (it->falls ? hot_scan_packed_reverse : hot_scan_packed)(handle, it->from.key, it->from.length, it->upto.key,
                                                                    it->upto.length, it->bytes, it->limit * HOT_MAX_KEY, it->heads,
-                                                                   it->limit, &it->count, &it->more);
+                                                                   it->limit, &it->found, &it->more);
 }
 
 /* Room for a larger page than the last one. */
@@ -48,18 +49,47 @@ static int make_room(pairs *it) {
     return 0;
 }
 
-/* Goes on beyond the last pair of the page. */
-static void go_on(pairs *it) {
-    size_t last = 0, length;
-    if (!it->count || !it->more)
+/* How many bytes the keys of the page have. */
+static size_t length_of_keys(const pairs *it) {
+    size_t length = 0;
+    for (size_t i = 0; i < it->found; i++)
+        length += it->heads[i].length;
+    return length;
+}
+
+/* Goes on beyond the last pair of the page, whose keys have so many bytes. */
+static void go_on(pairs *it, size_t length) {
+    if (!it->found || !it->more)
         return;
-    for (size_t i = 0; i + 1 < it->count; i++)
-        last += it->heads[i].length;
-    length = it->heads[it->count - 1].length;
+    size_t last = it->heads[it->found - 1].length;
+    const uint8_t *key = it->bytes + length - last;
     if (it->falls)
-        it->more = hot_before(it->bytes + last, length, it->upto.key, &it->upto.length) == HOT_DONE;
+        it->more = hot_before(key, last, it->upto.key, &it->upto.length) == HOT_DONE;
     else
-        it->more = hot_after(it->bytes + last, length, it->from.key, &it->from.length) == HOT_DONE;
+        it->more = hot_after(key, last, it->from.key, &it->from.length) == HOT_DONE;
+}
+
+static int is_ascii(const uint8_t *bytes, size_t length) {
+    uint64_t all = 0, word;
+    size_t at = 0;
+    for (; at + sizeof word <= length; at += sizeof word) {
+        memcpy(&word, bytes + at, sizeof word);
+        all |= word;
+    }
+    for (; at < length; at++)
+        all |= bytes[at];
+    return !(all & UINT64_C(0x8080808080808080));
+}
+
+/* Makes one str of the keys of the page, if they are ASCII: to take a part of it costs less than to decode a key. Of the first page often no
+ * more than one key is taken. -1 with an exception. */
+static int make_text(pairs *it, size_t length) {
+    int is_wanted = it->what == KEYS || it->what == ITEMS;
+    Py_CLEAR(it->text);
+    if (!is_wanted || it->of->codec.kind != OF_STR || it->limit == FIRST_PAGE || !is_ascii(it->bytes, length))
+        return 0;
+    it->text = PyUnicode_DecodeASCII((const char *)it->bytes, (Py_ssize_t)length, NULL);
+    return it->text ? 0 : -1;
 }
 
 /* Asks for a page: -1 with an exception. */
@@ -75,7 +105,11 @@ static int next_page(pairs *it) {
         raise_status(status);
         return -1;
     }
-    go_on(it);
+    size_t length = length_of_keys(it);
+    if (make_text(it, length) < 0)
+        return -1;
+    go_on(it, length);
+    it->count = it->found;
     return 0;
 }
 
@@ -109,23 +143,47 @@ PyObject *pair_of(PyObject *key, PyObject *value) {
     return pair;
 }
 
-/* The pair at this place of the page. The iterator has gone on before a Codec's code runs, which may use it. */
-static PyObject *shown(pairs *it, const codec *in) {
+/* A key that lies there. Python code, which may use the iterator, runs on a copy of it. */
+static PyObject *decoded(const pairs *it, const uint8_t *bytes, size_t length) {
     uint8_t key[HOT_MAX_KEY];
+    map *of = it->of;
+    memcpy(key, bytes, length);
+    Py_INCREF(of);
+    PyObject *made = key_of(&of->codec, key, length);
+    Py_DECREF(of);
+    return made;
+}
+
+/* The key that comes next of the str of keys. */
+static PyObject *part_of_text(pairs *it) {
+    size_t place = it->place;
+    it->place = place + it->heads[it->at++].length;
+    return PyUnicode_Substring(it->text, (Py_ssize_t)place, (Py_ssize_t)it->place);
+}
+
+/* The pair that comes next of the page. The iterator has gone on before any Python code runs. */
+static PyObject *shown(pairs *it) {
     size_t length = it->heads[it->at].length;
     uint64_t value = it->heads[it->at].value;
-    memcpy(key, it->bytes + it->place, length);
-    it->place += length;
-    it->at++;
-    switch (it->what) {
-    case KEYS: return key_of(in, key, length);
-    case VALUES: return PyLong_FromUnsignedLongLong(value);
-    case CODES: return PyBytes_FromStringAndSize((const char *)key, (Py_ssize_t)length);
-    default: return pair_of(key_of(in, key, length), PyLong_FromUnsignedLongLong(value));
+    const uint8_t *bytes = it->bytes + it->place;
+    int what = it->what;
+    PyObject *key;
+    if (it->text) {
+        key = part_of_text(it);
+    } else {
+        it->at++;
+        it->place += length;
+        if (what == VALUES)
+            return PyLong_FromUnsignedLongLong(value);
+        if (what == CODES)
+            return PyBytes_FromStringAndSize((const char *)bytes, (Py_ssize_t)length);
+        key = decoded(it, bytes, length);
     }
+    return what == KEYS ? key : pair_of(key, PyLong_FromUnsignedLongLong(value));
 }
 
 static void end(pairs *it) {
+    Py_CLEAR(it->text);
     PyMem_Free(it->heads);
     it->heads = NULL;
     it->count = it->at = 0;
@@ -133,25 +191,29 @@ static void end(pairs *it) {
     Py_CLEAR(it->of);
 }
 
-static PyObject *pairs_next(PyObject *self) {
-    pairs *it = (pairs *)self;
+/* Asks for a page that has a pair: 0 if there is none, or with an exception. */
+static int find_page(pairs *it) {
     if (it->is_asking) {
         PyErr_SetString(PyExc_ValueError, "another thread is in this iterator");
-        return NULL;
+        return 0;
     }
     while (it->of && it->at == it->count) {
         if (!it->more)
             end(it);
         else if (next_page(it) < 0)
-            return NULL;
+            return 0;
     }
-    if (!it->of)
-        return NULL;
-    map *of = it->of;
-    Py_INCREF(of);
-    PyObject *next = shown(it, &of->codec);
-    Py_DECREF(of);
-    return next;
+    return it->of != NULL;
+}
+
+/* Apart from what calls it, which so saves no registers for most keys. */
+__attribute__((noinline)) static PyObject *next_of_any(pairs *it) {
+    return it->at < it->count || find_page(it) ? shown(it) : NULL;
+}
+
+static PyObject *pairs_next(PyObject *self) {
+    pairs *it = (pairs *)self;
+    return it->text && it->what == KEYS && it->at < it->count ? part_of_text(it) : next_of_any(it);
 }
 
 static int pairs_traverse(PyObject *self, visitproc visit, void *arg) {

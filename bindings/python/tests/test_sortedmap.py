@@ -145,6 +145,22 @@ class Random(unittest.TestCase):
         """)
         self.assertGreater(int(keys), 30000)
 
+    def test_pages(self):
+        """Keys of each length, ASCII and else, by pages that end around each number."""
+        plain = [f"{at:04}{'k' * (at * 7 % 237)}" for at in range(700)]
+        others = ["", "0000\x7f", "0016\u20ac", "0336\xe9", "0500\ud800", "\U0001f600"]
+        for other in others:
+            for count in (0, 1, 16, 17, 80, 81, 336, 337, 700):
+                with self.subTest(other=other, count=count):
+                    keys = sorted({*plain[:count], other})
+                    pairs = [(key, at) for at, key in enumerate(keys)]
+                    mine = SortedMap(pairs)
+                    self.assertEqual([*mine], keys)
+                    self.assertEqual([*reversed(mine)], keys[::-1])
+                    self.assertEqual([*mine.items()], pairs)
+                    self.assertEqual([*mine.irange_items(reverse=True)], pairs[::-1])
+                    self.assertEqual([*mine.values()], [*range(len(keys))])
+
     def test_iterator_while_it_grows(self):
         mine = SortedMap({"b": 1, "c": 2})
         keys = iter(mine)
