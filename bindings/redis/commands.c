@@ -3,6 +3,7 @@
 #include "commands.h"
 #include "index.h"
 #include "keys.h"
+#include "lookups.h"
 #include "ranges.h"
 #include "removals.h"
 #include <limits.h>
@@ -116,20 +117,6 @@ static int om_exists(RedisModuleCtx *ctx, RedisModuleString **argv, int argc) {
     return REDISMODULE_OK;
 }
 
-static void reply_with_many(RedisModuleCtx *ctx, map *of, hot_lookup *lookups, int count) {
-    int at;
-    if (of != NULL && map_get_many(of, lookups, (size_t)count) != HOT_DONE) {
-        refuse_memory(ctx);
-        return;
-    }
-    RedisModule_ReplyWithArray(ctx, count);
-    for (at = 0; at < count; at++)
-        if (of != NULL && lookups[at].status == HOT_FOUND)
-            reply_with_word(ctx, lookups[at].value);
-        else
-            RedisModule_ReplyWithNull(ctx);
-}
-
 static int om_mget(RedisModuleCtx *ctx, RedisModuleString **argv, int argc) {
     hot_lookup few[FEW], *lookups;
     void *room;
@@ -147,7 +134,7 @@ static int om_mget(RedisModuleCtx *ctx, RedisModuleString **argv, int argc) {
         lookups[at].length = key.length;
     }
     if (is_right && open_key(&of, ctx, argv[1], REDISMODULE_READ)) {
-        reply_with_many(ctx, of.now, lookups, argc - 2);
+        reply_with_values(ctx, of.now, lookups, (size_t)argc - 2);
         close_key(&of);
     }
     give_room(few, room);
@@ -158,17 +145,13 @@ static int om_del(RedisModuleCtx *ctx, RedisModuleString **argv, int argc) {
     field few[FEW];
     void *room;
     opened of;
-    size_t taken;
     if (argc < 3)
         return RedisModule_WrongArity(ctx);
     if (!take_room(ctx, argc, few, sizeof *few, &room))
         return REDISMODULE_OK;
     if (read_fields(ctx, argv + 2, argc - 2, 0, room) && open_key(&of, ctx, argv[1], REDISMODULE_READ | REDISMODULE_WRITE)) {
-        taken = take_fields(&of, room, (size_t)argc - 2);
-        if (taken > 0)
-            finish(&of, "om.del");
+        take_named(&of, argv + 2, room, (size_t)argc - 2);
         close_key(&of);
-        RedisModule_ReplyWithLongLong(ctx, (long long)taken);
     }
     give_room(few, room);
     return REDISMODULE_OK;

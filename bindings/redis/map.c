@@ -290,20 +290,16 @@ int map_get(map *of, field key, word *value) {
     return 1;
 }
 
-hot_status map_get_many(map *of, hot_lookup *lookups, size_t count) {
-    enum { AT_ONCE = 256 };
-    hot_status status = HOT_DONE;
+void map_get_many(map *of, hot_lookup *lookups, size_t count) {
     size_t at;
-    if (of->form == SMALL) {
-        for (at = 0; at < count; at++) {
-            field key = {lookups[at].key, lookups[at].length};
-            lookups[at].status = map_get(of, key, &lookups[at].value) ? HOT_FOUND : HOT_ABSENT;
-        }
-        return HOT_DONE;
+    if (of->form == INDEXED) {
+        hot_get_many(&indexed_of(of)->handle, lookups, count);
+        return;
     }
-    for (at = 0; at < count && status == HOT_DONE; at += AT_ONCE)
-        status = hot_get_many(&indexed_of(of)->handle, lookups + at, count - at < AT_ONCE ? count - at : AT_ONCE);
-    return status;
+    for (at = 0; at < count; at++) {
+        field key = {lookups[at].key, lookups[at].length};
+        lookups[at].status = map_get(of, key, &lookups[at].value) ? HOT_FOUND : HOT_ABSENT;
+    }
 }
 
 /* ---- Ranges ---- */

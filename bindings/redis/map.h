@@ -106,8 +106,8 @@ uint64_t map_length(const map *of);
 /* Looks a field up: 1 if it is there. */
 int map_get(map *of, field key, word *value);
 
-/* The same of many, with a status for each: HOT_DONE or HOT_NO_MEMORY. */
-hot_status map_get_many(map *of, hot_lookup *lookups, size_t count);
+/* The same of many, with a status for each. */
+void map_get_many(map *of, hot_lookup *lookups, size_t count);
 
 /* A map of the pairs that `next` gives, in rising order; NULL if there is no memory. Of the words that it gives it takes those that
  * lead to memory of their own. A small one is made of a block. */

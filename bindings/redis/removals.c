@@ -1,4 +1,4 @@
-/* Removals of ranges, at once or in portions. */
+/* Removals of ranges and of named fields, at once or in portions. */
 #include "removals.h"
 #include "jobs.h"
 #include "keys.h"
@@ -6,8 +6,10 @@
 #include <limits.h>
 #include <string.h>
 
-/* A removal of pairs from one end of a range on. */
+/* A removal of pairs from one end of a range on, or of named fields. */
 typedef struct removal {
+    RedisModuleString **names; /* the fields that are left of it; NULL of a range */
+    uint64_t named;            /* how many these are */
     range_request asked; /* what is left of it; `with_values` if it replies with the pairs, and not with their number */
     RedisModuleCtx *to;  /* replies here */
     uint64_t taken;
@@ -16,7 +18,7 @@ typedef struct removal {
 } removal;
 
 static removal removal_of_all(RedisModuleCtx *ctx) {
-    removal it = {all_pairs, ctx, 0, {0, 0, {0}, {0}}, 0, 0};
+    removal it = {NULL, 0, all_pairs, ctx, 0, {0, 0, {0}, {0}}, 0, 0};
     range_of_all(&it.asked.range);
     return it;
 }
@@ -116,6 +118,25 @@ static void take_and_tell(opened *of, removal *it, uint64_t most, const char *ev
     tell(of, event);
 }
 
+/* Takes up to so many named fields, and has replicas take the same. */
+static void take_next_named(opened *of, removal *it, uint64_t most) {
+    uint64_t at, count = most < it->named ? most : it->named, taken = 0;
+    field fields[PAGE];
+    for (at = 0; at < count; at++) {
+        fields[at % PAGE] = field_of(it->names[at]);
+        if (at % PAGE == PAGE - 1 || at + 1 == count)
+            taken += take_fields(of, fields, at % PAGE + 1);
+    }
+    it->is_done = count == it->named || of->now == NULL || map_length(of->now) == 0;
+    if (taken > 0) {
+        RedisModule_Replicate(of->ctx, "om.del", "sv", of->name, it->names, (size_t)count);
+        tell(of, "om.del");
+    }
+    it->taken += taken;
+    it->names += count;
+    it->named -= count;
+}
+
 /* ---- Long removals ---- */
 
 /* A removal whose client waits. All is done by the main thread. */
@@ -126,6 +147,8 @@ typedef struct long_removal {
     RedisModuleString *name;
     RedisModuleBlockedClient *client;
     int database, is_gone;
+    size_t count;
+    RedisModuleString *names[]; /* all that are left when it begins */
 } long_removal;
 
 /* They have their turns. */
@@ -153,7 +176,10 @@ static void go_on(RedisModuleCtx *ctx, long_removal *of) {
     RedisModule_SelectDb(ctx, of->database);
     if (find_key(&key, ctx, of->name, REDISMODULE_READ | REDISMODULE_WRITE)) {
         uint64_t before = of->it.taken;
-        take_and_tell(&key, &of->it, at_once(key.now), of->event);
+        if (of->count > 0)
+            take_next_named(&key, &of->it, at_once(key.now));
+        else
+            take_and_tell(&key, &of->it, at_once(key.now), of->event);
         note_at_once(of->it.taken - before);
         close_key(&key);
     } else {
@@ -166,6 +192,8 @@ static void end(long_removal *of) {
     end_reply(&of->it);
     RedisModule_FreeThreadSafeContext(of->it.to);
     RedisModule_FreeString(NULL, of->name);
+    while (of->count > 0)
+        RedisModule_FreeString(NULL, of->names[--of->count]);
     RedisModule_UnblockClient(of->client, NULL);
     RedisModule_Free(of);
 }
@@ -190,13 +218,23 @@ static void take_turn(RedisModuleCtx *ctx, void *unused) {
         RedisModule_CreateTimer(ctx, PAUSE_MILLISECONDS, take_turn, NULL);
 }
 
+/* Keeps the names, which are the command's words. */
+static void hold_names(long_removal *of) {
+    for (of->count = 0; of->count < of->it.named; of->count++) {
+        of->names[of->count] = of->it.names[of->count];
+        RedisModule_RetainString(NULL, of->names[of->count]);
+    }
+    of->it.names = of->names;
+}
+
 /* Has the client wait for the rest of a removal: 0 if there is no memory for that. */
 static int wait_for_rest(const opened *of, const removal *it, const char *event) {
     field name = field_of(of->name);
-    long_removal *made = RedisModule_TryAlloc(sizeof *made);
+    long_removal *made = RedisModule_TryAlloc(sizeof *made + it->named * sizeof *made->names);
     if (made == NULL)
         return 0;
     made->it = *it;
+    hold_names(made);
     made->event = event;
     made->is_gone = 0;
     made->database = RedisModule_GetSelectedDb(of->ctx);
@@ -216,6 +254,27 @@ static uint64_t first_portion(const opened *of) {
 }
 
 /* ---- Commands ---- */
+
+void take_named(opened *of, RedisModuleString **names, const field *fields, size_t count) {
+    removal it = removal_of_all(of->ctx);
+    uint64_t portion = first_portion(of);
+    it.names = names;
+    it.named = count;
+    if (of->now != NULL && count > portion) {
+        take_next_named(of, &it, portion);
+        if (!it.is_done && wait_for_rest(of, &it, "om.del"))
+            return;
+        if (!it.is_done)
+            take_next_named(of, &it, UINT64_MAX);
+    } else {
+        it.taken = take_fields(of, fields, count);
+        if (it.taken > 0)
+            finish(of, "om.del");
+    }
+    if (portion < UINT64_MAX)
+        note_at_once(it.taken);
+    end_reply(&it);
+}
 
 static void pop_from_key(opened *of, removal *it, const char *name) {
     uint64_t length = of->now == NULL ? 0 : map_length(of->now), most = first_portion(of);

@@ -144,6 +144,7 @@ typedef struct RedisModuleTypeMethods {
     X(int, StringToLongLong, (const RedisModuleString *of, long long *to))                                                         \
     X(RedisModuleString *, CreateString, (RedisModuleCtx * ctx, const char *at, size_t length))                                    \
     X(void, FreeString, (RedisModuleCtx * ctx, RedisModuleString * of))                                                            \
+    X(void, RetainString, (RedisModuleCtx * ctx, RedisModuleString * of))                                                          \
     X(RedisModuleKey *, OpenKey, (RedisModuleCtx * ctx, RedisModuleString * name, int mode))                                       \
     X(void, CloseKey, (RedisModuleKey * key))                                                                                      \
     X(int, KeyType, (RedisModuleKey * key))                                                                                        \

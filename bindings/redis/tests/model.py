@@ -122,6 +122,13 @@ class Model:
         fields = [self.held() for _ in range(self.random.randrange(1, 20 if self.is_small else 200))]
         self.check(["OM.DEL", NAME, *fields], sum(self.pairs.pop(field, None) is not None for field in fields))
 
+    def name_many(self) -> None:
+        """So many fields that a job looks them up, and that they go in portions."""
+        fields = self.random.choices([*self.pairs, self.field()], k=1_500)
+        self.check(["OM.MGET", NAME, *fields], [self.pairs.get(field) for field in fields])
+        if self.random.random() < 0.3:
+            self.check(["OM.DEL", NAME, *fields], sum(self.pairs.pop(field, None) is not None for field in fields))
+
     def add(self) -> None:
         field, more = self.held(), self.random.choice([1, -1, self.random.randrange(-(2**63), 2**63)])
         number = number_of(self.pairs.get(field, b"0"))
@@ -263,6 +270,8 @@ class Model:
             self.reload()
         elif rare < 0.006:
             self.change_size()
+        elif rare < 0.007:
+            self.name_many()
         elif rare < 0.02:
             self.remove_range()
         else:

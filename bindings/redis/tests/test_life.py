@@ -218,6 +218,7 @@ class Portions(unittest.TestCase):
     def test_at_once(self) -> None:
         """No command has the main thread go through more than a thousand pairs in one go."""
         works = [("OM.RANGE", "-", "+"), ("OM.RANGE", "-", "+", "REV", "LIMIT", 50_000, 5), ("OM.PREFIX", "f"), ("OM.COUNT", "-", "+")]
+        works += [(name, *(b"f%07d" % (at * 7) for at in range(5_000))) for name in ("OM.MGET", "OM.DEL")]
         works += [("OM.POPMIN", 5_000), ("OM.POPMAX", 5_000), ("OM.DELRANGE", "(a", "+", "LIMIT", 30_000), ("OM.DELRANGE", "-", "(g")]
         with Server() as server:
             self.fill(server)
@@ -263,6 +264,25 @@ class Portions(unittest.TestCase):
             self.assertIn(left, [turns - 1, turns])
             self.assertEqual(server.run("OM.LEN", "m"), turns)
         return bool(is_between) and turns > 10
+
+    def test_named(self) -> None:
+        """Many named fields: all values come, also of fields that are absent or named twice. Then some go, and a replica has the same."""
+        pairs = {b"f%05d" % at: b"a value of more than seven bytes %d" % at for at in range(10_000)}
+        fields = random.Random(1).choices([*pairs, b"", b"none"], k=15_000)
+        with Server() as server, Server() as replica:
+            replica.client.replicaof("127.0.0.1", server.port)
+            replica.until("replication", "master_link_status", "up")
+            fill(server, "m", pairs)
+            self.assertEqual(server.run("OM.MGET", "m", *fields), [pairs.get(field) for field in fields])
+            self.assertEqual(server.run("OM.MGET", "none", *fields), [None] * len(fields))
+            self.assertEqual(server.run("OM.DEL", "m", *fields[:5_000]), len(set(fields[:5_000]) & set(pairs)))
+            self.assertEqual(server.client.wait(1, 30_000), 1)
+            self.assertEqual(digest(replica), digest(server))
+            self.assertEqual(server.run("OM.LEN", "m"), len(set(pairs) - set(fields[:5_000])))
+            self.assertEqual(server.run("OM.DEL", "m", *pairs, *fields), len(set(pairs) - set(fields[:5_000])))
+            self.assertEqual(server.client.exists("m"), 0)
+            self.assertEqual(server.client.wait(1, 30_000), 1)
+            self.assertEqual(replica.client.dbsize(), 0)
 
     def test_clients_that_go(self) -> None:
         """Once its client has left, a removal ends."""

@@ -114,9 +114,13 @@ class Stalls(unittest.TestCase):
             self.client.run_all(pairs(100))
             self.watch(" ".join(words), [packed(*words)])
         self.client.run_all(pairs(100))
-        self.watch("100 pairs a command", pairs(100), 4)
-        self.watch("100 look-ups a command", fields("OM.MGET", 100), 4)
-        self.watch("100 removals a command", fields("OM.DEL", 100), 4)
+        for count, under_way in ((100, 4), (1_000, 1)):
+            self.watch(f"{count} pairs a command", pairs(count), under_way)
+            self.watch(f"{count} look-ups a command", fields("OM.MGET", count), under_way)
+            self.watch(f"{count} removals a command", fields("OM.DEL", count), under_way)
+            self.client.run_all(pairs(100))
+        for name in ("OM.MGET", "OM.DEL"):
+            self.watch(f"{name} of 10,000 fields", fields(name, 10_000), 1)
 
     def test_large_maps(self) -> None:
         """A work that took longer is done again: something else may have been at the processor's caches."""

@@ -1,0 +1,74 @@
+/* Replies with the values of named fields, by the main thread or by a job. */
+#include "lookups.h"
+#include "jobs.h"
+#include "ranges.h"
+#include <string.h>
+
+static void reply_with_found(RedisModuleCtx *ctx, const hot_lookup *lookups, size_t count) {
+    size_t at;
+    for (at = 0; at < count; at++)
+        if (lookups[at].status == HOT_FOUND)
+            reply_with_word(ctx, lookups[at].value);
+        else
+            RedisModule_ReplyWithNull(ctx);
+}
+
+/* Looks fields up for a client that waits. */
+typedef struct lookup_job {
+    read_job base;
+    size_t count;
+    hot_lookup lookups[]; /* and behind them the bytes of their fields */
+} lookup_job;
+
+/* The values of a page stay within a section. */
+static void look_up(read_job *base, RedisModuleCtx *ctx, hot_handle *handle) {
+    lookup_job *it = (lookup_job *)base;
+    size_t at, size;
+    RedisModule_ReplyWithArray(ctx, (long)it->count);
+    for (at = 0; at < it->count && !base->is_gone; at += size) {
+        size = it->count - at < PAGE ? it->count - at : PAGE;
+        hot_enter(handle);
+        hot_get_many(handle, it->lookups + at, size);
+        reply_with_found(ctx, it->lookups + at, size);
+        hot_leave(handle);
+    }
+}
+
+/* Has a job reply: 0 if there is no memory for one. */
+static int give_to_job(RedisModuleCtx *ctx, map *of, const hot_lookup *lookups, size_t count) {
+    size_t at, bytes = 0;
+    lookup_job *it;
+    uint8_t *to;
+    for (at = 0; at < count; at++)
+        bytes += lookups[at].length;
+    it = RedisModule_TryAlloc(sizeof *it + count * sizeof *lookups + bytes);
+    if (it == NULL)
+        return 0;
+    it->base.read = look_up;
+    it->count = count;
+    to = (uint8_t *)&it->lookups[count];
+    for (at = 0; at < count; at++) {
+        it->lookups[at].key = to;
+        it->lookups[at].length = lookups[at].length;
+        memcpy(to, lookups[at].key, lookups[at].length);
+        to += lookups[at].length;
+    }
+    jobs_read(ctx, &it->base, (indexed_map *)of);
+    return 1;
+}
+
+int reply_with_values(RedisModuleCtx *ctx, map *of, hot_lookup *lookups, size_t count) {
+    int may = may_wait(ctx);
+    size_t at;
+    if (of != NULL && of->form == INDEXED && count > at_once(of) && may && jobs_threads() > 0 && give_to_job(ctx, of, lookups, count))
+        return REDISMODULE_OK;
+    for (at = 0; of == NULL && at < count; at++)
+        lookups[at].status = HOT_ABSENT;
+    if (of != NULL)
+        map_get_many(of, lookups, count);
+    RedisModule_ReplyWithArray(ctx, (long)count);
+    reply_with_found(ctx, lookups, count);
+    if (of != NULL && may)
+        note_at_once(count);
+    return REDISMODULE_OK;
+}
