@@ -7,8 +7,8 @@ use std::alloc::{AllocError, Global};
 use std::marker::Model;
 use std::mem::swap;
 
-/// So many elements stand in memory of their own: a list that has never had more takes no more than that, where the system gives memory only
-/// once something is written there.
+/// So many elements stand in memory of their own: a list that has never had more takes no more than that, where the system gives memory
+/// only once something is written there.
 const FEW: usize = 8;
 
 /// A vector of at most `MOST` elements. Their memory is on the heap, from when the vector is made: no later call asks for any.
@@ -37,7 +37,7 @@ impl<T, const MOST: usize> Model for BoundedVec<T, MOST> {
 }
 
 impl<T, const MOST: usize> BoundedVec<T, MOST> {
-    /// The elements. Inline, since it is short, as the methods below are.
+    /// Returns the elements. Inline, since it is short, as the methods below are.
     #[inline(always)]
     pub fn as_slice(&self) -> &[T]
         ensures value { result.now ≡ self.now.items }
@@ -46,7 +46,7 @@ impl<T, const MOST: usize> BoundedVec<T, MOST> {
         self.elements.as_slice()
     }
 
-    /// How many elements there are.
+    /// Returns how many elements there are.
     #[inline(always)]
     pub fn len(&self) -> usize
         ensures { result ≡ length self.now.items }
@@ -54,7 +54,7 @@ impl<T, const MOST: usize> BoundedVec<T, MOST> {
         self.elements.len()
     }
 
-    /// Removes and returns the last element, if there is one.
+    /// Removes and returns the last element; `None` if there is none.
     #[inline(always)]
     pub fn pop(&mut self) -> Option<T>
         ensures items { self.old.items ≡ self.new.items ++ option_to_list result }
@@ -68,7 +68,7 @@ impl<T, const MOST: usize> BoundedVec<T, MOST> {
 }
 
 impl<T: Copy + Drop, const MOST: usize> BoundedVec<T, MOST> {
-    /// An empty vector with memory for `MOST` elements; an error if it is refused.
+    /// Returns an empty vector with memory for `MOST` elements; `AllocError` if memory is refused.
     pub fn new(alloc: Global) -> Result<BoundedVec<T, MOST>, AllocError>
         ensures { IfOk result (λ v. v.items ≡ []) }
     {
@@ -78,7 +78,7 @@ impl<T: Copy + Drop, const MOST: usize> BoundedVec<T, MOST> {
         })
     }
 
-    /// Appends `element`. There must be room.
+    /// Appends `element`. There must be room: fewer than `MOST` elements.
     #[inline(always)]
     pub fn push(&mut self, element: T)
         requires { length self.old.items < MOST }
@@ -90,8 +90,8 @@ impl<T: Copy + Drop, const MOST: usize> BoundedVec<T, MOST> {
         self.elements.push_reserved(element);
     }
 
-    /// Has `elements` stand in memory for `MOST`: that of `empty`, if they stand in that of the few. Not inline, since that is rare; and it isn't
-    /// told of the element that comes, which can stay in registers then.
+    /// Moves `elements` into memory for `MOST` elements, that of `empty`, if they stand in that of the few. Not inline, since that is rare.
+    /// It isn't told of the element that comes, which can stay in registers then.
     #[inline(never)]
     fn make_room(elements: &mut Vec<T>, empty: &mut Vec<T>)
         requires room { length elements.old.items < MOST }

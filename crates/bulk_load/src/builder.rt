@@ -82,7 +82,7 @@ pub(crate) struct Builder {
 }
 
 impl Builder {
-    /// A builder that has taken no pair, for a table of `layout`. An error if memory is refused.
+    /// Returns a builder that has taken no pair, for a table of `layout`. `AllocError` if memory is refused.
     pub(crate) fn new(alloc: Global, layout: Layout) -> Result<Builder, AllocError>
         ensures { IfOk result (λ builder. (builder.layout ≡ layout) × IsLoading builder []) }
     {
@@ -106,8 +106,8 @@ impl Builder {
         })
     }
 
-    /// Where the leaf of `key` belongs. `NotRising` if `key` isn't above the last one. Else `LeavesFull` if no leaf record with room for it
-    /// is free, and then `NodesFull` if too few node records may be left.
+    /// Returns where the leaf of `key` belongs. The error is `NotRising` if `key` isn't above the last one. Else it is `LeavesFull` if no
+    /// leaf record with room for `key` is free, and then `NodesFull` if too few node records may be left.
     pub(crate) fn find_next_leaf(&self, key: &Key) -> Result<NextLeaf, LoadFault>
         requires { (xs : List Item) × IsLoading self.now xs }
         ensures next_leaf { IfOk result (λ next_leaf. IsNextLeaf self.now key.now next_leaf.fork_position next_leaf.record_number) }
@@ -130,7 +130,7 @@ impl Builder {
         })
     }
 
-    /// Makes room for one tip more, and one piece more. `Memory` if memory is refused.
+    /// Makes room for one tip more, and one piece more. The error is `Memory` if memory is refused.
     pub(crate) fn reserve(&mut self) -> Result<(), LoadFault>
         ensures same { HasSameFields self.old self.new }
         ensures ok { OnOk result (HasSpace self.new) }
@@ -145,8 +145,8 @@ impl Builder {
         Ok(())
     }
 
-    /// Takes `key` with `value` as the last pair so far. `next_leaf` is what `find_next_leaf` returns for `key`. There is room for one tip
-    /// more and one piece more, as `reserve` makes it. The pieces at forks behind the leaf's fork are joined first.
+    /// Takes `key` with `value` as the last pair so far. `next_leaf` is what `find_next_leaf` returned for `key`. There is room for one tip
+    /// more and one piece more, which `reserve` has made. The pieces at forks behind the leaf's fork are joined first.
     pub(crate) fn take(&mut self, next_leaf: NextLeaf, key: &Key, value: u64)
         requires next_leaf { IsNextLeaf self.old key.now next_leaf.fork_position next_leaf.record_number }
         requires space { HasSpace self.old }
@@ -158,7 +158,7 @@ impl Builder {
         self.add_leaf(next_leaf.fork_position, next_leaf.record_number, key, value);
     }
 
-    /// Makes one tree of all pieces, and writes the root: its entry leads to that tree, or to nothing if there is no piece.
+    /// Makes one tree of all pieces, and writes the root's entry. It leads to that tree, or to nothing if there is no piece.
     pub(crate) fn close_all(&mut self)
         requires { (xs : List Item) × IsLoading self.old xs }
         ensures finished { (xs : List Item) → IsLoading self.old xs → IsFinished self.old.layout self.new.words.items xs }
@@ -171,7 +171,7 @@ impl Builder {
         put_root(self.words.as_mut_slice(), Some(entry));
     }
 
-    /// Makes one tree of all pieces. Returns the entry that leads to it. A node record is left.
+    /// Makes one tree of all pieces, of which there is one at least. Returns the entry that leads to it. At least one node record is left.
     fn close_tree(&mut self) -> Entry
         requires { (xs : List Item) × IsStackOf self.old xs }
         ensures tree { (xs : List Item) → IsStackOf self.old xs → (t : Tree) × IsTreeOf self.new t × (items t ≡ xs) × (subtrie t ≡ Place result) }
@@ -185,7 +185,8 @@ impl Builder {
         self.tips[0].entry
     }
 
-    /// The position of the fork between the last key and `key`; 0 for the first key. An error exactly if `key` is not above the last one.
+    /// Returns the position of the fork between the last key and `key`; 0 for the first key. The error is `NotRising`, exactly if `key` is
+    /// not above the last one.
     fn fork_before(&self, key: &Key) -> Result<u16, LoadFault>
         ensures first { IfOk result (λ p. vec_len self.now.pieces ≡ 0 → p ≡ 0) }
         ensures parted { IfOk result (λ p. 0 < vec_len self.now.pieces → IsParted p self.now.last key.now) }
@@ -205,7 +206,8 @@ impl Builder {
         }
     }
 
-    /// The first free leaf record of the smallest class that has one and `words` words at least.
+    /// Returns the number of the first free leaf record of the smallest class that has one and at least `words` words; `None` if there is
+    /// none.
     fn find_leaf(&self, words: usize) -> Option<u32>
         requires { length self.now.words.items ≡ word_count self.now.layout }
         ensures found { IfSome result (λ n. (n < self.now.layout.leaves) × (words ≤ leaf_size self.now.layout n) ×
@@ -222,7 +224,7 @@ impl Builder {
         None
     }
 
-    /// Whether leaf record `number` is a free one of this class.
+    /// Returns whether the leaf record `number` is of the class with the number `class`, and free.
     fn is_free(&self, class: usize, number: u32) -> bool
         requires { length self.now.words.items ≡ word_count self.now.layout }
         ensures { IsTrue result ↔ ((number < self.now.layout.leaves) × (leaf_class self.now.layout number ≡ class) ×
@@ -233,8 +235,8 @@ impl Builder {
             && self.words[self.layout.leaf(number)] == pack_state(Tag::Free)
     }
 
-    /// Whether enough node records are left for one leaf more, which is one tip and one piece more. They are two for each piece, or one
-    /// for each tip, or one for all. Closing all pieces takes no more, and leaves one.
+    /// Returns whether enough node records are left for one leaf more, which is one tip and one piece more. Enough are two for each piece,
+    /// or one for each tip, or one for all. Closing all pieces takes no more, and leaves one.
     fn has_nodes(&self) -> bool
         ensures { IsTrue result ↔ HasNodesFor self.now 1 }
     {
@@ -242,14 +244,14 @@ impl Builder {
         left / 2 > self.pieces.len() || left > self.tips.len() || self.fits_one_node()
     }
 
-    /// Whether no node is taken, and one has room for all tips and one more, and one is left then.
+    /// Returns whether no node record is taken, one node has room for all tips and one more, and another node record is left.
     fn fits_one_node(&self) -> bool
         ensures { IsTrue result ↔ FitsOneNode self.now 1 }
     {
         self.nodes == 0 && self.tips.len() < MAX_ENTRIES && self.layout.nodes > 1
     }
 
-    /// Puts a leaf on top, as a piece of its own, behind a fork at `fork`. Its record is `leaf`.
+    /// Puts the leaf of `key` and `value`, in the record `leaf`, on top as a piece of its own, behind a fork at `fork`.
     fn add_leaf(&mut self, fork: u16, leaf: u32, key: &Key, value: u64)
         requires space { HasSpace self.old }
         requires leaf { leaf < self.old.layout.leaves }
@@ -300,7 +302,7 @@ impl Builder {
         }
     }
 
-    /// Makes one piece of the last two, at the fork between them.
+    /// Makes one piece of the last two pieces, at the fork between them. A piece that needs it is closed before.
     fn join_last(&mut self)
         requires several { 2 ≤ vec_len self.old.pieces }
         requires stack { (xs : List Item) × IsStackOf self.old xs }
@@ -320,8 +322,8 @@ impl Builder {
         };
     }
 
-    /// Closes the piece of `count` tips before the last `behind` ones, if `closes` is true. Then a node of them is written, and its entry
-    /// replaces them. Returns how many tips the piece has then.
+    /// Closes the piece of `count` tips before the last `behind` ones, if `closes` is true: a node of its tips is written, and the node's
+    /// entry replaces them. Returns how many tips the piece has then.
     fn close_piece(&mut self, behind: usize, count: usize, closes: bool) -> usize
         requires fits { behind + count ≤ vec_len self.old.tips }
         requires room { IsTrue closes → (2 ≤ count) × (count ≤ 32) × (self.old.nodes < self.old.layout.nodes) }
@@ -341,8 +343,8 @@ impl Builder {
         1
     }
 
-    /// Writes a node of the `count` tips before the last `behind` ones, and replaces them by its entry. Never inline: the memory of its
-    /// locals is cleared at each call.
+    /// Writes a node of the `count` tips before the last `behind` ones, and replaces these tips by the node's entry. Never inline: the
+    /// memory of its locals is cleared at each call.
     #[inline(never)]
     fn write_piece(&mut self, behind: usize, count: usize)
         requires fits { behind + count ≤ vec_len self.old.tips }
@@ -365,7 +367,7 @@ impl Builder {
     }
 }
 
-/// The number of the class that leaf record `number` has, from 0 for the shortest on.
+/// Returns the number of the class of the leaf record `number`, from 0 for the shortest on.
 fn class_number(layout: &Layout, number: u32) -> usize
     ensures class { result ≡ leaf_class layout.now number }
     ensures few { result < LEAF_CLASSES }
@@ -383,8 +385,8 @@ fn class_number(layout: &Layout, number: u32) -> usize
     }
 }
 
-/// How `left` and `right` become one piece. The lower one is closed, so that it stands in a node as high as the other. Both are closed if
-/// they have too many tips for one node.
+/// Returns how `left` and `right` become one piece. The lower one is closed, so that it stands in a node as high as the other. Both are
+/// closed if they have too many tips for one node.
 fn plan_join(left: StackedPiece, right: StackedPiece) -> JoinPlan
     requires { (left.count ≤ 32) × (right.count ≤ 32) }
     ensures few { (if result.closes_left then 1 else left.count) + (if result.closes_right then 1 else right.count) ≤ 32 }

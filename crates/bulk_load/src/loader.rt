@@ -37,7 +37,7 @@ impl Loader {
     ghost use Rattle.bulk_load.specs.Tables.{leaf_class};
     ghost use Rattle.bulk_load.specs.Views.{HasNoRoomFor, IsAboveLast, IsTakenLeaf, load_act, no_items, with_item};
 
-    /// A loader that has taken no pair, for a table of `layout`. An error if memory is refused.
+    /// Returns a loader that has taken no pair, for a table of `layout`. `AllocError` if memory is refused.
     pub fn new(alloc: Global, layout: Layout) -> Result<Loader, AllocError>
         ensures { IfOk result (λ loader. loader ≡ no_items layout) }
     {
@@ -46,30 +46,31 @@ impl Loader {
         })
     }
 
-    /// How many passes and records the table has.
+    /// Returns how many passes and records the table has.
     pub fn layout(&self) -> Layout
         ensures { result ≡ self.now.layout }
     {
         self.builder.layout
     }
 
-    /// The number of the first node record that is not taken so far. The pairs have taken fewer nodes than they are.
+    /// Returns the number of the first node record that is not taken so far. Fewer node records are taken than pairs, or none.
     pub fn first_free_node(&self) -> u32
         ensures { result ≤ length self.now.items }
     {
         self.builder.nodes
     }
 
-    /// The number of the first leaf record of each class that is not taken, or of where that would be. Those of the class below it are taken.
+    /// Returns the number of the first leaf record of each class that is not taken, or of where it would be. All leaf records of the class
+    /// below that number are taken.
     pub fn first_free_leaves(&self) -> [u32; LEAF_CLASSES]
         ensures { (n : ℕ) → n < self.now.layout.leaves → IsTakenLeaf self.now.items n ↔ (n < get_or result (leaf_class self.now.layout n) 0) }
     {
         self.builder.leaves
     }
 
-    /// Takes `key` with `value`, as the last pair. The key must be above the last one: `NotRising` says that it isn't. `LeavesFull` comes
-    /// only if no leaf record with room for the key is left. `NodesFull` comes only if the table has no more node records than pairs were
-    /// taken. A table of two node records takes 32 pairs. After a fault the pairs are as before.
+    /// Takes `key` with `value`, as the last pair. The error is `NotRising` exactly if `key` isn't above the last one. It is `LeavesFull`
+    /// only if no leaf record with room for `key` is left. It is `NodesFull` only if the table has no more node records than pairs were
+    /// taken. A table of two node records takes 32 pairs. It is `Memory` if memory is refused. After an error the pairs are as before.
     pub fn push(&mut self, key: &Key, value: u64) -> Result<(), LoadFault>
         ensures taken { OnOk result ((n : ℕ) × (self.new ≡ with_item self.old (item n key.now value))) }
         ensures refused { OnErr result (self.new ≡ self.old) }
@@ -84,7 +85,8 @@ impl Loader {
         Ok(())
     }
 
-    /// The words of the table: they show one tree, whose leaves are those that were taken. At least one node record stands in no tree.
+    /// Returns the words of the table. They show one tree, whose leaves are those that were taken. At least one node record stands in no
+    /// tree.
     pub fn finish(self) -> Vec<u64>
         ensures load { IsLoad self.layout result.items }
         ensures shows { Shows (after (opening self.layout) 0 (load_act result.items)) result.items }

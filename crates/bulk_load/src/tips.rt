@@ -22,7 +22,7 @@ pub(crate) struct Tip {
     pub(crate) entry: Entry,
 }
 
-/// The node of the entries of `tips`, 2 to 32, with the forks between them.
+/// Returns the node of the entries of `tips`, 2 to 32, with the forks between them.
 pub(crate) fn build_node(tips: &[Tip]) -> Node
     requires few { (2 ≤ length tips.now) × (length tips.now ≤ 32) }
     requires each { All MayBeTip tips.now }
@@ -36,7 +36,7 @@ pub(crate) fn build_node(tips: &[Tip]) -> Node
     Node::of(head, list_entries(tips))
 }
 
-/// The columns of a node of `tips`: the positions of the forks between these, each once.
+/// Returns the columns of a node of `tips`: the positions of the forks between the tips, each once.
 fn collect_columns(tips: &[Tip]) -> Columns
     requires few { (2 ≤ length tips.now) × (length tips.now ≤ 32) }
     requires each { All MayBeTip tips.now }
@@ -54,8 +54,8 @@ fn collect_columns(tips: &[Tip]) -> Columns
     columns
 }
 
-/// The rows of `tips` over `columns`, and 4,294,967,295 behind them. Each tip's path is that of the tip before up to the fork between
-/// the two, and takes the 1 side there. Below it has only 0 sides.
+/// Returns the rows of `tips` over `columns`, and 4,294,967,295 behind them. Each tip's path is that of the tip before it up to the fork
+/// between the two, and takes the 1 side there. Below that fork it has only 0 sides.
 fn make_rows(tips: &[Tip], columns: &Columns) -> [u32; MAX_ENTRIES]
     requires few { (1 ≤ length tips.now) × (length tips.now ≤ 32) }
     requires columns { IsColumns columns.now }
@@ -66,13 +66,14 @@ fn make_rows(tips: &[Tip], columns: &Columns) -> [u32; MAX_ENTRIES]
     let mut row = 0;
     for i in 1..tips.len() {
         let behind = 31 - columns.count_columns_below(tips[i].fork);
+        // The fork's column gets 1, and all columns behind it 0.
         row = (row >> behind | 1) << behind;
         rows[i] = row;
     }
     rows
 }
 
-/// The height of a node of `tips`: one above the greatest of their entries'.
+/// Returns the height of a node of `tips`: one above the greatest of their entries'.
 fn height_over(tips: &[Tip]) -> u16
     requires { All MayBeTip tips.now }
     ensures { result ≡ 1 + greatest_height (entries_in_tips tips.now) }
@@ -84,7 +85,7 @@ fn height_over(tips: &[Tip]) -> u16
     1 + greatest
 }
 
-/// The entries of `tips`.
+/// Returns the entries of `tips`, in their order.
 fn list_entries(tips: &[Tip]) -> ArrayVec<Entry, MAX_ENTRIES>
     requires { length tips.now ≤ 32 }
     ensures { result.items ≡ entries_in_tips tips.now }
@@ -96,7 +97,7 @@ fn list_entries(tips: &[Tip]) -> ArrayVec<Entry, MAX_ENTRIES>
     entries
 }
 
-/// Puts `entry` in the place of the `count` tips from `start` on, behind the fork before the first of these.
+/// Replaces the `count` tips from index `start` on by one with `entry`, behind the fork that stood before the first of them.
 pub(crate) fn merge_tips(tips: &mut Vec<Tip>, start: usize, count: usize, entry: Entry)
     requires { (1 ≤ count) × (start + count ≤ vec_len tips.old) }
     ensures len { vec_len tips.new + count ≡ vec_len tips.old + 1 }

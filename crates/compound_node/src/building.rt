@@ -13,7 +13,8 @@ use super::nodes::Node;
 use arrayvec::ArrayVec;
 use partial_keys::{Columns, MAX_ENTRIES};
 
-/// The node of 2 to 32 `entries` that shows a piece with these `columns` and `rows`. Its height is one above the greatest of the entries'.
+/// Returns the node of 2 to 32 `entries` that shows a piece with these `columns` and `rows`. Its height is one above the greatest of its
+/// entries'.
 pub(crate) fn build_node(
     columns: Columns,
     rows: &[u32],
@@ -27,7 +28,7 @@ pub(crate) fn build_node(
 }
 
 impl Node {
-    /// The node of two entries, `zero` and `one`, the sides of a fork at `position`. Its height is one above the greater of theirs.
+    /// Returns the node of two entries, `zero` and `one`, the sides of a fork at `position`. Its height is one above the greater of theirs.
     pub fn pair(position: u16, zero: Entry, one: Entry) -> Node
         requires below { position < 65535 }
         requires zero { IsEntry zero }
@@ -40,8 +41,8 @@ impl Node {
         build_node(Columns::of(&[position]), &[0, 1 << 31], entries)
     }
 
-    /// The node of all entries of `zero` and `one`, 32 at most, as the two sides of a fork at `position`. All forks of both have higher
-    /// positions. The height is one above the greatest of the entries'.
+    /// Returns the node of all entries of `zero` and `one`, 32 at most, which become the two sides of a fork at `position`. All forks of
+    /// `zero` and `one` have higher positions. The height is one above the greatest of the entries'.
     pub fn merge(position: u16, zero: &Node, one: &Node) -> Node
         requires room { length zero.now.entries + length one.now.entries ≤ 32 }
         requires after { RisesFrom 0 (Fork position (piece zero.now) (piece one.now)) }

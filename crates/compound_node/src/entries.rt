@@ -22,7 +22,7 @@ impl Default for Entry {
 
     ghost is_default = { λ entry. entry ≡ LeafEntry 0 };
 
-    /// The leaf of record 0. It fills a list behind its last entry.
+    /// Returns the leaf of record 0. It fills a list behind its last entry.
     fn default() -> Self {
         Entry::Leaf(0)
     }
@@ -32,7 +32,7 @@ impl Entry {
     ghost use Rattle.std.specs.Prelude.{◌≡◌};
     ghost use Rattle.compound_node.specs.Nodes.{height_of};
 
-    /// The stored height of a child node; 0 for a leaf.
+    /// Returns the stored height of a child node; 0 for a leaf.
     pub fn height(&self) -> u16
         ensures { result ≡ height_of self.now }
     {
@@ -43,7 +43,7 @@ impl Entry {
     }
 }
 
-/// The height of a new node over `entries`: one above the greatest of theirs.
+/// Returns the height of a new node over `entries`: one above the greatest of theirs.
 pub(crate) fn height_over_entries(entries: &[Entry]) -> u16
     requires { All IsEntry entries.now }
     ensures { result ≡ 1 + greatest_height entries.now }
@@ -55,8 +55,8 @@ pub(crate) fn height_over_entries(entries: &[Entry]) -> u16
     1 + greatest
 }
 
-/// The height of a node of height `height` to which `entry` was added: one above the greatest of `entries`, all that it has now. Where
-/// `height` is 1 the others are leaves, and `entry` alone is looked at.
+/// Returns the height of a node to which `entry` was added: one above the greatest of `entries`, all that it has now. `height` is the
+/// height before. If it is 1, the other entries are leaves, and `entry` alone is looked at.
 pub(crate) fn height_with_added_entry(entries: &[Entry], entry: Entry, height: u16) -> u16
     requires children { All IsEntry entries.now }
     requires leaves { height ≡ 1 → greatest_height entries.now ≡ height_of entry }
@@ -69,7 +69,7 @@ pub(crate) fn height_with_added_entry(entries: &[Entry], entry: Entry, height: u
     }
 }
 
-/// Whether `entry` can stand in a node of the height `height`: it is a leaf, or a node of a lower height from 1 on.
+/// Returns whether `entry` can stand in a node of the height `height`: it is a leaf, or a node of a lower height from 1 on.
 fn stands_below(entry: Entry, height: u16) -> bool
     ensures { IsTrue result ↔ StandsBelow height entry }
 {
@@ -79,7 +79,7 @@ fn stands_below(entry: Entry, height: u16) -> bool
     }
 }
 
-/// Whether all `entries` can stand in a node of the height `height`.
+/// Returns whether all `entries` can stand in a node of the height `height`.
 pub(crate) fn all_stand_below(entries: &[Entry], height: u16) -> bool
     ensures { IsTrue result ↔ All (StandsBelow height) entries.now }
 {
@@ -91,7 +91,7 @@ pub(crate) fn all_stand_below(entries: &[Entry], height: u16) -> bool
     true
 }
 
-/// The list of `items`, 32 at most.
+/// Returns the list of `items`, 32 at most.
 pub(crate) fn list_items<T: Copy + Default + Drop>(items: &[T]) -> ArrayVec<T, MAX_ENTRIES>
     requires { length items.now ≤ 32 }
     ensures { result.items ≡ items.now }
@@ -118,7 +118,7 @@ pub(crate) fn insert_entry_beside(
     entries.insert(slot, entry);
 }
 
-/// The list of `entries` without that in `slot`.
+/// Returns the list of `entries` without the one in `slot`.
 pub(crate) fn list_entries_without(entries: &[Entry], slot: usize) -> ArrayVec<Entry, MAX_ENTRIES>
     requires room { length entries.now ≤ 32 }
     requires in_range { slot < length entries.now }
@@ -130,7 +130,7 @@ pub(crate) fn list_entries_without(entries: &[Entry], slot: usize) -> ArrayVec<E
     list
 }
 
-/// The list of the entries `zero`, and behind them of the entries `one`, 32 at most.
+/// Returns the list of the entries `zero`, and behind them the entries `one`, 32 at most.
 pub(crate) fn concatenate_entries(zero: &[Entry], one: &[Entry]) -> ArrayVec<Entry, MAX_ENTRIES>
     requires { length zero.now + length one.now ≤ 32 }
     ensures { result.items ≡ zero.now ++ one.now }

@@ -33,8 +33,8 @@ pub struct Cut {
     pub one: Half,
 }
 
-/// The `Half` that has all of `entries`, at least one, whose rows over `columns` are `rows`. It is the one entry, or a new node of several,
-/// as `build_node` makes it. The node has only the columns that the rows use. The half is never `Same`.
+/// Returns the `Half` that has all of `entries`, at least one, whose rows over `columns` are `rows`. It is the one entry, or a new node of
+/// several. The node has only the columns that the rows use, and is one higher than its highest entry. The half is never `Same`.
 fn make_half(
     columns: &Columns,
     rows: ArrayVec<u32, MAX_ENTRIES>,
@@ -58,7 +58,7 @@ fn make_half(
     Half::Many(build_node(used_columns, rows.as_slice(), entries))
 }
 
-/// The two sides of the node of `columns`, `rows` and `entries`, cut at its root fork as by `Node::cut`. Neither side is `Same`.
+/// Returns the two sides of the node of `columns`, `rows` and `entries`, cut at its root fork as by `Node::cut`. Neither side is `Same`.
 pub(crate) fn make_cut(columns: &Columns, rows: &[u32], entries: &[Entry]) -> Cut
     requires { FitTogether columns.now rows.now entries.now }
     ensures { CutShows result (piece_of (LeafEntry 0) columns.now rows.now entries.now) }
@@ -78,8 +78,8 @@ pub(crate) fn make_cut(columns: &Columns, rows: &[u32], entries: &[Entry]) -> Cu
     }
 }
 
-/// What is left of the node of `columns`, `rows` and `entries` without the entry in `slot`. The last fork on the path to it goes too.
-/// The result is never `Same`.
+/// Returns what is left of the node of `columns`, `rows` and `entries` without the entry in `slot`. The last fork on the path to `slot`
+/// goes, too. The result is never `Same`.
 pub(crate) fn make_rest(columns: &Columns, rows: &[u32], entries: &[Entry], slot: usize) -> Half
     requires fit { FitTogether columns.now rows.now entries.now }
     requires in_range { slot < length entries.now }
@@ -91,8 +91,8 @@ pub(crate) fn make_rest(columns: &Columns, rows: &[u32], entries: &[Entry], slot
 }
 
 impl Node {
-    /// The two sides of the node, cut at its root fork. Each is one entry, or a new node of several. A new node has only the columns that
-    /// it uses, and its height is one above the greatest of its entries'. Neither side is `Same`.
+    /// Returns the two sides of the node, cut at its root fork. Each is one entry, or a new node of several. A new node has only the
+    /// columns that it uses, and is one higher than its highest entry. Neither side is `Same`.
     pub fn cut(&self) -> Cut
         ensures { CutShows result (piece self.now) }
     {
@@ -103,9 +103,9 @@ impl Node {
         )
     }
 
-    /// What is left without the entry in `slot`, and without the last fork on the path to it. That fork's other side stands in its stead.
-    /// `One` if one entry is left. Else `Many`, a new node with only the columns that it uses, one higher than its highest entry. Never
-    /// `Same`.
+    /// Returns what is left of the node without the entry in `slot`, and without the last fork on the path to it. That fork's other side
+    /// takes the fork's place. It is `One` if one entry is left, else `Many`. The new node has only the columns that it uses, and is one
+    /// higher than its highest entry. It is never `Same`.
     pub fn without(&self, slot: u8) -> Half
         requires { slot < length self.now.entries }
         ensures { HalfShows result (without slot (piece self.now)) }

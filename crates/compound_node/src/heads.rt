@@ -42,8 +42,8 @@ impl Head {
     ghost use Rattle.node_tries.specs.Growth.{affected_count, affected_first};
     ghost use Rattle.node_tries.specs.Piece.{leads_to};
 
-    /// The head of a node of `count` entries with these fields; `None` exactly if no node has them. `columns` has the positions of the
-    /// forks, each once, in rising order. `padded_rows` has the row of each entry at its slot, and 4,294,967,295 at each unused slot.
+    /// Returns the head of a node of `count` entries with these fields; `None` exactly if no node has them. `columns` has the positions of
+    /// the forks, each once, in rising order. `padded_rows` has the row of each entry at its slot, and 4,294,967,295 at each unused slot.
     pub fn from_parts(
         count: u8,
         height: u16,
@@ -65,8 +65,8 @@ impl Head {
         }
     }
 
-    /// The head of a node of `count` entries with these fields, which some node has. `padded_rows` has the row of each entry at its slot,
-    /// and 4,294,967,295 at each unused slot.
+    /// Returns the head of a node of `count` entries with these fields, which some node has. `padded_rows` has the row of each entry at its
+    /// slot, and 4,294,967,295 at each unused slot.
     pub fn of(count: u8, height: u16, columns: Columns, padded_rows: [u32; MAX_ENTRIES]) -> Head
         requires { IsHead count height columns padded_rows }
         ensures { result ≡ record { height = height; columns = columns; rows = take count padded_rows } }
@@ -79,7 +79,7 @@ impl Head {
         }
     }
 
-    /// How many entries the node has, 2 to 32.
+    /// Returns how many entries the node has, 2 to 32.
     pub fn count(&self) -> u8
         ensures count { result ≡ length self.now.rows }
 
@@ -89,14 +89,14 @@ impl Head {
         self.count
     }
 
-    /// The node's stored height.
+    /// Returns the node's stored height.
     pub fn height(&self) -> u16
         ensures { result ≡ self.now.height }
     {
         self.height
     }
 
-    /// The slot to which the forks lead by the bits of `key`, in each node that has this head.
+    /// Returns the slot to which the forks lead by the bits of `key`, in each node that has this head.
     pub fn search(&self, key: &Key) -> u8
         ensures leads { InEachNode self.now (λ node. result ≡ leads_to (bit_of key.now) (piece node)) }
         ensures in_range { result < length self.now.rows }
@@ -104,7 +104,7 @@ impl Head {
         search_lanes(&self.padded_rows, self.columns.extract(key))
     }
 
-    /// The position of the root fork, the lowest of all columns, in each node that has this head.
+    /// Returns the position of the root fork, the lowest of all columns, in each node that has this head.
     pub fn first_position(&self) -> u16
         ensures column { result ≡ slice_index self.now.columns 0 }
         ensures root { InEachNode self.now (λ node. AtRootFork (λ p zero one. result ≡ p) (piece node)) }
@@ -113,8 +113,8 @@ impl Head {
         self.columns.first()
     }
 
-    /// The first and the last affected slot, in each node that has this head. From the one to the other stand just the entries whose rows
-    /// agree with that of `slot` in all columns below `position`.
+    /// Returns the first and the last slot that `position` affects, seen from `slot`, in each node that has this head. From the first to
+    /// the last stand just the entries whose rows agree with that of `slot` in all columns below `position`.
     pub fn affected(&self, slot: u8, position: u16) -> (u8, u8)
         requires { slot < length self.now.rows }
         ensures range { InEachNode self.now (λ node. (k : ℕ) → k < length node.entries →
@@ -132,7 +132,7 @@ impl Head {
         )
     }
 
-    /// The head of these fields, which some node has; `rows` are those of its entries alone.
+    /// Returns the head of these fields, which some node has; `rows` are those of the entries, without unused ones.
     pub(crate) fn from_rows(height: u16, columns: Columns, rows: &[u32]) -> Head
         requires { IsLawfulNode (node_of (record { height = height; columns = columns; rows = rows.now }) (leaves (length rows.now))) }
         ensures { result ≡ record { height = height; columns = columns; rows = rows.now } }
@@ -145,8 +145,8 @@ impl Head {
         }
     }
 
-    /// Adds a new fork at `position` over the slots from `first` to `last`, and a row for one more entry. That stands straight after them
-    /// if `bit` is true, else straight before. The stored height becomes `height`. Some node has the head that results.
+    /// Adds a new fork at `position` over the slots from `first` to `last`, and a row for one more entry. The new entry's slot is straight
+    /// behind these if `bit` is true, else straight before them. The stored height becomes `height`. Some node has the head that results.
     pub(crate) fn add_fork(
         &mut self,
         height: u16,
@@ -170,7 +170,7 @@ impl Head {
         self.height = height;
     }
 
-    /// A copy of the head.
+    /// Returns a copy of the head.
     pub(crate) fn copy(&self) -> Head
         ensures { result ≡ self.now }
     {
@@ -182,28 +182,28 @@ impl Head {
         }
     }
 
-    /// The columns: the positions of the forks, each once.
+    /// Returns the columns: the positions of the forks, each once.
     pub fn columns(&self) -> &Columns
         ensures { result.now ≡ self.now.columns }
     {
         &self.columns
     }
 
-    /// The rows of the entries, in the order of the slots.
+    /// Returns the rows of the entries, in the order of the slots.
     pub(crate) fn rows(&self) -> &[u32]
         ensures { result.now ≡ self.now.rows }
     {
         &self.padded_rows[..self.count as usize]
     }
 
-    /// The rows of the entries, and 4,294,967,295 for the unused ones of 32 slots.
+    /// Returns the rows of the entries, and 4,294,967,295 for the unused ones of 32 slots.
     pub fn padded_rows(&self) -> &[u32; MAX_ENTRIES]
         ensures { result.now ≡ with_unused self.now.rows }
     {
         &self.padded_rows
     }
 
-    /// The row of `slot`; 4,294,967,295 if the slot is unused.
+    /// Returns the row of `slot`; 4,294,967,295 if the slot is unused.
     pub(crate) fn row(&self, slot: u8) -> u32
         requires { slot < 32 }
         ensures used { slot < length self.now.rows → result ≡ slice_index self.now.rows slot }
@@ -213,7 +213,8 @@ impl Head {
     }
 }
 
-/// Adds a column at `position`, in which the first `count` of `rows` get 0. If there is one already, all stays. Returns the column's index.
+/// Adds a column at `position`, in which the first `count` of `rows` get 0. If there is one already, nothing changes. Returns the column's
+/// index.
 pub(crate) fn ensure_column(
     columns: &mut Columns,
     rows: &mut [u32; MAX_ENTRIES],
@@ -237,7 +238,7 @@ pub(crate) fn ensure_column(
     below
 }
 
-/// Whether some node of `count` entries has `columns`, and `padded_rows` has its rows, with 4,294,967,295 at each unused slot.
+/// Returns whether some node of `count` entries has `columns`, and `padded_rows` has its rows, with 4,294,967,295 at each unused slot.
 fn fit_a_node(count: u8, columns: &[u16], padded_rows: &[u32; MAX_ENTRIES]) -> bool
     ensures { IsTrue result ↔ FitsWords count columns.now padded_rows.now }
 {
@@ -249,7 +250,7 @@ fn fit_a_node(count: u8, columns: &[u16], padded_rows: &[u32; MAX_ENTRIES]) -> b
         && are_sparse_keys(&padded_rows[..used], columns.len())
 }
 
-/// Whether `positions` are 1 to 31 positions that rise strictly, each below 65,535.
+/// Returns whether `positions` are 1 to 31 positions that rise strictly, each below 65,535.
 fn are_columns(positions: &[u16]) -> bool
     ensures { IsTrue result ↔ IsColumns positions.now }
 {

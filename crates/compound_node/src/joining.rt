@@ -11,7 +11,8 @@ use arrayvec::ArrayVec;
 use partial_keys::{Columns, MAX_ENTRIES};
 use std::simd::prelude::*;
 
-/// Adds `position` and each of `others` to `columns`, which have room, unless it is one already. Each of `rows` gets 0 in new columns.
+/// Adds `position` and each of `others` to `columns`, unless it is one already. In a new column each of `rows` gets 0. `columns` have room
+/// for all.
 pub(crate) fn ensure_columns(
     columns: &mut Columns,
     rows: &mut [u32; MAX_ENTRIES],
@@ -29,8 +30,8 @@ pub(crate) fn ensure_columns(
     *rows = lanes.to_array();
 }
 
-/// Adds a column at `position`, and returns `rows` with 0 in it. If there is one already, all stays. Inline, so that the rows stay vectors
-/// from one column to the next.
+/// Adds a column at `position` to `columns`, and returns `rows` with 0 in that column. If there is one already, nothing changes, and it
+/// returns `rows`. Inline, so that the rows stay vectors from one column to the next.
 #[inline(always)]
 fn ensure_column_of_lanes(columns: &mut Columns, rows: u32x32, position: u16) -> u32x32
     requires columns { length columns.old ≤ 31 }
@@ -47,7 +48,7 @@ fn ensure_column_of_lanes(columns: &mut Columns, rows: u32x32, position: u16) ->
     spread_lanes(rows, below)
 }
 
-/// The list of the rows `zero` as they are, and behind them of the rows `one`, each of these with `bit` set; 32 at most.
+/// Returns the list of the rows `zero`, and behind them the rows `one`, each of these with `bit` set; 32 at most.
 pub(crate) fn concatenate_rows(zero: &[u32], one: &[u32], bit: u32) -> ArrayVec<u32, MAX_ENTRIES>
     requires { length zero.now + length one.now ≤ 32 }
     ensures { result.items ≡ zero.now ++ map (λ row. bit_or row bit) one.now }

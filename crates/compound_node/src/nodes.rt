@@ -39,8 +39,8 @@ impl Node {
     ghost use Rattle.node_tries.specs.Growth.{IsAffected, affected_count, affected_first, grown};
     ghost use Rattle.node_tries.specs.Piece.{leads_to};
 
-    /// The node with these fields; `None` exactly if no node has them. A node has 2 to 32 entries, each lower than `height`. `padded_rows`
-    /// has their rows, those of one piece that uses each of `columns`, and 4,294,967,295 at each unused slot.
+    /// Returns the node with these fields; `None` exactly if no node has them. A node has 2 to 32 entries, each lower than `height`.
+    /// `padded_rows` has their rows, those of one piece that uses each of `columns`, and 4,294,967,295 at each unused slot.
     pub fn from_parts(
         height: u16,
         columns: &[u16],
@@ -57,7 +57,7 @@ impl Node {
         Some(Node::of(head, list_items(entries)))
     }
 
-    /// The node of `head` and `entries`. There are as many of these as the head has rows, and each is lower than the head's height.
+    /// Returns the node of `head` and `entries`. There are as many entries as the head has rows, and each is lower than the head's height.
     pub fn of(head: Head, entries: ArrayVec<Entry, MAX_ENTRIES>) -> Node
         requires { IsLawfulNode (node_of head entries.items) }
         ensures { result ≡ node_of head entries.items }
@@ -65,7 +65,7 @@ impl Node {
         Node { head, entries }
     }
 
-    /// How many entries there are, 2 to 32.
+    /// Returns how many entries the node has, 2 to 32.
     pub fn count(&self) -> u8
         ensures count { result ≡ length self.now.entries }
         ensures lawful { IsLawfulNode self.now }
@@ -73,21 +73,21 @@ impl Node {
         self.head.count()
     }
 
-    /// The stored height. It is above that of each entry, a leaf counting 0.
+    /// Returns the stored height. It is above that of each entry, where a leaf counts 0.
     pub fn height(&self) -> u16
         ensures { result ≡ self.now.height }
     {
         self.head.height()
     }
 
-    /// The columns: the positions of the forks, each once.
+    /// Returns the columns: the positions of the forks, each once.
     pub fn columns(&self) -> &Columns
         ensures { result.now ≡ self.now.columns }
     {
         self.head.columns()
     }
 
-    /// The row of `slot`, its sparse partial key; 4,294,967,295 if the slot is unused. `slot` is below 32.
+    /// Returns the row of `slot`, its sparse partial key; 4,294,967,295 if the slot is unused. `slot` is below 32.
     pub fn sparse(&self, slot: u8) -> u32
         requires { slot < 32 }
         ensures used { slot < length self.now.rows → result ≡ slice_index self.now.rows slot }
@@ -96,14 +96,14 @@ impl Node {
         self.head.row(slot)
     }
 
-    /// The rows of the entries, and 4,294,967,295 for the unused ones of 32 slots.
+    /// Returns the rows of the entries, and 4,294,967,295 for the unused ones of 32 slots.
     pub fn padded_rows(&self) -> &[u32; MAX_ENTRIES]
         ensures { result.now ≡ with_unused self.now.rows }
     {
         self.head.padded_rows()
     }
 
-    /// The entry in `slot`, which is below `count()`.
+    /// Returns the entry in `slot`, which is below `count()`.
     pub fn entry(&self, slot: u8) -> Entry
         requires { slot < length self.now.entries }
         ensures entry { slice_get self.now.entries slot ≡ Some result }
@@ -112,21 +112,21 @@ impl Node {
         self.entries[slot as usize]
     }
 
-    /// A copy of the node's head.
+    /// Returns a copy of the node's head.
     pub fn head(&self) -> Head
         ensures { result ≡ head_of self.now }
     {
         self.head.copy()
     }
 
-    /// The node's head, not copied.
+    /// Returns the node's head, not copied.
     pub fn as_head(&self) -> &Head
         ensures { result.now ≡ head_of self.now }
     {
         &self.head
     }
 
-    /// The position of the root fork, the lowest of all columns.
+    /// Returns the position of the root fork, the lowest of all columns.
     pub fn first_position(&self) -> u16
         ensures root { AtRootFork (λ p zero one. result ≡ p) (piece self.now) }
         ensures below { result < 65535 }
@@ -134,7 +134,7 @@ impl Node {
         self.head.first_position()
     }
 
-    /// The slot to which the forks lead by the bits of `key`. Each key leads to one, also a key that isn't held.
+    /// Returns the slot to which the forks lead by the bits of `key`. Each key leads to a slot, also a key that no entry holds.
     pub fn search(&self, key: &Key) -> u8
         ensures leads { result ≡ leads_to (bit_of key.now) (piece self.now) }
         ensures in_range { result < length self.now.entries }
@@ -142,8 +142,8 @@ impl Node {
         self.head.search(key)
     }
 
-    /// The first and the last affected slot. From the one to the other stand just the entries whose rows agree with that of `slot` in
-    /// all columns below `position`.
+    /// Returns the first and the last slot that `position` affects, seen from `slot`. From the first to the last stand just the entries
+    /// whose rows agree with that of `slot` in all columns below `position`.
     pub fn affected(&self, slot: u8, position: u16) -> (u8, u8)
         requires { slot < length self.now.entries }
         ensures range { (k : ℕ) → k < length self.now.entries → AgreeBefore self.now position slot k ↔ ((result.0 ≤ k) × (k ≤ result.1)) }
@@ -155,7 +155,8 @@ impl Node {
         self.head.affected(slot, position)
     }
 
-    /// The one slot on the other side of the last fork on the path to `slot`, and that fork's position. `None` if that side has several.
+    /// Returns the one slot on the other side of the last fork on the path to `slot`, and that fork's position. `None` if that side has
+    /// several slots.
     pub fn find_sibling(&self, slot: u8) -> Option<(u8, u16)>
         requires { slot < length self.now.entries }
         ensures { result ≡ beside slot (piece self.now) }
@@ -169,7 +170,7 @@ impl Node {
         }
     }
 
-    /// The row of `slot`; 4,294,967,295 past the last entry, also past slot 31.
+    /// Returns the row of `slot`; 4,294,967,295 for a slot behind the last entry, also for one above 31.
     fn row(&self, slot: u8) -> u32
         ensures { result ≡ slice_index_or self.now.rows slot 4294967295 }
     {
@@ -180,9 +181,9 @@ impl Node {
         }
     }
 
-    /// A copy of the node with one entry more, for which there is room. A new fork at `position` parts `entry` from the affected slots
-    /// `first` to `last`, of which no fork has that position. `entry` stands straight after them if `bit` is true, else straight before.
-    /// The height is one above the greatest of the entries'.
+    /// Returns a copy of the node with one entry more, for which there is room. A new fork at `position` parts `entry` from the affected
+    /// slots `first` to `last`; no fork above these has that position. `entry` stands straight behind them if `bit` is true, else straight
+    /// before. The height is one above the greatest of the entries'.
     pub fn insert(&self, first: u8, last: u8, position: u16, bit: bool, entry: Entry) -> Node
         requires room { length self.now.entries < 32 }
         requires range { IsAffected (piece self.now) position first last }
@@ -195,8 +196,8 @@ impl Node {
         node
     }
 
-    /// Adds `entry` to this node, as `insert` does to a copy. A new fork at `position` parts it from the affected slots `first` to `last`.
-    /// It stands straight after them if `bit` is true, else straight before.
+    /// Adds `entry` to this node, as `insert` does to a copy. A new fork at `position` parts `entry` from the affected slots `first` to
+    /// `last`. `entry` stands straight behind them if `bit` is true, else straight before.
     pub fn add_entry(&mut self, first: u8, last: u8, position: u16, bit: bool, entry: Entry)
         requires room { length self.old.entries < 32 }
         requires range { IsAffected (piece self.old) position first last }
@@ -210,7 +211,7 @@ impl Node {
         self.head.add_fork(height, position, first, last, bit);
     }
 
-    /// A copy of the node.
+    /// Returns a copy of the node.
     pub fn copy(&self) -> Node
         ensures { result ≡ self.now }
     {
@@ -220,7 +221,7 @@ impl Node {
         }
     }
 
-    /// A copy of the node with `entry`, which is lower than the node, in `slot`. The stored height and all else stay.
+    /// Returns a copy of the node with `entry`, which is lower than the node, in `slot`. The stored height and all else stay.
     pub fn replace(&self, slot: u8, entry: Entry) -> Node
         requires in_range { slot < length self.now.entries }
         requires stands { StandsBelow self.now.height entry }

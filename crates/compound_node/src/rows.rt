@@ -20,7 +20,7 @@ use arrayvec::ArrayVec;
 use partial_keys::MAX_ENTRIES;
 use std::simd::prelude::*;
 
-/// Whether 4,294,967,295 stands in `padded_rows` at each index from `count` on, so that these slots are unused.
+/// Returns whether `padded_rows` has 4,294,967,295 at each index from `count` on, as at unused slots.
 pub(crate) fn is_padded(padded_rows: &[u32; MAX_ENTRIES], count: usize) -> bool
     requires { count ≤ 32 }
     ensures { IsTrue result ↔ (padded_rows.now ≡ with_unused (take count padded_rows.now)) }
@@ -33,22 +33,24 @@ pub(crate) fn is_padded(padded_rows: &[u32; MAX_ENTRIES], count: usize) -> bool
     true
 }
 
-/// Whether `rows` are those of some piece over `columns` columns that uses each of these.
+/// Returns whether `rows` are those of some piece over `columns` columns that uses each of them.
 pub(crate) fn are_sparse_keys(rows: &[u32], columns: usize) -> bool
     requires some { 0 < length rows.now }
     requires few { columns ≤ 31 }
     ensures { IsTrue result ↔ AreSparseKeys columns rows.now }
 {
+    // Each column is used: all rows together have the highest `columns` bits.
     is_ladder(rows) && or_rows(rows) == !(u32::MAX >> columns)
 }
 
-/// Whether the first of `rows` is 0, and each other can stand straight after the one before it in a piece.
+/// Returns whether the first of `rows` is 0, and each other row can stand straight behind the one before it in a piece.
 fn is_ladder(rows: &[u32]) -> bool
     requires { 0 < length rows.now }
     ensures { IsTrue result ↔ IsLadder rows.now }
 {
     for i in 1..rows.len() {
         let row = rows[i];
+        // A row is above the one before it, and without its lowest 1 it is not.
         if row <= rows[i - 1] || row & (row - 1) > rows[i - 1] {
             return false;
         }
@@ -56,7 +58,7 @@ fn is_ladder(rows: &[u32]) -> bool
     rows[0] == 0
 }
 
-/// The bits that at least one of `rows` has.
+/// Returns the bits that at least one of `rows` has.
 pub(crate) fn or_rows(rows: &[u32]) -> u32
     ensures { result ≡ or_all rows.now }
 {
@@ -69,7 +71,7 @@ pub(crate) fn or_rows(rows: &[u32]) -> u32
 
 // ---- a new column and a new fork
 
-/// `row` with 0 in a new column at `column`. The columns from there on move on by one, and the last one is lost.
+/// Returns `row` with 0 in a new column with the index `column`. The columns from there on move back by one, and the last one is lost.
 fn spread_row(row: u32, column: u8) -> u32
     requires { column ≤ 31 }
     ensures { result ≡ spread_row column row }
@@ -78,7 +80,8 @@ fn spread_row(row: u32, column: u8) -> u32
     row & !low | (row & low) >> 1
 }
 
-/// Puts 0 in a new column at `column` of the first `count` rows. The columns from there on move on by one, and the last one is lost.
+/// Puts 0 in a new column with the index `column` of each of the first `count` rows. The columns from there on move back by one, and the
+/// last one is lost.
 pub(crate) fn spread_rows(rows: &mut [u32; MAX_ENTRIES], count: usize, column: u8)
     requires column { column ≤ 31 }
     requires room { count ≤ 32 }
@@ -89,7 +92,8 @@ pub(crate) fn spread_rows(rows: &mut [u32; MAX_ENTRIES], count: usize, column: u
     }
 }
 
-/// `rows` with 0 in a new column at `column`, at most 31, of each. The columns from there on move on by one, and the last one is lost.
+/// Returns `rows` with 0 in a new column of each, with the index `column`, at most 31. The columns from there on move back by one, and the
+/// last one is lost.
 #[inline(always)]
 pub fn spread_lanes(rows: u32x32, column: u8) -> u32x32
     requires { column ≤ 31 }
@@ -106,7 +110,7 @@ const INDEXES: [u32; 32] = [
     26, 27, 28, 29, 30, 31,
 ];
 
-/// `rows` with `row` put in as row `slot`. The rows from there on move up by one, and the last of the 32 is lost.
+/// Returns `rows` with `row` put in at `slot`. The rows from there on move back by one, and the last of the 32 is lost.
 #[inline(always)]
 fn insert_row(rows: u32x32, slot: u32, row: u32) -> u32x32
     requires { slot < 32 }
@@ -118,8 +122,8 @@ fn insert_row(rows: u32x32, slot: u32, row: u32) -> u32x32
     indexes.simd_lt(slot).select(rows, put)
 }
 
-/// `rows` with a copy of row `first` put in before it. In the result, the rows from `first + 1` on and below `end` have `bits` set besides.
-/// The last of the 32 is lost.
+/// Returns `rows` with a copy of row `first` put in before it. In the result, the rows from `first + 1` on and below `end` have `bits` set,
+/// too. The last of the 32 is lost.
 #[inline(always)]
 fn fork_rows_before(rows: u32x32, first: u32, end: u32, bits: u32) -> u32x32
     requires order { first + 1 < end }
@@ -134,8 +138,9 @@ fn fork_rows_before(rows: u32x32, first: u32, end: u32, bits: u32) -> u32x32
         .select(rows, moved)
 }
 
-/// `rows` with a row more, parted by a new fork from rows `first` to `last`. If `bit` is true, it stands straight after them, and has
-/// `weight`, the bit of the fork's column. Else it stands straight before, and they have `weight`. The last of the 32 rows is lost.
+/// Returns `rows` with one row more, parted from the rows `first` to `last` by a new fork. If `bit` is true, the new row stands straight
+/// behind these, and has `weight`, the bit of the fork's column. Else it stands straight before them, and they have `weight`. The last of
+/// the 32 rows is lost.
 #[inline(always)]
 pub fn fork_rows(rows: u32x32, first: usize, last: usize, weight: u32, bit: bool) -> u32x32
     requires range { first ≤ last }
@@ -152,15 +157,17 @@ pub fn fork_rows(rows: u32x32, first: usize, last: usize, weight: u32, bit: bool
 
 // ---- the rows round one
 
-/// Whether the rows `a` and `b` agree in their first `columns` columns.
+/// Returns whether the rows `a` and `b` agree in their first `columns` columns.
 fn rows_agree(a: u32, b: u32, columns: usize) -> bool
     requires { columns ≤ 31 }
     ensures { result ≡ agree_in columns a b }
 {
+    // A shift by all 32 bits is not allowed.
     columns == 0 || a >> (32 - columns) == b >> (32 - columns)
 }
 
-/// The index of the first of the consecutive rows round row `slot` that agree with it in their first `columns` columns.
+/// Returns the index of the first row of a run: consecutive rows, with row `slot` among them, that agree with it in their first `columns`
+/// columns.
 pub(crate) fn first_of_run(rows: &[u32], columns: usize, slot: usize) -> usize
     requires few { columns ≤ 31 }
     requires in_range { slot < length rows.now }
@@ -174,7 +181,8 @@ pub(crate) fn first_of_run(rows: &[u32], columns: usize, slot: usize) -> usize
     0
 }
 
-/// The index of the last of the consecutive rows round row `slot` that agree with it in their first `columns` columns.
+/// Returns the index of the last row of a run: consecutive rows, with row `slot` among them, that agree with it in their first `columns`
+/// columns.
 pub(crate) fn last_of_run(rows: &[u32], columns: usize, slot: usize) -> usize
     requires few { columns ≤ 31 }
     requires in_range { slot < length rows.now }
@@ -190,7 +198,7 @@ pub(crate) fn last_of_run(rows: &[u32], columns: usize, slot: usize) -> usize
 
 // ---- the two sides of the first column
 
-/// How many rows stand before the first one with a 1 in the first column; all, if none has it.
+/// Returns how many rows stand before the first one with a 1 in the first column; the number of `rows`, if none has it.
 pub(crate) fn count_zero_side(rows: &[u32]) -> usize
     ensures value { result ≡ front_below (2 ^ 31) rows.now }
     ensures within { result ≤ length rows.now }
@@ -203,7 +211,7 @@ pub(crate) fn count_zero_side(rows: &[u32]) -> usize
     rows.len()
 }
 
-/// The list of `rows`, each with 0 in the first column.
+/// Returns the list of `rows`, each with 0 in the first column.
 pub(crate) fn clear_first_column(rows: &[u32]) -> ArrayVec<u32, MAX_ENTRIES>
     requires { length rows.now ≤ 32 }
     ensures { result.items ≡ map (λ r. r % 2 ^ 31) rows.now }
@@ -215,7 +223,7 @@ pub(crate) fn clear_first_column(rows: &[u32]) -> ArrayVec<u32, MAX_ENTRIES>
     out
 }
 
-/// `row` without the column with the index `column`, 0 to 31, which is bit 31-`column`. The columns behind it move forward by one.
+/// Returns `row` without the column with the index `column`, 0 to 31, which is bit 31-`column`. The columns behind it move forward by one.
 fn close_column(row: u32, column: u8) -> u32
     requires { column ≤ 31 }
     ensures { result ≡ closed_row column row }
@@ -234,7 +242,7 @@ fn close_column_of_rows(rows: &mut [u32], column: u8)
     }
 }
 
-/// Takes out of each of `rows` those of its `columns` columns in which `used` has 0.
+/// Takes the columns in which `used` has 0 out of each of `rows`. The rows have `columns` columns.
 pub(crate) fn squeeze_rows(rows: &mut [u32], used: u32, columns: u8)
     requires few { columns ≤ 31 }
     requires used { IsRowOver columns used }
@@ -250,7 +258,7 @@ pub(crate) fn squeeze_rows(rows: &mut [u32], used: u32, columns: u8)
 
 // ---- a row less
 
-/// A mask of the lowest 1 of `row`, which isn't 0.
+/// Returns a mask of the lowest 1 of `row`, which isn't 0.
 fn lowest_bit(row: u32) -> u32
     requires { 0 < row }
     ensures { result ≡ lowest row }
@@ -258,8 +266,8 @@ fn lowest_bit(row: u32) -> u32
     row - (row & (row - 1))
 }
 
-/// A mask of the column of the last fork on the path to row `slot`, if that row is the fork's 0 side; else 0. When row `slot` is taken out,
-/// the rows of the 1 side lose this bit.
+/// Returns the bit that rows lose when row `slot` is taken out: a mask of the column of the last fork on the path to it. The rows of the
+/// fork's 1 side lose that bit if row `slot` is the fork's 0 side. Else the result is 0.
 fn bit_lost_without_row(rows: &[u32], slot: usize) -> u32
     requires ladder { IsLadder rows.now }
     requires in_range { slot < length rows.now }
@@ -276,7 +284,7 @@ fn bit_lost_without_row(rows: &[u32], slot: usize) -> u32
     }
 }
 
-/// Adds `rows` to the end of `out`, which has room for them. Those before the first without `bit` lose `bit`.
+/// Adds `rows` to the end of `out`, which has room for them. The rows before the first one without `bit` lose `bit`.
 fn append_cleared_rows(out: &mut ArrayVec<u32, MAX_ENTRIES>, rows: &[u32], bit: u32)
     requires { array_vec_len out.old + length rows.now ≤ 32 }
     ensures { out.new.items ≡ out.old.items ++ cleared_front bit rows.now }
@@ -288,7 +296,7 @@ fn append_cleared_rows(out: &mut ArrayVec<u32, MAX_ENTRIES>, rows: &[u32], bit: 
     }
 }
 
-/// The list of `rows` without row `slot`. If that is the 0 side of its last fork, the rows of the 1 side lose the fork's bit.
+/// Returns the list of `rows` without row `slot`. If that row is the 0 side of its last fork, the rows of the 1 side lose the fork's bit.
 pub(crate) fn without_row(rows: &[u32], slot: usize) -> ArrayVec<u32, MAX_ENTRIES>
     requires ladder { IsLadder rows.now }
     requires room { length rows.now ≤ 32 }
@@ -305,7 +313,8 @@ pub(crate) fn without_row(rows: &[u32], slot: usize) -> ArrayVec<u32, MAX_ENTRIE
     out
 }
 
-/// The index of the first of `rows`, from `first` on, that has 0 at `bit`, a mask of one bit or none. `end` if there is none before it.
+/// Returns the index of the first of `rows`, from `first` on and before `end`, that has 0 at `bit`, a mask of one bit or none. `end` if
+/// there is none.
 #[inline(always)]
 fn first_row_without(rows: u32x32, first: u32, end: u32, bit: u32) -> u32
     requires ordered { first ≤ end }
@@ -320,8 +329,8 @@ fn first_row_without(rows: u32x32, first: u32, end: u32, bit: u32) -> u32
     lacking.trailing_zeros().min(end)
 }
 
-/// `rows` without row `slot` of the first `count`. Those behind it move down by one; of these, the ones before row `end` lose `bit`. Each
-/// of the 32 behind the `count - 1` rows that are left is 4,294,967,295.
+/// Returns `rows` without row `slot` of the first `count`. The rows behind it move forward by one, and those of them before row `end` lose
+/// `bit`. Behind the `count - 1` rows that are left, each of the 32 is 4,294,967,295.
 #[inline(always)]
 fn lower_rows(rows: u32x32, count: u32, slot: u32, end: u32, bit: u32) -> u32x32
     requires some { 0 < count }
@@ -338,8 +347,8 @@ fn lower_rows(rows: u32x32, count: u32, slot: u32, end: u32, bit: u32) -> u32x32
     indexes.simd_lt(u32x32::splat(slot)).select(rows, left)
 }
 
-/// `rows` without row `slot`, one of the first `count`, as `without_row` takes it out. The rows behind the first `count` are 4,294,967,295.
-/// The result has one more of these, at its end.
+/// Returns `rows` without row `slot`, one of the first `count`, as `without_row` does. The rows behind the first `count` are 4,294,967,295,
+/// and the result has one more of these at its end.
 #[inline(always)]
 pub fn remove_row(rows: u32x32, count: usize, slot: usize) -> u32x32
     requires ladder { IsLadder (take count rows) }
@@ -353,7 +362,7 @@ pub fn remove_row(rows: u32x32, count: usize, slot: usize) -> u32x32
     lower_rows(rows, count as u32, slot as u32, end, bit)
 }
 
-/// The bits that at least one of the first `count` of `rows` has.
+/// Returns the bits that at least one of the first `count` of `rows` has.
 #[inline(always)]
 pub fn or_first_rows(rows: u32x32, count: u32) -> u32
     requires { count ≤ 32 }
@@ -364,7 +373,7 @@ pub fn or_first_rows(rows: u32x32, count: u32) -> u32
     or_lanes(rows.extract::<0, 16>() | rows.extract::<16, 16>())
 }
 
-/// The bits that at least one of `rows` has.
+/// Returns the bits that at least one of `rows` has.
 #[inline(always)]
 fn or_lanes(rows: u32x16) -> u32
     ensures { result ≡ or_all rows }
@@ -375,8 +384,8 @@ fn or_lanes(rows: u32x16) -> u32
     lanes[0] | lanes[1] | lanes[2] | lanes[3]
 }
 
-/// `rows` without those of their `columns` columns in which `used` has 0, as `squeeze_rows` takes them out. What a row with a bit behind
-/// its columns becomes means nothing.
+/// Returns `rows` without the columns in which `used` has 0, as `squeeze_rows` leaves them. The rows have `columns` columns. What a row
+/// with a bit behind its columns becomes means nothing.
 #[inline(always)]
 pub fn squeeze_lanes(rows: u32x32, used: u32, columns: u8) -> u32x32
     requires few { columns ≤ 31 }
@@ -393,7 +402,7 @@ pub fn squeeze_lanes(rows: u32x32, used: u32, columns: u8) -> u32x32
     left
 }
 
-/// `rows` without the column at `column`. The columns behind it move forward by one.
+/// Returns `rows` without the column with the index `column`. The columns behind it move forward by one.
 #[inline(always)]
 fn close_lanes(rows: u32x32, column: u8) -> u32x32
     requires { column ≤ 31 }
@@ -406,17 +415,19 @@ fn close_lanes(rows: u32x32, column: u8) -> u32x32
 
 // ---- the sibling of a slot
 
-/// The column of the fork between `row` and the row before, counted from 1. It is 0 for the first row, and for an unused slot's.
+/// Returns the column of the fork between `row` and the row before, counted from 1. It is 0 for the first row, and for an unused slot's
+/// row.
 fn fork_column(row: u32) -> u8
     ensures { result ≡ column_before row }
 {
+    // The first row is 0, with 32 zeros at its end. An unused one is all ones, with none.
     ((32 - row.trailing_zeros()) % 32) as u8
 }
 
-/// The one slot on the other side of the last fork on the path to `slot`, and the index of that fork's column. `None` if that side has
-/// several slots.
+/// Returns the one slot on the other side of the last fork on the path to `slot`, and the index of that fork's column. `None` if that side
+/// has several slots.
 ///
-/// `before`, `own`, `after` and `after_next` are the rows of slots `slot - 1` to `slot + 2`, with 4,294,967,295 past the last entry. If
+/// `before`, `own`, `after` and `after_next` are the rows of the slots `slot - 1` to `slot + 2`; 4,294,967,295 behind the last entry. If
 /// `slot` is 0, `before` is row 0. The result holds for each node with these rows.
 #[inline(always)]
 pub fn find_sibling(

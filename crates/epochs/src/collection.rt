@@ -51,8 +51,8 @@ const NO_VISITS: Tally = Tally {
     found_free: false,
 };
 
-/// Makes a full round. It raises the epoch by one, and gives back each record retired in an epoch below this one and below each set pin.
-/// Returns how many these were, and whether others were free already. The pass has no pin.
+/// Makes a full round: raises the epoch by one, and gives back each record that was retired in an epoch below the new one and below each
+/// set pin. Returns how many it gave back, and whether other records were free already. The pass has no pin.
 ///
 /// At the last epoch, 2^60 - 1, the epoch stays, and what is below it is still given back.
 pub fn collect_round<G: Gate>(table: &HotTable, seat: &mut TableSeat, gate: &mut G) -> Collected
@@ -65,12 +65,13 @@ pub fn collect_round<G: Gate>(table: &HotTable, seat: &mut TableSeat, gate: &mut
     visit_records(table, seat, gate, bound)
 }
 
-/// Makes a full round as `collect_round` does, unless it could give nothing back. Then it only begins one, and returns `None`. In an index
-/// of several passes it can't if the bound hasn't risen since this function's last round for the pass.
+/// Makes a full round as `collect_round` does, unless it could give nothing back. Then it only begins one, and returns `None`. It could
+/// give nothing back in an index of several passes, if the round's bound hasn't risen since the last round. That is the last one that this
+/// function made for the pass.
 ///
 /// That round left no record below its bound retired, and none is retired below it later. A pass marks what it retires while it is pinned,
-/// with an epoch that it loads under this pin. If the round has seen the pin, it was no lower than the bound. Otherwise the pass was pinned
-/// after the round had loaded its epoch, or it had marked and unpinned before the round visited a record.
+/// with an epoch that it loads under this pin. If the round has seen the pin, the pin was no lower than the bound. Otherwise the pass was
+/// pinned after the round had loaded its epoch, or it had marked and unpinned before the round visited a record.
 pub fn collect_if_risen<G: Gate>(
     table: &HotTable,
     seat: &mut TableSeat,
@@ -95,8 +96,8 @@ pub fn collect_if_risen<G: Gate>(
 }
 
 /// Makes a small round: raises the epoch by one, and visits the oldest records of the pass's list `limbo`. It visits at most
-/// `MOST_VISITED`, up to the first that has to wait. One that was retired in an epoch below this one and each set pin is given back, and
-/// stands in the list's `given` then.
+/// `MOST_VISITED`, up to the first that has to wait. A record that was retired in an epoch below the new one and below each set pin is
+/// given back, and stands in `limbo.given` then.
 ///
 /// The cost doesn't grow with the number of the table's records. The pass has no pin.
 pub fn collect_small_round<G: Gate>(
@@ -115,7 +116,7 @@ pub fn collect_small_round<G: Gate>(
     visit_limbo(table, seat, gate, limbo, bound);
 }
 
-/// Raises the epoch by one, and returns the bound of the round: the least of that epoch and of the pins that are set.
+/// Raises the epoch by one, and returns the bound of the round: the least of the new epoch and of the pins that are set.
 fn begin_round<G: Gate>(table: &HotTable, seat: &mut TableSeat, gate: &mut G) -> u64
     requires { IsSeatOf table.now seat.old }
     ensures pin { seat.new.known.pin ≡ seat.old.known.pin }
@@ -139,7 +140,7 @@ fn advance_epoch<G: Gate>(table: &HotTable, seat: &mut TableSeat, gate: &mut G)
     }
 }
 
-/// Loads the epoch and each pin. Returns the least of that epoch and of the pins that are set. The pass's own pin stays.
+/// Loads the epoch and each pin. Returns the least of the loaded epoch and of the pins that are set. The pass's own pin stays.
 fn find_bound<G: Gate>(table: &HotTable, seat: &mut TableSeat, gate: &mut G) -> u64
     requires { IsSeatOf table.now seat.old }
     ensures pin { seat.new.known.pin ≡ seat.old.known.pin }
@@ -148,14 +149,14 @@ fn find_bound<G: Gate>(table: &HotTable, seat: &mut TableSeat, gate: &mut G) -> 
 {
     let mut bound = table.load_epoch(seat, gate);
     for pass in 0..table.layout().passes {
-        let of = pass as u16;
-        let word = table.load_pin(seat, gate, of);
+        let number = pass as u16;
+        let word = table.load_pin(seat, gate, number);
         bound = bound_with_pin(bound, word);
     }
     bound
 }
 
-/// The lower of `bound` and `word`, a pin's word; `bound` if that is not set.
+/// Returns the lower of `bound` and `word`, a pin's word; `bound` if the pin is not set.
 fn bound_with_pin(bound: u64, word: u64) -> u64
     ensures none { word ≡ NO_PIN → result ≡ bound }
     ensures pinned { 1 ≤ word → result ≡ min bound word }
@@ -192,8 +193,8 @@ fn visit_records<G: Gate>(
     }
 }
 
-/// Visits each node record, in the order of their numbers. Returns how many it gave back, and whether one was free. `bound` is the bound of
-/// the round.
+/// Visits each node record, in the order of their numbers. Returns how many it gave back, and whether one was free already. `bound` is the
+/// bound of the round.
 fn visit_node_records<G: Gate>(
     table: &HotTable,
     seat: &mut TableSeat,
@@ -214,8 +215,8 @@ fn visit_node_records<G: Gate>(
     tally
 }
 
-/// Visits each leaf record, in the order of their numbers. Returns how many it gave back, and whether one was free. `bound` is the bound of
-/// the round.
+/// Visits each leaf record, in the order of their numbers. Returns how many it gave back, and whether one was free already. `bound` is the
+/// bound of the round.
 fn visit_leaf_records<G: Gate>(
     table: &HotTable,
     seat: &mut TableSeat,
@@ -238,8 +239,8 @@ fn visit_leaf_records<G: Gate>(
     tally
 }
 
-/// Visits the leaf records of `numbers`, all of one class: each begins equally far behind the one before. Returns the tally `before` with
-/// these visits. `bound` is the bound of the round.
+/// Visits the leaf records of `numbers`, all of one class, so that each begins equally far behind the one before. Returns the tally
+/// `before` with these visits. `bound` is the bound of the round.
 fn visit_class<G: Gate>(
     table: &HotTable,
     seat: &mut TableSeat,
@@ -271,7 +272,7 @@ fn visit_class<G: Gate>(
     tally
 }
 
-/// `tally` with one more visit, which came to `seen`.
+/// Returns `tally` with one more visit, which came to `seen`.
 fn count_visit(tally: Tally, seen: Visited) -> Tally
     requires { tally.given + 1 < 2 ^ 32 }
     ensures given { result.given ≡ tally.given + (if is_given seen then 1 else 0) }
@@ -291,8 +292,8 @@ fn count_visit(tally: Tally, seen: Visited) -> Tally
     }
 }
 
-/// Visits the oldest records of `limbo`, at most `MOST_VISITED` and up to the first that has to wait. Those before it leave the list.
-/// `bound` is the bound of the round.
+/// Visits the oldest records of `limbo`, at most `MOST_VISITED`, up to the first that has to wait. The records before that one leave the
+/// list. `bound` is the bound of the round.
 fn visit_limbo<G: Gate>(
     table: &HotTable,
     seat: &mut TableSeat,
@@ -319,7 +320,8 @@ fn visit_limbo<G: Gate>(
     limbo.drop_oldest_records(count);
 }
 
-/// Visits `rec`, and returns what the visit came to. If the table has no such record, this is no visit, and `Other`. `bound` is the round's.
+/// Visits `rec`, and returns what the visit came to. If the table has no such record, nothing is visited, and the result is `Other`.
+/// `bound` is the bound of the round.
 fn visit_if_there<G: Gate>(
     table: &HotTable,
     seat: &mut TableSeat,
@@ -338,7 +340,7 @@ fn visit_if_there<G: Gate>(
     visit_record(table, seat, gate, table.locate(rec), bound)
 }
 
-/// Whether a table of `layout` has the record `rec`.
+/// Returns whether a table of `layout` has the record `rec`.
 fn has_record(layout: Layout, rec: Rec) -> bool
     ensures has { result ≡ true → HasRecord layout rec }
     ensures has_not { result ≡ false → ¬ (HasRecord layout rec) }
@@ -349,8 +351,8 @@ fn has_record(layout: Layout, rec: Rec) -> bool
     }
 }
 
-/// Loads the state of the record `at`. Tries to make the record free if it is obsolete in an epoch below `bound`, that of the round.
-/// Returns what the visit came to.
+/// Loads the state of the record `at`. If the record is obsolete in an epoch below `bound`, the bound of the round, it tries to make the
+/// record free. Returns what the visit came to.
 fn visit_record<G: Gate>(
     table: &HotTable,
     seat: &mut TableSeat,
@@ -372,7 +374,8 @@ fn visit_record<G: Gate>(
     outcome_of_try(found == word)
 }
 
-/// What a visit came to that tried to give its record back: `Given` if it did, `Other` if another pass had done so. `given` says which.
+/// Returns what a visit came to that tried to give its record back: `Given` if `given` says that it did, `Other` if another pass had done
+/// so before.
 fn outcome_of_try(given: bool) -> Visited
     ensures { is_given result ≡ given }
 {
@@ -383,8 +386,8 @@ fn outcome_of_try(given: bool) -> Visited
     }
 }
 
-/// What a visit came to of a record with the state `word` that is not to be given back. `Waits` if it is obsolete, `Free` if it is free,
-/// else `Other`.
+/// Returns what a visit came to of a record that is not to be given back, by its state `word`. It is `Waits` if the record is obsolete,
+/// `Free` if it is free, else `Other`.
 fn outcome_of_state(word: u64) -> Visited
     ensures given { is_given result ≡ false }
     ensures waits { (epoch : ℕ) → 1 ≤ epoch → epoch < EPOCHS → word ≡ state_word (Obsolete epoch) → result ≡ Waits }
@@ -397,8 +400,8 @@ fn outcome_of_state(word: u64) -> Visited
     }
 }
 
-/// The epoch in which a record with the state `word` was retired, if it is below `bound`. `None` if it isn't, or the state is another. Most
-/// records are in another, which the first comparison tells.
+/// Returns the epoch in which a record with the state `word` was retired, if that is below `bound`. `None` if it isn't, or the record isn't
+/// retired. Most records aren't, which the first comparison tells.
 fn epoch_below(word: u64, bound: u64) -> Option<u64>
     ensures { MatchOption result ((epoch : ℕ) → 1 ≤ epoch → epoch < EPOCHS → epoch < bound → word ≢ state_word (Obsolete epoch))
         (λ epoch. (1 ≤ epoch) × (epoch < EPOCHS) × (epoch < bound) × (word ≡ state_word (Obsolete epoch))) }

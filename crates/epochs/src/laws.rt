@@ -14,7 +14,7 @@ pub fn runs_keep_reach<G: Gate>()
     ensures { RunsKeepReach G.becomes }
 {}
 
-/// When an exchange gives a record back, that is in no pinned pass's reach.
+/// When an exchange gives a record back, the record is in no pinned pass's reach.
 pub fn given_is_out_of_reach()
     ensures { GivenIsOutOfReach }
 {}

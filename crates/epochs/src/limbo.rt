@@ -33,8 +33,9 @@ pub enum Visited {
     Other,
 }
 
-/// After how many retired records a small round is due in a table of `layout`. The more passes there are, the more, since a round loads each
-/// pin: an eighth of their number. But the lists of all passes together are to have at most a quarter of the nodes.
+/// Returns after how many retired records a small round is due in a table of `layout`. It is an eighth of the number of passes, since a
+/// round loads each pin. But the lists of all passes together are to have at most a quarter of the nodes. It is at least `LEAST_DUE` and at
+/// most `MOST_DUE`.
 fn records_between_rounds(layout: Layout) -> u32
     ensures { result ≡ due_after layout }
 {
@@ -65,8 +66,8 @@ pub struct Limbo {
 }
 
 impl Limbo {
-    /// An empty list of a pass of a table with `layout`, which has retired no record; an error if its memory is refused. No later call asks
-    /// for any.
+    /// Returns an empty list, for a pass of a table with `layout` that has retired no record; `AllocError` if memory is refused. No later
+    /// call on the list asks for memory.
     pub fn new(alloc: Global, layout: Layout) -> Result<Limbo, AllocError>
         ensures { IfOk result (λ limbo. (limbo.count ≡ 0) × (limbo.retired ≡ 0)) }
     {
@@ -82,8 +83,8 @@ impl Limbo {
         })
     }
 
-    /// Puts `rec`, which the pass has just retired, at the end of the list. If the list is full, the record is left to full rounds. Either
-    /// way it counts towards the next small round.
+    /// Puts `rec`, which the pass has just retired, at the end of the list. If the list is full, the record is left to full rounds. In any
+    /// case it counts towards the next small round.
     pub fn push(&mut self, rec: Rec)
         ensures retired { self.new.retired ≡ min (self.old.retired + 1) (2 ^ 32 - 1) }
         ensures room { self.old.count < vec_capacity self.old.waiting → self.new.count ≡ self.old.count + 1 }
@@ -101,15 +102,16 @@ impl Limbo {
         }
     }
 
-    /// The ring's index of record `index`, counted from 0 at the oldest.
+    /// Returns the ring's index of the record that waits at `index`, counted from 0 at the oldest.
     fn place_of(&self, index: usize) -> usize
         ensures { 0 < vec_capacity self.now.waiting → result < vec_capacity self.now.waiting }
     {
+        // The ring has a power of two as its length.
         self.first.wrapping_add(index) & self.waiting.capacity().wrapping_sub(1)
     }
 
-    /// Whether a small round is due in a table of `layout`: the pass has retired enough records since its last one. Most calls end at the
-    /// first comparison.
+    /// Returns whether a small round is due in a table of `layout`: the pass has retired enough records since its last one. Most calls end
+    /// at the first comparison.
     pub fn is_due(&self, layout: Layout) -> bool
         ensures due { result ≡ true → due_after layout ≤ self.now.retired }
         ensures early { result ≡ false → self.now.retired < due_after layout }
@@ -125,20 +127,20 @@ impl Limbo {
         self.given.clear();
     }
 
-    /// How many records wait.
+    /// Returns how many records wait.
     pub(crate) fn count(&self) -> usize
         ensures { result ≡ self.now.count }
     {
         self.count
     }
 
-    /// The record that waits at `index`, counted from 0 at the oldest; `None` if no place of the ring has ever been used for it.
+    /// Returns the record that waits at `index`, counted from 0 at the oldest; `None` if no place of the ring has ever been used for it.
     pub(crate) fn waiting_record(&self, index: usize) -> Option<Rec> {
         self.waiting.as_slice().get(self.place_of(index)).copied()
     }
 
-    /// Adds `rec` to `given`, if `seen`, what its visit came to, is `Given` and there is room. Returns whether `rec` is to leave the list:
-    /// not if it has to wait. It stands there until `drop_oldest_records`.
+    /// Adds `rec` to `given` if `seen`, what its visit came to, is `Given` and there is room. Returns whether `rec` is to leave the list:
+    /// it is not if it has to wait. It stays in the list until `drop_oldest_records`.
     pub(crate) fn take_visit(&mut self, rec: Rec, seen: Visited) -> bool
         ensures waits { seen ≡ Waits → result ≡ false }
         ensures leaves { seen ≢ Waits → result ≡ true }
@@ -154,8 +156,8 @@ impl Limbo {
         true
     }
 
-    /// Takes the oldest `count` records out of the list; all, if there are fewer. An empty list begins again at its first place: so short
-    /// ones stay in little memory.
+    /// Takes the oldest `count` records out of the list; all, if there are fewer. An empty list begins again at its first place: so a short
+    /// list stays in little memory.
     pub(crate) fn drop_oldest_records(&mut self, count: usize)
         ensures { (self.new.count ≡ self.old.count - count) × (self.new.retired ≡ self.old.retired) }
     {

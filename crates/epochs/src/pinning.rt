@@ -11,7 +11,8 @@ ghost use Rattle.epochs.specs.Runs.{Pins};
 use rowex_core::Gate;
 use rowex_table::{HotTable, TableSeat};
 
-/// Loads the epoch and stores it as the pass's pin, which is clear before. No record linked at the store or later is given back until `unpin`.
+/// Loads the epoch and stores it as the pass's pin, which is clear before. No record that is linked at this store or later is given back
+/// until `unpin`.
 pub fn pin<G: Gate>(table: &HotTable, seat: &mut TableSeat, gate: &mut G)
     requires own { IsSeatOf table.now seat.old }
     requires free { seat.old.known.pin ≡ None }
@@ -23,7 +24,7 @@ pub fn pin<G: Gate>(table: &HotTable, seat: &mut TableSeat, gate: &mut G)
     table.set_pin(seat, gate, epoch);
 }
 
-/// Clears the pin: what the pass has found may be given back from now on. A call ends with this step, and its notes `said` come with it.
+/// Clears the pin: what the pass has found may be given back from now on. A call ends with this step, and its notes, `said`, come with it.
 pub fn unpin<G: Gate>(table: &HotTable, seat: &mut TableSeat, gate: &mut G)
     ghost said: { Known → List Note }
     requires fits { IsPassOf table.now seat.old }

@@ -37,7 +37,7 @@ pub enum Call {
 }
 
 impl Call {
-    /// The key that the call is about.
+    /// Returns the key that the call is about.
     pub fn key(&self) -> &Key
         ensures { result.now ≡ key_of self.now }
     {
@@ -47,7 +47,7 @@ impl Call {
         }
     }
 
-    /// The reply to the call by a map in which its key has the value `held`; `None` stands for an absent key.
+    /// Returns the reply to the call by a map in which its key has the value `held`; `None` stands for an absent key.
     pub fn reply(&self, held: Option<u64>) -> Reply
         ensures { (m : Map) → result ≡ (step_where held m self.now).1 }
     {

@@ -9,8 +9,9 @@ use crate::status::{CLOSED, DONE, KEY_TOO_LONG};
 use key_bits::Key;
 use key_ranges::last_with_prefix;
 
-/// Counts the keys from `from` to `upto`, both included: `DONE`, with their number in `count`, at most 2^63 - 1. `CLOSED` if `handle` is
-/// closed, `KEY_TOO_LONG` if an end has more than 240 bytes: then `count` stays. No other status is returned.
+/// Writes the number of the keys from `from` to `upto`, both included, to `count`, and returns `DONE`. The number is at most 2^63 - 1. Else
+/// `count` stays: it returns `CLOSED` if `handle` is closed, and `KEY_TOO_LONG` if an end has more than 240 bytes. No other status is
+/// returned.
 #[unsafe(no_mangle)]
 pub extern "C" fn hot_count(
     handle: &mut IndexHandle,
@@ -33,8 +34,8 @@ pub extern "C" fn hot_count(
     DONE
 }
 
-/// Counts the keys that begin with `prefix`: those from `prefix` to the last one that begins with it. It writes and returns what
-/// `hot_count` does.
+/// Writes the number of the keys that begin with `prefix` to `count`, and returns `DONE`. Else `count` stays: it returns `CLOSED` if
+/// `handle` is closed, and `KEY_TOO_LONG` if `prefix` has more than 240 bytes. No other status is returned.
 #[unsafe(no_mangle)]
 pub extern "C" fn hot_count_prefix(
     handle: &mut IndexHandle,

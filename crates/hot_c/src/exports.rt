@@ -26,9 +26,10 @@ use key_bits::{Key, KeyFault};
 use record_words::{Layout, MAX_STOCK_PASSES, Stock};
 use std::alloc::Global;
 
-/// Opens each of `handles`, 1 to 64, with a pass of a new empty index, in the order of their numbers: `DONE`. It has `nodes` node records,
-/// 1 to 65,535, and `leaves` leaf records, 1 to 262,143, all long. Else all stay as they were: `OUT_OF_RANGE`, or `OPEN` if one is open, or
-/// `NO_MEMORY`.
+/// Makes an empty index with `nodes` node records, 1 to 65,535, and `leaves` leaf records, 1 to 262,143, all long. Opens each of `handles`,
+/// 1 to 64, with a pass of it, in the order of their numbers, and returns `DONE`.
+///
+/// Else all handles stay as they were. It returns `OUT_OF_RANGE` if a number is out of range, `OPEN` if a handle is open, or `NO_MEMORY`.
 #[unsafe(no_mangle)]
 pub extern "C" fn hot_create(
     alloc: Global,
@@ -58,9 +59,11 @@ pub extern "C" fn hot_create(
     }
 }
 
-/// Opens each of `handles` with a pass of a new empty index with the records of `stock`, in the order of their numbers: `DONE`. Else all
-/// stay as they were. `OUT_OF_RANGE` unless there are 1 to 1,024 handles, a node record, and 1 to 4,294,967,295 leaf records in all. `OPEN`
-/// if a handle is open, or `NO_MEMORY`.
+/// Makes an empty index with the records of `stock`. Opens each of `handles` with a pass of it, in the order of their numbers, and returns
+/// `DONE`.
+///
+/// Else all handles stay as they were. It returns `OUT_OF_RANGE` unless there are 1 to 1,024 handles, a node record, and 1 to 4,294,967,295
+/// leaf records in all. It returns `OPEN` if a handle is open, or `NO_MEMORY`.
 #[unsafe(no_mangle)]
 pub extern "C" fn hot_create_with(
     alloc: Global,
@@ -90,8 +93,9 @@ pub extern "C" fn hot_create_with(
     }
 }
 
-/// Makes an empty index with the records of `stock` and `passes` passes, and opens `handle` with the last of them: `DONE`. The handle
-/// keeps the others, closed, for `hot_open_kept`. Else it stays as it was, with a status as of `hot_create_with`.
+/// Makes an empty index with the records of `stock` and `passes` passes. Opens `handle` with the last of its passes, and returns `DONE`.
+/// The handle keeps the others, closed, for `hot_open_kept`. Else the handle stays as it was. It returns `OUT_OF_RANGE` unless there are 1
+/// to 1,024 passes, a node record, and 1 to 4,294,967,295 leaf records in all. It returns `OPEN` if the handle is open, or `NO_MEMORY`.
 #[unsafe(no_mangle)]
 pub extern "C" fn hot_create_keeping(
     alloc: Global,
@@ -122,8 +126,8 @@ pub extern "C" fn hot_create_keeping(
     }
 }
 
-/// Takes the pass of the least number out of those that `keeper` keeps, and opens `handle` with it: `DONE`. Else both stay as they were:
-/// `CLOSED` if `keeper` is closed, `OPEN` if `handle` is open, `NO_HANDLE` if no pass is kept, or `NO_MEMORY`.
+/// Takes the pass of the least number out of those that `keeper` keeps, opens `handle` with it, and returns `DONE`. Else both handles stay
+/// as they were. It returns `CLOSED` if `keeper` is closed, `OPEN` if `handle` is open, `NO_HANDLE` if no pass is kept, or `NO_MEMORY`.
 #[unsafe(no_mangle)]
 pub extern "C" fn hot_open_kept(
     alloc: Global,
@@ -161,8 +165,8 @@ pub extern "C" fn hot_stock_for_keys(count: u32, longest: usize, stock: &mut Hot
     stock.set_counts(Stock::for_keys(count, longest));
 }
 
-/// Writes to `stock` what `Stock::for_any_keys` returns for an index of `handles` passes. It is enough for any `count` keys at once, of at
-/// most `longest` bytes each. More than 1,024 passes count as 1,024.
+/// Writes to `stock` what `Stock::for_any_keys` returns for an index of `handles` passes. That stock is enough for any `count` keys at
+/// once, of at most `longest` bytes each. More than 1,024 passes count as 1,024.
 #[unsafe(no_mangle)]
 pub extern "C" fn hot_stock_for_any_keys(
     count: u32,
@@ -176,8 +180,9 @@ pub extern "C" fn hot_stock_for_any_keys(
     stock.set_counts(Stock::for_any_keys(count, longest, passes));
 }
 
-/// Writes to `bytes` how many bytes the table of an index with the records of `stock` and `handles` passes takes: `DONE`. The node record
-/// that is kept for removals is counted. `OUT_OF_RANGE` if there is no such index, as of `hot_create_with`; then `bytes` stays.
+/// Writes how many bytes the table of an index with the records of `stock` and `handles` passes takes to `bytes`, and returns `DONE`. The
+/// node record that is kept for removals is counted. It returns `OUT_OF_RANGE` if there is no such index, since a number is out of range;
+/// then `bytes` stays.
 #[unsafe(no_mangle)]
 pub extern "C" fn hot_stock_bytes(stock: &HotStock, handles: usize, bytes: &mut usize) -> u32
     ensures range { ¬ IsStockSize handles (stock_in stock.now) → (result ≡ OUT_OF_RANGE) × (bytes.new ≡ bytes.old) }
@@ -195,8 +200,8 @@ pub extern "C" fn hot_stock_bytes(stock: &HotStock, handles: usize, bytes: &mut 
     }
 }
 
-/// Writes the number of the handle's pass to `number`: `DONE`. After `hot_create` or `hot_create_with` it is the handle's number in
-/// `handles`, from 0 on. If the handle is closed, `CLOSED`, and `number` stays.
+/// Writes the number of the handle's pass to `number`, and returns `DONE`. After `hot_create` or `hot_create_with` it is the handle's
+/// number in `handles`, from 0 on. If the handle is closed, it returns `CLOSED`, and `number` stays.
 #[unsafe(no_mangle)]
 pub extern "C" fn hot_number(handle: &mut IndexHandle, number: &mut u16) -> u32
     ensures closed { handle.old.cell.opened ≡ None → (result ≡ CLOSED) × (number.new ≡ number.old) }
@@ -211,8 +216,8 @@ pub extern "C" fn hot_number(handle: &mut IndexHandle, number: &mut u16) -> u32
     DONE
 }
 
-/// Looks up `key`: `FOUND`, with its value in `value`, or `ABSENT`. `CLOSED` if `handle` is closed, `KEY_TOO_LONG` if `key` has more than
-/// 240 bytes. Only `FOUND` writes `value`. No other status is returned.
+/// Looks up `key`. Writes its value to `value` and returns `FOUND`, or returns `ABSENT`. It returns `CLOSED` if `handle` is closed, and
+/// `KEY_TOO_LONG` if `key` has more than 240 bytes. `value` stays unless the status is `FOUND`. No other status is returned.
 #[unsafe(no_mangle)]
 pub extern "C" fn hot_get(handle: &mut IndexHandle, key: &[u8], value: &mut u64) -> u32
     ensures call { Answers key.now (Get key.now) handle.old.cell.opened handle.new.cell.opened value.old value.new result }
@@ -229,8 +234,9 @@ pub extern "C" fn hot_get(handle: &mut IndexHandle, key: &[u8], value: &mut u64)
     }
 }
 
-/// Looks up each key of `lookups` once, and returns `DONE`. It writes to each `FOUND` with the value, or `ABSENT` alone. With
-/// `CLOSED`, `KEY_TOO_LONG` (one has more than 240 bytes) or `NO_MEMORY` it looks up none, and writes nothing.
+/// Looks up each key of `lookups` once, and returns `DONE`. Each element of `lookups` gets the status `FOUND` with the key's value, or the
+/// status `ABSENT` alone. It returns `CLOSED`, `KEY_TOO_LONG` if a key has more than 240 bytes, or `NO_MEMORY`: no key is looked up then,
+/// and nothing is written.
 #[unsafe(no_mangle)]
 pub extern "C" fn hot_get_many(
     alloc: Global,
@@ -257,8 +263,9 @@ pub extern "C" fn hot_get_many(
     DONE
 }
 
-/// Inserts `key` with `value`: `INSERTED`; or `EXISTS` with the value that the key has already, and keeps, in `had`. With `BUSY`,
-/// `FULL_NODES`, `FULL_LEAVES`, `HELD_BACK`, `CLOSED` or `KEY_TOO_LONG` nothing was changed. Only `EXISTS` writes `had`.
+/// Inserts `key` with `value` if the key is absent, and returns `INSERTED`. If it is there, nothing changes: its value goes to `had`, and
+/// it returns `EXISTS`. With `BUSY`, `FULL_NODES`, `FULL_LEAVES`, `HELD_BACK`, `CLOSED` or `KEY_TOO_LONG` nothing changes either. `had`
+/// stays unless the status is `EXISTS`.
 #[unsafe(no_mangle)]
 pub extern "C" fn hot_try_insert(
     handle: &mut IndexHandle,
@@ -273,8 +280,9 @@ pub extern "C" fn hot_try_insert(
     make_call(handle, &mut call, key, had)
 }
 
-/// Gives `key` the value `value`, whether it has one or not: `NEW`, or `WAS` with the value that it had in `had`. It is refused with the
-/// same statuses as `hot_try_insert`. But it lacks a record only if its search found the key absent.
+/// Gives `key` the value `value`, whether it has one or not. Returns `NEW`, or `WAS` with the value that the key had in `had`. It is
+/// refused with `BUSY`, `FULL_NODES`, `FULL_LEAVES`, `HELD_BACK`, `CLOSED` or `KEY_TOO_LONG`, and nothing changes. It lacks a record only
+/// if its search found the key absent. `had` stays unless the status is `WAS`.
 #[unsafe(no_mangle)]
 pub extern "C" fn hot_try_upsert(
     handle: &mut IndexHandle,
@@ -289,8 +297,8 @@ pub extern "C" fn hot_try_upsert(
     make_call(handle, &mut call, key, had)
 }
 
-/// Gives `key` the value `value` if it has the value `expected` (`EXCHANGED`). Else it changes nothing: `DIFFERS` with the value that the
-/// key has in `had`, or `ABSENT`. It takes no record, so it is refused only with `BUSY`, `CLOSED` or `KEY_TOO_LONG`.
+/// Gives `key` the value `value` if it has the value `expected`, and returns `EXCHANGED`. Else nothing changes: it returns `DIFFERS` with
+/// the key's value in `had`, or `ABSENT`. It takes no record, so it is refused only with `BUSY`, `CLOSED` or `KEY_TOO_LONG`.
 #[unsafe(no_mangle)]
 pub extern "C" fn hot_try_exchange(
     handle: &mut IndexHandle,
@@ -307,8 +315,9 @@ pub extern "C" fn hot_try_exchange(
     make_call(handle, &mut call, key, had)
 }
 
-/// Adds `delta` to the value of `key`, modulo 2 to the power of 64: `WAS` with the value that it had in `had`. `ABSENT` if the key is
-/// absent, and then nothing changes. It is refused as `hot_try_exchange` is.
+/// Adds `delta` to the value of `key`, modulo 2 to the power of 64, and returns `WAS` with the value that the key had in `had`. It returns
+/// `ABSENT` if the key is absent, and then nothing changes. It takes no record, so it is refused only with `BUSY`, `CLOSED` or
+/// `KEY_TOO_LONG`.
 #[unsafe(no_mangle)]
 pub extern "C" fn hot_try_add(
     handle: &mut IndexHandle,
@@ -324,8 +333,9 @@ pub extern "C" fn hot_try_add(
     make_call(handle, &mut call, key, had)
 }
 
-/// Removes `key`: `REMOVED` with the value that it had in `had`, or `ABSENT`. It is refused with the same statuses as `hot_try_insert`.
-/// But it needs no leaf record, so it never returns `FULL_LEAVES`.
+/// Removes `key`. Returns `REMOVED` with the value that the key had in `had`, or `ABSENT`. It is refused with `BUSY`, `FULL_NODES`,
+/// `HELD_BACK`, `CLOSED` or `KEY_TOO_LONG`, and nothing changes. It needs no leaf record, so it never returns `FULL_LEAVES`. `had` stays
+/// unless the status is `REMOVED`.
 #[unsafe(no_mangle)]
 pub extern "C" fn hot_try_remove(handle: &mut IndexHandle, key: &[u8], had: &mut u64) -> u32
     ensures call { Answers key.now (Remove key.now) handle.old.cell.opened handle.new.cell.opened had.old had.new result }
@@ -336,8 +346,9 @@ pub extern "C" fn hot_try_remove(handle: &mut IndexHandle, key: &[u8], had: &mut
     make_call(handle, &mut call, key, had)
 }
 
-/// Removes `key` if it has the value `expected`: `REMOVED` with that value in `had`. Else it changes nothing: `DIFFERS` with the value that
-/// the key has in `had`, or `ABSENT`. It is refused with the same statuses as `hot_try_remove`.
+/// Removes `key` if it has the value `expected`, and returns `REMOVED` with that value in `had`. Else nothing changes: it returns `DIFFERS`
+/// with the key's value in `had`, or `ABSENT`. It is refused with `BUSY`, `FULL_NODES`, `HELD_BACK`, `CLOSED` or `KEY_TOO_LONG`, and
+/// nothing changes.
 #[unsafe(no_mangle)]
 pub extern "C" fn hot_try_remove_if(
     handle: &mut IndexHandle,
@@ -356,6 +367,8 @@ pub extern "C" fn hot_try_remove_if(
 /// Makes `call` with the key `key` in place of its own, and returns the status. `CLOSED` if the handle is closed, `KEY_TOO_LONG` if the key
 /// has more than 240 bytes. The reply's value, if it has one, goes to `had`; else `had` stays.
 // Inline, so that the key's bytes are written once.
+/// Makes `call` with the key `key` in place of its own, and returns the status. `CLOSED` if `handle` is closed, `KEY_TOO_LONG` if `key` has
+/// more than 240 bytes. The reply's value, if it has one, goes to `had`; else `had` stays.
 #[inline(always)]
 fn make_call(handle: &mut IndexHandle, call: &mut Call, key: &[u8], had: &mut u64) -> u32
     ensures call { Answers key.now (for_key key.now call.old) handle.old.cell.opened handle.new.cell.opened had.old had.new result }
@@ -371,7 +384,7 @@ fn make_call(handle: &mut IndexHandle, call: &mut Call, key: &[u8], had: &mut u6
     }
 }
 
-/// Gives `call` the key `key` in place of its own. A fault if `key` has more than 240 bytes.
+/// Gives `call` the key `key` in place of its own. `KeyFault` if `key` has more than 240 bytes.
 #[inline(always)]
 fn set_key(call: &mut Call, key: &[u8]) -> Result<(), KeyFault>
     ensures fits { IsOk result ↔ FitsInKey key.now }
@@ -405,8 +418,8 @@ fn make_call_on_open_handle(
     handle.cell.lend().try_call(call, size, had)
 }
 
-/// Makes one round of collection, and writes to `nodes` and `leaves` how many node and leaf records it gave back: `DONE`. If the handle
-/// is closed, `CLOSED`, and both stay.
+/// Makes one round of collection. Writes how many node and leaf records it gave back to `nodes` and `leaves`, and returns `DONE`. If the
+/// handle is closed, it returns `CLOSED`, and both stay.
 #[unsafe(no_mangle)]
 pub extern "C" fn hot_collect(handle: &mut IndexHandle, nodes: &mut u32, leaves: &mut u32) -> u32
     ensures closed { handle.old.cell.opened ≡ None → (result ≡ CLOSED) × (handle.new.cell.opened ≡ None) × (nodes.new ≡ nodes.old) × (leaves.new ≡ leaves.old) }
@@ -422,8 +435,8 @@ pub extern "C" fn hot_collect(handle: &mut IndexHandle, nodes: &mut u32, leaves:
     DONE
 }
 
-/// Writes to `counts` how many node records, and leaf records of each class, are free, held, live and obsolete, and the table's bytes:
-/// `DONE`. The counts are of no single moment. If the handle is closed, `CLOSED`, and `counts` stays.
+/// Writes to `counts` how many node records, and leaf records of each class, are free, held, live and obsolete, and the table's bytes.
+/// Returns `DONE`. The counts are of no single moment. If the handle is closed, it returns `CLOSED`, and `counts` stays.
 #[unsafe(no_mangle)]
 pub extern "C" fn hot_census(handle: &mut IndexHandle, counts: &mut RecordCounts) -> u32
     ensures closed { handle.old.cell.opened ≡ None → (result ≡ CLOSED) × (handle.new.cell.opened ≡ None) × (counts.new ≡ counts.old) }
@@ -437,7 +450,8 @@ pub extern "C" fn hot_census(handle: &mut IndexHandle, counts: &mut RecordCounts
     DONE
 }
 
-/// Closes a handle: `DONE`, or `CLOSED` if it was closed. The passes that it keeps go with it. The last handle of an index frees the index.
+/// Closes `handle` and returns `DONE`, or `CLOSED` if it was closed already. The passes that it keeps go with it. The last handle of an
+/// index frees the index.
 #[unsafe(no_mangle)]
 pub extern "C" fn hot_destroy(alloc: Global, handle: &mut IndexHandle) -> u32
     ensures closed { handle.old.cell.opened ≡ None → result ≡ CLOSED }

@@ -20,7 +20,7 @@ pub struct IndexHandle {
 }
 
 impl IndexHandle {
-    /// Whether the handle is open.
+    /// Returns whether the handle is open.
     pub fn is_open(&self) -> bool
         ensures { IsTrue result ↔ IsSome self.now.cell.opened }
     {
@@ -38,7 +38,7 @@ impl IndexHandle {
         self.cell.take(alloc)
     }
 
-    /// Opens the handle, which is closed, with `opened`.
+    /// Opens the closed handle with `opened`, which it holds from then on.
     pub fn open(&mut self, opened: Box<Opened, Global>)
         requires { self.old.cell.opened ≡ None }
         ensures opened { self.new.cell.opened ≡ Some opened.value }

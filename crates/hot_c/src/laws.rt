@@ -2,8 +2,9 @@
 
 ghost use Rattle.hot_c.specs.Histories.{CallsAreLinearizable, QuietCalls};
 
-/// Let each pass of an index have an open handle. Let one handle have known of all that each of them had, and let each then see one that
-/// knows of all that this one had. What the calls of all have told stands in one legal history of a finite map, in the order of time.
+/// Let each pass of an index have an open handle. Let one handle of the index know all steps that these handles knew. Let each of them then
+/// see a leader that knows all steps that the one handle knew. The calls of which all handles have told are one execution, which is
+/// linearizable.
 pub fn calls_are_linearizable()
     ensures { CallsAreLinearizable }
 {}

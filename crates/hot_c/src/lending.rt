@@ -10,7 +10,7 @@ use hot_handles::Held;
 use std::alloc::Global;
 
 impl HandleCell {
-    /// The cell as a holder of an open handle.
+    /// Returns the cell as a `Held` of what an open handle holds, for the proved functions of `hot_handles`.
     fn held(&mut self) -> &mut Held<Opened>
         ensures* writes_back { sem 𝓛 (LendsHeldOpened self.entry result) }
         ensures value { result.now ≡ held_opened self.old }
@@ -18,7 +18,7 @@ impl HandleCell {
         unsafe { &mut *(self as *mut HandleCell as *mut Held<Opened>) }
     }
 
-    /// Lends what the cell holds, to be read and changed where it is. The cell isn't empty.
+    /// Lends what the cell holds, to be read and changed in its place. The cell isn't empty.
     pub fn lend(&mut self) -> &mut Opened
         requires { IsSome self.old.opened }
         ensures* writes_back { sem 𝓛 (LendsOpened self.entry result) }
@@ -27,7 +27,7 @@ impl HandleCell {
         self.held().lend()
     }
 
-    /// Takes out what the cell holds. The cell isn't empty.
+    /// Takes out and returns what the cell holds. The cell isn't empty before, and is empty then.
     pub(crate) fn take(&mut self, alloc: Global) -> Box<Opened, Global>
         requires { IsSome self.old.opened }
         ensures value { self.old.opened ≡ Some result.value }
@@ -36,7 +36,7 @@ impl HandleCell {
         self.held().take(alloc)
     }
 
-    /// Puts in what `boxed` held. The cell is empty.
+    /// Puts `boxed` into the cell, which is empty before.
     pub(crate) fn put(&mut self, boxed: Box<Opened, Global>)
         requires { self.old.opened ≡ None }
         ensures { self.new.opened ≡ Some boxed.value }

@@ -19,8 +19,9 @@ use key_bits::Key;
 use record_words::Stock;
 use std::alloc::{AllocError, Global};
 
-/// Begins an index with the records of `stock` and `passes` passes, and opens `load` for its pairs: `DONE`. Else it stays as it was:
-/// `OUT_OF_RANGE` as of `hot_create_with`, `OPEN` if it is open, or `NO_MEMORY`.
+/// Begins an index with the records of `stock` and `passes` passes, opens `load` for its pairs, and returns `DONE`. Else `load` stays as it
+/// was. It returns `OUT_OF_RANGE` unless there are 1 to 1,024 passes, a node record, and 1 to 4,294,967,295 leaf records in all. It returns
+/// `OPEN` if `load` is open, or `NO_MEMORY`.
 #[unsafe(no_mangle)]
 pub extern "C" fn hot_begin_load(
     alloc: Global,
@@ -50,9 +51,11 @@ pub extern "C" fn hot_begin_load(
     }
 }
 
-/// Pushes `key` with `value`: `DONE`. Else the load stays as it was, with its pairs, and goes on. `CLOSED` if it is closed, and
-/// `NOT_RISING` if `key` isn't above the last key. `KEY_TOO_LONG` if `key` has more than 240 bytes, or no leaf record of the index has room
-/// for it. `FULL_LEAVES` if all that have room are taken. `FULL_NODES` if too few node records may be left. Or `NO_MEMORY`.
+/// Pushes `key` with `value`, and returns `DONE`. Else the load stays as it was, with its pairs, and goes on.
+///
+/// It returns `CLOSED` if `load` is closed, and `NOT_RISING` if `key` isn't above the last key. It returns `KEY_TOO_LONG` if `key` has more
+/// than 240 bytes, or no leaf record of the index has room for it. It returns `FULL_LEAVES` if all that have room are taken, `FULL_NODES`
+/// if too few node records may be left, or `NO_MEMORY`.
 #[unsafe(no_mangle)]
 pub extern "C" fn hot_load_pair(load: &mut LoadHandle, key: &[u8], value: u64) -> u32
     ensures { LoadsPair key.now value load.old.cell.opened load.new.cell.opened result }
@@ -67,9 +70,9 @@ pub extern "C" fn hot_load_pair(load: &mut LoadHandle, key: &[u8], value: u64) -
     }
 }
 
-/// Ends the load: closes it, makes the index of its pairs, and opens `handle` with the last pass: `DONE`. The handle keeps the others,
-/// closed, for `hot_open_kept`. `CLOSED` if `load` is closed, or `OPEN` if `handle` is open: then both stay as they were. With `NO_MEMORY` the
-/// load is closed, and its pairs are gone.
+/// Closes `load`, makes the index of its pairs, opens `handle` with the last pass, and returns `DONE`. The handle keeps the other passes,
+/// closed, for `hot_open_kept`. It returns `CLOSED` if `load` is closed, or `OPEN` if `handle` is open: then both stay as they were. With
+/// `NO_MEMORY` the load is closed, and its pairs are gone.
 #[unsafe(no_mangle)]
 pub extern "C" fn hot_end_load(
     alloc: Global,
@@ -97,7 +100,7 @@ pub extern "C" fn hot_end_load(
     }
 }
 
-/// Gives a load up: closes it and frees its pairs: `DONE`, or `CLOSED` if it was closed.
+/// Closes `load`, frees its pairs, and returns `DONE`; `CLOSED` if it was closed already.
 #[unsafe(no_mangle)]
 pub extern "C" fn hot_give_up_load(alloc: Global, load: &mut LoadHandle) -> u32
     ensures closed { load.old.cell.opened ≡ None → result ≡ CLOSED }
@@ -111,8 +114,8 @@ pub extern "C" fn hot_give_up_load(alloc: Global, load: &mut LoadHandle) -> u32
     DONE
 }
 
-/// A box of a load that has begun, of an index with `passes` passes and the records of `stock`. `IndexFault::Layout` if a number is out of
-/// range (`is_stock_in_range`); `Memory` if memory is refused.
+/// Returns a box of a load of an index with `passes` passes and the records of `stock`, with no pair pushed. `IndexFault::Layout` if a
+/// number is out of range (`is_stock_in_range`); `Memory` if memory is refused.
 fn begin_load(alloc: Global, passes: u32, stock: Stock) -> Result<Box<OpenLoad, Global>, IndexFault>
     ensures size { IsStockSize passes stock → IfErr result (λ fault. fault ≡ IndexFault.Memory) }
     ensures range { ¬ IsStockSize passes stock → IsErr result × result ≢ Err IndexFault.Memory }
@@ -125,7 +128,8 @@ fn begin_load(alloc: Global, passes: u32, stock: Stock) -> Result<Box<OpenLoad, 
     }
 }
 
-/// Pushes `key` with `value`, and returns the status, as `hot_load_pair` does.
+/// Pushes `key` with `value` to the load of `opened`, and returns `DONE`. Else the load stays as it was: the status tells why `key` was
+/// refused, as of `hot_load_pair`.
 fn push_pair(opened: &mut OpenLoad, key: &Key, value: u64) -> u32
     ensures { TellsPush key.now value opened.old.load opened.new.load result }
 {
@@ -139,8 +143,8 @@ fn push_pair(opened: &mut OpenLoad, key: &Key, value: u64) -> u32
     }
 }
 
-/// The last pass of the index of the pairs of `opened`, opened, with its share of the index. It keeps the others. An error if memory is
-/// refused.
+/// Makes the index of the pairs of `opened`. Returns its last pass, opened, with a share of the index; it keeps the other passes, closed.
+/// `AllocError` if memory is refused.
 fn end_load(alloc: Global, opened: Box<OpenLoad, Global>) -> Result<Box<Opened, Global>, AllocError>
     ensures { IfOk result (λ b. KeepsLoadedPasses opened.value.load b.value) }
 {

@@ -18,14 +18,14 @@ pub struct Lookup<'a> {
     pub status: u32,
 }
 
-/// Whether no key of `lookups` has more than 240 bytes.
+/// Returns whether no key of `lookups` has more than 240 bytes.
 pub fn have_fitting_keys(lookups: &[Lookup<'_>]) -> bool
     ensures { IsTrue result ↔ All (λ l. FitsInKey (key_in l)) lookups.now }
 {
     lookups.iter().all(|lookup| lookup.key.len() <= MAX_BYTES)
 }
 
-/// The keys of `lookups`, in their order; none of them has more than 240 bytes. An error if memory is refused.
+/// Returns copies of the keys of `lookups`, in their order; none of them has more than 240 bytes. `AllocError` if memory is refused.
 pub fn copy_keys(alloc: Global, lookups: &[Lookup<'_>]) -> Result<Vec<Key>, AllocError>
     requires { All (λ l. FitsInKey (key_in l)) lookups.now }
     ensures { IfOk result (λ keys. keys.items ≡ map key_in lookups.now) }
@@ -41,8 +41,8 @@ pub fn copy_keys(alloc: Global, lookups: &[Lookup<'_>]) -> Result<Vec<Key>, Allo
     Ok(keys)
 }
 
-/// Writes each of `found` to the look-up of its number in `lookups`, which are as many: `FOUND` with the value; or `ABSENT`, and the value
-/// there stays.
+/// Writes each of `found` to the element of `lookups` at the same index: `FOUND` with the value; or `ABSENT`, and the value there stays.
+/// Both are equally long.
 pub fn write_found_values(found: &[Option<u64>], lookups: &mut [Lookup<'_>])
     requires { length found.now ≡ length lookups.old }
     ensures { lookups.new ≡ are_answered lookups.old found.now }

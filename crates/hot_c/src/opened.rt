@@ -38,8 +38,8 @@ pub struct Opened {
 }
 
 impl Opened {
-    /// Takes the last of the closed handles out of `kept`, and opens it; `None` if none is kept. The opened one keeps none itself. If
-    /// memory is refused, an error, and all stay kept.
+    /// Takes the last of the closed handles out of `kept`, opens it and returns it; `None` if none is kept. The opened one keeps none
+    /// itself. `AllocError` if memory is refused, and then all stay kept.
     pub fn open_next_handle(
         &mut self,
         alloc: Global,
@@ -61,7 +61,7 @@ impl Opened {
         Err(AllocError)
     }
 
-    /// The reply to a get of `key`: `Value`, or `Absent`. No `Call` is made for it, which would copy the key.
+    /// Returns the reply to a get of `key`: `Value`, or `Absent`. No `Call` is made for it, which would copy the key.
     pub fn get(&mut self, key: &Key) -> Reply
         ensures call { Stays (λ index k j. IsNoted index.layout k j (Get key.now) result) self.old.handle self.new.handle }
         ensures made { Stays (λ index k j. HasMadeGetSteps index untold (k, tt) (j, tt)) self.old.handle self.new.handle }
@@ -74,7 +74,7 @@ impl Opened {
     }
 
     /// Tries to make `call`, whose key has `size` bytes, and returns the status. The reply's value, if it has one, goes to `had`; else
-    /// `had` stays. If no record is free, it counts all records. So the status tells whether some may come back.
+    /// `had` stays. If no record is free, all records are counted, so that the status tells whether some may come back.
     pub fn try_call(&mut self, call: &Call, size: usize, had: &mut u64) -> u32
         ensures call { (outcome : Result ReplyView RefusalView) × Stays (TellsOutcome size call.now result outcome) self.old.handle self.new.handle
             × (had.new ≡ value_after had.old outcome) × IfErr (as_tried outcome) (MayRefuse call.now) }
@@ -87,8 +87,8 @@ impl Opened {
     }
 
     /// Replaces the list with at most `limit` pairs whose keys are from `from` to `upto`, both included. For `Upwards` these are the first
-    /// ones, in rising order; else the last ones, in falling order. `write_pairs_in_order` turns them round for `LastUpwards`.
-    /// Returns whether there are more. An error if memory is refused; then nothing is said of the list.
+    /// ones, in rising order; else the last ones, in falling order. `write_pairs_in_order` turns them round for `LastUpwards`. Returns
+    /// whether there are more. `AllocError` if memory is refused; then nothing is said of the list.
     pub fn scan(
         &mut self,
         order: Order,
@@ -109,7 +109,7 @@ impl Opened {
         self.handle.range_into(&range, &mut self.list)
     }
 
-    /// A stamp of all that the handle has seen.
+    /// Returns a stamp of all that the handle's pass has seen.
     pub fn stamp(&mut self) -> Stamp
         ensures same { Stays (λ index k j. IsAsTold k j) self.old.handle self.new.handle }
         ensures stamped { Stays (λ index k j. HasStamped k j) self.old.handle self.new.handle }
@@ -121,7 +121,7 @@ impl Opened {
         self.handle.index.show().stamp(&mut self.handle.pass)
     }
 
-    /// Lets the handle see all that was seen when `stamp`, one of the same index, was made.
+    /// Lets the handle's pass see all that was seen when `stamp`, one of the same index, was made.
     pub fn follow(&mut self, stamp: Stamp)
         requires { IsStampFrom self.old.handle.index stamp }
         ensures call { Stays (λ index k j. HasCaughtUp index.layout stamp.front k j) self.old.handle self.new.handle }
@@ -142,7 +142,7 @@ impl Opened {
     }
 }
 
-/// A box of `handle` with an empty list, which keeps no other handle. If memory is refused, the error is `handle`.
+/// Returns a box of `handle` with an empty list, which keeps no other handle. If memory is refused, the error is `handle`.
 fn box_handle(
     alloc: Global,
     handle: Handle<Arc<Index, Global>>,

@@ -17,14 +17,14 @@ use record_words::{MAX_LEAVES, MAX_NODES, MAX_PASSES, MAX_STOCK_PASSES, Stock};
 use std::alloc::{AllocError, Global};
 use std::sync::Arc;
 
-/// Whether all of `handles` are closed.
+/// Returns whether all of `handles` are closed.
 pub fn are_closed(handles: &[IndexHandle]) -> bool
     ensures { IsTrue result ↔ AreClosed handles.now }
 {
     handles.iter().all(|handle| !handle.is_open())
 }
 
-/// Whether `create` takes these numbers: 1 to 64 passes, 1 to 65,535 node records and 1 to 262,143 leaf records.
+/// Returns whether `create` takes these counts: `passes` of 1 to 64, `nodes` of 1 to 65,535, and `leaves` of 1 to 262,143.
 pub fn are_counts_in_range(passes: usize, nodes: u32, leaves: u32) -> bool
     ensures { IsTrue result ↔ IsSize passes nodes leaves }
 {
@@ -36,7 +36,7 @@ pub fn are_counts_in_range(passes: usize, nodes: u32, leaves: u32) -> bool
         && leaves <= MAX_LEAVES
 }
 
-/// Whether `create_with` takes these numbers: 1 to 1,024 passes, and in `stock` a node record and 1 to 4,294,967,295 leaf records in all.
+/// Returns whether `create_with` takes `passes` and `stock`: 1 to 1,024 passes, a node record, and 1 to 4,294,967,295 leaf records in all.
 pub fn is_stock_in_range(passes: usize, stock: &Stock) -> bool
     ensures { IsTrue result ↔ IsStockSize passes stock.now }
 {
@@ -49,7 +49,7 @@ pub fn is_stock_in_range(passes: usize, stock: &Stock) -> bool
         && leaves <= u32::MAX as u64
 }
 
-/// Opens each of `handles`, which are closed, with the one at the same place in `passes`, which are as many.
+/// Opens each of `handles`, which are all closed, with the element of `passes` at the same index. Both are equally long.
 pub fn open_handles(handles: &mut [IndexHandle], passes: Vec<Box<Opened, Global>>)
     requires closed { AreClosed handles.old }
     requires count { length passes.items ≡ length handles.old }
@@ -63,8 +63,8 @@ pub fn open_handles(handles: &mut [IndexHandle], passes: Vec<Box<Opened, Global>
     }
 }
 
-/// The passes of a new index with these numbers of records, in the order of their numbers, each with a share of the index. All leaf records
-/// are long. `IndexFault::Layout` if a number is out of range (`are_counts_in_range`); `Memory` if memory is refused.
+/// Makes an index with `nodes` node records and `leaves` leaf records, all long. Returns its passes in the order of their numbers, each
+/// with a share of the index. `IndexFault::Layout` if a number is out of range (`are_counts_in_range`); `Memory` if memory is refused.
 pub fn make_passes(
     alloc: Global,
     passes: u32,
@@ -79,7 +79,7 @@ pub fn make_passes(
     share_index(alloc, index, passes).map_err(|_| IndexFault::Memory)
 }
 
-/// The passes of a new index with the records of `stock`, in the order of their numbers, each with a share of the index.
+/// Makes an index with the records of `stock`. Returns its passes in the order of their numbers, each with a share of the index.
 /// `IndexFault::Layout` if a number is out of range (`is_stock_in_range`); `Memory` if memory is refused.
 pub fn make_passes_with_stock(
     alloc: Global,
@@ -94,8 +94,9 @@ pub fn make_passes_with_stock(
     share_index(alloc, index, passes).map_err(|_| IndexFault::Memory)
 }
 
-/// The last pass of a new index with the records of `stock`, opened, with its share of the index. It keeps the others, and the first of
-/// them is the next to be opened. `IndexFault::Layout` if a number is out of range (`is_stock_in_range`); `Memory` if memory is refused.
+/// Makes an index with the records of `stock`. Returns its last pass, opened, with a share of the index. It keeps the other passes, closed;
+/// the first of them is the next to be opened. `IndexFault::Layout` if a number is out of range (`is_stock_in_range`); `Memory` if memory
+/// is refused.
 pub fn make_keeper(
     alloc: Global,
     passes: u32,
@@ -109,8 +110,8 @@ pub fn make_keeper(
     keep_passes(alloc, index, passes).map_err(|_| IndexFault::Memory)
 }
 
-/// Opens the last of `passes`, which are those of `index`, with a share of the index. It keeps the others, of which the first is opened next.
-/// An error if memory is refused, or there is no pass.
+/// Opens the last of `passes`, which are those of `index`, and returns it with a share of the index. It keeps the other passes, closed; the
+/// first of them is the next to be opened. `AllocError` if memory is refused, or if there is no pass.
 pub fn keep_passes(
     alloc: Global,
     index: Index,
@@ -130,7 +131,7 @@ pub fn keep_passes(
     Ok(Box::new(alloc, Opened { handle, list, kept })?)
 }
 
-/// Closed handles of `passes`, in their order, each with a share of `index`; an error if memory is refused.
+/// Returns closed handles of `passes`, in their order, each with a share of `index`; `AllocError` if memory is refused.
 fn make_closed_handles(
     alloc: Global,
     index: &Arc<Index, Global>,
@@ -146,7 +147,8 @@ fn make_closed_handles(
     Ok(handles)
 }
 
-/// The new `passes` of `index`, in their order, each with a share of it, an empty list and no kept handle. An error if memory is refused.
+/// Returns the new `passes` of `index`, in their order, each with a share of the index, an empty list and no kept handle. `AllocError` if
+/// memory is refused.
 fn share_index(
     alloc: Global,
     index: Index,

@@ -18,10 +18,12 @@ struct Room<'a> {
     heads: &'a mut [PairHead],
 }
 
-/// Lists the first pairs whose keys are from `from` to `upto`, both included, in key order, packed. The bytes of their keys go to `bytes`,
-/// one after another, and a head for each to `heads`. It lists at most as many as `heads` has elements, and only the first of these, whose
-/// keys together have room in `bytes`. `count` is their number then, and `more` 1 if the range has more, else 0: `DONE`. With `CLOSED`,
-/// `KEY_TOO_LONG` or `NO_MEMORY` these four stay.
+/// Lists the first pairs whose keys are from `from` to `upto`, both included, in key order, packed, and returns `DONE`. The bytes of their
+/// keys go to `bytes`, one after another, and a head for each pair to `heads`. It lists at most as many pairs as `heads` has elements, and
+/// only those first ones whose keys together have room in `bytes`. `count` becomes their number, and `more` 1 if the range has more, else
+/// 0.
+///
+/// With `CLOSED`, `KEY_TOO_LONG` or `NO_MEMORY` all four stay.
 #[unsafe(no_mangle)]
 pub extern "C" fn hot_scan_packed(
     handle: &mut IndexHandle,
@@ -41,8 +43,9 @@ pub extern "C" fn hot_scan_packed(
     list_packed_pairs(handle, &query, Room { bytes, heads }, count, more)
 }
 
-/// Lists the last pairs whose keys are from `from` to `upto`, both included, in falling key order, packed as by `hot_scan_packed`.
-/// `count` becomes their number, and `more` 1 if the range has more below them, else 0: `DONE`. The other statuses are as there.
+/// Lists the last pairs whose keys are from `from` to `upto`, both included, in falling key order, packed as by `hot_scan_packed`, and
+/// returns `DONE`. `count` becomes their number, and `more` 1 if the range has more below them, else 0. With `CLOSED`, `KEY_TOO_LONG` or
+/// `NO_MEMORY` all four stay.
 #[unsafe(no_mangle)]
 pub extern "C" fn hot_scan_packed_reverse(
     handle: &mut IndexHandle,
@@ -62,8 +65,8 @@ pub extern "C" fn hot_scan_packed_reverse(
     list_packed_pairs(handle, &query, Room { bytes, heads }, count, more)
 }
 
-/// Lists pairs of `query` into `room`, packed as by `hot_scan_packed`, with its statuses: for `Upwards` the first ones, else the last ones,
-/// downwards.
+/// Lists pairs of `query` into `room`, packed as by `hot_scan_packed`, with its statuses. For `Upwards` these are the first ones, else the
+/// last ones, downwards.
 fn list_packed_pairs(
     handle: &mut IndexHandle,
     query: &Query,
@@ -90,7 +93,7 @@ fn list_packed_pairs(
     }
 }
 
-/// Writes the heads of `pairs` and the bytes of their keys to the fronts of `heads` and `bytes`, which have room for them.
+/// Writes the heads of `pairs` to the front of `heads`, and the bytes of their keys to the front of `bytes`. Both have room for them.
 fn write_packed_pairs(pairs: &Pairs, bytes: &mut [u8], heads: &mut [PairHead])
     requires bytes { length (keys_in pairs.now) ≤ length bytes.old }
     requires heads { length pairs.now ≤ length heads.old }

@@ -30,7 +30,7 @@ pub enum Order {
 }
 
 impl Order {
-    /// The direction in which a scan finds these pairs.
+    /// Returns the direction in which a scan finds the pairs of this order.
     pub fn direction(self) -> Direction
         ensures { result ≡ direction_of self }
     {
@@ -49,7 +49,8 @@ pub struct Query<'a> {
     pub upto: &'a [u8],
 }
 
-/// Writes `pairs`, as a scan found them, to the front of `room`, which has room for all. For `LastUpwards` the last one comes first.
+/// Writes `pairs`, which a scan has found in this order, to the front of `room`, where there is room for all. For `LastUpwards` they are
+/// written in the opposite order.
 pub fn write_pairs_in_order(order: Order, pairs: &Pairs, room: &mut [Pair])
     requires { length pairs.now ≤ length room.old }
     ensures written { AreSpelled (in_order order pairs.now) room.old room.new }
@@ -132,7 +133,7 @@ fn write_pair_of_any_length(key: &[u8], value: u64, pair: &mut Pair)
     pair.value = value;
 }
 
-/// Writes the first of `pairs` to `pair`: `FOUND`. If there is none, `ABSENT`, and `pair` stays.
+/// Writes the first of `pairs` to `pair`, and returns `FOUND`. If there is none, it returns `ABSENT`, and `pair` stays.
 pub fn write_first_pair(pairs: &Pairs, pair: &mut Pair) -> u32
     ensures { IsPairTold (slice_get pairs.now 0) pair.old pair.new result }
 {

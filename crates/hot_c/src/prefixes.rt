@@ -15,8 +15,8 @@ use key_bits::Key;
 use key_ranges::{last_with_prefix, next_key, previous_key};
 use std::cmp::Ordering;
 
-/// Lists the first pairs whose keys begin with `prefix`, in key order. These are what `hot_scan` lists from `prefix` to the last key that
-/// begins with it. It writes and returns what `hot_scan` does.
+/// Lists the first pairs whose keys begin with `prefix`, in key order. They are what `hot_scan` lists from `prefix` to the last key that
+/// begins with it. It writes to `room`, `count` and `more`, and returns a status, as `hot_scan` does.
 #[unsafe(no_mangle)]
 pub extern "C" fn hot_scan_whole_prefix(
     handle: &mut IndexHandle,
@@ -32,8 +32,8 @@ pub extern "C" fn hot_scan_whole_prefix(
     list_whole_prefix(handle, Order::Upwards, prefix, room, count, more)
 }
 
-/// Lists the first pairs whose keys begin with `prefix` and are above `after`, in key order. It writes and returns what `hot_scan` does:
-/// `KEY_TOO_LONG` if `prefix` or `after` has more than 240 bytes.
+/// Lists the first pairs whose keys begin with `prefix` and are above `after`, in key order. It writes to `room`, `count` and `more`, and
+/// returns a status, as `hot_scan` does. The status is `KEY_TOO_LONG` if `prefix` or `after` has more than 240 bytes.
 #[unsafe(no_mangle)]
 pub extern "C" fn hot_scan_prefix_after(
     handle: &mut IndexHandle,
@@ -62,8 +62,8 @@ pub extern "C" fn hot_scan_prefix_after(
     list_pairs_of_query(handle, &query, room, count, more)
 }
 
-/// Lists the last pairs whose keys begin with `prefix`, in falling key order. These are what `hot_scan_reverse` lists from `prefix` to the
-/// last key that begins with it. It writes and returns what `hot_scan_reverse` does.
+/// Lists the last pairs whose keys begin with `prefix`, in falling key order. They are what `hot_scan_reverse` lists from `prefix` to the
+/// last key that begins with it. It writes to `room`, `count` and `more`, and returns a status, as `hot_scan_reverse` does.
 #[unsafe(no_mangle)]
 pub extern "C" fn hot_scan_whole_prefix_reverse(
     handle: &mut IndexHandle,
@@ -79,8 +79,8 @@ pub extern "C" fn hot_scan_whole_prefix_reverse(
     list_whole_prefix(handle, Order::Downwards, prefix, room, count, more)
 }
 
-/// Lists the last pairs whose keys begin with `prefix` and are below `before`, in falling key order. It writes and returns what
-/// `hot_scan_reverse` does: `KEY_TOO_LONG` if `prefix` or `before` has more than 240 bytes.
+/// Lists the last pairs whose keys begin with `prefix` and are below `before`, in falling key order. It writes to `room`, `count` and
+/// `more`, and returns a status, as `hot_scan_reverse` does. The status is `KEY_TOO_LONG` if `prefix` or `before` has more than 240 bytes.
 #[unsafe(no_mangle)]
 pub extern "C" fn hot_scan_prefix_before(
     handle: &mut IndexHandle,
@@ -109,7 +109,8 @@ pub extern "C" fn hot_scan_prefix_before(
     list_pairs_of_query(handle, &query, room, count, more)
 }
 
-/// Lists pairs whose keys begin with `prefix` in `order`, as `list_pairs_of_query` does: from `prefix` to the last key that begins with it.
+/// Lists pairs whose keys begin with `prefix` in `order`, from `prefix` to the last key that begins with it. It writes and returns what
+/// `list_pairs_of_query` does.
 #[inline(always)]
 fn list_whole_prefix(
     handle: &mut IndexHandle,
@@ -138,7 +139,8 @@ fn list_whole_prefix(
     list_pairs_of_query(handle, &query, room, count, more)
 }
 
-/// The ends of the range of the keys that begin with `prefix` and are above `after`. Where there is none, the first end is above the last.
+/// Returns the ends of the range of the keys that begin with `prefix` and are above `after`. If there is no such key, the first end is
+/// above the last.
 fn ends_after(prefix: &Key, after: &Key) -> (Key, Key)
     ensures range { IsRangeOf (HasPrefixAbove prefix.now after.now) result.0 result.1 }
     ensures fit { FitsInKey result.0 × FitsInKey result.1 }
@@ -153,7 +155,8 @@ fn ends_after(prefix: &Key, after: &Key) -> (Key, Key)
     }
 }
 
-/// The ends of the range of the keys that begin with `prefix` and are below `before`. Where there is none, the first end is above the last.
+/// Returns the ends of the range of the keys that begin with `prefix` and are below `before`. If there is no such key, the first end is
+/// above the last.
 fn ends_before(prefix: &Key, before: &Key) -> (Key, Key)
     ensures range { IsRangeOf (HasPrefixBelow prefix.now before.now) result.0 result.1 }
     ensures fit { FitsInKey result.0 × FitsInKey result.1 }

@@ -8,7 +8,7 @@ use crate::status::{BUSY, FULL_LEAVES, FULL_NODES, HELD_BACK, KEY_TOO_LONG};
 use hot_index::{Full, RecordCounts, Refusal, StateCounts};
 use record_words::{LARGE_BYTES, MEDIUM_BYTES, SHORT_BYTES, WIDE_BYTES};
 
-/// The status that tells why a call for a key of `size` bytes was refused.
+/// Returns the status that tells why a call for a key of `size` bytes was refused with `refusal`.
 pub fn tell_refusal(size: usize, refusal: Refusal) -> u32
     ensures { TellsRefusal size refusal result }
 {
@@ -20,8 +20,8 @@ pub fn tell_refusal(size: usize, refusal: Refusal) -> u32
     }
 }
 
-/// The status of a call that found no leaf record free for a key of `size` bytes. `KEY_TOO_LONG` if `counts`, made after it, has none with
-/// room for the key, else `FULL_LEAVES`.
+/// Returns the status of a call that found no leaf record free for a key of `size` bytes. It is `KEY_TOO_LONG` if by `counts`, made after
+/// the call, there is no leaf record with room for the key at all, else `FULL_LEAVES`.
 fn tell_lack_of_leaves(size: usize, counts: &RecordCounts) -> u32
     ensures { TellsOfLeaves size counts.now result }
 {
@@ -32,14 +32,14 @@ fn tell_lack_of_leaves(size: usize, counts: &RecordCounts) -> u32
     }
 }
 
-/// Whether there is no record at all by `counts`, which are those of one kind and class.
+/// Returns whether `counts`, those of one kind and class, show no record at all.
 fn has_no_record(counts: &StateCounts) -> bool
     ensures { IsTrue result ↔ AreNone counts.now }
 {
     counts.free == 0 && counts.held == 0 && counts.live == 0 && counts.obsolete == 0
 }
 
-/// Whether by `counts` there is no leaf record at all with room for a key of `size` bytes.
+/// Returns whether `counts` show no leaf record at all with room for a key of `size` bytes.
 fn has_no_leaf_for(size: usize, counts: &RecordCounts) -> bool
     ensures { IsTrue result ↔ OfLeaves AreNone size counts.now }
 {

@@ -10,9 +10,9 @@ use crate::pairs::{Order, Pair, Query, write_pairs_in_order};
 use crate::status::{CLOSED, DONE, KEY_TOO_LONG, NO_MEMORY};
 use key_bits::Key;
 
-/// Lists the first pairs whose keys are from `from` to `upto`, both included, in key order. They are at most as many as `room` has
-/// elements, and the other elements stay. `count` is their number then, and `more` 1 if the range has more, else 0: `DONE`. With `CLOSED`,
-/// `KEY_TOO_LONG` or `NO_MEMORY` these three stay.
+/// Lists the first pairs whose keys are from `from` to `upto`, both included, in key order, and returns `DONE`. They go to the front of
+/// `room`, at most as many as `room` has elements; the other elements stay. `count` becomes their number, and `more` 1 if the range has
+/// more, else 0. With `CLOSED`, `KEY_TOO_LONG` or `NO_MEMORY` these three stay.
 #[unsafe(no_mangle)]
 pub extern "C" fn hot_scan(
     handle: &mut IndexHandle,
@@ -31,9 +31,9 @@ pub extern "C" fn hot_scan(
     list_pairs_of_query(handle, &query, room, count, more)
 }
 
-/// Lists the last pairs whose keys are from `from` to `upto`, both included, in falling key order. They are at most as many as `room` has
-/// elements. `count` is their number then, and `more` 1 if the range has more below, else 0: `DONE`. The other statuses are those of
-/// `hot_scan`.
+/// Lists the last pairs whose keys are from `from` to `upto`, both included, in falling key order, and returns `DONE`. They go to the front
+/// of `room`, at most as many as `room` has elements. `count` becomes their number, and `more` 1 if the range has more below, else 0. With
+/// `CLOSED`, `KEY_TOO_LONG` or `NO_MEMORY` these three stay.
 #[unsafe(no_mangle)]
 pub extern "C" fn hot_scan_reverse(
     handle: &mut IndexHandle,
@@ -52,9 +52,9 @@ pub extern "C" fn hot_scan_reverse(
     list_pairs_of_query(handle, &query, room, count, more)
 }
 
-/// Lists the last pairs whose keys are from `from` to `upto`, both included, in rising key order. They are at most as many as `room` has
-/// elements. `count` is their number then, and `more` 1 if the range has more below, else 0: `DONE`. The other statuses are those of
-/// `hot_scan`.
+/// Lists the last pairs whose keys are from `from` to `upto`, both included, in rising key order, and returns `DONE`. They go to the front
+/// of `room`, at most as many as `room` has elements. `count` becomes their number, and `more` 1 if the range has more below, else 0. With
+/// `CLOSED`, `KEY_TOO_LONG` or `NO_MEMORY` these three stay.
 #[unsafe(no_mangle)]
 pub extern "C" fn hot_scan_last(
     handle: &mut IndexHandle,
@@ -73,7 +73,8 @@ pub extern "C" fn hot_scan_last(
     list_pairs_of_query(handle, &query, room, count, more)
 }
 
-/// Lists pairs of `query` in its order, as `hot_scan` does: the first ones for `Upwards`, else the last ones.
+/// Lists pairs of `query` into `room` in its order, for `Upwards` the first ones, else the last ones. It writes to `count` and `more`, and
+/// returns a status, as `hot_scan` does.
 pub fn list_pairs_of_query(
     handle: &mut IndexHandle,
     query: &Query,
@@ -98,7 +99,7 @@ pub fn list_pairs_of_query(
     }
 }
 
-/// Scans the range of `query` into the handle's list, for at most `limit` pairs, as `Opened::scan` does. Returns how many it found, and
+/// Scans the range of `query` into the handle's list, for at most `limit` pairs, as `Opened::scan` does. Returns how many were found, and
 /// whether there are more. The error is `CLOSED`, `KEY_TOO_LONG` (an end has more than 240 bytes) or `NO_MEMORY`.
 pub fn fill_list(
     handle: &mut IndexHandle,

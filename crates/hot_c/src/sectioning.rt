@@ -10,8 +10,8 @@ use crate::status::{
 use hot_handles::{SectionHandle, make_keeper};
 use std::alloc::Global;
 
-/// Makes a table of `count` sections and one more, and opens `handle` with the first of them: `DONE`. The handle keeps the others. Else it
-/// stays as it was: `OUT_OF_RANGE` if there are more than 65,534, `OPEN` if it is open, or `NO_MEMORY`.
+/// Makes a table of `count` sections and one more, opens `handle` with the first of them, and returns `DONE`. The handle keeps the others.
+/// Else `handle` stays as it was. It returns `OUT_OF_RANGE` if `count` is above 65,534, `OPEN` if `handle` is open, or `NO_MEMORY`.
 #[unsafe(no_mangle)]
 pub extern "C" fn hot_make_sections(alloc: Global, count: usize, handle: &mut SectionHandle) -> u32
     ensures range { 65_535 ≤ count → (result ≡ OUT_OF_RANGE) × (handle.new ≡ handle.old) }
@@ -34,8 +34,8 @@ pub extern "C" fn hot_make_sections(alloc: Global, count: usize, handle: &mut Se
     }
 }
 
-/// Takes the section of the least number out of those that `keeper` keeps, and opens `handle` with it: `DONE`. Else both stay as they were:
-/// `CLOSED` if `keeper` is closed, `OPEN` if `handle` is open, `NO_HANDLE` if no section is kept, or `NO_MEMORY`.
+/// Takes the section of the least number out of those that `keeper` keeps, opens `handle` with it, and returns `DONE`. Else both stay as
+/// they were. It returns `CLOSED` if `keeper` is closed, `OPEN` if `handle` is open, `NO_HANDLE` if no section is kept, or `NO_MEMORY`.
 #[unsafe(no_mangle)]
 pub extern "C" fn hot_open_section(
     alloc: Global,
@@ -63,8 +63,8 @@ pub extern "C" fn hot_open_section(
     }
 }
 
-/// Closes `handle`, and frees what it held: `DONE`; or `CLOSED` if it is closed already. The last handle of a table frees it. A section
-/// that is open stays so for those that look.
+/// Closes `handle`, frees what it held, and returns `DONE`; `CLOSED` if it is closed already. The last handle of a table frees the table. A
+/// section that is open stays so for those that ask whether a moment is past.
 #[unsafe(no_mangle)]
 pub extern "C" fn hot_close_section(alloc: Global, handle: &mut SectionHandle) -> u32
     ensures closed { handle.old.cell.opened ≡ None → result ≡ CLOSED }
@@ -78,7 +78,7 @@ pub extern "C" fn hot_close_section(alloc: Global, handle: &mut SectionHandle) -
     DONE
 }
 
-/// Whether the section is open: `INSIDE` or `OUTSIDE`; or `CLOSED` if the handle is closed.
+/// Returns `INSIDE` if the handle's section is open, else `OUTSIDE`; `CLOSED` if the handle is closed.
 #[unsafe(no_mangle)]
 pub extern "C" fn hot_is_inside(handle: &mut SectionHandle) -> u32
     ensures { TellsInside handle.old.cell.opened handle.new.cell.opened result }
@@ -93,7 +93,8 @@ pub extern "C" fn hot_is_inside(handle: &mut SectionHandle) -> u32
     }
 }
 
-/// Enters the section: `DONE`. `INSIDE` if it is open already, or `CLOSED` if the handle is closed, and then nothing changes.
+/// Enters the handle's section, and returns `DONE`. It returns `INSIDE` if the section is open already, or `CLOSED` if the handle is
+/// closed, and then nothing changes.
 #[unsafe(no_mangle)]
 pub extern "C" fn hot_enter_section(handle: &mut SectionHandle) -> u32
     ensures { EntersSection handle.old.cell.opened handle.new.cell.opened result }
@@ -108,7 +109,8 @@ pub extern "C" fn hot_enter_section(handle: &mut SectionHandle) -> u32
     }
 }
 
-/// Leaves the section: `DONE`. `OUTSIDE` if it isn't open, or `CLOSED` if the handle is closed, and then nothing changes.
+/// Leaves the handle's section, and returns `DONE`. It returns `OUTSIDE` if the section isn't open, or `CLOSED` if the handle is closed,
+/// and then nothing changes.
 #[unsafe(no_mangle)]
 pub extern "C" fn hot_leave_section(handle: &mut SectionHandle) -> u32
     ensures { LeavesSection handle.old.cell.opened handle.new.cell.opened result }
@@ -123,7 +125,7 @@ pub extern "C" fn hot_leave_section(handle: &mut SectionHandle) -> u32
     }
 }
 
-/// Takes a moment, and writes its number to `moment`: `DONE`; or `CLOSED` if the handle is closed, and then `moment` stays.
+/// Takes a moment, writes its number to `moment`, and returns `DONE`. It returns `CLOSED` if the handle is closed, and then `moment` stays.
 #[unsafe(no_mangle)]
 pub extern "C" fn hot_take_moment(handle: &mut SectionHandle, moment: &mut u64) -> u32
     ensures { TellsMoment handle.old.cell.opened handle.new.cell.opened moment.old moment.new result }
@@ -135,8 +137,8 @@ pub extern "C" fn hot_take_moment(handle: &mut SectionHandle, moment: &mut u64) 
     DONE
 }
 
-/// Whether each section that was open before the moment of this number has been left since: `DONE`, or `NOT_PAST`. `CLOSED` if the handle
-/// is closed. It waits for none.
+/// Returns `DONE` if each section that was open before the moment with the number `moment` has been left since; `NOT_PAST` if one may not
+/// have been. It returns `CLOSED` if the handle is closed. It waits for no section.
 #[unsafe(no_mangle)]
 pub extern "C" fn hot_is_moment_past(handle: &mut SectionHandle, moment: u64) -> u32
     ensures { TellsPast moment handle.old.cell.opened handle.new.cell.opened result }

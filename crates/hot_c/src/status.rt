@@ -55,7 +55,7 @@ pub const NOT_PAST: u32 = 24;
 /// The key isn't above the last one of the load.
 pub const NOT_RISING: u32 = 25;
 
-/// The status of `reply`. If the reply has a value, it is written to `value`; else `value` stays.
+/// Returns the status of `reply`. If the reply has a value, that value is written to `value`; else `value` stays.
 pub fn write_reply(reply: Reply, value: &mut u64) -> u32
     ensures status { result ≡ reply_status reply }
     ensures value { value.new ≡ value_after value.old (Ok reply) }

@@ -18,7 +18,7 @@ pub struct HotStock {
 }
 
 impl HotStock {
-    /// The `Stock` with the same numbers.
+    /// Returns the `Stock` with the same numbers.
     pub fn to_stock(&self) -> Stock
         ensures { result ≡ stock_in self.now }
     {

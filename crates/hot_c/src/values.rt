@@ -8,9 +8,9 @@ use crate::status::{CLOSED, DONE, KEY_TOO_LONG, NO_MEMORY};
 use key_bits::Key;
 use std::alloc::Global;
 
-/// Writes the values of the first pairs whose keys are from `from` to `upto`, both included, in key order. They are at most as many as
-/// `room` has elements, and the other elements stay. `count` is their number then, and `more` 1 if the range has more, else 0: `DONE`. With
-/// `CLOSED`, `KEY_TOO_LONG` or `NO_MEMORY` these three stay.
+/// Writes the values of the first pairs whose keys are from `from` to `upto`, both included, in key order, and returns `DONE`. They go to
+/// the front of `room`, at most as many as `room` has elements; the other elements stay. `count` becomes their number, and `more` 1 if the
+/// range has more, else 0. With `CLOSED`, `KEY_TOO_LONG` or `NO_MEMORY` these three stay.
 #[unsafe(no_mangle)]
 pub extern "C" fn hot_scan_values(
     alloc: Global,

@@ -12,8 +12,8 @@ use std::io::ErrorKind;
 use std::sync::Wait;
 use std::thread::{Threads, join};
 
-/// Inserts the key `one` and then `two`, each with its value, by the calls of `handle`. A key that has a value already keeps it. One is
-/// left out if no record is free. Returns the handle.
+/// Inserts the key of `one` and then that of `two`, each with its value, by the calls of `handle`. A key that has a value already keeps it.
+/// A key is left out if no record is free. Returns the handle.
 fn put_both<'a, R: Wait>(
     rt: &R,
     mut handle: Handle<&'a Index>,
@@ -31,7 +31,7 @@ fn put_both<'a, R: Wait>(
 }
 
 /// Inserts keys by two threads, each with one of `handles`, of new passes: `ash` and `oak` by the first, `oak` and `yew` by the second.
-/// Then it lets these passes meet, which are all of the index, and returns the handles. Their calls have ended in one run, and so are
+/// Then it lets these passes meet, which are all of the index, and returns the handles. The passes' calls have ended in one run, and so are
 /// linearizable.
 fn fill_together<'a, R: Threads + Wait + Sync>(
     rt: &R,
@@ -64,7 +64,7 @@ fn fill_together<'a, R: Threads + Wait + Sync>(
     first.meet(second)
 }
 
-/// The two passes of a new index, `passes`, in their order. Contracts name the index; the code doesn't read it.
+/// Returns the two passes of a new index, `passes`, in their order. Contracts name the index; the code doesn't read it.
 fn take_both(_index: &Index, mut passes: Vec<Pass>) -> Option<(Pass, Pass)>
     requires count { length passes.items ≡ 2 }
     requires each { (q : ℕ) (p : PassView) → slice_get passes.items q ≡ Some p → Owns _index.now p × IsNewPass q p }
@@ -76,7 +76,7 @@ fn take_both(_index: &Index, mut passes: Vec<Pass>) -> Option<(Pass, Pass)>
     Some((first, second))
 }
 
-/// Fills an index by two threads, and prints what they find. An error if memory is refused, or a write failed.
+/// Fills an index by two threads, and prints what they find. The error is one of memory refused, or of a write that failed.
 fn run_example<R: Threads + Wait + AllocGlobal + Print + Sync>(rt: &R) -> io::Result<()> {
     // Two passes, 64 node records and 1,024 leaf records.
     let (index, passes) = create(rt.alloc(), 2, 64, 1024).map_err(as_error)?;
@@ -90,7 +90,8 @@ fn run_example<R: Threads + Wait + AllocGlobal + Print + Sync>(rt: &R) -> io::Re
     print_reads(rt, &mut first, total(&counts))
 }
 
-/// Prints `keys`, how many the index has, and what a scan and further reads find. An error as of `run_example`.
+/// Prints `keys`, how many keys the index has, and what a scan and further reads find. The error is one of memory refused, or of a write
+/// that failed.
 fn print_reads<R: AllocGlobal + Print>(
     rt: &R,
     first: &mut Handle<&Index>,
@@ -107,7 +108,8 @@ fn print_reads<R: AllocGlobal + Print>(
     print_further_reads(rt, first)
 }
 
-/// Looks two words up by one call, lists the first two keys by a cursor, and prints what both found. An error as of `run_example`.
+/// Looks two words up by one call, lists the first two keys by a cursor, and prints what both found. The error is one of memory refused, or
+/// of a write that failed.
 fn print_further_reads<R: AllocGlobal + Print>(
     rt: &R,
     handle: &mut Handle<&Index>,
@@ -125,12 +127,12 @@ fn print_further_reads<R: AllocGlobal + Print>(
     println!(rt; "the first {} keys, more: {}", part.len(), more)
 }
 
-/// The key with the bytes of `text`. An error if they are more than a key may have.
+/// Returns the key with the bytes of `text`. The error is `InvalidInput` if there are more than a key may have.
 fn key(text: &str) -> io::Result<Key> {
     Key::from_bytes(text.as_bytes()).map_err(|_| io::Error::from(ErrorKind::InvalidInput))
 }
 
-/// The error of a program for a fault of `create`: numbers out of range, or out of memory.
+/// Returns the error of a program for a fault of `create`: numbers out of range, or out of memory.
 fn as_error(fault: IndexFault) -> io::Error {
     io::Error::from(match fault {
         IndexFault::Layout(_) => ErrorKind::InvalidInput,
@@ -138,7 +140,7 @@ fn as_error(fault: IndexFault) -> io::Error {
     })
 }
 
-/// Runs the example. An error as of `run_example`.
+/// Runs the example. The error is that of `run_example`.
 fn main(rt: HostRuntime) -> io::Result<()> {
     run_example(&rt)
 }

@@ -20,14 +20,14 @@ impl<T> Model for Held<T> {
 }
 
 impl<T> Held<T> {
-    /// A holder of nothing.
+    /// Returns a holder of nothing.
     fn empty() -> Held<T>
         ensures { result.value ≡ None }
     {
         Held { at: null_mut() }
     }
 
-    /// The box of the value. The holder has one.
+    /// Returns the box of the value. The holder has a value.
     fn into_box(self, alloc: Global) -> Box<T, Global>
         requires { IsSome self.value }
         ensures { self.value ≡ Some result.value }
@@ -36,7 +36,7 @@ impl<T> Held<T> {
         unsafe { Box::from_raw(alloc, at) }
     }
 
-    /// Takes the value out, in its box. The holder has one.
+    /// Takes the value out, and returns it in its box. The holder has a value before, and none then.
     pub fn take(&mut self, alloc: Global) -> Box<T, Global>
         requires { IsSome self.old.value }
         ensures value { self.old.value ≡ Some result.value }
@@ -47,7 +47,7 @@ impl<T> Held<T> {
 }
 
 impl<T: Drop> Held<T> {
-    /// A holder of the value that `boxed` held.
+    /// Returns a holder of the value that `boxed` held.
     fn of(boxed: Box<T, Global>) -> Held<T>
         ensures { result.value ≡ Some boxed.value }
     {
@@ -56,7 +56,7 @@ impl<T: Drop> Held<T> {
         }
     }
 
-    /// Puts the value of `boxed` in. There was none.
+    /// Puts the value of `boxed` in. The holder has none before.
     pub fn put(&mut self, boxed: Box<T, Global>)
         requires { self.old.value ≡ None }
         ensures { self.new.value ≡ Some boxed.value }

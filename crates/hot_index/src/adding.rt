@@ -15,8 +15,8 @@ use rowex_writing::{Full, TryFault};
 use std::sync::Wait;
 
 impl Index {
-    /// Adds `delta` to the value of `key`, modulo 2 to the power of 64: `Was` with the value before. An absent key stays absent:
-    /// `Absent`.
+    /// Adds `delta` to the value of `key`, modulo 2 to the power of 64: returns `Was` with the value before. For an absent key it changes
+    /// nothing, and returns `Absent`.
     ///
     /// It searches once. It never blocks, and makes no more steps than `try_exchange` may. It takes no record, so it is refused only as
     /// `Busy`.
@@ -28,7 +28,7 @@ impl Index {
         self.try_add_with(pass, key, delta, &mut NoGate)
     }
 
-    /// Does what `try_add` does, and reports each of its steps to `gate`.
+    /// Adds `delta` to the value of `key`, if it has one, and returns what `try_add` does. Reports each of its steps to `gate`.
     pub fn try_add_with<G: Gate>(
         &self,
         pass: &mut Pass,
@@ -43,10 +43,10 @@ impl Index {
         self.try_change_with(pass, gate, &Call::Add(key.copy(), delta))
     }
 
-    /// Adds `delta` to the value of `key`, modulo 2 to the power of 64: `Was` with the value before. An absent key stays absent:
-    /// `Absent`.
+    /// Adds `delta` to the value of `key`, modulo 2 to the power of 64: returns `Was` with the value before. For an absent key it changes
+    /// nothing, and returns `Absent`.
     ///
-    /// It begins again as `insert` does, when another pass is in its way. It takes no record, so it is never refused.
+    /// Where `try_add` would return `Busy`, it begins again, as `insert` does. It takes no record, so it is never refused.
     pub fn add<R: Wait>(
         &self,
         rt: &R,

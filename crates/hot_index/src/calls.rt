@@ -33,7 +33,7 @@ impl Index {
         self.try_call_with(pass, call, &mut NoGate)
     }
 
-    /// Does what `try_call` does, and reports each of its steps to `gate`.
+    /// Makes `call`, and returns what `try_call` does. Reports each of its steps to `gate`.
     pub fn try_call_with<G: Gate>(
         &self,
         pass: &mut Pass,
@@ -56,8 +56,9 @@ impl Index {
         }
     }
 
-    /// Does what `try_call` does. If a change found no record free, it counts all records then, as `census` does, and the refusal says what
-    /// the count says. It makes one step more for each record then.
+    /// Makes `call`, and returns what `try_call` does. If a change found no record free, all records are counted then, as by `census`, with
+    /// one step more for each. The refusal says what the count shows: `Full`, or `HeldBack` if a record may come back. A removal in an
+    /// index of several passes is `HeldBack` without a count.
     pub fn try_counted(&self, pass: &mut Pass, call: &Call) -> Result<Reply, Refusal>
         requires { Owns self.now pass.old }
         ensures own { Owns self.now pass.new }

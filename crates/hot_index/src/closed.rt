@@ -33,7 +33,7 @@ impl Model for ClosedPass {
 }
 
 impl ClosedPass {
-    /// How many keys the calls of the pass have put in, less how many they have taken out, modulo 2^64, as `Pass::count` returns.
+    /// Returns how many keys the calls of the pass have put in, less how many they have taken out, modulo 2^64, as `Pass::count` does.
     pub fn count(&self) -> KeyCount
         ensures count { IsCountOf self.now.number self.now.notes result }
         ensures legal { LegalCalls self.now.front self.now.number self.now.notes }
@@ -41,7 +41,8 @@ impl ClosedPass {
         self.count
     }
 
-    /// Opens the pass for calls at its index, `index`, with buffers of `alloc`. If memory is refused, an error with the closed pass.
+    /// Opens the pass for calls at `index`, its own index, with buffers that `alloc` gives. If memory is refused, the error has the closed
+    /// pass.
     pub fn open(self, alloc: Global, index: &Index) -> Result<Pass, AllocFailed<ClosedPass>>
         ensures opened { IfOk result (λ pass. pass ≡ self) }
         ensures kept { IfErr result (λ refused. refused.value ≡ self) }
@@ -88,7 +89,7 @@ impl<I: ShowsIndex> Model for ClosedHandle<I> {
 }
 
 impl<I: ShowsIndex> ClosedHandle<I> {
-    /// A closed handle of `pass` at `index`, a reference to the pass's index or a share of it.
+    /// Returns a closed handle of `pass` at `index`, which is a reference to the pass's own index, or a share of it.
     pub fn new(index: I, pass: ClosedPass) -> ClosedHandle<I>
         requires { Owns (I.shown index) pass }
         ensures { result ≡ handle_at (I.shown index) pass }
@@ -96,7 +97,7 @@ impl<I: ShowsIndex> ClosedHandle<I> {
         ClosedHandle { index, pass }
     }
 
-    /// How many keys the calls of the pass have put in, less how many they have taken out, modulo 2^64, as `Pass::count` returns.
+    /// Returns how many keys the calls of the pass have put in, less how many they have taken out, modulo 2^64, as `Pass::count` does.
     pub fn count(&self) -> KeyCount
         ensures count { IsCountOf self.now.pass.number self.now.pass.notes result }
         ensures legal { LegalCalls self.now.pass.front self.now.pass.number self.now.pass.notes }
@@ -104,7 +105,7 @@ impl<I: ShowsIndex> ClosedHandle<I> {
         self.pass.count()
     }
 
-    /// Opens the handle, with buffers of `alloc`. If memory is refused, an error with the closed handle.
+    /// Opens the handle for calls, with buffers that `alloc` gives. If memory is refused, the error has the closed handle.
     pub fn open(self, alloc: Global) -> Result<Handle<I>, AllocFailed<ClosedHandle<I>>>
         ensures opened { IfOk result (λ handle. handle ≡ self) }
         ensures kept { IfErr result (λ refused. refused.value ≡ self) }
@@ -120,7 +121,7 @@ impl<I: ShowsIndex> ClosedHandle<I> {
 }
 
 impl<I: ShowsIndex> Handle<I> {
-    /// Closes the handle, and frees the buffers of its pass. All else of it stays the same.
+    /// Closes the handle, and frees the buffers of its pass. The index and all else of the pass stay the same.
     pub fn close(self) -> ClosedHandle<I>
         ensures { result ≡ self }
     {

@@ -39,7 +39,7 @@ impl Model for Cursor {
 }
 
 impl Cursor {
-    /// A cursor at the beginning of the keys from `from` to `upto`, both included.
+    /// Returns a cursor at the beginning of the keys from `from` to `upto`, both included.
     pub fn new(from: &Key, upto: &Key) -> Cursor
         ensures { result ≡ Some (rest_of from.now upto.now) }
     {
@@ -50,21 +50,21 @@ impl Cursor {
         Cursor { rest: Some(rest) }
     }
 
-    /// A cursor at the beginning of the keys that begin with `prefix`; of all keys, if that is the empty key.
+    /// Returns a cursor at the beginning of the keys that begin with `prefix`. If `prefix` is the empty key, these are all keys.
     pub fn of_prefix(prefix: &Key) -> Cursor
         ensures { result ≡ Some (rest_of prefix.now (last_with prefix.now)) }
     {
         Cursor::new(prefix, &last_with_prefix(prefix))
     }
 
-    /// Lists the next pairs of the range, at most `limit`, into `pairs`, whose earlier pairs are dropped. Returns whether there are
-    /// more. If not, the cursor is at its end, and each later call lists nothing and makes no step.
+    /// Lists the next pairs of the range, at most `limit`, into `pairs`, whose earlier pairs are dropped. Returns whether there are more.
+    /// If not, the cursor is at its end, and each later call lists nothing and makes no step.
     ///
-    /// Before its end, each call is a `scan_into` of the keys that are left, with its promise and bound on steps. The next call
-    /// goes on at the least key above the last one listed. So it lists a key that was inserted between two calls if that lies above,
-    /// and not if it lies below.
+    /// Before its end, each call is a `scan_into` of the keys that are left, with its promise and bound on steps. The next call goes on at
+    /// the least key above the last one listed. So a key that was inserted between two calls is listed if it lies above the last one
+    /// listed, and not if it lies below.
     ///
-    /// An error if memory is refused: the cursor stays where it is, and `pairs` holds the first pairs, as after a `scan_into`.
+    /// `AllocError` if memory is refused. The cursor stays where it is then, and `pairs` holds the first pairs, as after a `scan_into`.
     pub fn next_into(
         &mut self,
         index: &Index,
@@ -94,8 +94,9 @@ impl Cursor {
     }
 }
 
-/// What is left of the keys `rest` after a part with `pairs`. It is what comes above the last pair's key, or all of `rest` if there is no
-/// pair. `None` if `more` is false, since the range then has no more pairs. `None` too if no key comes above the last one.
+/// Returns what is left of the keys `rest` after a part of the list with `pairs`. It is what comes above the last pair's key, or all of
+/// `rest` if there is no pair. `None` if `more` is false, since the range then has no more pairs. `None` too if no key comes above the last
+/// one.
 fn rest_after_part(rest: &Rest, pairs: &Pairs, more: bool) -> Option<Rest>
     ensures { IsLeft rest.now pairs.now more result }
 {

@@ -15,8 +15,8 @@ use rowex_writing::{Full, TryFault};
 use std::sync::Wait;
 
 impl Index {
-    /// Compare and exchange: gives `key` the value `value` if it has the value `expected` (`Exchanged`). Else it changes nothing, and
-    /// returns `Differs` with the key's value, or `Absent`.
+    /// Compare and exchange: gives `key` the value `value` if it has the value `expected`, and returns `Exchanged`. Else it changes
+    /// nothing, and returns `Differs` with the key's value, or `Absent`.
     ///
     /// It never blocks, and makes at most 56,488 steps, and one for each pass. It takes no record, so it is refused only as `Busy`.
     pub fn try_exchange(
@@ -33,7 +33,8 @@ impl Index {
         self.try_exchange_with(pass, key, expected, value, &mut NoGate)
     }
 
-    /// Does what `try_exchange` does, and reports each of its steps to `gate`.
+    /// Gives `key` the value `value` if it has the value `expected`, and returns what `try_exchange` does. Reports each of its steps to
+    /// `gate`.
     pub fn try_exchange_with<G: Gate>(
         &self,
         pass: &mut Pass,
@@ -49,8 +50,8 @@ impl Index {
         self.try_change_with(pass, gate, &Call::Exchange(key.copy(), expected, value))
     }
 
-    /// Compare and exchange: gives `key` the value `value` if it has the value `expected` (`Exchanged`). Else it changes nothing, and
-    /// returns `Differs` with the key's value, or `Absent`.
+    /// Compare and exchange: gives `key` the value `value` if it has the value `expected`, and returns `Exchanged`. Else it changes
+    /// nothing, and returns `Differs` with the key's value, or `Absent`.
     ///
     /// Where `try_exchange` would return `Busy`, the call begins again, as `insert` does. It takes no record, so it is never refused.
     pub fn exchange<R: Wait>(
@@ -73,11 +74,11 @@ impl Index {
         )
     }
 
-    /// Removes `key` if it has the value `expected` (`Removed` with that value). Else it changes nothing, and returns `Differs` with the
-    /// key's value, or `Absent`.
+    /// Removes `key` if it has the value `expected` , and returns `Removed` with that value. Else it changes nothing, and returns `Differs`
+    /// with the key's value, or `Absent`.
     ///
-    /// It never blocks, makes no more steps than `try_insert` may, and is refused for the same reasons as `try_remove`. It returns `FullNodes`
-    /// only if its search found the key with the value `expected`.
+    /// It never blocks, makes no more steps than `try_insert` may, and is refused for the same reasons as `try_remove`. It returns
+    /// `FullNodes` only if its search found the key with the value `expected`.
     pub fn try_remove_if(
         &self,
         pass: &mut Pass,
@@ -90,7 +91,7 @@ impl Index {
         self.try_remove_if_with(pass, key, expected, &mut NoGate)
     }
 
-    /// Does what `try_remove_if` does, and reports each of its steps to `gate`.
+    /// Removes `key` if it has the value `expected`, and returns what `try_remove_if` does. Reports each of its steps to `gate`.
     pub fn try_remove_if_with<G: Gate>(
         &self,
         pass: &mut Pass,
@@ -104,11 +105,11 @@ impl Index {
         self.try_change_with(pass, gate, &Call::RemoveIf(key.copy(), expected))
     }
 
-    /// Removes `key` if it has the value `expected` (`Removed` with that value). Else it changes nothing, and returns `Differs` with the
-    /// key's value, or `Absent`.
+    /// Removes `key` if it has the value `expected` , and returns `Removed` with that value. Else it changes nothing, and returns `Differs`
+    /// with the key's value, or `Absent`.
     ///
-    /// Where `try_remove_if` would return `Busy`, or records are held back, the call begins again, as `remove` does. It is refused only for
-    /// the reason for which `remove` is.
+    /// Where `try_remove_if` would return `Busy`, or records are held back, the call begins again, as `remove` does. It is refused only
+    /// with `Full::Nodes`, and never in an index of several passes.
     pub fn remove_if<R: Wait>(
         &self,
         rt: &R,

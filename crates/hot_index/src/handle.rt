@@ -51,6 +51,7 @@ pub trait ShowsIndex {
 impl ShowsIndex for &Index {
     ghost shown = { λ index. index.now };
 
+    /// Returns the index to which this refers.
     fn show(&self) -> &Index {
         *self
     }
@@ -59,6 +60,7 @@ impl ShowsIndex for &Index {
 impl ShowsIndex for Arc<Index, Global> {
     ghost shown = { λ index. index.value };
 
+    /// Returns the index of which this is a share.
     fn show(&self) -> &Index {
         &**self
     }
@@ -86,7 +88,7 @@ impl<I: ShowsIndex> Model for Handle<I> {
 }
 
 impl<I: ShowsIndex> Handle<I> {
-    /// A handle of `pass` at `index`, a reference to the pass's index or a share of it.
+    /// Returns a handle of `pass` at `index`, which is a reference to the pass's own index, or a share of it.
     pub fn new(index: I, pass: Pass) -> Handle<I>
         requires { Owns (I.shown index) pass }
         ensures { result ≡ handle_at (I.shown index) pass }
@@ -94,7 +96,7 @@ impl<I: ShowsIndex> Handle<I> {
         Handle { index, pass }
     }
 
-    /// The reference to the index, or the share of it, and the pass.
+    /// Returns the reference to the index, or the share of it, and the pass.
     pub fn into_parts(self) -> (I, Pass)
         ensures index { I.shown result.0 ≡ self.index }
         ensures pass { result.1 ≡ self.pass }
@@ -103,14 +105,14 @@ impl<I: ShowsIndex> Handle<I> {
         (self.index, self.pass)
     }
 
-    /// The number of the handle's pass.
+    /// Returns the number of the handle's pass.
     pub fn number(&self) -> u16
         ensures { result ≡ self.now.pass.number }
     {
         self.pass.number()
     }
 
-    /// How many keys the calls of the pass have put in, less how many they have taken out, modulo 2^64, as `Pass::count` returns.
+    /// Returns how many keys the calls of the pass have put in, less how many they have taken out, modulo 2^64, as `Pass::count` does.
     pub fn count(&self) -> KeyCount
         ensures count { IsCountOf self.now.pass.number self.now.pass.notes result }
         ensures legal { LegalCalls self.now.pass.front self.now.pass.number self.now.pass.notes }
@@ -118,7 +120,7 @@ impl<I: ShowsIndex> Handle<I> {
         self.pass.count()
     }
 
-    /// The value of `key`, or `None` if it is absent, as `Index::get` returns.
+    /// Returns the value of `key`, or `None` if it is absent, as `Index::get` does.
     pub fn get(&mut self, key: &Key) -> Option<u64>
         ensures call { Stays (λ index k j. IsNoted index.layout k j (Get key.now) (got result)) self.old self.new }
         ensures made { Stays (λ index k j. HasMadeGetSteps index untold (k, tt) (j, tt)) self.old self.new }
@@ -126,8 +128,8 @@ impl<I: ShowsIndex> Handle<I> {
         self.index.show().get(&mut self.pass, key)
     }
 
-    /// Looks up `keys`, and writes to `found`, in the order of the keys, the value of each or `None`, as `Index::get_many` does. Both have
-    /// one length.
+    /// Looks up `keys`, and writes to `found`, in the order of the keys, the value of each or `None`, as `Index::get_many` does. `found` is
+    /// as long as `keys`.
     pub fn get_many(&mut self, keys: &[Key], found: &mut [Option<u64>])
         requires { length found.old ≡ length keys.now }
         ensures call { Stays (λ index k j. AreNoted index.layout k j (gets keys.now found.new)) self.old self.new }
@@ -136,21 +138,24 @@ impl<I: ShowsIndex> Handle<I> {
         self.index.show().get_many(&mut self.pass, keys, found)
     }
 
-    /// Inserts `key` with `value` if it is absent, and returns what `Index::insert` does.
+    /// Inserts `key` with `value` if the key is absent, as `Index::insert` does. Returns `Inserted`, or `Exists` with the key's value. The
+    /// error is the kind of records of which none was free.
     pub fn insert<R: Wait>(&mut self, rt: &R, key: &Key, value: u64) -> Result<Reply, Full>
         ensures { Stays (λ index k j. IsWaitedFor (Insert key.now value) result index untold (k, tt) (j, tt)) self.old self.new }
     {
         self.index.show().insert(rt, &mut self.pass, key, value)
     }
 
-    /// Gives `key` the value `value`, and returns what `Index::upsert` does.
+    /// Gives `key` the value `value`, whether it has one or not, as `Index::upsert` does. Returns `New`, or `Was` with the value before.
+    /// The error is the kind of records of which none was free.
     pub fn upsert<R: Wait>(&mut self, rt: &R, key: &Key, value: u64) -> Result<Reply, Full>
         ensures { Stays (λ index k j. IsWaitedFor (Upsert key.now value) result index untold (k, tt) (j, tt)) self.old self.new }
     {
         self.index.show().upsert(rt, &mut self.pass, key, value)
     }
 
-    /// Gives `key` the value `value` if it has the value `expected`, and returns what `Index::exchange` does.
+    /// Gives `key` the value `value` if it has the value `expected`, as `Index::exchange` does. Returns `Exchanged`, `Differs` with the
+    /// key's value, or `Absent`. It is never refused.
     pub fn exchange<R: Wait>(
         &mut self,
         rt: &R,
@@ -166,7 +171,8 @@ impl<I: ShowsIndex> Handle<I> {
             .exchange(rt, &mut self.pass, key, expected, value)
     }
 
-    /// Adds `delta` to the value of `key`, if it has one, and returns what `Index::add` does.
+    /// Adds `delta` to the value of `key`, if it has one, as `Index::add` does. Returns `Was` with the value before, or `Absent`. It is
+    /// never refused.
     pub fn add<R: Wait>(&mut self, rt: &R, key: &Key, delta: u64) -> Result<Reply, Full>
         ensures waited { Stays (λ index k j. IsWaitedFor (Add key.now delta) result index untold (k, tt) (j, tt)) self.old self.new }
         ensures made { IsOk result }
@@ -174,14 +180,16 @@ impl<I: ShowsIndex> Handle<I> {
         self.index.show().add(rt, &mut self.pass, key, delta)
     }
 
-    /// Removes `key`, and returns what `Index::remove` does.
+    /// Removes `key`, as `Index::remove` does. Returns `Removed` with the value before, or `Absent`. The error is `Full::Nodes` if no node
+    /// record was free.
     pub fn remove<R: Wait>(&mut self, rt: &R, key: &Key) -> Result<Reply, Full>
         ensures { Stays (λ index k j. IsWaitedFor (Remove key.now) result index untold (k, tt) (j, tt)) self.old self.new }
     {
         self.index.show().remove(rt, &mut self.pass, key)
     }
 
-    /// Removes `key` if it has the value `expected`, and returns what `Index::remove_if` does.
+    /// Removes `key` if it has the value `expected`, as `Index::remove_if` does. Returns `Removed` with that value, `Differs` with the
+    /// key's value, or `Absent`. The error is `Full::Nodes` if no node record was free.
     pub fn remove_if<R: Wait>(&mut self, rt: &R, key: &Key, expected: u64) -> Result<Reply, Full>
         ensures { Stays (λ index k j. IsWaitedFor (RemoveIf key.now expected) result index untold (k, tt) (j, tt)) self.old self.new }
     {
@@ -190,22 +198,24 @@ impl<I: ShowsIndex> Handle<I> {
             .remove_if(rt, &mut self.pass, key, expected)
     }
 
-    /// Tries to insert `key` with `value` if it is absent, and returns what `Index::try_insert` does.
+    /// Tries to insert `key` with `value` if the key is absent, as `Index::try_insert` does. Returns `Inserted`, or `Exists` with the key's
+    /// value. The error tells why the call was refused: nothing has changed then.
     pub fn try_insert(&mut self, key: &Key, value: u64) -> Result<Reply, TryFault>
         ensures { Stays (λ index k j. IsTried (Insert key.now value) result index untold (k, tt) (j, tt)) self.old self.new }
     {
         self.index.show().try_insert(&mut self.pass, key, value)
     }
 
-    /// Tries to give `key` the value `value`, and returns what `Index::try_upsert` does.
+    /// Tries to give `key` the value `value`, whether it has one or not, as `Index::try_upsert` does. Returns `New`, or `Was` with the
+    /// value before. The error tells why the call was refused: nothing has changed then.
     pub fn try_upsert(&mut self, key: &Key, value: u64) -> Result<Reply, TryFault>
         ensures { Stays (λ index k j. IsTried (Upsert key.now value) result index untold (k, tt) (j, tt)) self.old self.new }
     {
         self.index.show().try_upsert(&mut self.pass, key, value)
     }
 
-    /// Tries to give `key` the value `value` if it has the value `expected`, and returns what `Index::try_exchange` does. Its only fault is
-    /// `Busy`.
+    /// Tries to give `key` the value `value` if it has the value `expected`, as `Index::try_exchange` does. Returns `Exchanged`, `Differs`
+    /// with the key's value, or `Absent`. The only error is `Busy`: nothing has changed then.
     pub fn try_exchange(&mut self, key: &Key, expected: u64, value: u64) -> Result<Reply, TryFault>
         ensures tried { Stays (λ index k j. IsTried (Exchange key.now expected value) result index untold (k, tt) (j, tt)) self.old self.new }
         ensures busy { IfErr result (λ fault. fault ≡ Busy) }
@@ -215,7 +225,8 @@ impl<I: ShowsIndex> Handle<I> {
             .try_exchange(&mut self.pass, key, expected, value)
     }
 
-    /// Tries to add `delta` to the value of `key`, if it has one, and returns what `Index::try_add` does.
+    /// Tries to add `delta` to the value of `key`, if it has one, as `Index::try_add` does. Returns `Was` with the value before, or
+    /// `Absent`. The only error is `Busy`: nothing has changed then.
     pub fn try_add(&mut self, key: &Key, delta: u64) -> Result<Reply, TryFault>
         ensures tried { Stays (λ index k j. IsTried (Add key.now delta) result index untold (k, tt) (j, tt)) self.old self.new }
         ensures busy { IfErr result (λ fault. fault ≡ Busy) }
@@ -223,14 +234,16 @@ impl<I: ShowsIndex> Handle<I> {
         self.index.show().try_add(&mut self.pass, key, delta)
     }
 
-    /// Tries to remove `key`, and returns what `Index::try_remove` does.
+    /// Tries to remove `key`, as `Index::try_remove` does. Returns `Removed` with the value before, or `Absent`. The error tells why the
+    /// call was refused: nothing has changed then.
     pub fn try_remove(&mut self, key: &Key) -> Result<Reply, TryFault>
         ensures { Stays (λ index k j. IsTried (Remove key.now) result index untold (k, tt) (j, tt)) self.old self.new }
     {
         self.index.show().try_remove(&mut self.pass, key)
     }
 
-    /// Tries to remove `key` if it has the value `expected`, and returns what `Index::try_remove_if` does.
+    /// Tries to remove `key` if it has the value `expected`, as `Index::try_remove_if` does. Returns `Removed` with that value, `Differs`
+    /// with the key's value, or `Absent`. The error tells why the call was refused: nothing has changed then.
     pub fn try_remove_if(&mut self, key: &Key, expected: u64) -> Result<Reply, TryFault>
         ensures { Stays (λ index k j. IsTried (RemoveIf key.now expected) result index untold (k, tt) (j, tt)) self.old self.new }
     {
@@ -259,8 +272,8 @@ impl<I: ShowsIndex> Handle<I> {
         self.index.show().try_counted(&mut self.pass, call)
     }
 
-    /// The first `limit` pairs with keys from `from` to `upto`, both included, and whether there are more, as `Index::scan` returns. An
-    /// error if memory is refused.
+    /// Returns the first `limit` pairs with keys from `from` to `upto`, both included, and whether there are more, as `Index::scan` does.
+    /// `AllocError` if memory is refused.
     pub fn scan(
         &mut self,
         alloc: Global,
@@ -275,8 +288,8 @@ impl<I: ShowsIndex> Handle<I> {
             .scan(alloc, &mut self.pass, from, upto, limit)
     }
 
-    /// Replaces what `pairs` holds with the first `limit` pairs from `from` to `upto`, and returns whether there are more. If memory is
-    /// refused, an error: `pairs` then holds the first of these pairs, fewer than `limit`. As `Index::scan_into`.
+    /// Replaces what `pairs` holds with the first `limit` pairs with keys from `from` to `upto`, both included, as `Index::scan_into` does.
+    /// Returns whether there are more. `AllocError` if memory is refused: `pairs` then holds the first of these pairs, fewer than `limit`.
     pub fn scan_into(
         &mut self,
         from: &Key,
@@ -291,8 +304,9 @@ impl<I: ShowsIndex> Handle<I> {
             .scan_into(&mut self.pass, from, upto, limit, pairs)
     }
 
-    /// Replaces what `pairs` holds with the first pairs of `range` in its direction, at most as many as its limit. Returns whether there
-    /// are more. An error if memory is refused: `pairs` then holds the first of these pairs, fewer than the limit. As `Index::range_into`.
+    /// Replaces what `pairs` holds with the first pairs of `range` in its direction, at most as many as its limit, as `Index::range_into`
+    /// does. Returns whether there are more. `AllocError` if memory is refused: `pairs` then holds the first of these pairs, fewer than the
+    /// limit.
     pub fn range_into(&mut self, range: &Range, pairs: &mut Pairs) -> Result<bool, AllocError>
         ensures call { Stays (λ index k j. IsListReadBy (IsLawfulBy range.now.direction) (asked_range range.now) pairs.new result index untold (k, tt) (j, tt))
             self.old self.new }
@@ -300,8 +314,9 @@ impl<I: ShowsIndex> Handle<I> {
         self.index.show().range_into(&mut self.pass, range, pairs)
     }
 
-    /// Replaces what `values` holds with the values of the first `limit` pairs from `from` to `upto`, and returns whether there are more.
-    /// If memory is refused, an error: `values` then has the first of these. As `Index::scan_values_into`.
+    /// Replaces what `values` holds with the values of the first `limit` pairs with keys from `from` to `upto`, as
+    /// `Index::scan_values_into` does. Returns whether there are more. `AllocError` if memory is refused: `values` then holds the first of
+    /// these values, fewer than `limit`.
     pub fn scan_values_into(
         &mut self,
         from: &Key,
@@ -316,15 +331,15 @@ impl<I: ShowsIndex> Handle<I> {
             .scan_values_into(&mut self.pass, from, upto, limit, values)
     }
 
-    /// How many keys there are from `from` to `upto`, both included, as `Index::count_range` returns.
+    /// Returns how many keys there are from `from` to `upto`, both included, as `Index::count_range` does; at most 2^63 - 1.
     pub fn count_range(&mut self, from: &Key, upto: &Key) -> usize
         ensures { Stays (IsCountRead (range_from from.now upto.now (2 ^ 63 - 1)) result) self.old self.new }
     {
         self.index.show().count_range(&mut self.pass, from, upto)
     }
 
-    /// Replaces what `pairs` holds with the first `limit` pairs whose keys begin with `prefix`, and returns whether there are more. If
-    /// memory is refused, an error: `pairs` then holds the first of these pairs, fewer than `limit`. As `Index::prefix_into`.
+    /// Replaces what `pairs` holds with the first `limit` pairs whose keys begin with `prefix`, as `Index::prefix_into` does. Returns
+    /// whether there are more. `AllocError` if memory is refused: `pairs` then holds the first of these pairs, fewer than `limit`.
     pub fn prefix_into(
         &mut self,
         prefix: &Key,
@@ -338,8 +353,9 @@ impl<I: ShowsIndex> Handle<I> {
             .prefix_into(&mut self.pass, prefix, limit, pairs)
     }
 
-    /// Replaces what `pairs` holds with the last `limit` pairs from `from` to `upto`, downwards, and returns whether there are more. If
-    /// memory is refused, an error: `pairs` then holds the first of these pairs, fewer than `limit`. As `Index::scan_reverse_into`.
+    /// Replaces what `pairs` holds with the last `limit` pairs with keys from `from` to `upto`, downwards, as `Index::scan_reverse_into`
+    /// does. Returns whether there are more. `AllocError` if memory is refused: `pairs` then holds the first of these pairs, fewer than
+    /// `limit`.
     pub fn scan_reverse_into(
         &mut self,
         from: &Key,
@@ -355,8 +371,8 @@ impl<I: ShowsIndex> Handle<I> {
             .scan_reverse_into(&mut self.pass, from, upto, limit, pairs)
     }
 
-    /// The last `limit` pairs from `from` to `upto`, downwards, and whether there are more, as `Index::scan_reverse` returns. An error
-    /// if memory is refused.
+    /// Returns the last `limit` pairs with keys from `from` to `upto`, downwards, and whether there are more, as `Index::scan_reverse`
+    /// does. `AllocError` if memory is refused.
     pub fn scan_reverse(
         &mut self,
         alloc: Global,
@@ -371,14 +387,16 @@ impl<I: ShowsIndex> Handle<I> {
             .scan_reverse(alloc, &mut self.pass, from, upto, limit)
     }
 
-    /// The first pair whose key is `from` or above; `None` if none was found, as `Index::first` returns. An error if memory is refused.
+    /// Returns the first pair whose key is `from` or above, as `Index::first` does; `None` if none was found. `AllocError` if memory is
+    /// refused.
     pub fn first(&mut self, alloc: Global, from: &Key) -> Result<Option<(Key, u64)>, AllocError>
         ensures { Stays (IsRangeRead (λ layout k j. IsFirstFound layout k j from.now) (range_from from.now (last_with []) 1) result) self.old self.new }
     {
         self.index.show().first(alloc, &mut self.pass, from)
     }
 
-    /// The last pair whose key is `upto` or below; `None` if none was found, as `Index::last` returns. An error if memory is refused.
+    /// Returns the last pair whose key is `upto` or below, as `Index::last` does; `None` if none was found. `AllocError` if memory is
+    /// refused.
     pub fn last(&mut self, alloc: Global, upto: &Key) -> Result<Option<(Key, u64)>, AllocError>
         ensures { Stays (IsRangeRead (λ layout k j. IsLastFound layout k j upto.now) (range_from [] upto.now 1) result) self.old self.new }
     {
@@ -393,7 +411,7 @@ impl<I: ShowsIndex> Handle<I> {
         self.index.show().collect(&mut self.pass)
     }
 
-    /// How many records of each kind and class are in each state, and the bytes of the table, as `Index::census` returns.
+    /// Returns how many records of each kind and class are in each state, and the bytes of the table, as `Index::census` does.
     pub fn census(&mut self) -> RecordCounts
         ensures call { Stays (λ index k j. IsUnnoted index.layout k j) self.old self.new }
         ensures made { Stays (λ index k j. HasCounted index untold (k, tt) (j, tt) result) self.old self.new }
@@ -401,7 +419,7 @@ impl<I: ShowsIndex> Handle<I> {
         self.index.show().census(&mut self.pass)
     }
 
-    /// Lets the pass meet that of `other`, a handle at the same index, as `Index::meet` does. Returns both handles, this one first.
+    /// Lets the pass meet the pass of `other`, a handle at the same index, as `Index::meet` does. Returns both handles, this one first.
     pub fn meet(self, other: Handle<I>) -> (Handle<I>, Handle<I>)
         requires { other.index ≡ self.index }
         ensures index { (result.0.index ≡ self.index) × (result.1.index ≡ self.index) }
@@ -417,7 +435,7 @@ impl<I: ShowsIndex> Handle<I> {
     }
 }
 
-/// Handles of `passes` at `index`, in their order; an error if memory is refused.
+/// Returns handles of `passes` at `index`, in their order; `AllocError` if memory is refused.
 pub fn handles_of<'a>(
     alloc: Global,
     index: &'a Index,

@@ -67,15 +67,15 @@ impl Model for Pass {
 }
 
 impl Pass {
-    /// The number of the pass. `create` returns its passes in the order of their numbers, from 0 on.
+    /// Returns the number of the pass. `create` returns its passes in the order of their numbers, from 0 on.
     pub fn number(&self) -> u16
         ensures { result ≡ self.now.number }
     {
         self.seat.number()
     }
 
-    /// How many keys the calls of the pass have put in, less how many they have taken out, modulo 2^64. The `total` of the counts of
-    /// all passes is the number of keys, if no pass is changing the index.
+    /// Returns how many keys the calls of the pass have put in, less how many they have taken out, modulo 2^64. The `total` of the counts
+    /// of all passes is the number of keys, if no pass is changing the index.
     pub fn count(&self) -> KeyCount
         ensures count { IsCountOf self.now.number self.now.notes result }
         ensures legal { LegalCalls self.now.front self.now.number self.now.notes }
@@ -85,10 +85,11 @@ impl Pass {
 }
 
 impl Index {
-    /// The value of `key`, or `None` if it is absent.
+    /// Returns the value of `key`, or `None` if it is absent.
     ///
     /// It takes no lock and never blocks. It makes at most 36 atomic steps, and 26 for each node on the path to the key, whatever others
-    /// do. Beside them it touches four words of each such node at most: it loads and ignores them. A path has at most 2,160 nodes.
+    /// do. Beside these steps it touches at most four words of each such node: touched words are loaded and ignored. A path has at most
+    /// 2,160 nodes.
     pub fn get(&self, pass: &mut Pass, key: &Key) -> Option<u64>
         requires { Owns self.now pass.old }
         ensures own { Owns self.now pass.new }
@@ -101,13 +102,14 @@ impl Index {
     /// Looks up each of `keys` once, and writes what `get` would return to `found`, in the order of the keys. `found` must be as long as
     /// `keys`.
     ///
-    /// It takes no lock, allocates nothing and never blocks. It makes at most 4 atomic steps, 32 for each key, and 26 for each node on
-    /// the path to a key. Beside them it touches eleven words at most for each such node. A path has at most 2,160 nodes.
+    /// It takes no lock, allocates nothing and never blocks. It makes at most 4 atomic steps, 32 for each key, and 26 for each node on the
+    /// path to a key. Beside these steps it touches at most eleven words for each such node. A path has at most 2,160 nodes.
     ///
-    /// Each value is of a moment of its own within the call, in no stated order among the keys. A change whose call had returned before is seen.
+    /// Each value is of a moment of its own within the call, in no stated order among the keys. A change whose call had returned before is
+    /// seen.
     ///
-    /// The pass stays pinned until the last key has been looked up. Records that are retired meanwhile are reused only after that. So
-    /// look up some hundred keys by one call, not millions.
+    /// The pass stays pinned until the last key has been looked up. Records that are retired meanwhile are reused only after that. So look
+    /// up some hundred keys by one call, not millions.
     pub fn get_many(&self, pass: &mut Pass, keys: &[Key], found: &mut [Option<u64>])
         requires own { Owns self.now pass.old }
         requires room { length found.old ≡ length keys.now }
@@ -118,20 +120,22 @@ impl Index {
         self.get_many_with(pass, keys, found, &mut NoGate)
     }
 
-    /// Inserts `key` with `value`: `Inserted`; or `Exists` with the value that the key has already, and keeps.
+    /// Inserts `key` with `value` if the key is absent, and returns `Inserted`. Else it changes nothing, and returns `Exists` with the
+    /// key's value.
     ///
-    /// It never blocks. It makes at most two attempts, with a round of collection between them. An attempt that tries no lock makes at
-    /// most 61 atomic steps, and 26 for each entry of a node that its search loads. Any other makes at most 127, and 26 for each such
-    /// entry. To these come 297 for each lock that it tries, 2 for each node record and 4 for each leaf record. So a call makes at most
-    /// 1,396,470 steps, and 2 for each pass, 6 for each node record and 10 for each leaf record.
+    /// It never blocks. It makes at most two attempts, with a round of collection between them. An attempt that tries no lock makes at most
+    /// 61 atomic steps, and 26 for each entry of a node that its search loads. Any other makes at most 127, and 26 for each such entry. To
+    /// these come 297 for each lock that it tries, 2 for each node record and 4 for each leaf record. So a call makes at most 1,396,470
+    /// steps, and 2 for each pass, 6 for each node record and 10 for each leaf record.
     ///
-    /// It returns `Busy` only if another pass has locked or retired what it wants to lock, or has made a change. That change came since
-    /// the pin under which the call loaded the root last. So an index of one pass is never busy, nor a call alone (`laws::alone_calls_end`).
+    /// It returns `Busy` only if another pass has locked or retired what it wants to lock, or has made a change. That change came since the
+    /// pin under which the call loaded the root last. So an index of one pass is never busy, nor a call alone (`laws::alone_calls_end`).
     ///
     /// It returns `FullNodes` only if it found each node record not free when its turn came, beside those that it had claimed itself. One
     /// that is free is left for the removals. For `FullLeaves` the same holds of each leaf record with room for the key. It makes the round
-    /// of collection first. Then it looks again, unless the round gave back none of the kind, and found none free or the index has one pass.
-    /// With several passes the round visits nothing while its bound is that of the pass's last such round. Then it doesn't look again.
+    /// of collection first. Then it looks again, unless the round gave back none of the kind, and found none free or the index has one
+    /// pass. With several passes the round visits nothing while its bound is that of the pass's last such round. Then it doesn't look
+    /// again.
     ///
     /// A refused call has changed nothing, and holds no lock and no record.
     pub fn try_insert(&self, pass: &mut Pass, key: &Key, value: u64) -> Result<Reply, TryFault>
@@ -141,7 +145,7 @@ impl Index {
         self.try_insert_with(pass, key, value, &mut NoGate)
     }
 
-    /// Gives `key` the value `value`, whether it has one or not: `New`, or `Was` with the value that it had.
+    /// Gives `key` the value `value`, whether it has one or not. Returns `New`, or `Was` with the value that the key had.
     ///
     /// It never blocks, makes no more steps than `try_insert` may, and is refused for the same reasons. But it returns `FullNodes` or
     /// `FullLeaves` only if its search found the key absent: the new value of a held key takes no record (`laws::held_is_never_full`).
@@ -152,7 +156,7 @@ impl Index {
         self.try_upsert_with(pass, key, value, &mut NoGate)
     }
 
-    /// Removes `key`: `Removed` with the value that it had, or `Absent`.
+    /// Removes `key`. Returns `Removed` with the value that the key had, or `Absent`.
     ///
     /// It never blocks, makes no more steps than `try_insert` may, and is refused for the same reasons. It needs no leaf record, so it
     /// never returns `FullLeaves`. It returns `FullNodes` only if its search found the key (`laws::absent_is_never_full`).
@@ -163,7 +167,8 @@ impl Index {
         self.try_remove_with(pass, key, &mut NoGate)
     }
 
-    /// Inserts `key` with `value`: `Inserted`; or `Exists` with the value that the key has already, and keeps. `rt` allows it to wait.
+    /// Inserts `key` with `value` if the key is absent, and returns `Inserted`. Else it changes nothing, and returns `Exists` with the
+    /// key's value. `rt` allows it to wait.
     ///
     /// Where `try_insert` would return `Busy`, it lets other threads run and begins again, as often as need be. Where no record is free, it
     /// counts all records, as `census` does. It begins again if by that count a record may come back. One may if one is held or obsolete,
@@ -184,7 +189,7 @@ impl Index {
         self.retry_change_with(rt, pass, &mut NoGate, &Call::Insert(key.copy(), value))
     }
 
-    /// Gives `key` the value `value`, whether it has one or not: `New`, or `Was` with the value that it had.
+    /// Gives `key` the value `value`, whether it has one or not. Returns `New`, or `Was` with the value that the key had.
     ///
     /// It begins again as `insert` does, when another pass is in its way or records may come back. It is refused for the same reasons, and
     /// only if its last search found the key absent.
@@ -201,13 +206,13 @@ impl Index {
         self.retry_change_with(rt, pass, &mut NoGate, &Call::Upsert(key.copy(), value))
     }
 
-    /// Removes `key`: `Removed` with the value that it had, or `Absent`.
+    /// Removes `key`. Returns `Removed` with the value that the key had, or `Absent`.
     ///
     /// Where `try_remove` would return `Busy`, or records may come back, the call begins again, as `insert` does. It is refused only with
     /// `Full::Nodes`: a removal needs no leaf record.
     ///
-    /// Insertions leave a node record for it. So in an index of several passes it begins again wherever it finds none free, and gets a reply
-    /// in the end. In an index of one pass it is not refused while fewer than 2^60 steps have been made (`room`,
+    /// Insertions leave a node record for it. So in an index of several passes it begins again wherever it finds none free, and gets a
+    /// reply in the end. In an index of one pass it is not refused while fewer than 2^60 steps have been made (`room`,
     /// `laws::one_pass_keeps_spare`).
     pub fn remove<R: Wait>(&self, rt: &R, pass: &mut Pass, key: &Key) -> Result<Reply, Full>
         requires { Owns self.now pass.old }
@@ -217,10 +222,10 @@ impl Index {
     }
 
     /// Lets `first` and `second` meet, and returns both, in this order. Each has then seen what the other had seen, and all that was
-    /// published before. Both know of the same steps, and the meeting is counted among the `asides` of each. All else that they know
-    /// is as it was.
+    /// published before. Both know of the same steps, and the meeting is counted among the `asides` of each. All else that they know is as
+    /// it was.
     ///
-    /// It loads one word three times and ignores what it finds. These loads count as no steps of either pass, and no gate is told of them.
+    /// It loads one word three times, and ignores its content. These loads count as no steps of either pass, and no gate is told of them.
     pub fn meet(&self, first: Pass, second: Pass) -> (Pass, Pass)
         requires { Owns self.now first × Owns self.now second }
         ensures own { Owns self.now result.0 × Owns self.now result.1 }
@@ -276,7 +281,7 @@ impl Index {
         self.census_with(pass, &mut NoGate)
     }
 
-    /// Does what `get` does, and reports each of its steps to `gate`.
+    /// Returns the value of `key`, or `None` if it is absent, as `get` does. Reports each of its steps to `gate`.
     #[inline(always)]
     pub fn get_with<G: Gate>(&self, pass: &mut Pass, key: &Key, gate: &mut G) -> Option<u64>
         requires { Owns self.now pass.old }
@@ -290,7 +295,7 @@ impl Index {
         found
     }
 
-    /// Does what `get_many` does, and reports each of its steps to `gate`.
+    /// Looks up each of `keys` once, and writes the values to `found`, as `get_many` does. Reports each of its steps to `gate`.
     pub fn get_many_with<G: Gate>(
         &self,
         pass: &mut Pass,
@@ -309,7 +314,7 @@ impl Index {
         end_gets(&self.table, &mut pass.seat, gate, keys, found);
     }
 
-    /// Does what `try_insert` does, and reports each of its steps to `gate`.
+    /// Inserts `key` with `value` if the key is absent, and returns what `try_insert` does. Reports each of its steps to `gate`.
     pub fn try_insert_with<G: Gate>(
         &self,
         pass: &mut Pass,
@@ -323,7 +328,7 @@ impl Index {
         self.try_change_with(pass, gate, &Call::Insert(key.copy(), value))
     }
 
-    /// Does what `try_upsert` does, and reports each of its steps to `gate`.
+    /// Gives `key` the value `value`, whether it has one or not, and returns what `try_upsert` does. Reports each of its steps to `gate`.
     pub fn try_upsert_with<G: Gate>(
         &self,
         pass: &mut Pass,
@@ -337,7 +342,7 @@ impl Index {
         self.try_change_with(pass, gate, &Call::Upsert(key.copy(), value))
     }
 
-    /// Does what `try_remove` does, and reports each of its steps to `gate`.
+    /// Removes `key`, and returns what `try_remove` does. Reports each of its steps to `gate`.
     pub fn try_remove_with<G: Gate>(
         &self,
         pass: &mut Pass,
@@ -350,7 +355,7 @@ impl Index {
         self.try_change_with(pass, gate, &Call::Remove(key.copy()))
     }
 
-    /// Does what `collect` does, and reports each of its steps to `gate`.
+    /// Makes one round of collection, and returns how many records it gave back, as `collect` does. Reports each of its steps to `gate`.
     pub fn collect_with<G: Gate>(&self, pass: &mut Pass, gate: &mut G) -> Given
         requires { Owns self.now pass.old }
         ensures own { Owns self.now pass.new }
@@ -361,7 +366,7 @@ impl Index {
         round.given
     }
 
-    /// Does what `census` does, and reports each of its steps to `gate`.
+    /// Counts the records in each state, and returns what `census` does. Reports each of its steps to `gate`.
     pub fn census_with<G: Gate>(&self, pass: &mut Pass, gate: &mut G) -> RecordCounts
         requires { Owns self.now pass.old }
         ensures own { Owns self.now pass.new }
@@ -371,7 +376,7 @@ impl Index {
         count_records(&self.table, &mut pass.seat, gate)
     }
 
-    /// Tries to make the change `call`, at most twice, and reports each step to `gate`. Returns the reply, or why it was refused. The
+    /// Tries to make the change `call`, at most twice, and reports each step to `gate`. Returns the reply, or why the call was refused. The
     /// pass's `count` changes by the key that the call has put in or taken out.
     pub(crate) fn try_change_with<G: Gate>(
         &self,
@@ -387,8 +392,9 @@ impl Index {
         answer
     }
 
-    /// Tries to make the change `call`, as `try_change_with` does. If no record was free, it counts all records then, and the refusal says
-    /// what the count says. A removal in an index of several passes is held back then, with no count. `count` changes as in `try_change_with`.
+    /// Tries to make the change `call`, as `try_change_with` does. If no record was free, all records are counted then, and the refusal is
+    /// `Full` or `HeldBack` by the count. A removal in an index of several passes is `HeldBack` then, with no count. `count` changes as in
+    /// `try_change_with`.
     pub(crate) fn try_and_count_with<G: Gate>(
         &self,
         pass: &mut Pass,
@@ -408,7 +414,7 @@ impl Index {
     }
 
     /// Makes the change `call`, and reports each step to `gate`. It begins again as long as another pass is in its way, or records are held
-    /// back. Returns the reply, or the kind of records of which none was free. `count` changes as in `try_change_with`.
+    /// back. Returns the reply, or the kind of records of which none was free. The pass's `count` changes as in `try_change_with`.
     pub(crate) fn retry_change_with<R: Wait, G: Gate>(
         &self,
         rt: &R,
@@ -432,7 +438,7 @@ impl Index {
     }
 }
 
-/// The reply to a get that found `found`: `Value`, or `Absent` for `None`.
+/// Returns the reply to a get that found `found`: `Value`, or `Absent` for `None`.
 pub(crate) fn reply_to_get(found: Option<u64>) -> Reply
     ensures { result ≡ got found }
 {

@@ -14,21 +14,21 @@ pub struct KeyCount {
 }
 
 impl KeyCount {
-    /// The count of a pass that has made no call.
+    /// Returns the count of a pass that has made no call.
     pub fn new() -> KeyCount
         ensures { (q : ℕ) → IsCountOf q [] result }
     {
         KeyCount { keys: 0 }
     }
 
-    /// Adds what a call of the pass with the reply `reply` has put in, less what it has taken out.
+    /// Adds how many keys a call of the pass with the reply `reply` has put in, less how many it has taken out.
     pub fn note(&mut self, reply: Reply)
         ensures { CountsReply reply self.old self.new }
     {
         self.keys = self.keys.wrapping_add(net(reply));
     }
 
-    /// Counts a call of the pass that returned `answer`: a reply as `note` does. If the call was refused, the count stays.
+    /// Counts a call of the pass that returned `answer`: a reply as `note` does. For a refusal the count stays.
     pub fn note_answer<F>(&mut self, answer: &Result<Reply, F>)
         ensures { CountsAnswer answer.now self.old self.new }
     {
@@ -38,7 +38,7 @@ impl KeyCount {
     }
 }
 
-/// How many keys a call with the reply `reply` has put in, less how many it has taken out, modulo 2^64.
+/// Returns how many keys a call with the reply `reply` has put in, less how many it has taken out, modulo 2^64.
 fn net(reply: Reply) -> u64
     ensures { result ≡ net_of reply }
 {
@@ -49,8 +49,8 @@ fn net(reply: Reply) -> u64
     }
 }
 
-/// How many keys the map has, if these are fewer than 2^64 and no pass is changing it. `counts` are those of all passes, in the order of
-/// their numbers.
+/// Returns how many keys the map has, if these are fewer than 2^64 and no pass is changing it. `counts` are those of all passes, in the
+/// order of their numbers.
 pub fn total(counts: &[KeyCount]) -> u64
     ensures { (front : List Change) → AreCounts front counts.now → length (map_of front) < 2 ^ 64 → result ≡ length (map_of front) }
 {

@@ -5,8 +5,8 @@ ghost use Rattle.hot_index.specs.Statements.{AbsentIsNeverFull, AllLongFullMeans
 
 use rowex_core::Gate;
 
-/// If all leaf records are long, as `create` makes them, a call that returns `FullLeaves` has found each of them not free since it began.
-/// None was claimed by its own pass.
+/// Let all leaf records of an index be long, as `create` makes them. A call that returns `FullLeaves` has found each of them not free since
+/// it began. None was claimed by its own pass.
 pub fn all_long_full_means_none_free()
     ensures { AllLongFullMeansNoneFree }
 {}
@@ -16,27 +16,27 @@ pub fn one_pass_is_never_busy()
     ensures { OnePassIsNeverBusy }
 {}
 
-/// Let a call be alone: no other pass had a lock, a record of its own or a pin when it began, and none makes a step while it runs. It is
-/// never busy. If it takes no record, as one that gives a held key a new value, it gets its reply. A form that waits makes just one try
+/// Let a call be alone: no other pass had a lock, a record of its own or a pin when the call began, and none makes a step while it runs. It
+/// is never busy. If it takes no record, as one that gives a held key a new value, it gets its reply. A form that waits makes just one try
 /// then.
 pub fn alone_calls_end<G: Gate>()
     ensures { AloneCallsEnd G.becomes }
 {}
 
 /// In an index of one pass a call returns `FullLeaves` only if each leaf record with room for the key was in the tree or retired. It
-/// returns `FullNodes` only if at least a third of the node records but one were so, and all but 4,321, which it may have claimed itself.
+/// returns `FullNodes` only if at least a third of the node records but one were in the tree or retired. All of them but 4,321 were, too:
+/// so many the call may have claimed itself.
 pub fn one_pass_full_means_taken()
     ensures { OnePassFullMeansTaken }
 {}
 
-/// A call that gives its key a value is never refused as full if the key was held all the while. That is in each version that its pass has
-/// seen since the call began.
+/// A call that gives its key a value is never refused as full if the key was held all the while: in each version that its pass has seen
+/// since the call began.
 pub fn held_is_never_full()
     ensures { HeldIsNeverFull }
 {}
 
-/// A removal is never refused as full if the key was absent all the while. That is in each version that its pass has seen since the call
-/// began.
+/// A removal is never refused as full if the key was absent all the while: in each version that its pass has seen since the call began.
 pub fn absent_is_never_full()
     ensures { AbsentIsNeverFull }
 {}
@@ -53,13 +53,14 @@ pub fn returned_before_begun()
 {}
 
 /// If no pass is changing an index, the counts of all its passes, in the order of their numbers, are those of its front. So their `total`
-/// is the number of its keys, if these are fewer than 2^64.
+/// is the number of the index's keys, if there are fewer than 2^64.
 pub fn counts_add_up()
     ensures { CountsAddUp }
 {}
 
-/// In an index of one pass one node record stands in no tree: when the index is new, and after each call of its pass. `Load::finish` says so of
-/// one that was loaded. So by clause `room` no removal that waits is refused for want of a node record, while fewer than 2^60 steps have been made.
+/// In an index of one pass one node record stands in no tree: when the index is new, and after each call of its pass. `Load::finish` says
+/// so of an index that was loaded. So by clause `room` no removal that waits is refused for want of a node record, while fewer than 2^60
+/// steps have been made.
 pub fn one_pass_keeps_spare<G: Gate>()
     ensures { OnePassKeepsSpare G.becomes }
 {}

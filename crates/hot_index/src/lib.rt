@@ -13,10 +13,11 @@
 //! # Calls
 //!
 //! - *Look-ups*: `get`, `get_many`. They take no lock, and make a bounded number of atomic steps, whatever other threads do.
-//! - *Changes*: `insert`, `upsert`, `remove`, `exchange`, `add`, `remove_if`. Each changes the map by one store, or not at all.
-//!   These forms wait while another pass is in the way, or holds records back. The `try_` forms return [`TryFault`] instead, after a bounded number of steps.
-//! - *Scans*: `scan`, `scan_into`, `scan_values_into`, downwards `scan_reverse`, `prefix_into`, `first`, `last`, `count_range`, and [`Cursor`]s. A scan is no single
-//!   moment: each pair was there at a moment of it, and no key is left out that was there all along.
+//! - *Changes*: `insert`, `upsert`, `remove`, `exchange`, `add`, `remove_if`. Each changes the map by one store, or not at all. These forms
+//!   wait while another pass is in the way, or holds records back. The `try_` forms return [`TryFault`] instead, after a bounded number of
+//!   steps.
+//! - *Scans*: `scan`, `scan_into`, `scan_values_into`, downwards `scan_reverse`, `prefix_into`, `first`, `last`, `count_range`, and
+//!   [`Cursor`]s. A scan is no single moment: each pair was there at a moment of it, and no key is left out that was there all along.
 //! - *Upkeep*: `collect` gives back what was retired, and `census` counts the records. Calls collect by themselves. Each pass keeps a
 //!   `count` of its keys, and [`total`] adds up these counts.
 //! - *Order in time*: passes that `meet` share one history from then on. A [`Stamp`] carries what one pass has seen to another.
@@ -38,8 +39,8 @@
 //! `create` and `create_with` give passes in order (`IsNewPass`) or say which number is out of range. `Load::finish` says that pass 0 has
 //! inserted the pairs, in their order, and that the map is just these (`IsLoaderPass`). `meet` ensures `HaveMet`, by `legal_longer` and
 //! `weave-legal_two`. `follow` ensures `HasCaughtUp`; `laws::returned_before_begun` orders two calls by a stamp.
-//! `laws::one_pass_is_never_busy`, `all_long_full_means_none_free`. A pass's invariant has the count of its keys (`IsSettledWith`); these add up
-//! (`laws::counts_add_up`). A handle's has `Owns`, and its methods keep its index (`Stays`). Cursors: `IsLeft`, `GoesOnAt`.
+//! `laws::one_pass_is_never_busy`, `all_long_full_means_none_free`. A pass's invariant has the count of its keys (`IsSettledWith`); these
+//! add up (`laws::counts_add_up`). A handle's has `Owns`, and its methods keep its index (`Stays`). Cursors: `IsLeft`, `GoesOnAt`.
 //!
 //! Contracts see of a pass its number, front, notes, steps and failed steps (`PassView`), of an index its layout and its identity
 //! (`TableView`, `TableId`).

@@ -66,7 +66,7 @@ impl Load {
         }
     }
 
-    /// Begins an index of `layout`; an error if memory is refused.
+    /// Begins an index of `layout`, with no pair pushed; `AllocError` if memory is refused.
     fn begin(alloc: Global, layout: Layout) -> Result<Load, AllocError>
         ensures { IfOk result (λ load. (load.layout ≡ layout) × (load.items ≡ [])) }
     {
@@ -79,12 +79,12 @@ impl Load {
         })
     }
 
-    /// Pushes `key` with `value`, behind the pairs that were pushed before. If it is refused, the load stays as it was, and the next pair
-    /// may be pushed.
+    /// Pushes `key` with `value`, behind the pairs that were pushed before. If the pair is refused, the load stays as it was, and the next
+    /// pair may be pushed.
     ///
-    /// The fault is `NotRising` exactly if the key isn't above the last one. `LeavesFull` if each leaf record with room for it is taken.
-    /// `NodesFull` if too few node records may be left. That is never so while there are fewer pairs than node records, nor for the first
-    /// 32 pairs. `Memory` if memory is refused.
+    /// The error is `NotRising` exactly if the key isn't above the last one. It is `LeavesFull` if each leaf record with room for the key
+    /// is taken. It is `NodesFull` if too few node records may be left. That is never so while there are fewer pairs than node records, nor
+    /// for the first 32 pairs. It is `Memory` if memory is refused.
     pub fn push(&mut self, key: &Key, value: u64) -> Result<(), LoadFault>
         ensures taken { OnOk result (HasTakenPair key.now value self.old self.new) }
         ensures refused { OnErr result (self.new ≡ self.old) }
@@ -98,7 +98,7 @@ impl Load {
         Ok(())
     }
 
-    /// Whether the index has a leaf record, taken or not, with room for `key`.
+    /// Returns whether the index has a leaf record, taken or not, with room for `key`.
     pub fn has_leaf_for(&self, key: &Key) -> bool
         ensures some { IsTrue result → (n : ℕ) × (n < self.now.layout.leaves) × (words_for (length key.now) ≤ leaf_size self.now.layout n) }
         ensures none { ¬ IsTrue result → HasNoLeafFor self.now.layout key.now }
@@ -107,7 +107,7 @@ impl Load {
     }
 
     /// Makes the index of the pairs that were pushed. Returns it with its passes, closed, in their order, from 0 on. Pass 0 has inserted
-    /// each pair in the order of the keys, and its `count` is their number. All others are new. An error if memory is refused.
+    /// each pair in the order of the keys, and its `count` is their number. All others are new. `AllocError` if memory is refused.
     pub fn finish(self, alloc: Global) -> Result<(Index, Vec<ClosedPass>), AllocError>
         ensures layout { IfOk result (λ made. made.0.layout ≡ self.layout) }
         ensures count { IfOk result (λ made. length made.1.items ≡ self.layout.passes) }

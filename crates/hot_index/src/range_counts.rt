@@ -15,7 +15,7 @@ use rowex_scanning::{Direction, Range, count_root};
 const MOST_COUNTED: usize = (1 << 63) - 1;
 
 impl Index {
-    /// How many keys there are from `from` to `upto`, both included; at most 2^63 - 1.
+    /// Returns how many keys there are from `from` to `upto`, both included; at most 2^63 - 1.
     ///
     /// It takes no lock and never blocks, and it needs no memory. It reads the entries of nodes, and few of the leaves. Entries are in key
     /// order, so a leaf that belongs to the range tells so of those before it in its node. It makes at most 169,567 steps, and 60 for each
@@ -30,7 +30,7 @@ impl Index {
         self.count_range_with(pass, from, upto, &mut NoGate)
     }
 
-    /// Does what `count_range` does, and reports each of its steps to `gate`.
+    /// Returns how many keys there are from `from` to `upto`, both included, as `count_range` does. Reports each of its steps to `gate`.
     pub fn count_range_with<G: Gate>(
         &self,
         pass: &mut Pass,

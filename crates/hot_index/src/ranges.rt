@@ -15,8 +15,8 @@ use rowex_scanning::Direction;
 use std::alloc::{AllocError, Global};
 
 impl Index {
-    /// Lists the first `limit` pairs whose keys begin with `prefix` into `pairs`, in key order, and drops its earlier ones. Returns
-    /// whether there are more. An error if memory is refused: `pairs` then holds the first of these pairs, fewer than `limit`.
+    /// Lists the first `limit` pairs whose keys begin with `prefix` into `pairs`, whose earlier pairs are dropped, in key order. Returns
+    /// whether there are more. `AllocError` if memory is refused: `pairs` then holds the first of these pairs, fewer than `limit`.
     ///
     /// It is a `scan_into` from the prefix to the last key that begins with it, with the same promise and bound on steps. That range has
     /// exactly the keys with the prefix (`key_ranges::laws::prefix_is_a_range`).
@@ -33,10 +33,12 @@ impl Index {
         self.scan_into(pass, prefix, &last_with_prefix(prefix), limit, pairs)
     }
 
-    /// The first pair whose key is `from` or above; `None` if none was found. For the empty key it is the first pair of the index.
+    /// Returns the first pair whose key is `from` or above; `None` if none was found. If `from` is the empty key, it is the first pair of
+    /// the index.
     ///
-    /// It is a scan for one pair, with a scan's promise and bound on steps. The pair was there at some moment of the call. No lower key
-    /// from `from` on, with `None` no key from `from` on, was there all along. An error if memory is refused; only a pair found needs it.
+    /// It is a scan for one pair, with a scan's promise and bound on steps. The pair was there at some moment of the call. No key from
+    /// `from` on and below the pair's was there all along. If the result is `None`, no key from `from` on was. `AllocError` if memory is
+    /// refused; only a pair found needs memory.
     pub fn first(
         &self,
         alloc: Global,

@@ -17,15 +17,15 @@ use rowex_scanning::{Direction, Range};
 use std::alloc::{AllocError, Global};
 
 impl Index {
-    /// Lists the last `limit` pairs whose keys are from `from` to `upto`, both included, in falling key order. Returns them, and
-    /// whether the range has more below.
+    /// Lists the last `limit` pairs whose keys are from `from` to `upto`, both included, in falling key order. Returns them, and whether
+    /// the range has more below.
     ///
     /// It is `scan` in the other direction: it takes no lock, never blocks, and makes no more steps than `scan` may.
     ///
-    /// It is no snapshot. Each pair was in the index at some moment of the call. No key is missing that was there all along; if
-    /// there are more, no key down to the last one listed. To go on, scan up to the `previous_key` of the last pair's key.
+    /// It is no snapshot. Each pair was in the index at some moment of the call. No key is missing that was there all along; if there are
+    /// more, no key down to the last one listed. To go on, scan up to the `previous_key` of the last pair's key.
     ///
-    /// An error if memory is refused, which happens only if it has found a pair to list. Then it lists nothing.
+    /// `AllocError` if memory is refused; only pairs found need memory.
     pub fn scan_reverse(
         &self,
         alloc: Global,
@@ -46,11 +46,11 @@ impl Index {
         self.scan_range(alloc, pass, &range, &mut NoGate)
     }
 
-    /// Does what `scan_reverse` does, but lists into `pairs`, whose earlier pairs are dropped. The pair with the greatest key comes
-    /// first. Returns whether the range has more below.
+    /// Lists what `scan_reverse` does into `pairs`, whose earlier pairs are dropped. The pair with the greatest key comes first. Returns
+    /// whether the range has more below.
     ///
-    /// An error if memory is refused. Then `pairs` holds the first of these pairs, fewer than `limit`, and the range has more below. So
-    /// it is what a scan with their number as its limit lists.
+    /// `AllocError` if memory is refused. `pairs` then holds the first of these pairs, fewer than `limit`, and the range has more below. A
+    /// scan with the number of these pairs as its limit lists the same.
     pub fn scan_reverse_into(
         &self,
         pass: &mut Pass,
@@ -65,11 +65,12 @@ impl Index {
         self.scan_reverse_into_with(pass, from, upto, limit, pairs, &mut NoGate)
     }
 
-    /// The last pair whose key is `upto` or below; `None` if none was found. For the greatest key that there can be (`last_with_prefix`
-    /// of the empty key) it is the last pair of the index.
+    /// Returns the last pair whose key is `upto` or below; `None` if none was found. If `upto` is the greatest key that there can be
+    /// (`last_with_prefix` of the empty key), it is the last pair of the index.
     ///
-    /// It is a scan downwards for one pair, with its promise and bound on steps. The pair was there at some moment of the call. No greater
-    /// key up to `upto`, with `None` no key up to `upto`, was there all along. An error if memory is refused; only a pair found needs it.
+    /// It is a scan downwards for one pair, with its promise and bound on steps. The pair was there at some moment of the call. No key up
+    /// to `upto` and above the pair's was there all along. If the result is `None`, no key up to `upto` was. `AllocError` if memory is
+    /// refused; only a pair found needs memory.
     pub fn last(
         &self,
         alloc: Global,
@@ -83,7 +84,8 @@ impl Index {
         self.find_first_pair(alloc, pass, Direction::Downwards, &empty, upto)
     }
 
-    /// Does what `scan_reverse_into` does, and reports each of its steps to `gate`.
+    /// Lists the last `limit` pairs from `from` to `upto` into `pairs`, downwards, and returns what `scan_reverse_into` does. Reports each
+    /// of its steps to `gate`.
     pub fn scan_reverse_into_with<G: Gate>(
         &self,
         pass: &mut Pass,

@@ -17,17 +17,17 @@ use rowex_scanning::{Direction, Range, scan_root};
 use std::alloc::{AllocError, Global};
 
 impl Index {
-    /// Lists the first `limit` pairs whose keys are from `from` to `upto`, both included, in key order. Returns them, and whether the
-    /// range has more.
+    /// Lists the first `limit` pairs whose keys are from `from` to `upto`, both included, in key order. Returns them, and whether the range
+    /// has more.
     ///
-    /// It takes no lock and never blocks. It makes at most 101 atomic steps, 8 for each pair of the limit, and 26 for each entry of a
-    /// node that it loads. It loads at most 6,481 entries, and two for each pair of the limit. That is at most 168,607 steps, and 60
-    /// for each pair, whatever others insert meanwhile.
+    /// It takes no lock and never blocks. It makes at most 101 atomic steps, 8 for each pair of the limit, and 26 for each entry of a node
+    /// that it loads. It loads at most 6,481 entries, and two for each pair of the limit. That is at most 168,607 steps, and 60 for each
+    /// pair, whatever others insert meanwhile.
     ///
-    /// It is no snapshot. Each pair was in the index at some moment of the call. No key is missing that was there all along; if
-    /// there are more, no key up to the last one listed.
+    /// It is no snapshot. Each pair was in the index at some moment of the call. No key is missing that was there all along; if there are
+    /// more, no key up to the last one listed.
     ///
-    /// An error if memory is refused, which happens only if it has found a pair to list. Then it lists nothing.
+    /// `AllocError` if memory is refused; only pairs found need memory.
     pub fn scan(
         &self,
         alloc: Global,
@@ -42,7 +42,8 @@ impl Index {
         self.scan_with(alloc, pass, from, upto, limit, &mut NoGate)
     }
 
-    /// Does what `scan` does, and reports each of its steps to `gate`.
+    /// Returns the first `limit` pairs from `from` to `upto`, and whether the range has more, as `scan` does. Reports each of its steps to
+    /// `gate`.
     pub fn scan_with<G: Gate>(
         &self,
         alloc: Global,
@@ -64,13 +65,13 @@ impl Index {
         self.scan_range(alloc, pass, &range, gate)
     }
 
-    /// Does what `scan` does, but lists into `pairs`, whose earlier pairs are dropped. Returns whether the range has more.
+    /// Lists what `scan` does into `pairs`, whose earlier pairs are dropped. Returns whether the range has more.
     ///
-    /// A list that is used again keeps its memory, and a key takes no more bytes of it than it has. So this is the form for frequent
+    /// A list that is used again keeps its memory, and a key takes no more bytes of the list than it has. So this is the form for frequent
     /// scans.
     ///
-    /// An error if memory is refused. Then `pairs` holds the first pairs, fewer than `limit`, and the range has more. So it is what a
-    /// scan with their number as its limit lists.
+    /// `AllocError` if memory is refused. `pairs` then holds the first pairs, fewer than `limit`, and the range has more. A scan with the
+    /// number of these pairs as its limit lists the same.
     pub fn scan_into(
         &self,
         pass: &mut Pass,
@@ -85,7 +86,8 @@ impl Index {
         self.scan_into_with(pass, from, upto, limit, pairs, &mut NoGate)
     }
 
-    /// Does what `scan_into` does, and reports each of its steps to `gate`.
+    /// Lists the first `limit` pairs from `from` to `upto` into `pairs`, and returns what `scan_into` does. Reports each of its steps to
+    /// `gate`.
     pub fn scan_into_with<G: Gate>(
         &self,
         pass: &mut Pass,
@@ -107,10 +109,11 @@ impl Index {
         self.list_range(pass, &range, pairs, gate)
     }
 
-    /// Lists the first pairs of `range` in its direction, as many as its limit at most, into `pairs`, and drops earlier ones. Returns whether
-    /// the range has more in that direction.
+    /// Lists the first pairs of `range` in its direction, at most as many as its limit, into `pairs`, whose earlier pairs are dropped.
+    /// Returns whether the range has more in that direction. `AllocError` if memory is refused: `pairs` then holds a part, as `scan_into`
+    /// says.
     ///
-    /// It is a `scan_into` or a `scan_reverse_into`, for callers of both: so they have one walk for the two directions.
+    /// It is a `scan_into` or a `scan_reverse_into`, by the direction. A caller of both directions has one walk compiled for them.
     pub fn range_into(
         &self,
         pass: &mut Pass,
@@ -123,9 +126,9 @@ impl Index {
         self.list_range(pass, range, pairs, &mut NoGate)
     }
 
-    /// Lists the first pairs of `range` in its direction, as many as its limit at most, into `pairs`, and drops earlier ones. `gate` is
-    /// told each step. Returns whether the range has more. An error if memory is refused: `pairs` holds a part, as `scan_into` says.
-    /// Inline, so that each direction has code of its own.
+    /// Lists the first pairs of `range` in its direction, at most as many as its limit, into `pairs`, whose earlier pairs are dropped.
+    /// `gate` is told each step. Returns whether the range has more. `AllocError` if memory is refused: `pairs` then holds a part, as
+    /// `scan_into` says. Inline, so that each direction has code of its own.
     #[inline(always)]
     pub(crate) fn list_range<G: Gate>(
         &self,
@@ -150,8 +153,8 @@ impl Index {
         scan
     }
 
-    /// The first pairs of `range` in its direction, as many as its limit at most, and whether the range has more. An error if memory is
-    /// refused. `gate` is told each step. Inline, as `list_range` is.
+    /// Returns the first pairs of `range` in its direction, at most as many as its limit, and whether the range has more. `AllocError` if
+    /// memory is refused. `gate` is told each step. Inline, as `list_range` is.
     #[inline(always)]
     pub(crate) fn scan_range<G: Gate>(
         &self,
@@ -169,8 +172,8 @@ impl Index {
         Ok(Scan { pairs, more })
     }
 
-    /// The pair that comes first in `direction` of those with keys from `from` to `upto`; `None` if no pair was found. An error if memory
-    /// is refused for a pair that was found. Inline, as `list_range` is.
+    /// Returns the pair that comes first in `direction`, of those with keys from `from` to `upto`; `None` if no pair was found.
+    /// `AllocError` if memory is refused for a pair that was found. Inline, as `list_range` is.
     #[inline(always)]
     pub(crate) fn find_first_pair(
         &self,

@@ -44,8 +44,8 @@ pub struct RecordCounts {
     pub bytes: usize,
 }
 
-/// Returns how many records of each kind and class are in each state, and the bytes of the table. It loads the state of each once, nodes
-/// first, each at a moment of its own. `gate` is told each load.
+/// Returns how many records of each kind and class are in each state, and the bytes of the table. The state of each record is loaded once,
+/// each at a moment of its own, those of nodes first. `gate` is told each load.
 pub fn count_records<G: Gate>(table: &HotTable, seat: &mut TableSeat, gate: &mut G) -> RecordCounts
     requires { IsSeatOf table.now seat.old }
     ensures pin { seat.new.known.pin ≡ seat.old.known.pin }
@@ -69,7 +69,7 @@ pub fn count_records<G: Gate>(table: &HotTable, seat: &mut TableSeat, gate: &mut
     }
 }
 
-/// Loads the state of each node record, and returns how many it found in each state. `gate` is told each load.
+/// Loads the state of each node record once, and returns how many are in each state. `gate` is told each load.
 fn count_nodes<G: Gate>(table: &HotTable, seat: &mut TableSeat, gate: &mut G) -> StateCounts
     requires { IsSeatOf table.now seat.old }
     ensures pin { seat.new.known.pin ≡ seat.old.known.pin }
@@ -83,7 +83,7 @@ fn count_nodes<G: Gate>(table: &HotTable, seat: &mut TableSeat, gate: &mut G) ->
     counts
 }
 
-/// Loads the states of the leaf records from number `first` on and below `behind`, and returns how many it found in each state. `gate` is
+/// Loads the state of each leaf record from number `first` on and below `behind` once, and returns how many are in each state. `gate` is
 /// told each load.
 fn count_leaves<G: Gate>(
     table: &HotTable,
@@ -105,7 +105,7 @@ fn count_leaves<G: Gate>(
     counts
 }
 
-/// The counts of no record: 0 in each state.
+/// Returns the counts of no record: 0 in each state.
 fn zero_counts() -> StateCounts
     ensures { result ≡ counts_of [] }
 {
@@ -117,7 +117,7 @@ fn zero_counts() -> StateCounts
     }
 }
 
-/// `counts` with one more record, whose state word is `word`. A locked node counts as live. All counts together stay below 2^32.
+/// Returns `counts` with one more record, whose state word is `word`. A locked node counts as live. All counts together stay below 2^32.
 fn count_state(counts: StateCounts, word: u64) -> StateCounts
     requires few { counts.free + counts.held + counts.live + counts.obsolete + 1 < 2 ^ 32 }
     requires state { IsSpelling HasStateWord state_word word }

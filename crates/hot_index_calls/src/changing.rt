@@ -34,8 +34,9 @@ use rowex_writing::{Full, TryFault, attempt};
 use std::sync::Wait;
 use std::thread;
 
-/// Tries to make the change `call`, at most twice, after a small round of collection if one is due. `gate` is told each step. Returns the
-/// reply, or why the last attempt was refused: it has changed nothing then. The pass is between two calls, before and after.
+/// Tries to make the change `call` by two attempts at most. Before the first, a small round of collection is made if one is due. `gate` is
+/// told each step. Returns the reply, or why the last attempt was refused: nothing has changed then. The pass is between two calls, before
+/// and after.
 pub fn try_change<G: Gate>(
     table: &HotTable,
     seat: &mut TableSeat,
@@ -56,7 +57,8 @@ pub fn try_change<G: Gate>(
     try_twice(table, seat, gate, scratch, call)
 }
 
-/// Makes a small round of collection if the pass has retired enough records. The next claims begin with those that it gave back.
+/// Makes a small round of collection if the pass has retired enough records. The next claims begin with the records that the round gave
+/// back.
 fn collect_due<G: Gate>(table: &HotTable, seat: &mut TableSeat, gate: &mut G, scratch: &mut Scratch)
     requires idle { IsIdle table.now seat.old }
     ensures idle { IsIdle table.now seat.new }
@@ -71,8 +73,10 @@ fn collect_due<G: Gate>(table: &HotTable, seat: &mut TableSeat, gate: &mut G, sc
 }
 
 /// Tries to make the change `call`. If no record was free, it makes a round of collection and tries once more. Returns the reply, or why
-/// the last attempt was refused. If a second attempt could find no record, it does nothing, and the refusal is the first one's.
-/// `scratch.build.made` lists what it had claimed, if no record was free.
+/// the last attempt was refused. If a second attempt could find no record, a pin and an unpin stand for it, and the refusal is the first
+/// one's.
+///
+/// If no record was free, `scratch.build.made` lists the records that the last attempt had claimed.
 #[inline(always)]
 fn try_twice<G: Gate>(
     table: &HotTable,
@@ -101,9 +105,11 @@ fn try_twice<G: Gate>(
     first
 }
 
-/// Makes a round of collection for a call that found no record of the kind `lacks` free, and that `removes` a key or doesn't. Returns
-/// whether a second attempt may find one. In an index of several passes the round visits no record where it could give none back, and no
-/// second attempt is made then. What another pass has freed meanwhile is found by the count that follows.
+/// Makes a round of collection for a call that found no record of the kind `lacks` free. `removes` says whether the call is to remove a
+/// key. Returns whether a second attempt may find a record.
+///
+/// In an index of several passes the round visits no record where it could give none back. The result is `false` then: what another pass
+/// has freed meanwhile is found by the count that follows.
 fn collect_between<G: Gate>(
     table: &HotTable,
     seat: &mut TableSeat,
@@ -130,7 +136,7 @@ fn collect_between<G: Gate>(
     may_find_free_record(passes, count, found, removes)
 }
 
-/// The kind of record of which none was free, if `answer` is a refusal for that. `None` for a reply, and for `Busy`.
+/// Returns the kind of record of which none was free, if `answer` is a refusal for that. `None` for a reply, and for `Busy`.
 fn full_kind(answer: Result<Reply, TryFault>) -> Option<Full>
     ensures some { IfSome result (λ full. answer ≡ Err (fault_of full)) }
     ensures none { result ≡ None → is_full answer ≡ false }
@@ -142,7 +148,7 @@ fn full_kind(answer: Result<Reply, TryFault>) -> Option<Full>
     }
 }
 
-/// How many records of the kind `kind` a round gave back, by its counts `given`.
+/// Returns how many records of the kind `kind` a round gave back, by its counts `given`.
 fn given_count(given: Given, kind: Full) -> u32
     ensures { result ≡ of_kind kind given.nodes given.leaves }
 {
@@ -152,7 +158,7 @@ fn given_count(given: Given, kind: Full) -> u32
     }
 }
 
-/// Whether a round found a record of the kind `kind` free already.
+/// Returns whether the round `round` found a record of the kind `kind` that was free already.
 fn has_found_free(round: Collected, kind: Full) -> bool
     ensures nodes { kind ≡ Nodes → result ≡ round.found_free_node }
     ensures leaves { kind ≡ Leaves → result ≡ round.found_free_leaf }
@@ -163,9 +169,9 @@ fn has_found_free(round: Collected, kind: Full) -> bool
     }
 }
 
-/// Whether a record of a kind may be free after a round that gave back `given` of it, in an index of `passes` passes. It may be one of
-/// these. Where the round `found` one free, it may be one that another pass gave back meanwhile. If the call `removes` a key, it may be the
-/// one that is left for removals.
+/// Returns whether a record of one kind may be free after a round that gave back `given` of that kind, in an index of `passes` passes. It
+/// may be one of those given back. If the round `found` one free, it may be one that another pass gave back meanwhile. If the call
+/// `removes` a key, it may be the node record that is left for removals.
 fn may_find_free_record(passes: u32, given: u32, found: bool, removes: bool) -> bool
     ensures may { IsTrue result ↔ (((1 < passes) × IsTrue found) ⊎ (0 < given) ⊎ IsTrue removes) }
     ensures not { result ≡ false → (given ≡ 0) × (removes ≡ false) }
@@ -173,7 +179,7 @@ fn may_find_free_record(passes: u32, given: u32, found: bool, removes: bool) -> 
     passes > 1 && found || given > 0 || removes
 }
 
-/// Whether `call` removes a key.
+/// Returns whether `call` is to remove a key.
 fn is_removal(call: &Call) -> bool
     ensures { IsTrue result ↔ IsRemoval call.now }
 {
@@ -187,15 +193,16 @@ fn is_removal(call: &Call) -> bool
     }
 }
 
-/// Whether a node record is left for `call` in an index of `passes` passes: it removes a key, and there are several passes.
+/// Returns whether insertions leave a node record for `call` in an index of `passes` passes: the call is to remove a key, and there are
+/// several passes.
 fn has_node_left(passes: u32, call: &Call) -> bool
     ensures { IsTrue result ↔ HasNodeLeft passes call.now }
 {
     passes > 1 && is_removal(call)
 }
 
-/// Pins the pass and clears the pin: an attempt of three steps that does nothing. It is made in place of a second try that could find no
-/// room. No note is added, and what the first try found not free stays known.
+/// Pins the pass and clears the pin: an attempt of three steps that does nothing. It stands for a second attempt that could find no record.
+/// No note is added, and what the first attempt found not free stays known.
 fn pin_and_unpin<G: Gate>(table: &HotTable, seat: &mut TableSeat, gate: &mut G)
     requires idle { IsIdle table.now seat.old }
     ensures rested { HasRested table.now G.becomes (seat.old, gate.old) (seat.new, gate.new) }
@@ -205,9 +212,11 @@ fn pin_and_unpin<G: Gate>(table: &HotTable, seat: &mut TableSeat, gate: &mut G)
     unpin(table, seat, gate);
 }
 
-/// Tries to make the change `call` as [`try_change`] does. `Busy` if another pass was in its way. If no record was free, it counts all
-/// records then, and returns `Full` or `HeldBack` by the counts. But a removal in an index of several passes is `HeldBack` at once, since
-/// insertions leave a node record for it. `gate` is told each step. The pass is between two calls, before and after.
+/// Tries to make the change `call` as [`try_change`] does. `Refusal::Busy` if another pass was in its way. If no record was free, it counts
+/// all records then, and returns `Full` or `HeldBack` by the counts. But a removal in an index of several passes is `HeldBack` at once,
+/// without a count, since insertions leave a node record for it. A refused call has changed nothing.
+///
+/// `gate` is told each step. The pass is between two calls, before and after.
 pub fn try_and_count<G: Gate>(
     table: &HotTable,
     seat: &mut TableSeat,
@@ -241,10 +250,11 @@ pub fn try_and_count<G: Gate>(
     }
 }
 
-/// Tries to make the change `call` until it is made, or refused for want of records. It tries again as long as another pass is in its
-/// way, or records are held back. `gate` is told each step; `rt` allows it to wait. Returns the reply, or the kind of records of which none
-/// was free: it has changed nothing then. A removal in an index of several passes always gets a reply. The pass is between two calls, before
-/// and after.
+/// Tries to make the change `call` until it is made, or refused for want of records. It tries again as long as another pass is in its way,
+/// or records are held back. `rt` allows it to wait. Returns the reply, or the kind of records of which none was free: nothing has changed
+/// then. A removal in an index of several passes always gets a reply.
+///
+/// `gate` is told each step. The pass is between two calls, before and after.
 pub fn retry_change<R: Wait, G: Gate>(
     rt: &R,
     table: &HotTable,
@@ -275,8 +285,8 @@ pub fn retry_change<R: Wait, G: Gate>(
     unreachable!()
 }
 
-/// Makes one attempt at `call`, with the pass pinned, and notes its reply if it has one. Returns the reply, or why the attempt was
-/// refused.
+/// Makes one attempt at `call`, with the pass pinned, and notes its reply if it has one. Returns the reply, or why the attempt was refused.
+/// What the attempt has unlinked goes into limbo.
 #[inline(always)]
 fn make_attempt<G: Gate>(
     table: &HotTable,
@@ -308,7 +318,7 @@ fn make_attempt<G: Gate>(
     outcome
 }
 
-/// Clears the pin at the end of an attempt. The notes `said` come with this step: that of a reply, or none. The caller's proof makes them
+/// Clears the pin at the end of an attempt. The notes `said` come with this step: the reply's one, or none. The caller's proof makes `said`
 /// of `_call` and `_outcome`, which the code doesn't read.
 fn end_attempt<G: Gate>(
     table: &HotTable,

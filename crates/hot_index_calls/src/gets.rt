@@ -12,8 +12,8 @@ use key_bits::Key;
 use rowex_core::Gate;
 use rowex_table::{HotTable, TableSeat};
 
-/// Clears the pin at the end of a get. The get's note, `said`, comes with this step. The caller's proof makes it of `_key` and `_found`,
-/// which the code doesn't read.
+/// Clears the pin at the end of a get. The get's note, `said`, comes with this step. The caller's proof makes `said` of `_key` and
+/// `_found`, which the code doesn't read.
 pub fn end_get<G: Gate>(
     table: &HotTable,
     seat: &mut TableSeat,
@@ -29,8 +29,8 @@ pub fn end_get<G: Gate>(
     unpin(table, seat, gate);
 }
 
-/// Clears the pin at the end of gets of several keys. The notes `said` come with this step. The caller's proof makes them of `_keys` and
-/// `_found`, which the code doesn't read.
+/// Clears the pin at the end of gets of several keys. Their notes, `said`, come with this step. The caller's proof makes `said` of `_keys`
+/// and `_found`, which the code doesn't read.
 pub fn end_gets<G: Gate>(
     table: &HotTable,
     seat: &mut TableSeat,

@@ -27,8 +27,9 @@ pub enum Refusal {
     Full(Full, RecordCounts),
 }
 
-/// The refusal of a try that lacked a record of the kind `lacks`, by `counts`, made after it. The try needs `needs` node records, or one
-/// leaf record with room for a key of `size` bytes. `passes` is the number of passes of the index.
+/// Returns the refusal of a try that found no record of the kind `lacks` free, by `counts`, which were made after it. The try needs `needs`
+/// node records, or one leaf record with room for a key of `size` bytes. `passes` is the number of passes of the index: if it is 1, or
+/// `counts` show too few records, the refusal is `Full`. Else it is `HeldBack`.
 pub(crate) fn judge_lack(
     passes: u32,
     lacks: Full,
@@ -45,7 +46,7 @@ pub(crate) fn judge_lack(
     }
 }
 
-/// The kind of record that a try with the fault `fault` lacked; `None` if it was busy.
+/// Returns the kind of record that a try with the fault `fault` lacked; `None` if the try was busy.
 pub(crate) fn lack_of(fault: TryFault) -> Option<Full>
     ensures some { IfSome result (λ full. fault ≡ fault_of full) }
     ensures none { result ≡ None → fault ≡ Busy }
@@ -57,7 +58,8 @@ pub(crate) fn lack_of(fault: TryFault) -> Option<Full>
     }
 }
 
-/// The kind of record that a waiting call lacks, one of whose tries was refused with `refusal`. `None` if the call tries again.
+/// Returns the kind of record with which a waiting call is refused, when one of its tries was refused with `refusal`. `None` if the call
+/// tries again.
 pub(crate) fn final_refusal(refusal: Refusal) -> Option<Full>
     ensures some { IfSome result (λ full. (counts : CountsView) × (refusal ≡ IsFull full counts)) }
     ensures none { result ≡ None → IsPassing refusal }
@@ -68,7 +70,7 @@ pub(crate) fn final_refusal(refusal: Refusal) -> Option<Full>
     }
 }
 
-/// How many of the records `recs` are node records.
+/// Returns how many of the records `recs` are node records.
 pub(crate) fn count_node_records(recs: &[Rec]) -> usize
     ensures { result ≡ length (nodes_among recs.now) }
 {
@@ -79,7 +81,7 @@ pub(crate) fn count_node_records(recs: &[Rec]) -> usize
     count
 }
 
-/// 1 for a node record, and 0 for a leaf record.
+/// Returns 1 for a node record, and 0 for a leaf record.
 fn count_if_node(rec: Rec) -> usize
     ensures { result ≡ length (nodes_among (rec ∷ [])) }
 {
@@ -89,8 +91,8 @@ fn count_if_node(rec: Rec) -> usize
     }
 }
 
-/// Whether an index with `counts` is full for a change that lacks a record of the kind `lacks`. It needs `needs` node records, or one leaf
-/// record with room for a key of `size` bytes.
+/// Returns whether `counts` show that an index is full for a change that lacks a record of the kind `lacks`. The change needs `needs` node
+/// records, or one leaf record with room for a key of `size` bytes.
 fn is_short_of(lacks: Full, needs: usize, size: usize, counts: &RecordCounts) -> bool
     ensures { IsTrue result ↔ IsShortOf lacks needs size counts.now }
 {
@@ -100,14 +102,14 @@ fn is_short_of(lacks: Full, needs: usize, size: usize, counts: &RecordCounts) ->
     }
 }
 
-/// Whether of one kind and class fewer records are free than `needs`, and none is held or obsolete, by `counts`.
+/// Returns whether `counts`, those of one kind and class, show fewer free records than `needs`, and no held or obsolete one.
 fn are_short(needs: usize, counts: &StateCounts) -> bool
     ensures { IsTrue result ↔ AreShort needs counts.now }
 {
     (counts.free as usize) < needs && counts.held == 0 && counts.obsolete == 0
 }
 
-/// Whether of each class of leaf records with room for a key of `size` bytes none is free, held or obsolete, by `counts`.
+/// Returns whether `counts` show no leaf record with room for a key of `size` bytes that is free, held or obsolete, in any class.
 fn are_leaves_short(size: usize, counts: &RecordCounts) -> bool
     ensures { IsTrue result ↔ OfLeaves (AreShort 1) size counts.now }
 {

@@ -17,8 +17,8 @@ use std::alloc::{AllocError, Global};
 /// The records that a pass claims first of a kind or class have so many words at most: 128 KiB.
 const FIRST_WORDS: u32 = 16_384;
 
-/// The first records of a new table that no load has taken, of the nodes and of each class of leaves. A load takes its last few nodes behind
-/// that number. These are plain numbers, which promise nothing.
+/// The first records of a new table that no load has taken, of the nodes and of each class of leaves. A load takes its last few nodes
+/// behind that number. These are plain numbers, which promise nothing.
 #[derive(Clone, Copy)]
 pub struct FirstFree {
     /// The number of a node record.
@@ -28,7 +28,7 @@ pub struct FirstFree {
 }
 
 impl FirstFree {
-    /// The first records of a table of `layout` that has no keys.
+    /// Returns the first records of a table of `layout` that has no keys: record 0, and the first of each class.
     pub fn of(layout: Layout) -> FirstFree
         ensures node { result.node ≡ 0 }
         ensures leaves { result.leaves ≡ 0 ∷ layout.medium_from ∷ layout.large_from ∷ layout.wide_from ∷ layout.long_from ∷ [] }
@@ -66,8 +66,8 @@ struct Share {
 }
 
 impl Share {
-    /// The parts of `records` records in which pass `number` of `passes` claims, where the first `loaded` have a loaded key each. A small part
-    /// has at most `most`.
+    /// Returns the parts of `records` records, of one kind or class, in which pass `number` of `passes` passes claims. The first `loaded`
+    /// records have a loaded key each. The small part has at most `most` records.
     fn of(number: u16, passes: u32, records: u32, loaded: u32, most: u32) -> Share {
         let number = u32::from(number);
         let share = records.checked_div(passes).unwrap_or(0);
@@ -84,7 +84,7 @@ impl Share {
         }
     }
 
-    /// A hint whose claims begin with the small part; an error if memory is refused.
+    /// Returns a hint whose claims begin with the small part; `AllocError` if memory is refused.
     fn begin_claims(&self, alloc: Global) -> Result<Hint, AllocError>
         ensures { IfOk result (λ hint. hint.spare.items ≡ []) }
     {
@@ -93,7 +93,8 @@ impl Share {
         Ok(hint)
     }
 
-    /// Lets the claims of `hint` go on in the pass's own part, if they have come by the small one. Returns what is to stand here then.
+    /// Lets the claims of `hint` go on in the pass's own part, if they have come past the small one. Returns the share that is to be kept
+    /// from then on.
     fn leave_first_part(self, hint: &mut Hint) -> Share {
         if hint.stretch.start() < self.end {
             return self;
@@ -123,7 +124,8 @@ pub struct Scratch {
 }
 
 impl Scratch {
-    /// Empties the list of what the last attempt has unlinked into limbo, as far as that has room. Full rounds find the others.
+    /// Moves the records that the last attempt has unlinked into limbo, as far as that has room, and empties their list. Records that found
+    /// no room are found by full rounds.
     pub fn move_unlinked_to_limbo(&mut self)
         ensures gone { self.new.build.gone.items ≡ [] }
         ensures made { self.new.build.made.items ≡ self.old.build.made.items }
@@ -133,8 +135,8 @@ impl Scratch {
         }
     }
 
-    /// Lets the next claims begin with the records that the last small round gave back. Behind them come those in the pass's own parts, if
-    /// it has claimed its first ones. `layout` is that of the table.
+    /// Lets the next claims begin with the records that the last small round gave back. After these, claims go on in the pass's own parts,
+    /// if it has claimed those of its small ones. `layout` is that of the table.
     pub fn reuse_given_records(&mut self, layout: Layout)
         ensures made { self.new.build.made.items ≡ self.old.build.made.items }
         ensures gone { self.new.build.gone.items ≡ self.old.build.gone.items }
@@ -146,7 +148,7 @@ impl Scratch {
         self.leave_first_parts();
     }
 
-    /// Lets claims that have come by the pass's first part of a kind or class go on in its own part.
+    /// Lets the claims of each kind and class go on in the pass's own part, if they have come past its small one.
     fn leave_first_parts(&mut self)
         ensures made { self.new.build.made.items ≡ self.old.build.made.items }
         ensures gone { self.new.build.gone.items ≡ self.old.build.gone.items }
@@ -159,7 +161,7 @@ impl Scratch {
         }
     }
 
-    /// Lets claims try each class of leaf records in its turn again, as after a full round each may have a free record.
+    /// Lets claims try each class of leaf records in its turn again: after a full round each may have a free record.
     pub fn reset_skips(&mut self)
         ensures made { self.new.build.made.items ≡ self.old.build.made.items }
     {
@@ -169,8 +171,8 @@ impl Scratch {
     }
 }
 
-/// Adds `rec` to the spare numbers of its kind, for a leaf of its class, so that the next claim there tries `rec` first. If that list is
-/// full, `rec` isn't kept. Either way claims don't skip that kind or class any more. `layout` is that of the table.
+/// Adds `rec` to the spare numbers of its kind and class, so that the next claim there tries `rec` first. If that list is full, `rec` isn't
+/// kept. In any case claims skip that class no more. `layout` is that of the table.
 fn keep_spare(build: &mut Build, layout: Layout, rec: Rec)
     ensures { (build.new.made.items ≡ build.old.made.items) × (build.new.gone.items ≡ build.old.gone.items) }
 {
@@ -184,7 +186,7 @@ fn keep_spare(build: &mut Build, layout: Layout, rec: Rec)
     }
 }
 
-/// The number of the first leaf record of the class that leaf record `number` has.
+/// Returns the number of the first leaf record of the class to which the leaf record `number` belongs.
 fn first_leaf_of_class(layout: Layout, number: u32) -> u32 {
     match layout.class_of(number) {
         LeafClass::Short => 0,
@@ -195,8 +197,8 @@ fn first_leaf_of_class(layout: Layout, number: u32) -> u32 {
     }
 }
 
-/// The parts of each class of leaf records in which pass `number` claims, in a table with this layout where the records from `free` on
-/// weren't loaded.
+/// Returns, for each class of leaf records, the parts in which pass `number` claims. The table has this `layout`, and its records from
+/// `free` on weren't loaded.
 fn share_leaves(layout: Layout, number: u16, free: FirstFree) -> [Share; LEAF_CLASSES] {
     let share = |place: usize, from: u32, upto: u32, words: u32| {
         let (records, loaded) = (
@@ -220,7 +222,7 @@ fn share_leaves(layout: Layout, number: u16, free: FirstFree) -> [Share; LEAF_CL
     ]
 }
 
-/// Empty lists of a change, and hints whose claims begin as `nodes` and `leaves` say; an error if memory is refused.
+/// Returns empty lists of a change, and hints whose claims begin as `nodes` and `leaves` say. `AllocError` if memory is refused.
 fn new_build(
     alloc: Global,
     layout: Layout,
@@ -244,8 +246,8 @@ fn new_build(
     })
 }
 
-/// Empty scratch lists for pass `number` of a table with this layout where the records from `free` on weren't loaded; an error if memory is
-/// refused.
+/// Returns empty scratch lists for pass `number`. The table has this `layout`, and its records from `free` on weren't loaded. `AllocError`
+/// if memory is refused.
 pub fn new_scratch(
     alloc: Global,
     layout: Layout,

@@ -18,9 +18,9 @@ use std::io::{Read, Write};
 use std::sync::Wait;
 use std::thread::Threads;
 
-/// Makes the run that `words`, the command line, ask for. It is of the script of `reader`, alone or after those in the files that they
-/// name, which `system` reads. Writes the answers to `writer`. The error is `Usage` if `words` don't parse, or the `Fault` of the run. Only
-/// with `Fault(Write)` may a part be written.
+/// Makes the run that `words`, those of the command line, ask for, and writes the answers to `writer`. It runs the script that `reader`
+/// has, alone, or after the scripts in the files that `words` name. `system` reads these files. The error is `Usage` if `words` don't
+/// parse, or the `Fault` of the run. Only with `Fault(Write)` may a part be written.
 pub fn run_command_line<T, S, R, W>(
     rt: &T,
     system: &S,
@@ -47,8 +47,8 @@ where
     Ok(())
 }
 
-/// Makes the run that `request` asks for, as `run_command_line` says. It is a fault if a script can't be read or is bad, memory is refused,
-/// a thread can't be started, or a write failed. Only in the last case may a part be written.
+/// Makes the run that `request` asks for, as `run_command_line` does. The error is a fault if a script can't be read or is bad, memory is
+/// refused, a thread can't be started, or a write failed. Only in the last case may a part be written.
 fn run_request<T: AllocGlobal + Wait + Threads + Sync, S: FileSystem, R: Read, W: Write>(
     rt: &T,
     system: &S,

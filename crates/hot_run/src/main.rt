@@ -19,8 +19,8 @@ use std::rt::{Env, Files};
 use std::sync::Wait;
 use std::thread::Threads;
 
-/// Makes the run that the command line asks for, from standard input and the machine's files to standard output. The `Ending` says why
-/// there are no answers, or only a part of them.
+/// Makes the run that the command line asks for, from standard input and the machine's files to standard output. The error says why there
+/// are no answers, or only a part of them.
 fn run_program<R>(rt: &R) -> Result<(), Ending>
 where
     R: Env + Files + Input + Print + AllocGlobal + Wait + Threads + Sync,

@@ -20,13 +20,13 @@ use std::sync::Wait;
 use std::thread::Threads;
 
 /// Runs the scripts in `files`, at most `MAX_FILES`, on a new index with `nodes` node and `leaves` leaf records. They run at the same time,
-/// each in its own thread. When all have ended, it runs the script that `reader` has.
+/// each in its own thread. When all have ended, the script that `reader` has runs.
 ///
-/// It reads and parses all scripts before the first command runs. It writes the answers to `writer` at the end. Each file's are below the
-/// line `file I`, where `I` counts from 1, and those of the last script below the line `last`.
+/// All scripts are read and parsed before the first command runs. The answers are written to `writer` at the end. Those of each file stand
+/// below a line `file I`, where `I` counts from 1, and those of the last script below the line `last`.
 ///
-/// It ends with the fault of the first bad script, or with `Read`, `Large`, `Write` or `Memory`. If a thread can't be started, that is
-/// `Memory`, too. Only with `Write` may a part of the answers be written.
+/// The error is the fault of the first bad script, or `Read`, `Large`, `Write` or `Memory`. If a thread can't be started, that is `Memory`,
+/// too. Only with `Write` may a part of the answers be written.
 pub fn run_scripts<T: AllocGlobal + Threads + Wait + Sync, R: Read, W: Write>(
     rt: &T,
     nodes: u32,
@@ -57,8 +57,8 @@ pub fn run_scripts<T: AllocGlobal + Threads + Wait + Sync, R: Read, W: Write>(
     Ok(())
 }
 
-/// Does what `run_scripts` does, with its faults, and reports each atomic step of a file's commands to the file's one of `gates`. There is
-/// a gate for each file, in their order. Returns the gates, in the order of the files.
+/// Does what `run_scripts` does, with its errors, and reports each atomic step of a file's commands to the file's own gate. `gates` has a
+/// gate for each file, in their order. Returns the gates, in the order of the files.
 pub fn run_scripts_with<T, G, R, W>(
     rt: &T,
     nodes: u32,

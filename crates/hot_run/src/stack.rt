@@ -10,7 +10,8 @@ use std::rt::Files;
 /// How many KiB of stack the program needs. The threads of FILEs have as much each.
 pub const LEAST_STACK: u64 = 256;
 
-/// The limit of the program's stack in KiB, if the system tells one that is below `LEAST_STACK`. It asks for no memory.
+/// Returns the limit of the program's stack in KiB, if the system tells one that is below `LEAST_STACK`; else `None`. It asks for no
+/// memory.
 pub fn too_low_limit<R: Files>(rt: &R) -> Option<u64>
     ensures low { IfSome result (λ limit. limit < LEAST_STACK) }
 {
@@ -22,7 +23,7 @@ pub fn too_low_limit<R: Files>(rt: &R) -> Option<u64>
     (limit < LEAST_STACK).then_some(limit)
 }
 
-/// The limit of the stack, in KiB, that is in the table of a process's limits; `None` if there is none.
+/// Returns the limit of the stack, in KiB, that stands in `limits`, the table of a process's limits; `None` if there is none.
 fn stack_limit(limits: &str) -> Option<u64> {
     let (_, rest) = limits.split_once("Max stack size")?;
     let bytes = rest.split_whitespace().next()?.parse::<u64>().ok()?;

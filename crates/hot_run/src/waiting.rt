@@ -26,6 +26,7 @@ struct Waiting<'a> {
 impl Gate for Waiting<'_> {
     ghost becomes = { λ _ _ _. Unit {0} };
 
+    /// Counts the step. At the first one it sets its own flag and waits for the other's, at most `MAX_LOOKS` looks.
     fn at(&mut self, _event: &Event) {
         self.steps = self.steps.saturating_add(1);
         if self.own.swap(true, Ordering::SeqCst) {
@@ -41,7 +42,7 @@ impl Gate for Waiting<'_> {
     }
 }
 
-/// The bytes of two scripts, with one command each; an error if memory is refused.
+/// Returns the bytes of two scripts, with one command each; `AllocError` if memory is refused.
 fn two_scripts(alloc: Global) -> Result<Vec<Vec<u8>>, AllocError>
     ensures { IfOk result (λ files. length files.items ≡ 2) }
 {
@@ -51,7 +52,7 @@ fn two_scripts(alloc: Global) -> Result<Vec<Vec<u8>>, AllocError>
     Ok(files)
 }
 
-/// The gate that sets the flag `own` at its first step and waits for `other`.
+/// Returns the gate that sets the flag `own` at its first step and waits for the flag `other`.
 fn make_gate<'a>(own: &'a AtomicBool, other: &'a AtomicBool) -> Waiting<'a> {
     Waiting {
         own,
@@ -61,7 +62,7 @@ fn make_gate<'a>(own: &'a AtomicBool, other: &'a AtomicBool) -> Waiting<'a> {
     }
 }
 
-/// The gates of two files, with the flags `first` and `second`; each waits for the other's. An error if memory is refused.
+/// Returns the gates of two files, with the flags `first` and `second`; each waits for the other's. `AllocError` if memory is refused.
 fn make_gates<'a>(
     alloc: Global,
     first: &'a AtomicBool,

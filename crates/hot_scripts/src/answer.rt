@@ -10,7 +10,8 @@ use key_bits::MAX_BYTES;
 use packed_pairs::Pairs;
 use std::alloc::{AllocError, Global};
 
-/// Adds the line of `word`, which ends with a space, and `number` to the end of `text`. If memory is refused, an error, and perhaps a part.
+/// Adds a line of `word`, which ends with a space, and `number` to the end of `text`. `AllocError` if memory is refused: then perhaps a
+/// part of the line is added.
 fn push_number(text: &mut Vec<u8>, word: &[u8], number: u64) -> Result<(), AllocError>
     ensures { OnOk result (text.new.items ≡ text.old.items ++ line (with_number word.now number)) }
 {
@@ -20,7 +21,7 @@ fn push_number(text: &mut Vec<u8>, word: &[u8], number: u64) -> Result<(), Alloc
     text.extend_from_slice(b"\n")
 }
 
-/// Adds the line of `reply` to the end of `text`. If memory is refused, an error, and perhaps a part of the line.
+/// Adds the line of `reply` to the end of `text`. `AllocError` if memory is refused: then perhaps a part of the line is added.
 pub fn push_reply(text: &mut Vec<u8>, reply: Reply) -> Result<(), AllocError>
     ensures { OnOk result (text.new.items ≡ text.old.items ++ line (reply_text reply)) }
 {
@@ -37,7 +38,7 @@ pub fn push_reply(text: &mut Vec<u8>, reply: Reply) -> Result<(), AllocError>
     }
 }
 
-/// Puts `key` on the page, which has room for it, in lower case hexadecimal digits; a dash for the empty key.
+/// Puts `key` on the page, which has room for it, in lower case hexadecimal digits. The empty key is a dash.
 #[inline(always)]
 fn put_key(page: &mut Page, key: &[u8])
     requires key { length key.now ≤ MAX_BYTES }
@@ -65,8 +66,8 @@ fn put_pair(page: &mut Page, key: &[u8], value: u64)
     page.put_text(b"\n");
 }
 
-/// Makes room on the page for a line of `MOST_BYTES` bytes. If the page has none, its lines go to the end of `text`, and it is cleared. An
-/// error if memory is refused.
+/// Makes room on `page` for a line of `MOST_BYTES` bytes. If the page has too little, its lines go to the end of `text`, and it is cleared.
+/// `AllocError` if memory is refused.
 #[inline(always)]
 fn make_room(text: &mut Vec<u8>, page: &mut Page) -> Result<(), AllocError>
     ensures room { OnOk result (length page.new + MOST_BYTES ≤ ROOM) }
@@ -79,8 +80,8 @@ fn make_room(text: &mut Vec<u8>, page: &mut Page) -> Result<(), AllocError>
     Ok(())
 }
 
-/// Adds the lines of a scan that listed `pairs` to the end of `text`; `more` says whether its range has more. If memory is refused, an
-/// error, and perhaps a part of the lines.
+/// Adds the lines of a scan that listed `pairs` to the end of `text`; `more` says whether its range has more. `AllocError` if memory is
+/// refused: then perhaps a part of the lines is added.
 pub fn push_scan(text: &mut Vec<u8>, pairs: &Pairs, more: bool) -> Result<(), AllocError>
     ensures lines { OnOk result (text.new.items ≡ text.old.items ++ scan_lines pairs.now more) }
     ensures short { length pairs.now < 2 ^ 63 }
@@ -99,7 +100,8 @@ pub fn push_scan(text: &mut Vec<u8>, pairs: &Pairs, more: bool) -> Result<(), Al
     }
 }
 
-/// Adds the line `file I`, where `I` is `number`, and `text`, the answers to its script, to `texts`. An error if memory is refused.
+/// Adds the line `file I`, where `I` is `number`, and then `text`, the answers to that file's script, to `texts`. `AllocError` if memory is
+/// refused.
 pub fn push_section(
     alloc: Global,
     texts: &mut Vec<Vec<u8>>,

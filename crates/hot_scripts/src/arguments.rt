@@ -36,6 +36,7 @@ pub struct Request<'a> {
 impl From<clap::Error> for Ending {
     ghost from_gives = { λ error ending. ending ≡ ending_of (kind_of error) };
 
+    /// Returns the ending for a command line that was not parsed: `Fault(Memory)` if memory was refused, else `Usage`.
     fn from(error: clap::Error) -> Ending {
         if error.kind() == ErrorKind::OutOfMemory {
             Ending::Fault(RunFault::Memory)
@@ -45,7 +46,8 @@ impl From<clap::Error> for Ending {
     }
 }
 
-/// The words of the command line, the program's name first. `Fault(Memory)` if memory is refused, `Usage` if they can't be read.
+/// Returns the words of the command line, the program's name first. The error is `Fault(Memory)` if memory is refused, and `Usage` if the
+/// words can't be read.
 pub fn read_words<R: Env + AllocGlobal>(rt: &R) -> Result<Vec<String>, Ending>
     ensures { IfErr result (λ ending. (ending ≡ Usage) ⊎ (ending ≡ Fault Memory)) }
 {
@@ -56,7 +58,7 @@ pub fn read_words<R: Env + AllocGlobal>(rt: &R) -> Result<Vec<String>, Ending>
     }
 }
 
-/// The option with the long name `name`, behind two dashes, which takes a number from 1 to `most`.
+/// Returns the option with the long name `name`, behind two dashes, which takes a number from 1 to `most`.
 fn count_option<'a>(alloc: Global, name: &'a str, most: u32) -> Arg<'a>
     ensures { IsCountOption name.now most result }
 {
@@ -66,16 +68,16 @@ fn count_option<'a>(alloc: Global, name: &'a str, most: u32) -> Arg<'a>
         .value_parser(ValueParser::signed(1, i64::from(most)))
 }
 
-/// The argument `name`: the words that are no options, any number of them.
+/// Returns the argument `name`: the words that are no options, any number of them.
 fn names_argument<'a>(alloc: Global, name: &'a str) -> Arg<'a>
     ensures { IsArgument name.now (names_rule name.now) result }
 {
     Arg::new(alloc, name).action(ArgAction::Append)
 }
 
-/// What `words`, those of the command line, ask for. The records are the numbers that follow `--nodes` and `--leaves`, or else 4,096 and
-/// 16,384. The files have the order of the words. `Usage` if they don't parse or name more than `MAX_FILES` files; `Fault(Memory)` if
-/// memory is refused.
+/// Returns what `words`, those of the command line, ask for. The records are the numbers that follow `--nodes` and `--leaves`, or else
+/// 4,096 and 16,384. The files have the order of the words. The error is `Usage` if the words don't parse, or name more than `MAX_FILES`
+/// files. It is `Fault(Memory)` if memory is refused.
 pub fn parse_request<'a>(alloc: Global, words: &'a [String]) -> Result<Request<'a>, Ending>
     ensures asked { IfOk result (λ request. IsAsked (map string_bytes words.now) request.nodes request.leaves (map (λ name. name.now) request.files.items)) }
     ensures refused { IfErr result (λ ending. ((ending ≡ Usage) × (DoParse (map string_bytes words.now) → ⊥)) ⊎ (ending ≡ Fault Memory)) }

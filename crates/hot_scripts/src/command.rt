@@ -29,7 +29,7 @@ pub enum Version {
 }
 
 impl Version {
-    /// How many hexadecimal digits, two for each byte, a key may have at most in a script of this version.
+    /// Returns how many hexadecimal digits, two for each byte, a key may have at most in a script of this version.
     pub fn most_digits(self) -> usize
         ensures { result ≡ most_digits self }
     {

@@ -25,7 +25,7 @@ pub fn write_hex(bytes: &[u8], room: &mut [u8])
     }
 }
 
-/// The lower case hexadecimal digit of `number`, which is below 16.
+/// Returns the lower case hexadecimal digit of `number`, which is below 16.
 #[inline(always)]
 fn hex_digit(number: u8) -> u8
     requires { number < 16 }
@@ -35,7 +35,7 @@ fn hex_digit(number: u8) -> u8
     b'0' + number + letter
 }
 
-/// How many decimal digits `number` has; 1 for 0.
+/// Returns how many decimal digits `number` has; 1 for 0.
 #[inline(always)]
 pub fn count_digits(number: u64) -> usize
     ensures { result ≡ length (decimal number) }

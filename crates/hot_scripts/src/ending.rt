@@ -19,7 +19,7 @@ pub enum Ending {
 }
 
 impl Ending {
-    /// The program's exit status: 1 if a read or a write failed or memory was refused, else 2.
+    /// Returns the program's exit status: 1 if a read or a write failed or memory was refused, else 2.
     pub fn status(self) -> u8
         ensures { result ≡ status_of self }
     {
@@ -33,6 +33,7 @@ impl Ending {
 impl fmt::Display for Ending {
     ghost output = { λ ending. Some (ending_text ending) };
 
+    /// Writes the text of the ending, without a line end.
     fn fmt<W: fmt::Write>(&self, f: &mut fmt::Formatter<W>) -> fmt::Result {
         match self {
             Ending::Usage => write!(f, "usage: hot-run [--nodes N] [--leaves L] [FILE]..."),
@@ -44,6 +45,7 @@ impl fmt::Display for Ending {
 impl From<RunFault> for Ending {
     ghost from_gives = { λ fault ending. ending ≡ Fault fault };
 
+    /// Returns the ending with this fault.
     fn from(fault: RunFault) -> Ending {
         Ending::Fault(fault)
     }
@@ -52,6 +54,7 @@ impl From<RunFault> for Ending {
 impl From<AllocError> for Ending {
     ghost from_gives = { λ _ ending. ending ≡ Fault Memory };
 
+    /// Returns the ending for memory that was refused.
     fn from(_error: AllocError) -> Ending {
         Ending::Fault(RunFault::Memory)
     }

@@ -48,6 +48,7 @@ pub enum RunFault {
 impl fmt::Display for Reason {
     ghost output = { λ reason. Some (reason_text reason) };
 
+    /// Writes the text of the reason.
     fn fmt<W: fmt::Write>(&self, f: &mut fmt::Formatter<W>) -> fmt::Result {
         match self {
             Reason::Command => write!(f, "bad command"),
@@ -61,6 +62,7 @@ impl fmt::Display for Reason {
 impl fmt::Display for RunFault {
     ghost output = { λ fault. Some (run_fault_text fault) };
 
+    /// Writes the text of the fault, with its line and its file where it has one.
     fn fmt<W: fmt::Write>(&self, f: &mut fmt::Formatter<W>) -> fmt::Result {
         match self {
             RunFault::Read => write!(f, "read failed"),
@@ -80,6 +82,7 @@ impl Error for RunFault {}
 impl From<AllocError> for RunFault {
     ghost from_gives = { λ _ fault. fault ≡ Memory };
 
+    /// Returns the fault for memory that was refused.
     fn from(_error: AllocError) -> RunFault {
         RunFault::Memory
     }
@@ -88,6 +91,7 @@ impl From<AllocError> for RunFault {
 impl<T: Drop> From<AllocFailed<T>> for RunFault {
     ghost from_gives = { λ _ fault. fault ≡ Memory };
 
+    /// Returns the fault for memory that was refused.
     fn from(_error: AllocFailed<T>) -> RunFault {
         RunFault::Memory
     }

@@ -40,13 +40,14 @@ impl<R: Files> FileSystem for Disk<'_, R> {
 
     ghost bytes = { λ _. None };
 
+    /// Opens the machine's file `name`, to be read from its first byte on. The error is `Read` if it can't be opened.
     fn open(&self, name: &str) -> Result<R::File, RunFault> {
         File::open(self.rt, name).map_err(|_| RunFault::Read)
     }
 }
 
-/// The first bytes that `reader` has: all, or one more than a script may have, which shows that it is too long. `Memory` if memory is
-/// refused, `Read` if a read failed.
+/// Returns the first bytes that `reader` has: all, or one more than a script may have, which shows that it is too long. The error is
+/// `Memory` if memory is refused, and `Read` if a read failed.
 fn read_file_start<R: Read + Drop>(alloc: Global, reader: R) -> Result<Vec<u8>, RunFault>
     ensures fault { IfErr result IsFileFault }
     ensures start { IfOk result (λ bytes. IsFileStart (R.remaining reader) bytes.items) }
@@ -62,7 +63,8 @@ fn read_file_start<R: Read + Drop>(alloc: Global, reader: R) -> Result<Vec<u8>, 
     }
 }
 
-/// The script in the file `name` of `system`, as far as `read_file_start` reads it, with its faults; `Read` if it can't be opened.
+/// Returns the script in the file `name` of `system`, as far as `read_file_start` reads it, with its errors. The error is `Read`, too, if
+/// the file can't be opened.
 fn read_file<S: FileSystem>(alloc: Global, system: &S, name: &str) -> Result<Vec<u8>, RunFault>
     ensures fault { IfErr result IsFileFault }
     ensures start { IfOk result (λ bytes. IsFileStart (S.bytes name.now) bytes.items) }
@@ -71,8 +73,8 @@ fn read_file<S: FileSystem>(alloc: Global, system: &S, name: &str) -> Result<Vec
     read_file_start(alloc, file)
 }
 
-/// The scripts in the files `names` of `system`, in order: of each all its bytes, or one more than a script may have. `Read` if one can't
-/// be opened or read, `Memory` if memory is refused.
+/// Returns the scripts in the files `names` of `system`, in order: of each all its bytes, or one more than a script may have. The error is
+/// `Read` if one can't be opened or read, and `Memory` if memory is refused.
 pub fn read_files<S: FileSystem>(
     alloc: Global,
     system: &S,

@@ -10,14 +10,15 @@ use crate::fault::Reason;
 use crate::word;
 use finite_map::Call;
 
-/// The index of the first `separator` in `text`; `None` if there is none.
+/// Returns the index of the first `separator` in `text`; `None` if there is none.
 fn first_index(separator: u8, text: &[u8]) -> Option<usize>
     ensures { result ≡ position (λ b. b == separator) text.now }
 {
     text.iter().position(|byte| *byte == separator)
 }
 
-/// The part of `text` before the first `separator`, and what follows that; if there is none, all of `text`, and `None`.
+/// Returns the part of `text` before the first `separator`, and what follows the separator. If there is none, these are all of `text`, and
+/// `None`.
 pub fn split_once(separator: u8, text: &[u8]) -> (&[u8], Option<&[u8]>)
     ensures parts { slice_split (λ b. b == separator) text.now ≡ result.0.now ∷ parts_left separator result.1 }
     ensures whole { result.1 ≡ None → result.0.now ≡ text.now }
@@ -38,7 +39,7 @@ enum Words<'a> {
     Other,
 }
 
-/// The words of `line`, between single spaces. `Other` if they are not two, three or four.
+/// Returns the words of `line`, between single spaces. `Other` if there are not two, three or four.
 fn split_words(line: &[u8]) -> Words<'_>
     ensures { AreWords result (line_words line.now) }
 {
@@ -61,7 +62,8 @@ fn split_words(line: &[u8]) -> Words<'_>
     }
 }
 
-/// The command `name` for `key` alone; `Reason::Command` if there is none, or `Key` if `key` stands for no key of `version`.
+/// Returns the command `name` for `key` alone. The error is `Command` if there is no such command, or `Key` if `key` stands for no key of
+/// `version`.
 fn parse_key_command(version: Version, name: &[u8], key: &[u8]) -> Result<Command, Reason>
     ensures { result ≡ command_of version (name.now ∷ key.now ∷ []) }
 {
@@ -76,7 +78,8 @@ fn parse_key_command(version: Version, name: &[u8], key: &[u8]) -> Result<Comman
     }
 }
 
-/// The command `name` for `key` and `value`; `Reason::Command` if there is none, or else `Key` or `Value` for the first bad word.
+/// Returns the command `name` for `key` and `value`. The error is `Command` if there is no such command, or else `Key` or `Value` for the
+/// first bad word.
 fn parse_value_command(
     version: Version,
     name: &[u8],
@@ -98,7 +101,8 @@ fn parse_value_command(
     }
 }
 
-/// The command `name` for a range and a limit; `Reason::Command` if there is none, or else `Key` or `Limit` for the first bad word.
+/// Returns the command `name` for the range from `from` to `upto` and `limit`. The error is `Command` if there is no such command, or else
+/// `Key` or `Limit` for the first bad word.
 fn parse_range_command(
     version: Version,
     name: &[u8],
@@ -118,7 +122,7 @@ fn parse_range_command(
     }
 }
 
-/// The command that the words of `line` spell in a script of `version`, or the reason why they spell none.
+/// Returns the command that `line` asks for in a script of `version`, or the reason why it asks for none.
 fn parse_command(version: Version, line: &[u8]) -> Result<Command, Reason>
     ensures { result ≡ command_of version (line_words line.now) }
 {
@@ -132,8 +136,8 @@ fn parse_command(version: Version, line: &[u8]) -> Result<Command, Reason>
     }
 }
 
-/// The command that `line` asks for in a script of `version`. `Ok(None)` if `line` is empty or begins with `#`. An error with the reason if
-/// the line is bad.
+/// Returns the command that `line` asks for in a script of `version`. `Ok(None)` if `line` is empty or begins with `#`. The error is the
+/// reason why the line is bad.
 pub fn parse_line(version: Version, line: &[u8]) -> Result<Option<Command>, Reason>
     ensures { result ≡ reading_of version line.now }
 {

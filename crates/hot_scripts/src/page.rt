@@ -38,7 +38,7 @@ impl Model for Page {
 }
 
 impl Page {
-    /// A page without bytes.
+    /// Returns a page without bytes.
     pub fn new() -> Page
         ensures { result ≡ [] }
     {
@@ -55,14 +55,14 @@ impl Page {
         self.end = 0;
     }
 
-    /// The bytes of the page.
+    /// Returns the bytes of the page.
     pub fn as_bytes(&self) -> &[u8]
         ensures { result.now ≡ self.now }
     {
         &self.room[..self.end]
     }
 
-    /// Whether there is room for fewer than `MOST_BYTES` bytes, and so for fewer than a line may have.
+    /// Returns whether the page has room for fewer than `MOST_BYTES` bytes, and so for fewer than a line may have.
     #[inline(always)]
     pub fn is_full(&self) -> bool
         ensures { result ≡ false → length self.now + MOST_BYTES ≤ ROOM }

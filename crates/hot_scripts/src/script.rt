@@ -26,8 +26,8 @@ pub struct Script {
     ghost is_key: { longest ≤ MAX_BYTES },
 }
 
-/// The commands that are left of a script: those of the lines in the text `left`, in the grammar of `version`. There are none if there is no
-/// text.
+/// The commands that are left of a script: those of the lines in the text `left`, in the grammar of `version`. There are none if there is
+/// no text.
 #[derive(Clone, Copy)]
 pub struct Commands<'a> {
     version: Version,
@@ -37,8 +37,8 @@ pub struct Commands<'a> {
 impl Script {
     ghost use Rattle.hot_scripts.specs.Parses.{Parses, script_commands, commands_left};
 
-    /// The script with this text, `MAX_SCRIPT` bytes at most. If it has a bad line, `RunFault::Script` with the number and the reason of the
-    /// first one.
+    /// Returns the script with this `text`, `MAX_SCRIPT` bytes at most. If it has a bad line, the error is `RunFault::Script` with the
+    /// number and the reason of the first one.
     pub fn parse(text: Vec<u8>) -> Result<Script, RunFault>
         requires { vec_len text ≤ MAX_SCRIPT }
         ensures { Parses result (commands_of text.items) }
@@ -50,7 +50,7 @@ impl Script {
         }
     }
 
-    /// A number of bytes that no key of its calls exceeds, `MAX_BYTES` at most.
+    /// Returns a number of bytes that no key of the script's calls exceeds, `MAX_BYTES` at most.
     pub fn longest_key_length(&self) -> usize
         ensures keys { All (HasKeyUpTo result) (script_commands self.now) }
         ensures few { result ≤ MAX_BYTES }
@@ -58,7 +58,7 @@ impl Script {
         self.longest
     }
 
-    /// All commands of the script, in the order of its lines. Each is read from the text again when `next_command` returns it.
+    /// Returns all commands of the script, in the order of its lines. Each is read from the text again when `next_command` returns it.
     pub fn commands(&self) -> Commands<'_>
         ensures { commands_left result ≡ script_commands self.now }
     {
@@ -70,7 +70,7 @@ impl Script {
 impl<'a> Commands<'a> {
     ghost use Rattle.hot_scripts.specs.Parses.{Gives, IsOpening, commands_left, readings_left};
 
-    /// Takes out the first of the commands and returns it. `None` if none is left.
+    /// Takes out the first of the commands and returns it; `None` if none is left.
     pub fn next_command(&mut self) -> Option<Command>
         ensures { Gives (commands_left self.old) result (commands_left self.new) }
     {
@@ -84,8 +84,8 @@ impl<'a> Commands<'a> {
         None
     }
 
-    /// The number of the first line that may have a command, and the commands from there on. The number is 2 if the first line says by
-    /// `hot 2` that the script is of the second version; else it is 1.
+    /// Returns the number of the first line of `script` that may have a command, and the commands from there on. The number is 2 if the
+    /// first line, `hot 2`, says that the script is of the second version; else it is 1.
     fn opening(script: &'a [u8]) -> (u32, Commands<'a>)
         ensures { IsOpening script.now result.0 result.1 }
     {
@@ -106,8 +106,8 @@ impl<'a> Commands<'a> {
         }
     }
 
-    /// A number of bytes that no key of a call in these lines exceeds, `MAX_BYTES` at most. If a line is bad, the error is the number and the
-    /// reason of the first such line. The first line has the number `first`.
+    /// Returns a number of bytes that no key of a call in these lines exceeds, `MAX_BYTES` at most. If a line is bad, the error is the
+    /// number and the reason of the first such line. The first line has the number `first`.
     fn longest_key_length(self, first: u32) -> Result<usize, (u32, Reason)>
         requires { first + text_len self.left < 2 ^ 32 }
         ensures good { IfOk result (λ longest. first_bad first (readings_left self.entry) ≡ None) }
@@ -131,7 +131,7 @@ impl<'a> Commands<'a> {
     }
 }
 
-/// How many bytes the key of the call `command` has; 0 if it is a scan or `None`.
+/// Returns how many bytes the key of the call `command` has; 0 if it is a scan or `None`.
 fn key_length(command: &Option<Command>) -> usize
     ensures key { MatchOption command.now (result ≡ 0) (λ command. result ≡ length (called_key command)) }
     ensures few { result ≤ MAX_BYTES }
@@ -142,7 +142,7 @@ fn key_length(command: &Option<Command>) -> usize
     }
 }
 
-/// The larger of `first` and `second`.
+/// Returns the larger of `first` and `second`.
 fn larger_number(first: usize, second: usize) -> usize
     ensures bound { (first ≤ result) × (second ≤ result) }
     ensures few { first ≤ MAX_BYTES → second ≤ MAX_BYTES → result ≤ MAX_BYTES }

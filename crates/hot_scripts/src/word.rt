@@ -16,8 +16,8 @@ const MAX_DIGITS: usize = 20;
 /// The greatest number of pairs that a scan may ask for.
 const MAX_LIMIT: u64 = 1_000_000;
 
-/// The key that `word` stands for: two hexadecimal digits for each byte, or a dash for the empty key. `Reason::Key` if it is neither, or
-/// has too many digits for `version`.
+/// Returns the key that `word` stands for: two hexadecimal digits for each byte, or a dash for the empty key. The error is `Reason::Key` if
+/// `word` is neither, or has too many digits for `version`.
 pub fn parse_key(version: Version, word: &[u8]) -> Result<Key, Reason>
     ensures { result ≡ parsed_key version word.now }
 {
@@ -35,7 +35,7 @@ pub fn parse_key(version: Version, word: &[u8]) -> Result<Key, Reason>
     }
 }
 
-/// The key of `bytes`, `MAX_BYTES` at most; never an error.
+/// Returns the key of `bytes`, `MAX_BYTES` at most; never an error.
 fn make_key(bytes: &[u8]) -> Result<Key, Reason>
     requires { length bytes.now ≤ MAX_BYTES }
     ensures { result ≡ Ok bytes.now }
@@ -46,21 +46,21 @@ fn make_key(bytes: &[u8]) -> Result<Key, Reason>
     }
 }
 
-/// Whether `word` is 1 to `MAX_DIGITS` decimal digits.
+/// Returns whether `word` is 1 to `MAX_DIGITS` decimal digits.
 fn is_number(word: &[u8]) -> bool
     ensures { result ≡ is_number word.now }
 {
     !word.is_empty() && word.len() <= MAX_DIGITS && are_digits(word)
 }
 
-/// Whether each byte of `word` is a decimal digit.
+/// Returns whether each byte of `word` is a decimal digit.
 fn are_digits(word: &[u8]) -> bool
     ensures { result ≡ list_all is_ascii_digit word.now }
 {
     word.iter().all(|byte| byte.is_ascii_digit())
 }
 
-/// The number that `word` stands for. `None` if `word` is no number, or stands for one above 2^64 - 1.
+/// Returns the number that `word` stands for. `None` if `word` is no number, or stands for one above 2^64 - 1.
 fn parse_number(word: &[u8]) -> Option<u64>
     ensures { result ≡ number_of word.now }
 {
@@ -73,14 +73,14 @@ fn parse_number(word: &[u8]) -> Option<u64>
     }
 }
 
-/// The value that `word` stands for. `Reason::Value` if `word` is no number, or stands for one above 2^64 - 1.
+/// Returns the value that `word` stands for. The error is `Reason::Value` if `word` is no number, or stands for one above 2^64 - 1.
 pub fn parse_value(word: &[u8]) -> Result<u64, Reason>
     ensures { result ≡ parsed_value word.now }
 {
     parse_number(word).ok_or(Reason::Value)
 }
 
-/// The limit that `word` stands for; `Reason::Limit` if it is no number from 1 to `MAX_LIMIT`.
+/// Returns the limit that `word` stands for. The error is `Reason::Limit` if `word` is no number from 1 to `MAX_LIMIT`.
 pub fn parse_limit(word: &[u8]) -> Result<usize, Reason>
     ensures { result ≡ limit_of word.now }
 {

@@ -8,8 +8,8 @@ ghost use Rattle.index_laws.specs.Traced.{AGetIsTraced, CallsMakeNoAsides, Ended
 
 use rowex_core::Gate;
 
-/// A run may begin at a new index. A call that has ended as its contract says responds or is refused in it. So an execution is a run. Where
-/// a call that waits may be refused for want of records, one that doesn't wait may be, too.
+/// A run may begin at a new index. A call that has ended as its contract says responds or is refused in the run. So an execution is a run.
+/// Where a call that waits may be refused for want of records, one that doesn't wait may be, too.
 pub fn ended_calls_respond_or_are_refused()
     ensures { Responses }
 {}
@@ -25,19 +25,21 @@ pub fn a_get_returns()
     ensures { AGetReturns }
 {}
 
-/// If a core shows the table's state, a step that a pass may make is legal in it. The core and the run after it are the next state's.
+/// Let a core show the table's state. A step that a pass may make is legal in that core. The core after the step, and the run with it, are
+/// those of the table's next state.
 pub fn allowed_steps_are_legal()
     ensures { StepsFollow }
 {}
 
-/// Let a configuration of a run have the core that shows the table's state. Let it know of a pass what its seat knows, and have its call
-/// pending. Then a step that the pass may make is a step of the run, to a configuration of which the same is true in the table's next state.
+/// Take a configuration of a run whose core shows the table's state. Let it say of a pass that it knows what its seat knows, and that its
+/// call is pending. Then each step that the pass may make is a step of the run. It leads to a configuration of which the same is true in
+/// the table's next state.
 pub fn allowed_steps_are_steps_of_the_run()
     ensures { StepsAreMoments }
 {}
 
-/// Contracts of steps, of stamps, of meetings and of calls make an execution. The premise is that the steps of all passes have one order,
-/// in which each step's trace is what came before it.
+/// The contracts of steps, of stamps, of meetings and of calls make an execution. The premise is that the steps of all passes have one
+/// order, in which each step's trace is what came before it.
 pub fn contracts_make_an_execution()
     ensures { TracedAreExecutions }
 {}
@@ -48,25 +50,25 @@ pub fn calls_of_one_run_are_an_execution()
     ensures { OneRunIsAnExecution }
 {}
 
-/// Let a run begin with the steps of which each pass of an index knew, and let each then be shown steps that begin with this run. Their
-/// traces have ended in it.
+/// Take a run that begins with the steps of which each pass of an index knew. Let each of these passes then be shown steps that begin with
+/// this run. Then their traces have ended in it.
 pub fn shown_passes_have_ended_in_one_run()
     ensures { ShownHaveEnded }
 {}
 
-/// Let one handle of an index see what another has seen, as `hot_see` of C says. It is one thing more that each has done, and the handle
-/// knows of the leader's steps then.
+/// Let one handle of an index see what another, its leader, has seen, by `hot_see` of C. Then each of the two has done one thing more, and
+/// the handle knows of the steps of which the leader knew.
 pub fn seeing_is_done()
     ensures { SeeingIsDone }
 {}
 
-/// Let each pass of an index have a handle, from Rattle or from C. Let a run begin with the steps of which each knew, and let each then see
-/// what a leader has seen that knows of this run. The calls of all handles are linearizable.
+/// Let each pass of an index have a handle, from Rattle or from C. Let a run begin with the steps of which each pass knew. Let each handle
+/// then see what a leader has seen, one that knows of this run. The calls of all handles are linearizable.
 pub fn handles_that_see_are_linearizable()
     ensures { HandlesAreLinearizable }
 {}
 
-/// Let the two passes of an index meet that has no other. Their traces have ended in the run of which both know then.
+/// Let the only two passes of an index meet. Their traces have ended in the run of which both know then.
 pub fn two_that_meet_have_ended_in_one_run()
     ensures { TwoThatMeetHaveEnded }
 {}
@@ -76,7 +78,7 @@ pub fn loaded_passes_have_ended_in_one_run()
     ensures { LoadedHaveEnded }
 {}
 
-/// In each index of two passes there are calls that have ended in one run: one pass inserts a key, with any value, and the other finds it.
+/// In each index of two passes there are calls that have ended in one run. One pass inserts a key, with any value, and the other finds it.
 pub fn an_insert_is_found()
     ensures { AnInsertIsFound }
 {}
@@ -96,36 +98,39 @@ pub fn a_get_returns_by_contracts_alone()
     ensures { AGetIsTraced }
 {}
 
-/// In an execution by contracts alone, a load of the root is the step of one time. It shows its pass all that any had seen by then.
+/// In an execution by contracts alone, a load of the root is the step of one time. The load shows its pass all that any pass had seen by
+/// then.
 pub fn a_root_load_has_its_moment()
     ensures { LoadsAreMoments }
 {}
 
-/// If a pass made steps, and a call loads the root after all steps that it knew of by then, the call is shown all changes it had seen.
+/// Let a pass have made steps. Let a call load the root after all steps of which that pass knew by then. The call is shown all changes that
+/// the pass had seen.
 pub fn a_root_load_shows_earlier_changes()
     ensures { LoadsSeeAll }
 {}
 
-/// Let two calls with a key each be answered. Let the second one's pass load the root after all steps that the first one's knew of at its
-/// end. Then the first stands no later than the second, and earlier if it changed the map.
+/// Let two calls with a key each be answered. Let the second call's pass load the root after all steps of which the first call's pass knew
+/// when that call ended. Then the first call stands no later than the second, and earlier if it changed the map.
 pub fn calls_stand_in_order_of_steps()
     ensures { EndedBeforeLoaded }
 {}
 
-/// Let one run have the traces of two answered calls with a key each. Either the first stands as in `calls_stand_in_order_of_steps`, or its
-/// pass knew of the other's load of the root when it ended.
+/// Let one run have the traces of two answered calls with a key each. Either the first stands as in `calls_stand_in_order_of_steps`, or the
+/// first call's pass knew of the second one's load of the root when the first ended.
 pub fn calls_stand_in_order_or_first_knew_the_load()
     ensures { EndedOrLoadedBefore }
 {}
 
-/// Let two calls with a key each be answered. Let one run begin with the first one's trace, and with all steps before the second one's load
-/// of the root. Then one of two is so. The first stands no later than the second, and earlier if it changed the map. Or its pass knew of
-/// all these steps when it ended.
+/// Let two calls with a key each be answered. Let one run begin with the first call's trace, and with all steps before the second call's
+/// load of the root. Then one of two is so. The first call stands no later than the second, and earlier if it changed the map. Or the first
+/// call's pass knew of all these steps when that call ended.
 pub fn calls_stand_in_order_or_first_knew_the_steps()
     ensures { EndedOrShownBefore }
 {}
 
-/// Two passes that have met are of one run of the table. Of the two lists of steps that they knew of before, one begins with the other.
+/// Two passes that have met are of one run of the table. Take the two lists of steps of which they knew before. One list begins with the
+/// other.
 pub fn met_passes_are_of_one_run()
     ensures { MetAreOfOneRun }
 {}

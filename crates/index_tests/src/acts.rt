@@ -20,6 +20,7 @@ enum Object {
 }
 
 impl fmt::Display for Object {
+    /// Writes what a step is on, behind a blank; nothing for `Nothing`.
     fn fmt<W: fmt::Write>(&self, f: &mut fmt::Formatter<W>) -> fmt::Result {
         match self {
             Object::Nothing => Ok(()),
@@ -52,7 +53,7 @@ struct Line {
 }
 
 impl Line {
-    /// The line of the step `name` on `thing`, with no detail and nothing found.
+    /// Returns the line of the step `name` on `thing`, with no detail and nothing found.
     fn of_object(name: &'static str, thing: Object) -> Line {
         Line {
             name,
@@ -62,7 +63,7 @@ impl Line {
         }
     }
 
-    /// The line of the step `name` on `thing`, with `number`, which it stored, loaded or found.
+    /// Returns the line of the step `name` on `thing`, with `number`, which it stored, loaded or found.
     fn of_number(name: &'static str, thing: Object, number: u64) -> Line {
         Line {
             found: Found::Number(number),
@@ -70,7 +71,7 @@ impl Line {
         }
     }
 
-    /// The line of the step `name` on the word of `rec` at `offset`, which is `word`.
+    /// Returns the line of the step `name` on the word of `rec` at `offset`, which is `word`.
     fn of_word(name: &'static str, rec: Rec, offset: u8, word: u64) -> Line {
         Line {
             name,
@@ -81,7 +82,7 @@ impl Line {
     }
 }
 
-/// The record `rec`, as a line names it.
+/// Returns the record `rec`, as a line names it.
 fn object_of_record(rec: Rec) -> Object {
     match rec {
         Rec::Node(number) => Object::Node(number),
@@ -89,7 +90,7 @@ fn object_of_record(rec: Rec) -> Object {
     }
 }
 
-/// The root, the entry or the value at `spot`, as a line names it.
+/// Returns the root, the entry or the value at `spot`, as a line names it.
 fn object_of_spot(spot: Spot) -> Object {
     match spot {
         Spot::Root => Object::Root,
@@ -98,7 +99,7 @@ fn object_of_spot(spot: Spot) -> Object {
     }
 }
 
-/// The anchor or the node `target`, as a line names it.
+/// Returns the anchor or the node `target`, as a line names it.
 fn object_of_target(target: Target) -> Object {
     match target {
         Target::Anchor => Object::Anchor,
@@ -106,7 +107,7 @@ fn object_of_target(target: Target) -> Object {
     }
 }
 
-/// The line of the step `act`.
+/// Returns the line of the step `act`.
 fn line_of_act(act: &Act) -> Line {
     match *act {
         Act::Claim { rec, found } => Line::of_number("claim", object_of_record(rec), found),

@@ -33,7 +33,7 @@ pub struct TestCase<'a> {
 }
 
 impl<'a> TestCase<'a> {
-    /// A case on an index of one node record and one leaf record, with nothing to do.
+    /// Returns a case on an index of one node record and one leaf record, with nothing to do.
     pub fn new(alloc: Global) -> TestCase<'a> {
         TestCase {
             alloc,
@@ -63,12 +63,12 @@ impl<'a> TestCase<'a> {
     }
 }
 
-/// The error for a line of a case that can't be read or done.
+/// Returns the error for a line of a case that can't be read or done.
 pub fn bad_line() -> io::Error {
     io::Error::from(ErrorKind::InvalidInput)
 }
 
-/// The two numbers of `text`, of 32 bits, with a blank between them; `bad_line` if it is anything else.
+/// Returns the two numbers of `text`, of 32 bits, with a blank between them; `bad_line` if it is anything else.
 pub fn parse_two_numbers(text: &str) -> io::Result<(u32, u32)> {
     match text.split_once(' ') {
         Some((first, second)) => Ok((parse_count(first)?, parse_count(second)?)),
@@ -76,12 +76,12 @@ pub fn parse_two_numbers(text: &str) -> io::Result<(u32, u32)> {
     }
 }
 
-/// The number that `word` stands for; `bad_line` if it is none of 64 bits.
+/// Returns the number that `word` stands for; `bad_line` if it is none of 64 bits.
 fn parse_number(word: &str) -> io::Result<u64> {
     word.parse::<u64>().map_err(|_| bad_line())
 }
 
-/// The number that `word` stands for; `bad_line` if it is none of 32 bits.
+/// Returns the number that `word` stands for; `bad_line` if it is none of 32 bits.
 fn parse_count(word: &str) -> io::Result<u32> {
     word.parse::<u32>().map_err(|_| bad_line())
 }
@@ -118,7 +118,8 @@ fn append_tasks(tasks: &mut Vec<Task>, words: &[&str]) -> io::Result<()> {
     Ok(())
 }
 
-/// The call `name` with `key` and `value`. An exchange expects `value` and gives the key the next one. `bad_line` if there is no such call.
+/// Returns the call `name` with `key` and `value`. An exchange expects `value` and gives the key the next one. `bad_line` if there is no
+/// such call.
 fn call_by_name(name: &str, key: Key, value: u64) -> io::Result<Call> {
     match name {
         "insert" => Ok(Call::Insert(key, value)),
@@ -149,14 +150,14 @@ pub fn parse_keys(keys: &mut Vec<Key>, text: &str) -> io::Result<()> {
     Ok(())
 }
 
-/// The byte that `word`, two hexadecimal digits, stands for; else `bad_line`.
+/// Returns the byte that `word`, two hexadecimal digits, stands for; else `bad_line`.
 fn parse_byte(word: &str) -> io::Result<u8> {
     let mut room = [0u8; 1];
     hex::decode_to_slice(word, &mut room).map_err(|_| bad_line())?;
     Ok(room[0])
 }
 
-/// The key that `word` stands for: hexadecimal digits, or a dash if it is empty; `bad_line` if it is none.
+/// Returns the key that `word` stands for: hexadecimal digits, or a dash if it is empty; `bad_line` if it is none.
 fn parse_key(word: &str) -> io::Result<Key> {
     if word == "-" {
         return make_key(&[]);
@@ -170,7 +171,7 @@ fn parse_key(word: &str) -> io::Result<Key> {
     make_key(bytes)
 }
 
-/// The key of `bytes`; `bad_line` if they are more than 240.
+/// Returns the key of `bytes`; `bad_line` if they are more than 240.
 fn make_key(bytes: &[u8]) -> io::Result<Key> {
     Key::from_bytes(bytes).map_err(|_| bad_line())
 }

@@ -9,7 +9,8 @@ use key_bits::Key;
 use std::alloc::{AllocError, Global};
 use std::io;
 
-/// A new index of these numbers of passes, node and leaf records, and its passes. `bad_line` if one is out of range, or memory is refused.
+/// Returns a new index with `passes` passes, `nodes` node records and `leaves` leaf records, and its passes. `bad_line` if a number is out
+/// of range, or memory is refused.
 pub fn create_index(
     alloc: Global,
     passes: u32,
@@ -38,8 +39,8 @@ pub fn pop_guest<'a>(index: &'a Index, passes: &mut Vec<Pass>) -> io::Result<Gue
     }
 }
 
-/// Does `tasks` by `guest`, calls without waiting. `gate` is told each step. What each was answered goes to `said`, behind a semicolon. An
-/// error if memory is refused.
+/// Does `tasks` by `guest`, calls without waiting. `gate` is told each step. What each was answered goes to `said`, behind a semicolon.
+/// `AllocError` if memory is refused.
 pub fn do_tasks<G: Gate>(
     guest: &mut Guest,
     tasks: &[Task],
@@ -69,7 +70,7 @@ pub fn do_tasks<G: Gate>(
     Ok(())
 }
 
-/// Scans for the first `limit` pairs of the index, in rising order. `gate` is told each step. An error if memory is refused.
+/// Scans for the first `limit` pairs of the index, in rising order. `gate` is told each step. `AllocError` if memory is refused.
 pub fn scan_from_lowest<G: Gate>(
     guest: &mut Guest,
     alloc: Global,
@@ -80,7 +81,7 @@ pub fn scan_from_lowest<G: Gate>(
     index.scan_with(alloc, pass, &lowest_key(), &highest_key(), limit, gate)
 }
 
-/// Scans for the last `limit` pairs of the index, in falling order. `gate` is told each step. An error if memory is refused.
+/// Scans for the last `limit` pairs of the index, in falling order. `gate` is told each step. `AllocError` if memory is refused.
 pub fn scan_from_highest<G: Gate>(
     guest: &mut Guest,
     alloc: Global,
@@ -101,12 +102,12 @@ pub fn scan_from_highest<G: Gate>(
     Ok(Scan { pairs, more })
 }
 
-/// The key of no bytes, below which there is none.
+/// Returns the key of no bytes, below which there is none.
 pub fn lowest_key() -> Key {
     Key::from_padded([0; 240], 0)
 }
 
-/// The key of 240 bytes 255, above which there is none.
+/// Returns the key of 240 bytes 255, above which there is none.
 fn highest_key() -> Key {
     match Key::from_bytes(&[255; 240]) {
         Ok(key) => key,
@@ -114,7 +115,7 @@ fn highest_key() -> Key {
     }
 }
 
-/// Adds the values of the pairs that `scan` listed, and whether there are more, to the end of `said`. An error if memory is refused.
+/// Adds the values of the pairs that `scan` listed, and whether there are more, to the end of `said`. `AllocError` if memory is refused.
 fn write_scan(said: &mut String, scan: &Scan) -> Result<(), AllocError> {
     for (_, value) in scan.pairs.iter() {
         write!(said, "{value} ")?;
@@ -122,7 +123,7 @@ fn write_scan(said: &mut String, scan: &Scan) -> Result<(), AllocError> {
     said.push_str(if scan.more { "and more" } else { "listed" })
 }
 
-/// Adds the words for `told`, a reply with its value or a refusal, to the end of `said`. An error if memory is refused.
+/// Adds the words for `told`, a reply with its value or a refusal, to the end of `said`. `AllocError` if memory is refused.
 fn write_reply(said: &mut String, told: Result<Reply, TryFault>) -> Result<(), AllocError> {
     match told {
         Ok(Reply::Inserted) => said.push_str("inserted"),

@@ -20,7 +20,8 @@ pub struct Judge {
 }
 
 impl Judge {
-    /// A judge of an index that was just made with these numbers. An error if one is out of range, or memory is refused.
+    /// Returns a judge of a new index with `passes` passes, `nodes` node records and `leaves` leaf records. It returns an error if a number
+    /// is out of range, or memory is refused.
     pub fn new(alloc: Global, passes: u32, nodes: u32, leaves: u32) -> io::Result<Judge> {
         let asked = Layout::of(passes, nodes, leaves).map_err(|_| bad_line())?;
         let layout = keep_one_node(asked);
@@ -32,7 +33,7 @@ impl Judge {
     }
 
     /// Compares a scan of all keys by `guest`, and one downwards, with the map that the steps so far have made. It counts each that differs
-    /// as wrong. An error if memory is refused.
+    /// as wrong. `AllocError` if memory is refused.
     pub fn judge_scans(&mut self, alloc: Global, guest: &mut Guest) -> Result<(), AllocError> {
         let up = scan_from_lowest(guest, alloc, usize::MAX, self)?;
         self.judge_scan(alloc, &up)?;
@@ -41,8 +42,8 @@ impl Judge {
         self.judge_scan(alloc, &down)
     }
 
-    /// Counts one wrong if `scan`, upwards, has other pairs than the map that the steps so far have made, or says that there are more. An
-    /// error, and nothing counted, if memory is refused.
+    /// Counts one wrong if `scan`, upwards, has other pairs than the map that the steps so far have made, or says that there are more. If
+    /// memory is refused, it returns an error and counts nothing.
     fn judge_scan(&mut self, alloc: Global, scan: &Scan) -> Result<(), AllocError> {
         let content = self.replay.content(alloc)?;
         if scan.more || scan.pairs != content {
@@ -55,6 +56,7 @@ impl Judge {
 impl Gate for Judge {
     ghost becomes = { λ _ _ _. Unit {0} };
 
+    /// Gives `event` to the replay and keeps it. It counts one wrong if the replay refuses it, or there is no memory.
     fn at(&mut self, event: &Event) {
         if self.replay.step(*event).is_err() || self.told.push(*event).is_err() {
             self.wrong = self.wrong.wrapping_add(1);
@@ -62,7 +64,7 @@ impl Gate for Judge {
     }
 }
 
-/// The word for runs in which something was wrong `wrong` times: `lawful` for 0, else `WRONG`.
+/// Returns the word for runs in which something was wrong `wrong` times: `lawful` for 0, else `WRONG`.
 pub fn verdict(wrong: u64) -> &'static str {
     if wrong == 0 { "lawful" } else { "WRONG" }
 }
@@ -83,6 +85,7 @@ pub struct Stopper<'a> {
 impl<'a> Gate for Stopper<'a> {
     ghost becomes = { λ _ _ _. Unit {0} };
 
+    /// Has `event` judged. If the step is the one to stop at, the other pass does its tasks, whose steps are judged, too.
     fn at(&mut self, event: &Event) {
         self.judge.at(event);
         if self.left == 1 {
@@ -100,8 +103,8 @@ impl<'a> Gate for Stopper<'a> {
     }
 }
 
-/// Pass 0 of `index`, which was just made for `case` with two `passes`, and its gate, which stops it for pass 1. It has done what `case`
-/// does beforehand. `bad_line` if a pass is missing or a size is out of range; an error if memory is refused.
+/// Returns pass 0 of `index`, and its gate, which stops the pass for pass 1. `index` was just made for `case`, with two `passes`. Pass 0
+/// has done what `case` does beforehand. `bad_line` if a pass is missing or a size is out of range; an error if memory is refused.
 pub fn prepare_guest<'a>(
     case: &TestCase,
     index: &'a Index,

@@ -73,7 +73,7 @@ where
     }
 }
 
-/// Runs the cases in the files that the command line names. The error of the first file that has one.
+/// Runs the cases in the files that the command line names. It returns the error of the first file that has one.
 fn main(rt: HostRuntime) -> io::Result<()> {
     run_named_files(&rt)
 }

@@ -51,7 +51,7 @@ fn write_steps_of_guest(
     Ok(write_replies_and_acts(case, guest, gate, &tasks, lines)?)
 }
 
-/// Lets `guest` do `tasks`. Adds its answers, the steps that `gate` keeps and the verdict to `lines`. An error if memory is refused.
+/// Lets `guest` do `tasks`. Adds its answers, the steps that `gate` keeps and the verdict to `lines`. `AllocError` if memory is refused.
 fn write_replies_and_acts(
     case: &TestCase,
     guest: &mut Guest,
@@ -65,7 +65,7 @@ fn write_replies_and_acts(
     write!(lines, "\n  {}", verdict(gate.judge.wrong))
 }
 
-/// Adds a line for each of the steps `told` to `lines`; an error if memory is refused.
+/// Adds a line for each of the steps `told` to `lines`; `AllocError` if memory is refused.
 fn write_acts(lines: &mut String, told: &[Event]) -> Result<(), AllocError> {
     for event in told.iter() {
         write!(lines, "\n  ")?;

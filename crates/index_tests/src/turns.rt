@@ -80,7 +80,7 @@ impl Rota {
     }
 }
 
-/// The bit of thread `number`, which is below `MOST_THREADS`.
+/// Returns the bit of thread `number`, which is below `MOST_THREADS`.
 fn thread_bit(number: u64) -> u64 {
     1 << (number & 3)
 }
@@ -96,6 +96,7 @@ struct Turns<'a> {
 impl<'a> Gate for Turns<'a> {
     ghost becomes = { λ _ _ _. Unit {0} };
 
+    /// Keeps `event` with its number among all threads' steps. By chance, one time in four, it hands the turn on and waits for its own.
     fn at(&mut self, event: &Event) {
         let step = self.rota.steps.fetch_add(1, Ordering::SeqCst);
         let _ = self.told.push((step, *event));
@@ -143,8 +144,8 @@ fn run_thread(case: &TestCase, rota: &Rota, index: &Index, pass: Pass) -> Vec<(u
     gate.told
 }
 
-/// Lets `judge` judge the steps `told` of all threads in the order of their numbers, and then scans by `last`, another pass. An error if
-/// memory is refused.
+/// Lets `judge` judge the steps `told` of all threads in the order of their numbers, and then scans by `last`, another pass. `AllocError`
+/// if memory is refused.
 fn judge_steps(
     alloc: Global,
     judge: &mut Judge,
@@ -174,7 +175,7 @@ fn order_steps(order: &mut [Option<Event>], steps: &[(u64, Event)]) {
     }
 }
 
-/// Lets `judge` judge `event`, the step of a number. `None`, if there is no such step, counts as wrong.
+/// Gives `event`, which is the step of some number, to `judge`. `None` says that there is no such step, and counts as wrong.
 fn judge_step(judge: &mut Judge, event: &Option<Event>) {
     match event {
         Some(event) => judge.at(event),
@@ -182,8 +183,8 @@ fn judge_step(judge: &mut Judge, event: &Option<Event>) {
     }
 }
 
-/// Lets `threads` threads step on a new index in an order made from `seed`. Returns how often something was wrong. An error if a number is
-/// out of range, memory is refused, or a thread can't be started.
+/// Lets `threads` threads step on a new index in an order made from `seed`. Returns how often something was wrong. It returns an error if a
+/// number is out of range, memory is refused, or a thread can't be started.
 fn run_order<R: AllocGlobal + Threads + Sync>(
     rt: &R,
     case: &TestCase,
@@ -195,7 +196,7 @@ fn run_order<R: AllocGlobal + Threads + Sync>(
     run_threads(rt, case, &index, seats, passes, seed)
 }
 
-/// Does what `run_order` does, on `index`, which was just made, with all its passes, `seats`, in number `passes`.
+/// Does what `run_order` does, on `index`, which was just made. `seats` are all its passes, `passes` in number.
 fn run_threads<R: AllocGlobal + Threads + Sync>(
     rt: &R,
     case: &TestCase,
@@ -218,8 +219,8 @@ fn run_threads<R: AllocGlobal + Threads + Sync>(
     count_wrong(case, &mut judge, &mut last, &told, sums)
 }
 
-/// Lets a thread for each of `seats` step, in an order made from `seed`. Returns the steps of each, and what they counted. An error if
-/// memory is refused, or a thread can't be started.
+/// Lets a thread for each of `seats` step, in an order made from `seed`. Returns the steps of each, and what they counted. It returns an
+/// error if memory is refused, or a thread can't be started.
 fn step_threads<R: AllocGlobal + Threads + Sync>(
     rt: &R,
     case: &TestCase,
@@ -248,8 +249,8 @@ fn step_threads<R: AllocGlobal + Threads + Sync>(
     Ok((told, sums))
 }
 
-/// How often `judge`, which knows all before the steps `told`, finds one of them or a scan by `last` wrong, plus `sums.lost`. One more if
-/// the value of `case.counter` isn't `sums.added`. An error if memory is refused.
+/// Returns how often `judge`, which knows all before the steps `told`, finds one of them or a scan by `last` wrong, plus `sums.lost`. It
+/// counts one more if the value of `case.counter` isn't `sums.added`. It returns an error if memory is refused.
 fn count_wrong(
     case: &TestCase,
     judge: &mut Judge,
@@ -267,8 +268,8 @@ fn count_wrong(
 }
 
 /// Lets threads step in turns on new indexes of `case`, and prints whether all was lawful. `text` has two numbers: of the threads, which
-/// must be `MOST_THREADS` at most, and of the orders, each on an index; else `bad_line`. Another error is that of a `run_order`, or of the
-/// write.
+/// must be `MOST_THREADS` at most, and of the orders, each on an index of its own. The error is `bad_line` for any other text. Else it is
+/// that of a `run_order`, or of the write.
 pub fn run_orders<R>(rt: &R, case: &TestCase, text: &str) -> io::Result<()>
 where
     R: Print + AllocGlobal + Threads + Sync,

@@ -54,7 +54,7 @@ pub struct Choice {
     pub case: Case,
 }
 
-/// The index on `way`, which isn't empty, of the last node whose first position is below `position`; 0 if there is none.
+/// Returns the index on `way`, which isn't empty, of the last node whose first position is below `position`; 0 if there is none.
 pub fn last_level_before(way: &[PathNode], position: u16) -> usize
     requires { 0 < length way.now }
     ensures { IsLevel way.now position result }
@@ -68,9 +68,9 @@ pub fn last_level_before(way: &[PathNode], position: u16) -> usize
     level
 }
 
-/// The affected node and the case of an insertion after a search along `way`, whose leaf has another key. `level` is what
-/// `last_level_before` returns for the position where the two keys first differ. There the entries from `first` to `last` are affected. If
-/// that is one entry, and the path goes on below it, the whole next node is affected instead.
+/// Returns the affected node and the case of an insertion after a search along `way`, whose leaf has another key. `level` is what
+/// `last_level_before` returns for the position where the two keys first differ. In the node there, the entries from `first` to `last` are
+/// affected. If that is one entry, and the path goes on below it, the whole next node is affected instead.
 pub fn choose_case(way: &[PathNode], level: usize, first: u8, last: u8) -> Choice
     requires { level < length way.now }
     ensures chosen { IsChosen way.now level first last result }
@@ -105,8 +105,8 @@ pub fn choose_case(way: &[PathNode], level: usize, first: u8, last: u8) -> Choic
     }
 }
 
-/// What is done at the node of `step`, the affected one. `one_leaf` says whether one leaf alone is affected, which is pushed down if the
-/// node is higher than 1. Else a node with room gets the entry, and a full one overflows.
+/// Returns what is done at the affected node, that of `step`. `one_leaf` says whether one leaf alone is affected, which is pushed down if
+/// the node is higher than 1. Else a node with room gets the entry, and a full one overflows.
 fn case_at_node(step: PathNode, one_leaf: bool) -> Case
     ensures { result ≡ case_of step.height step.count one_leaf }
 {
@@ -119,8 +119,8 @@ fn case_at_node(step: PathNode, one_leaf: bool) -> Case
     }
 }
 
-/// The index on `way` of the uppermost node that is remade, if the node at index `level` overflows: that node, or one above it. The halves
-/// of a full node go into its parent if that is one higher, and a full parent overflows in turn.
+/// Returns the index on `way` of the uppermost node that is remade if the node at index `level` overflows: that node, or one above it. The
+/// halves of a full node go into its parent if that is one higher, and a full parent overflows in turn.
 pub fn pull_up_chain_end(way: &[PathNode], level: usize) -> usize
     requires { level < length way.now }
     ensures { IsChainEnd way.now level result }
@@ -132,15 +132,15 @@ pub fn pull_up_chain_end(way: &[PathNode], level: usize) -> usize
     end
 }
 
-/// Whether `child` is full, and what rises from it goes into `parent`.
+/// Returns whether `child` is full, and what rises from it goes into `parent`.
 fn is_pulled_up(child: PathNode, parent: PathNode) -> bool
     ensures { IsTrue result ↔ ((child.count ≡ 32) × IsPullUp child.height parent.height) }
 {
     child.count as usize == MAX_ENTRIES && is_pull_up(child.height, parent.height)
 }
 
-/// Whether what rises from a node of the height `child_height` goes into its parent: the parent is one higher. If it is higher still, a
-/// new node goes between them.
+/// Returns whether what rises from a node of the height `child_height` goes into its parent, of the height `parent_height`: the parent is
+/// one higher. If it is higher still, a new node goes between them.
 pub fn is_pull_up(child_height: u16, parent_height: u16) -> bool
     ensures { IsTrue result ↔ IsPullUp child_height parent_height }
 {

@@ -21,8 +21,9 @@ pub enum Grown {
     Two(Cut),
 }
 
-/// The node with `entry` added: a new fork at `position` parts it from the entries from `first` to `last`, as `Node::affected` returns
-/// them. `bit` is the new key's bit there. It is one node if there is room, else the cut that [`grow_full`] returns.
+/// Returns `node` with `entry` added. A new fork at `position` parts `entry` from the entries from `first` to `last`, which
+/// `Node::affected` returns. `bit` is the new key's bit there. The result is one node if there is room, else the cut that [`grow_full`]
+/// returns.
 pub fn grow(node: &Node, first: u8, last: u8, position: u16, bit: bool, entry: Entry) -> Grown
     requires range { IsAffected (piece node.now) position first last }
     requires position { position < 65535 }
@@ -37,8 +38,9 @@ pub fn grow(node: &Node, first: u8, last: u8, position: u16, bit: bool, entry: E
     Grown::Two(grow_full(node, first, last, position, bit, entry))
 }
 
-/// What a full node becomes with `entry` added, as [`grow`] says. The node is cut at its root fork, and the entry goes into one of the
-/// halves. If `position` is below the root fork's, the cut is there: the whole node is one side, `Half::Same`, and the entry the other.
+/// Returns what the full node `node` becomes with `entry` added, as [`grow`] says. The node is cut at its root fork, and the entry goes
+/// into one of the halves. If `position` is below the root fork's, the cut is there: the whole node is one side, `Half::Same`, and the
+/// entry the other.
 pub fn grow_full(node: &Node, first: u8, last: u8, position: u16, bit: bool, entry: Entry) -> Cut
     requires full { length node.now.entries ≡ 32 }
     requires range { IsAffected (piece node.now) position first last }
@@ -54,7 +56,8 @@ pub fn grow_full(node: &Node, first: u8, last: u8, position: u16, bit: bool, ent
     cut_and_grow(node, first, last, position, bit, entry)
 }
 
-/// The cut at `position` whose sides are the node that was handed in, whole, and `entry`. `bit` says which side `entry` is.
+/// Returns the cut at `position` whose sides are the node that was handed in, whole, and `entry`. `entry` is the 1 side if `bit` is true,
+/// else the 0 side.
 fn keep_node_whole(position: u16, bit: bool, entry: Entry) -> Cut
     ensures position { result.position ≡ position }
     ensures zero { result.zero ≡ (if bit then Half.Same else Half.One entry) }
@@ -75,7 +78,8 @@ fn keep_node_whole(position: u16, bit: bool, entry: Entry) -> Cut
     }
 }
 
-/// The cut of the full node `node`, with `entry` in the half that has the entries from `first` to `last`, as [`grow_half`] puts it there.
+/// Returns the cut of the full node `node` at its root fork, with `entry` in the half that has the entries from `first` to `last`.
+/// [`grow_half`] puts it there.
 fn cut_and_grow(node: &Node, first: u8, last: u8, position: u16, bit: bool, entry: Entry) -> Cut
     requires lawful { IsLawfulNode node.now }
     requires range { IsAffected (piece node.now) position first last }
@@ -107,7 +111,7 @@ fn cut_and_grow(node: &Node, first: u8, last: u8, position: u16, bit: bool, entr
     }
 }
 
-/// The number of entries of `half`, a side of a cut and not `Half::Same`.
+/// Returns the number of entries of `half`, a side of a cut and not `Half::Same`.
 fn half_count(half: &Half) -> u8
     requires { HalfShows half.now (half_piece half.now) }
     ensures { result ≡ size (half_piece half.now) }
@@ -119,8 +123,8 @@ fn half_count(half: &Half) -> u8
     }
 }
 
-/// The node of `half`, a side of a cut with fewer than 32 entries, with `entry` beside its affected entries `first` to `last`. A fork at
-/// `position` parts it from these. The entry stands behind them if `bit` is true, else before them.
+/// Returns the node of `half`, a side of a cut with fewer than 32 entries, with `entry` beside its affected entries `first` to `last`. A
+/// fork at `position` parts it from these. It stands behind them if `bit` is true, else before them.
 fn grow_half(half: Half, first: u8, last: u8, position: u16, bit: bool, entry: Entry) -> Node
     requires half { HalfShows half (half_piece half) }
     requires room { size (half_piece half) < 32 }
@@ -145,8 +149,8 @@ fn grow_half(half: Half, first: u8, last: u8, position: u16, bit: bool, entry: E
     }
 }
 
-/// The node with a fork of `zero` and `one` at `position` in place of the entry in `slot`. `position` is above those of all forks on the
-/// path to `slot`. It is one node if there are fewer than 32 entries, else the cut that [`pull_up_full`] returns.
+/// Returns `node` with a fork of `zero` and `one` at `position` in place of the entry in `slot`. `position` is above those of all forks on
+/// the path to `slot`. The result is one node if there are fewer than 32 entries, else the cut that [`pull_up_full`] returns.
 pub fn pull_up(node: &Node, slot: u8, position: u16, zero: Entry, one: Entry) -> Grown
     requires place { slot < length node.now.entries }
     requires path { IsAbovePath position slot (piece node.now) }
@@ -165,8 +169,8 @@ pub fn pull_up(node: &Node, slot: u8, position: u16, zero: Entry, one: Entry) ->
     Grown::Two(pull_up_full(node, slot, position, zero, one))
 }
 
-/// What a full node becomes with the fork in it, as [`pull_up`] says. The node is cut at its root fork, and the new fork stands in one of
-/// the halves.
+/// Returns what the full node `node` becomes with the fork in it, as [`pull_up`] says. The node is cut at its root fork, and the new fork
+/// stands in one of the halves.
 pub fn pull_up_full(node: &Node, slot: u8, position: u16, zero: Entry, one: Entry) -> Cut
     requires full { length node.now.entries ≡ 32 }
     requires place { slot < length node.now.entries }
@@ -201,7 +205,8 @@ pub fn pull_up_full(node: &Node, slot: u8, position: u16, zero: Entry, one: Entr
     }
 }
 
-/// The node of `half`, a side of a cut with fewer than 32 entries. A fork replaces the entry in `slot`, as [`pull_up`] puts it there.
+/// Returns the node of `half`, a side of a cut with fewer than 32 entries. It has a fork in place of the entry in `slot`, as [`pull_up`]
+/// says.
 fn fork_half(half: Half, slot: u8, position: u16, zero: Entry, one: Entry) -> Node
     requires half { HalfShows half (half_piece half) }
     requires room { size (half_piece half) < 32 }
@@ -223,7 +228,7 @@ fn fork_half(half: Half, slot: u8, position: u16, zero: Entry, one: Entry) -> No
 }
 
 /// Puts a fork of `zero` and `one` at `position` in the place of the entry in `slot` of `node`, which has fewer than 32 entries. `position`
-/// is above those of all forks on the path to `slot`. The height is made anew: one above the greatest of the entries that the node has
+/// is above those of all forks on the path to `slot`. The height is computed anew: one above the greatest of the entries that the node has
 /// then.
 pub fn put_fork(node: &mut Node, slot: u8, position: u16, zero: Entry, one: Entry)
     requires room { length node.old.entries < 32 }

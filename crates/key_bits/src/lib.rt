@@ -59,7 +59,7 @@ impl Model for Key {
 }
 
 impl Key {
-    /// The key of `bytes`; `Err(TooLong)` exactly if there are more than `MAX_BYTES`.
+    /// Returns the key of `bytes`; `Err(TooLong)` exactly if there are more than `MAX_BYTES`.
     pub fn from_bytes(bytes: &[u8]) -> Result<Key, KeyFault>
         ensures fits { IsOk result ↔ (length bytes.now ≤ MAX_BYTES) }
         ensures ok { IfOk result (λ key. key ≡ bytes.now) }
@@ -71,7 +71,7 @@ impl Key {
         Ok(key)
     }
 
-    /// The key of no bytes.
+    /// Returns the key of no bytes.
     #[inline(always)]
     pub fn empty() -> Key
         ensures { result ≡ [] }
@@ -84,7 +84,7 @@ impl Key {
 
     /// Makes this the key of `bytes`. `Err(TooLong)` exactly if there are more than `MAX_BYTES`; then the key stays.
     ///
-    /// A key that is set where it is used isn't moved, as the one in the result of `Key::from_bytes` is.
+    /// A key that is set in its place isn't moved. The one in the result of `Key::from_bytes` is.
     #[inline(always)]
     pub fn set_bytes(&mut self, bytes: &[u8]) -> Result<(), KeyFault>
         ensures fits { IsOk result ↔ (length bytes.now ≤ MAX_BYTES) }
@@ -100,7 +100,7 @@ impl Key {
         Ok(())
     }
 
-    /// The key of the first `count` of `bytes`, `MAX_BYTES` at most. All others are 0.
+    /// Returns the key of the first `count` of `bytes`, at most `MAX_BYTES`. All other bytes are 0.
     pub fn from_padded(bytes: [u8; MAX_BYTES], count: usize) -> Key
         requires { HoldsKey bytes count }
         ensures { result ≡ take count bytes }
@@ -108,7 +108,7 @@ impl Key {
         Key { count, bytes }
     }
 
-    /// The key's bytes.
+    /// Returns the key's bytes.
     pub fn as_bytes(&self) -> &[u8]
         ensures bytes { result.now ≡ self.now }
         ensures key { IsKey self.now }
@@ -116,7 +116,7 @@ impl Key {
         &self.bytes[..self.count]
     }
 
-    /// The key's bytes, and 0 behind them up to `MAX_BYTES`.
+    /// Returns the key's bytes, and 0 behind them up to `MAX_BYTES`.
     pub fn padded_bytes(&self) -> &[u8; MAX_BYTES]
         ensures bytes { result.now ≡ with_zeros self.now }
         ensures key { IsKey self.now }
@@ -124,7 +124,7 @@ impl Key {
         &self.bytes
     }
 
-    /// A copy of the key.
+    /// Returns a copy of the key.
     pub fn copy(&self) -> Key
         ensures same { result ≡ self.now }
         ensures key { IsKey self.now }
@@ -135,8 +135,8 @@ impl Key {
         }
     }
 
-    /// The bit at `position`. Byte `i` makes the nine bits from `9 * i` on: a 1, and then its own bits, the highest first. Each bit past
-    /// the last byte is 0.
+    /// Returns the bit at `position`. Byte `i` makes the nine bits from `9 * i` on: a 1, and then its own bits, the highest first. Each bit
+    /// behind the last byte is 0.
     pub fn bit(&self, position: u16) -> bool
         ensures { result ≡ bit_of self.now position }
     {
@@ -144,8 +144,8 @@ impl Key {
     }
 }
 
-/// Writes `bytes` to the front of `array`, which has 0 everywhere. One store writes the first 32 bytes of the array, if the key has as many
-/// or just eight, as keys commonly have. A load of sixteen of them would wait longer for two stores.
+/// Writes `bytes` to the front of `array`, which has 0 everywhere. If there are just eight bytes, as keys commonly have, or 32 and more,
+/// one store writes the first 32 bytes of the array. A load of sixteen bytes would wait longer for two stores.
 #[inline(always)]
 fn write_key_bytes(array: &mut [u8; MAX_BYTES], bytes: &[u8])
     requires few { length bytes.now ≤ MAX_BYTES }
@@ -178,7 +178,7 @@ impl PartialEq for Key {
 
     ghost laws = { partial_equiv_from_equiv nat_list_eq_equiv };
 
-    /// Whether both keys have the same bytes.
+    /// Returns whether both keys have the same bytes.
     fn eq(&self, other: &Key) -> bool
         ensures same { IsTrue result ↔ (self.now ≡ other.now) }
         ensures pointwise { result ≡ pointwise nat_eq self.now other.now }
@@ -202,7 +202,7 @@ impl PartialOrd for Key {
 
     ghost laws = { texts_po };
 
-    /// The order of the two keys by bytes, which each two keys have: never `None`.
+    /// Returns the order of the two keys by bytes. Each two keys have one: it is never `None`.
     fn partial_cmp(&self, other: &Key) -> Option<Ordering> {
         Some(self.cmp(other))
     }
@@ -222,7 +222,7 @@ impl Ord for Key {
 
     ghost matches_eq = { texts_ties };
 
-    /// The order of the two keys by bytes, a prefix first. It is also their order by bits.
+    /// Returns the order of the two keys by bytes, a prefix first. It is also their order by bits.
     fn cmp(&self, other: &Key) -> Ordering
         ensures bytes { result ≡ slice_cmp nat_cmp self.now other.now }
         ensures equal { (result ≡ Ordering.Equal) ↔ (self.now ≡ other.now) }
@@ -250,7 +250,7 @@ impl Hash for Key {
     }
 }
 
-/// The first position at which the bits of `a` and `b` differ, below `9 * MAX_BYTES`; `None` exactly for equal keys.
+/// Returns the first position at which the bits of `a` and `b` differ, below `9 * MAX_BYTES`; `None` exactly for equal keys.
 pub fn mismatch(a: &Key, b: &Key) -> Option<u16>
     ensures none { IsNone result ↔ (a.now ≡ b.now) }
     ensures first { IfSome result (IsFirstDifference a.now b.now) }
@@ -263,7 +263,7 @@ pub fn mismatch(a: &Key, b: &Key) -> Option<u16>
     mismatch_of_bytes(a.as_bytes(), b.as_bytes())
 }
 
-/// The first position at which the keys of the bytes `xs` and `ys` differ, below `9 * MAX_BYTES`; `None` exactly for equal keys.
+/// Returns the first position at which the keys of the bytes `xs` and `ys` differ, below `9 * MAX_BYTES`; `None` exactly for equal keys.
 pub fn mismatch_of_bytes(xs: &[u8], ys: &[u8]) -> Option<u16>
     requires { IsKey xs.now × IsKey ys.now }
     ensures none { IsNone result ↔ (xs.now ≡ ys.now) }
@@ -285,7 +285,7 @@ pub fn mismatch_of_bytes(xs: &[u8], ys: &[u8]) -> Option<u16>
     }
 }
 
-/// How many groups of eight bytes are the same in `xs` and `ys`, before the first group that differs; at most `count`.
+/// Returns how many groups of eight bytes are the same in `xs` and `ys`, before the first group that differs; at most `count`.
 fn count_same_eights(xs: &[u8], ys: &[u8], count: usize) -> usize
     requires { (8 * count ≤ length xs.now) × (8 * count ≤ length ys.now) }
     ensures few { result ≤ count }
@@ -300,7 +300,8 @@ fn count_same_eights(xs: &[u8], ys: &[u8], count: usize) -> usize
     count
 }
 
-/// The eight bytes from byte `8 * j` on as a number, whose highest byte is the first of them. `j` counts groups of eight bytes from 0.
+/// Returns the eight bytes from byte `8 * j` on as a number, whose highest byte is the first of them. `j` counts groups of eight bytes from
+/// 0.
 #[inline(always)]
 fn eight_bytes_at(bytes: &[u8], j: usize) -> u64
     requires { 8 * j + 8 ≤ length bytes.now }
@@ -311,7 +312,7 @@ fn eight_bytes_at(bytes: &[u8], j: usize) -> u64
     u64::from_be_bytes(eight)
 }
 
-/// How many bits of the bytes `x` and `y`, which differ, stand before the first that differs, from the highest on.
+/// Returns how many bits, from the highest on, stand before the first in which the bytes `x` and `y` differ: 0 to 7. The two differ.
 fn byte_mismatch(x: u8, y: u8) -> u32
     requires { x ≢ y }
     ensures bound { result < 8 }
@@ -320,7 +321,7 @@ fn byte_mismatch(x: u8, y: u8) -> u32
     (x ^ y).leading_zeros()
 }
 
-/// The bits of `key` at `positions`, 31 at most: the bit at `positions[j]` is bit `31 - j`. All lower bits are 0.
+/// Returns the bits of `key` at `positions`, at most 31: bit `31 - j` is the one at `positions[j]`. All lower bits are 0.
 pub fn extract(key: &Key, positions: &[u16]) -> u32
     requires { length positions.now ≤ 31 }
     ensures { result ≡ gathered (bit_of key.now) positions.now }
@@ -330,18 +331,19 @@ pub fn extract(key: &Key, positions: &[u16]) -> u32
     for position in positions {
         bits = bits << 1 | bit_of_bytes(bytes, *position);
     }
+    // Two shifts, since one shift by all 32 bits is not allowed.
     bits << (31 - positions.len()) << 1
 }
 
-/// The bit at `position` of the key of `bytes`, as 0 or 1. Each byte has nine positions, as `Key::bit` says. Its nine bits are those of
-/// 256 plus the byte, the highest first. Past the last byte each bit is 0.
+/// Returns the bit at `position` of the key of `bytes`, as 0 or 1. Each byte has nine positions, as `Key::bit` says: its bits there are
+/// those of 256 plus the byte, the highest first. Behind the last byte each bit is 0.
 fn bit_of_bytes(bytes: &[u8], position: u16) -> u32
     ensures { result ≡ (if bit_of bytes.now position then 1 else 0) }
 {
     let position = position as u32;
-    let at = position / 9;
-    match bytes.get(at as usize) {
-        Some(byte) => (256 + *byte as u32) >> (9 * at + 8 - position) & 1,
+    let byte_index = position / 9;
+    match bytes.get(byte_index as usize) {
+        Some(byte) => (256 + *byte as u32) >> (9 * byte_index + 8 - position) & 1,
         None => 0,
     }
 }

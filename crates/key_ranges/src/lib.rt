@@ -13,7 +13,7 @@ pub mod laws;
 
 use key_bits::{Key, MAX_BYTES};
 
-/// The least key above `key`; `None` above the greatest key, `MAX_BYTES` bytes of 255.
+/// Returns the least key above `key`; `None` if `key` is the greatest one, `MAX_BYTES` bytes of 255.
 pub fn next_key(key: &Key) -> Option<Key>
     ensures some { IfSome result (IsNextKey key.now) }
     ensures none { result ≡ None → NoKeyAbove key.now }
@@ -32,7 +32,7 @@ pub fn next_key(key: &Key) -> Option<Key>
     None
 }
 
-/// The greatest key below `key`; `None` below the empty key.
+/// Returns the greatest key below `key`; `None` if `key` is the empty one.
 pub fn previous_key(key: &Key) -> Option<Key>
     ensures some { IfSome result (IsPreviousKey key.now) }
     ensures none { result ≡ None → key.now ≡ [] }
@@ -45,7 +45,7 @@ pub fn previous_key(key: &Key) -> Option<Key>
     Some(key_from_bytes(front))
 }
 
-/// The key of the bytes `front`, `MAX_BYTES` at most.
+/// Returns the key of the bytes `front`, at most `MAX_BYTES`.
 fn key_from_bytes(front: &[u8]) -> Key
     requires { IsKey front.now }
     ensures { result ≡ front.now }
@@ -55,7 +55,7 @@ fn key_from_bytes(front: &[u8]) -> Key
     Key::from_padded(places, front.len())
 }
 
-/// The key of the bytes `front`, which has room for one more, and `last` behind them.
+/// Returns the key of the bytes `front`, which has room for one more, and `last` behind them.
 fn key_with_last_byte(front: &[u8], last: u8) -> Key
     requires key { IsKey front.now }
     requires room { length front.now < MAX_BYTES }
@@ -67,7 +67,7 @@ fn key_with_last_byte(front: &[u8], last: u8) -> Key
     Key::from_padded(places, front.len() + 1)
 }
 
-/// The greatest key that begins with `prefix`. Behind the prefix it has bytes of 255, and `MAX_BYTES` bytes in all.
+/// Returns the greatest key that begins with `prefix`. Behind the prefix it has bytes of 255, and `MAX_BYTES` bytes in all.
 pub fn last_with_prefix(prefix: &Key) -> Key
     ensures { result ≡ last_with prefix.now }
 {

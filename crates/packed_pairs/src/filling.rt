@@ -43,7 +43,7 @@ impl Model for Filling {
 }
 
 impl Filling {
-    /// Takes the pairs of `pairs` with their memory. `pairs` has none then.
+    /// Takes the pairs of `pairs` with their memory, and returns them. `pairs` has none then.
     #[inline(always)]
     pub fn take(pairs: &mut Pairs) -> Filling
         ensures pairs { result.pairs ≡ pairs.old }
@@ -79,7 +79,7 @@ impl Filling {
         *pairs = Pairs { bytes, heads };
     }
 
-    /// How many pairs there are.
+    /// Returns how many pairs there are.
     #[inline(always)]
     pub fn len(&self) -> usize
         ensures { result ≡ length self.now.pairs }
@@ -96,7 +96,7 @@ impl Filling {
         self.count = 0;
     }
 
-    /// Makes room for `count` more pairs. An error if memory is refused.
+    /// Makes room for `count` more pairs, at most 32. `AllocError` if memory is refused; the pairs stay then.
     #[inline(always)]
     pub fn reserve(&mut self, count: usize) -> Result<(), AllocError>
         requires { count ≤ 32 }
@@ -129,7 +129,7 @@ impl Filling {
         Ok(())
     }
 
-    /// Adds a pair of a key and `value` at the end, for which there is room. The key has the first `length` bytes of `places`.
+    /// Adds a pair at the end, for which there is room. Its key has the first `length` bytes of `places`, and its value is `value`.
     #[inline(always)]
     pub fn push(&mut self, places: &[u8; MAX_BYTES], length: usize, value: u64)
         requires key { IsKey (take length places.now) }
@@ -146,8 +146,8 @@ impl Filling {
     }
 }
 
-/// Returns `heads` with room for `count` more, and whether memory was there for it. Never inline, so that callers have less code; and by
-/// value, so that a caller's list still lies in registers.
+/// Returns `heads` with room for `count` more behind the first `used`, which stay, and whether memory was there for it. Never inline, so
+/// that callers have less code; and by value, so that a caller's list still lies in registers.
 #[inline(never)]
 fn add_heads_room(mut heads: Vec<PairHead>, used: usize, count: usize) -> (Vec<PairHead>, bool)
     requires { used ≤ length heads.items }
@@ -164,8 +164,8 @@ fn add_heads_room(mut heads: Vec<PairHead>, used: usize, count: usize) -> (Vec<P
     (heads, has_room)
 }
 
-/// Returns `bytes` with room for `count` more behind the first `used`, which stay, and whether memory was there for it. Never inline, and by
-/// value, as [`add_heads_room`] is.
+/// Returns `bytes` with room for `count` more behind the first `used`, which stay, and whether memory was there for it. Never inline, and
+/// by value, as [`add_heads_room`] is.
 #[inline(never)]
 fn add_bytes_room(mut bytes: Vec<u8>, used: usize, count: usize) -> (Vec<u8>, bool)
     requires { used ≤ length bytes.items }

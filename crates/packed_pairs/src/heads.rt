@@ -29,7 +29,7 @@ impl Model for Heads {
 }
 
 impl Heads {
-    /// No heads, for memory of `alloc`. They take none yet.
+    /// Returns no heads, for memory of `alloc`. They take none yet.
     pub(crate) fn new(alloc: Global) -> Heads
         ensures { result ≡ [] }
     {
@@ -39,7 +39,7 @@ impl Heads {
         }
     }
 
-    /// How many heads there are.
+    /// Returns how many heads there are.
     #[inline(always)]
     pub(crate) fn len(&self) -> usize
         ensures count { result ≡ length self.now }
@@ -48,12 +48,12 @@ impl Heads {
         self.used
     }
 
-    /// How many heads there is memory for.
+    /// Returns for how many heads there is memory.
     pub(crate) fn capacity(&self) -> usize {
         self.heads.capacity()
     }
 
-    /// The heads.
+    /// Returns the heads.
     pub(crate) fn as_slice(&self) -> &[PairHead]
         ensures { result.now ≡ self.now }
     {
@@ -69,7 +69,7 @@ impl Heads {
         }
     }
 
-    /// Takes out the last head, if there is one. The memory stays.
+    /// Takes out the last head, and returns it; `None` if there is none. The memory stays.
     pub(crate) fn pop(&mut self) -> Option<PairHead>
         ensures items { self.old ≡ self.new ++ option_to_list result }
         ensures none { MatchOption result ((self.old ≡ []) × (self.new ≡ [])) (λ _. 0 < length self.old) }
@@ -81,7 +81,7 @@ impl Heads {
         Some(self.heads[self.used])
     }
 
-    /// The heads with others behind them, which mean nothing, and how many they are.
+    /// Returns the heads with others behind them, which mean nothing, and the number of the heads.
     #[inline(always)]
     pub(crate) fn into_parts(self) -> (Vec<PairHead>, usize)
         ensures heads { take result.1 result.0.items ≡ self }
@@ -91,7 +91,7 @@ impl Heads {
         (heads, used)
     }
 
-    /// The first `used` of `heads`.
+    /// Returns the first `used` of `heads`.
     #[inline(always)]
     pub(crate) fn of_parts(heads: Vec<PairHead>, used: usize) -> Heads
         requires { used ≤ length heads.items }
@@ -112,7 +112,7 @@ pub(crate) fn put_head(heads: &mut Vec<PairHead>, used: usize, count: u8, value:
     write_first(room, count, value);
 }
 
-/// Writes `count` and `value` to the first of `room`. Its padding stays, which a whole head would write, too.
+/// Writes `count` and `value` to the first of `room`. The head's padding stays, which a store of a whole head would write, too.
 #[inline(always)]
 fn write_first(room: &mut [PairHead], count: u8, value: u64)
     requires { 0 < length room.old }

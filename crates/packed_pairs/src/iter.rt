@@ -28,7 +28,7 @@ impl<'a> Model for Iter<'a> {
 }
 
 impl<'a> Iter<'a> {
-    /// An iterator over the pairs of `heads`. `bytes` are the bytes of their keys, one key behind the other, and no others.
+    /// Returns an iterator over the pairs of `heads`. `bytes` are the bytes of their keys, one key behind the other, and no others.
     pub(crate) fn of(bytes: &'a [u8], heads: &'a [PairHead]) -> Iter<'a>
         requires { ArePacked heads.now bytes.now }
         ensures { result ≡ unpacked heads.now bytes.now }
@@ -36,7 +36,8 @@ impl<'a> Iter<'a> {
         Iter { bytes, heads }
     }
 
-    /// The next pair, with a key that is a value of its own; `None` if no pair is left. Inline, so that the key is made where it stays.
+    /// Returns the next pair, with a key that is a value of its own; `None` if no pair is left. Inline, so that the key is made where it
+    /// stays.
     #[inline(always)]
     pub(crate) fn next_pair(&mut self) -> Option<(Key, u64)>
         ensures { YieldsFirst (λ i. i) self.old result self.new }
@@ -49,7 +50,7 @@ impl<'a> Iter<'a> {
     }
 }
 
-/// The key of `bytes`, `MAX_BYTES` at most. Inline, as its caller is.
+/// Returns the key of `bytes`, at most `MAX_BYTES`. Inline, as its caller is.
 #[inline(always)]
 pub(crate) fn key_from_bytes(bytes: &[u8]) -> Key
     requires { IsKey bytes.now }
@@ -70,7 +71,7 @@ impl<'a> Iterator for Iter<'a> {
 
     ghost remaining = { item_count (λ i. i) };
 
-    /// The next pair, its key as bytes of the list; `None` if no pair is left.
+    /// Returns the next pair, its key as bytes of the list; `None` if no pair is left.
     #[inline(always)]
     fn next(&mut self) -> Option<(&'a [u8], u64)> {
         let (head, heads) = self.heads.split_first()?;

@@ -1,5 +1,5 @@
-//! The bytes of the keys of a list, with room behind them that is written already. So a key is copied by a few stores, and no length but one
-//! changes.
+//! The bytes of the keys of a list, with room behind them that is written already. So a key is copied by a few stores, and no length but
+//! one changes.
 
 ghost use Rattle.std.specs.Prelude.{◌≡◌, ◌++◌, ◌+◌, ◌≤◌, [], drop, length, take};
 ghost use Rattle.key_bits.specs.declared.TheConstants.{MAX_BYTES};
@@ -30,7 +30,7 @@ impl Model for KeyBytes {
 }
 
 impl KeyBytes {
-    /// No bytes, for memory of `alloc`. They take none yet.
+    /// Returns no bytes, for memory of `alloc`. They take none yet.
     pub(crate) fn new(alloc: Global) -> KeyBytes
         ensures { result ≡ [] }
     {
@@ -40,7 +40,7 @@ impl KeyBytes {
         }
     }
 
-    /// How many bytes there are.
+    /// Returns how many bytes there are.
     #[inline(always)]
     pub(crate) fn len(&self) -> usize
         ensures { result ≡ length self.now }
@@ -48,17 +48,17 @@ impl KeyBytes {
         self.used
     }
 
-    /// How many bytes there is memory for.
+    /// Returns for how many bytes there is memory.
     pub(crate) fn capacity(&self) -> usize {
         self.bytes.capacity()
     }
 
-    /// Where the memory comes from.
+    /// Returns where the memory comes from.
     pub(crate) fn allocator(&self) -> &Global {
         self.bytes.allocator()
     }
 
-    /// The bytes.
+    /// Returns the bytes.
     pub(crate) fn as_slice(&self) -> &[u8]
         ensures { result.now ≡ self.now }
     {
@@ -74,7 +74,7 @@ impl KeyBytes {
         }
     }
 
-    /// The bytes with others behind them, which mean nothing, and how many of these there are.
+    /// Returns the bytes with others behind them, which mean nothing, and the number of the keys' bytes.
     #[inline(always)]
     pub(crate) fn into_parts(self) -> (Vec<u8>, usize)
         ensures bytes { take result.1 result.0.items ≡ self }
@@ -84,7 +84,7 @@ impl KeyBytes {
         (bytes, used)
     }
 
-    /// The first `used` of `bytes`.
+    /// Returns the first `used` of `bytes`.
     #[inline(always)]
     pub(crate) fn of_parts(bytes: Vec<u8>, used: usize) -> KeyBytes
         requires { used ≤ length bytes.items }
@@ -96,8 +96,8 @@ impl KeyBytes {
 
 /// Copies the first `size` bytes of `places` to `bytes`, from byte `used` on. All before it stay.
 ///
-/// A copy of a number of bytes that is known beforehand needs no call. So it copies eight bytes for a key of eight, and 64 for another of
-/// up to 64.
+/// A copy whose length is known when it is compiled needs no call. So eight bytes are copied for a key of eight, and 64 for another of up
+/// to 64.
 #[inline(always)]
 pub(crate) fn copy_key(bytes: &mut Vec<u8>, used: usize, places: &[u8; MAX_BYTES], size: usize)
     requires room { used + MAX_BYTES ≤ length bytes.old.items }
@@ -115,8 +115,8 @@ pub(crate) fn copy_key(bytes: &mut Vec<u8>, used: usize, places: &[u8; MAX_BYTES
     }
 }
 
-/// Copies the first N bytes of `places` to the front of `room`, for a key of `size` bytes, no more than these. An array between needs no
-/// test whether both overlap.
+/// Copies the first N bytes of `places` to the front of `room`, for a key of `size` bytes, no more than N. The array between the two needs
+/// no test whether they overlap.
 #[inline(always)]
 fn copy_first<const N: usize>(room: &mut [u8], places: &[u8; MAX_BYTES], size: usize)
     requires room { MAX_BYTES ≤ length room.old }

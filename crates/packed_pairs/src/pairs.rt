@@ -32,7 +32,7 @@ impl Model for Pairs {
 }
 
 impl Pairs {
-    /// A list of no pairs, for memory of `alloc`. It takes none yet.
+    /// Returns a list of no pairs, for memory of `alloc`. It takes none yet.
     pub fn new(alloc: Global) -> Pairs
         ensures { result ≡ [] }
     {
@@ -42,7 +42,7 @@ impl Pairs {
         }
     }
 
-    /// How many pairs the list has.
+    /// Returns how many pairs the list has.
     pub fn len(&self) -> usize
         ensures count { result ≡ length self.now }
         ensures short { length self.now < 2 ^ 63 }
@@ -50,7 +50,7 @@ impl Pairs {
         self.heads.len()
     }
 
-    /// Whether the list has no pair.
+    /// Returns whether the list has no pair.
     pub fn is_empty(&self) -> bool
         ensures { result ≡ nat_eq (length self.now) 0 }
     {
@@ -65,7 +65,7 @@ impl Pairs {
         self.heads.truncate(0);
     }
 
-    /// The key of the last pair; `None` if there is no pair.
+    /// Returns the key of the last pair; `None` if there is no pair.
     pub fn last_key(&self) -> Option<Key>
         ensures { MatchOption result (self.now ≡ []) (IsLastKey self.now) }
     {
@@ -77,7 +77,7 @@ impl Pairs {
         Some(key_from_bytes(key))
     }
 
-    /// An iterator over the pairs, from the first one on.
+    /// Returns an iterator over the pairs, from the first one on.
     pub fn iter(&self) -> Iter<'_>
         ensures pairs { result ≡ self.now }
         ensures keys { All (λ pair. IsKey pair.0) self.now }
@@ -85,7 +85,8 @@ impl Pairs {
         Iter::of(self.bytes.as_slice(), self.heads.as_slice())
     }
 
-    /// These pairs, with keys that are values of their own. An error if memory is refused; it needs none if there is no pair.
+    /// Returns these pairs, with keys that are values of their own. `AllocError` if memory is refused; no memory is needed if there is no
+    /// pair.
     pub fn to_vec(&self, alloc: Global) -> Result<Vec<(Key, u64)>, AllocError>
         ensures list { IfOk result (λ list. list.items ≡ self.now) }
         ensures memory { OnErr result (self.now ≢ []) }

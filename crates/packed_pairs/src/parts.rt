@@ -7,7 +7,7 @@ use crate::head::PairHead;
 use crate::pairs::Pairs;
 
 impl Pairs {
-    /// The heads of the list's pairs, and the bytes of their keys, one key behind the other, both in the list's order.
+    /// Returns the heads of the list's pairs, and the bytes of their keys, one key behind the other, both in the list's order.
     pub fn parts(&self) -> (&[PairHead], &[u8])
         ensures heads { result.0.now ≡ map packed_head self.now }
         ensures keys { result.1.now ≡ keys_in self.now }
@@ -25,7 +25,7 @@ impl Pairs {
         }
     }
 
-    /// Takes out pairs from the end until the keys of the others have at most `room` bytes together.
+    /// Takes out pairs from the end until the keys of those left have at most `room` bytes together.
     pub fn fit(&mut self, room: usize)
         ensures { self.new ≡ fitting room self.old }
     {
@@ -34,14 +34,14 @@ impl Pairs {
         }
     }
 
-    /// How many bytes the keys of the list have together.
+    /// Returns how many bytes the keys of the list have together.
     pub fn key_bytes(&self) -> usize
         ensures { result ≡ length (keys_in self.now) }
     {
         self.bytes.len()
     }
 
-    /// Takes out all pairs. The list frees its memory if it has more than `most` bytes of it for its heads, or for the bytes of its keys.
+    /// Takes out all pairs. The list frees its memory if it has more than `most` bytes for its heads, or for the bytes of its keys.
     pub fn let_go(&mut self, most: usize)
         ensures { self.new ≡ [] }
     {

@@ -15,8 +15,8 @@ use std::simd::prelude::*;
 /// The bit of a position in its byte, at the index `position % 9 * 16 / 9`; 0 for the first of the nine bits.
 const MASKS: [u8; 16] = [0, 128, 0, 64, 0, 32, 0, 16, 8, 8, 4, 0, 2, 0, 1, 0];
 
-/// For each of `positions` the index of the byte of a key that has its bit. Where no key has such a byte, it is at least `MAX_BYTES`. The
-/// bit of a position p is in byte p/9, and p*7282/65536 is p/9 as long as p is below 9 * 3640.
+/// Returns for each of `positions` the index of the byte of a key that has its bit. Where no key has such a byte, the index is at least
+/// `MAX_BYTES`. The bit of a position p is in byte p/9, and p*7282/65536 is p/9 as long as p is below 9 * 3640.
 #[inline(always)]
 fn bytes_at(positions: u16x32) -> u8x32
     ensures { result ≡ map byte_lane positions }
@@ -26,16 +26,17 @@ fn bytes_at(positions: u16x32) -> u8x32
     bytes.simd_min(u16x32::splat(255)).cast::<u8>()
 }
 
-/// For each of `positions` a mask of its bit in its byte; 0 for the first of a byte's nine bits.
+/// Returns for each of `positions` a mask of its bit in its byte; 0 for the first of a byte's nine bits.
 #[inline(always)]
 fn masks_at(positions: u16x32) -> u8x32
     ensures { result ≡ map mask_lane positions }
 {
+    // Products wrap at 2^16. So their highest four bits are `position % 9 * 16 / 9`, the index into `MASKS`.
     let parts = (positions * u16x32::splat(7282)) >> u16x32::splat(12);
     repeat_lanes(u8x16::from_array(MASKS)).swizzle_dyn_within::<16>(parts.cast::<u8>())
 }
 
-/// The sixteen lanes `lanes`, twice.
+/// Returns the sixteen lanes `lanes`, twice.
 #[inline(always)]
 fn repeat_lanes(lanes: u8x16) -> u8x32
     ensures { (i : ℕ) → i < 32 → slice_index result i ≡ slice_index lanes (i % 16) }
@@ -46,7 +47,7 @@ fn repeat_lanes(lanes: u8x16) -> u8x32
     ])
 }
 
-/// The sixteen bytes of `key` from byte `first` on, twice. Past the key's end they are 0.
+/// Returns the sixteen bytes of `key` from byte `first` on, twice. Behind the key's end they are 0.
 #[inline(always)]
 fn window_at(key: &Key, first: usize) -> u8x32
     requires { first + 16 ≤ MAX_BYTES }
@@ -55,8 +56,8 @@ fn window_at(key: &Key, first: usize) -> u8x32
     repeat_lanes(u8x16::from_slice(&key.padded_bytes()[first..]))
 }
 
-/// For each lane the bits of its mask in `masks` that its byte lacks; not 0 if that byte is behind byte `last`. `bytes` has the index of
-/// each lane's byte, and `window` the sixteen bytes from byte `first` on.
+/// Returns for each lane the bits of its mask in `masks` that its byte lacks; not 0 if that byte is behind byte `last`. `bytes` has the
+/// index of each lane's byte, and `window` the sixteen bytes from byte `first` on.
 #[inline(always)]
 fn find_missing_bits(bytes: u8x32, masks: u8x32, window: u8x32, first: u8, last: u8) -> u8x32
     requires lanes { (length bytes ≡ 32) × (length masks ≡ 32) × (length window ≡ 32) }
@@ -64,11 +65,11 @@ fn find_missing_bits(bytes: u8x32, masks: u8x32, window: u8x32, first: u8, last:
     ensures each { (i : ℕ) → i < 32 → slice_index result i ≡ missed_lane window first last i (slice_index bytes i) (slice_index masks i) }
 {
     let indexes = (bytes - u8x32::splat(first)) & u8x32::splat(15);
-    let there = window.swizzle_dyn_within::<16>(indexes);
-    masks & !there | bytes.saturating_sub(u8x32::splat(last))
+    let key_bytes = window.swizzle_dyn_within::<16>(indexes);
+    masks & !key_bytes | bytes.saturating_sub(u8x32::splat(last))
 }
 
-/// A mask whose bit 31-i is set exactly if lane i is 0.
+/// Returns a mask whose bit 31-i is set exactly if lane i is 0.
 #[inline(always)]
 fn mark_zeros(lanes: u8x32) -> u32
     requires { length lanes ≡ 32 }
@@ -77,8 +78,9 @@ fn mark_zeros(lanes: u8x32) -> u32
     lanes.reverse().simd_eq(u8x32::splat(0)).to_bitmask() as u32
 }
 
-/// The dense key of `key` for the columns in the first `count` of `lanes`. The bit of column j is bit 31-j, and all others are 0. The lanes
-/// behind these are 65,535. Mostly sixteen bytes of the key have all its bits at columns, and then they are read at once.
+/// Returns the dense key of `key` for the columns in the first `count` of `lanes`: bit 31-j has the key's bit at column j, and all other
+/// bits are 0. The lanes behind these are 65,535. Mostly sixteen bytes of the key have all its bits at columns, and then they are read at
+/// once.
 #[inline(always)]
 pub fn extract_dense_key_by_lanes(lanes: u16x32, count: u8, key: &Key) -> u32
     requires { AreColumnLanes lanes count }
@@ -95,8 +97,9 @@ pub fn extract_dense_key_by_lanes(lanes: u16x32, count: u8, key: &Key) -> u32
     }
 }
 
-/// Whether the sixteen bytes from byte `first` on have all bits at columns that a key of `key_length` bytes has. `bytes` says in which byte
-/// each column has its bit, never in one before `first`. False also for an empty key, and where the sixteen would end behind `MAX_BYTES`.
+/// Returns whether the sixteen bytes from byte `first` on have all bits at columns that a key of `key_length` bytes has. `bytes` says in
+/// which byte each column has its bit, never in one before `first`. `false`, too, for an empty key, and where the sixteen bytes would end
+/// behind `MAX_BYTES`.
 #[inline(always)]
 fn window_has_all_bits(bytes: u8x32, first: usize, key_length: usize) -> bool
     requires lanes { length bytes ≡ 32 }
@@ -110,7 +113,7 @@ fn window_has_all_bits(bytes: u8x32, first: usize, key_length: usize) -> bool
             || has_no_byte_between(bytes, first as u8 + 16, key_length as u8))
 }
 
-/// Whether each of `bytes` is below `from`, or not below `to`.
+/// Returns whether each of `bytes` is below `from`, or not below `to`.
 #[inline(always)]
 fn has_no_byte_between(bytes: u8x32, from: u8, to: u8) -> bool
     requires lanes { length bytes ≡ 32 }
@@ -123,8 +126,8 @@ fn has_no_byte_between(bytes: u8x32, from: u8, to: u8) -> bool
         == 0
 }
 
-/// The dense key that `extract_dense_key_by_lanes` returns, from sixteen bytes of the key at a time. Never inline: so the lanes go into
-/// memory only where columns are far apart.
+/// Returns the dense key that `extract_dense_key_by_lanes` returns, from sixteen bytes of the key at a time. Never inline: so the lanes go
+/// into memory only where columns are far apart.
 #[inline(never)]
 fn extract_by_windows(lanes: u16x32, count: u8, key: &Key) -> u32
     requires { AreColumnLanes lanes count }
@@ -139,8 +142,8 @@ fn extract_by_windows(lanes: u16x32, count: u8, key: &Key) -> u32
     mark_zeros(missing)
 }
 
-/// A lane is 0 exactly if `key` has a 1 at its position, in the window of sixteen bytes that begins at `from`, or at `MAX_BYTES - 16` if
-/// that is less.
+/// Returns a lane of 0 exactly where `key` has a 1 at the position in that lane of `lanes`, within a window of sixteen bytes. The window
+/// begins at `from`, or at `MAX_BYTES - 16` if that is less.
 #[inline(always)]
 fn find_missing_bits_from(lanes: u16x32, from: usize, key: &Key) -> u8x32
     requires lanes { length lanes ≡ 32 }
@@ -162,7 +165,7 @@ fn find_missing_bits_from(lanes: u16x32, from: usize, key: &Key) -> u8x32
     missed | distances_below(bytes, first as u8)
 }
 
-/// For each of `bytes` by how much it is below `first`; 0 if it isn't below.
+/// Returns for each of `bytes` by how much it is below `first`; 0 if it isn't below.
 #[inline(always)]
 fn distances_below(bytes: u8x32, first: u8) -> u8x32
     requires { length bytes ≡ 32 }
@@ -172,7 +175,7 @@ fn distances_below(bytes: u8x32, first: u8) -> u8x32
     u8x32::splat(first).saturating_sub(bytes)
 }
 
-/// The 31 `positions` as lanes, and 65,535 in the last lane.
+/// Returns the 31 `positions` as lanes, and 65,535 in the last lane.
 #[inline(always)]
 pub(crate) fn lanes_of(positions: &[u16; MAX_COLUMNS]) -> u16x32
     ensures { result ≡ positions.now ++ 65535 ∷ [] }

@@ -64,7 +64,7 @@ impl Columns {
     ghost use Rattle.partial_keys.specs.Rows.{dense_of};
     ghost use Rattle.partial_keys.specs.Squeezed.{used_bits};
 
-    /// The columns at `positions`, which are 1 to 31 and rise strictly, each below 65,535.
+    /// Returns the columns at `positions`, which are 1 to 31 and rise strictly, each below 65,535.
     pub fn of(positions: &[u16]) -> Columns
         requires { IsColumns positions.now }
         ensures { result ≡ positions.now }
@@ -75,7 +75,8 @@ impl Columns {
         }
     }
 
-    /// The columns at the first `count` of `positions`: 1 to 31, strictly rising, each below 65,535. All others are 65,535.
+    /// Returns the columns at the first `count` of `positions`: 1 to 31, strictly rising, each below 65,535. All other positions are
+    /// 65,535.
     pub fn from_padded(positions: [u16; MAX_COLUMNS], count: u8) -> Columns
         requires { HoldsColumns positions count }
         ensures { result ≡ take count positions }
@@ -83,7 +84,7 @@ impl Columns {
         Columns { positions, count }
     }
 
-    /// The positions, in rising order.
+    /// Returns the positions, in rising order.
     pub fn as_slice(&self) -> &[u16]
         ensures positions { result.now ≡ self.now }
         ensures columns { IsColumns self.now }
@@ -91,28 +92,28 @@ impl Columns {
         &self.positions[..self.count as usize]
     }
 
-    /// The positions, and 65,535 behind them up to 31.
+    /// Returns the positions, and 65,535 behind them up to 31.
     pub fn padded_positions(&self) -> &[u16; MAX_COLUMNS]
         ensures { result.now ≡ with_free self.now }
     {
         &self.positions
     }
 
-    /// How many columns there are, 1 to 31.
+    /// Returns how many columns there are, 1 to 31.
     pub fn count(&self) -> u8
         ensures { result ≡ length self.now }
     {
         self.count
     }
 
-    /// The first position, which is the lowest.
+    /// Returns the first position, which is the lowest.
     pub fn first(&self) -> u16
         ensures { result ≡ slice_index self.now 0 }
     {
         self.positions[0]
     }
 
-    /// The position of column `j`, which is below `count()`.
+    /// Returns the position of column `j`, which is below `count()`.
     pub fn position(&self, j: u8) -> u16
         requires { j < length self.now }
         ensures { result ≡ slice_index self.now j }
@@ -120,7 +121,7 @@ impl Columns {
         self.positions[j as usize]
     }
 
-    /// How many columns have a position below `position`. If `position` is a column, that is its index.
+    /// Returns how many columns have a position below `position`. If `position` is a column, that is its index.
     pub fn count_columns_below(&self, position: u16) -> u8
         ensures value { result ≡ front_below position self.now }
         ensures within { result ≤ length self.now }
@@ -128,7 +129,7 @@ impl Columns {
         count_below(lanes_of(&self.positions), position)
     }
 
-    /// Whether `position` is a column; `below` says how many columns are below it.
+    /// Returns whether `position` is a column; `below` says how many columns are below it.
     pub fn is_column_at(&self, below: u8, position: u16) -> bool
         requires { below ≡ front_below position self.now }
         ensures { result ≡ has self.now position }
@@ -136,14 +137,14 @@ impl Columns {
         below < self.count && self.positions[below as usize] == position
     }
 
-    /// The dense key (dense partial key) of `key`: its bits at the columns. The bit of column j is bit 31-j, and all others are 0.
+    /// Returns the dense key (dense partial key) of `key`: bit 31-j has the key's bit at column j, and all other bits are 0.
     pub fn extract(&self, key: &Key) -> u32
         ensures { result ≡ dense_of self.now (bit_of key.now) }
     {
         extract_dense_key_by_lanes(lanes_of(&self.positions), self.count, key)
     }
 
-    /// Adds a column at `position`, which is below 65,535 and no column yet, to fewer than 31. Returns its index among the columns.
+    /// Adds a column at `position`, which is below 65,535 and no column yet. There were fewer than 31. Returns its index among the columns.
     pub fn add_position(&mut self, position: u16) -> u8
         requires room { length self.old < 31 }
         requires below { position < 65535 }
@@ -151,13 +152,13 @@ impl Columns {
         ensures index { result ≡ front_below position self.old }
         ensures columns { self.new ≡ with_position position self.old }
     {
-        let at = self.count_columns_below(position);
-        self.insert_position_at(at, position);
-        at
+        let index = self.count_columns_below(position);
+        self.insert_position_at(index, position);
+        index
     }
 
-    /// Adds a column at `position`, which is below 65,535 and no column yet, to fewer than 31. `below` says how many columns are below it,
-    /// and becomes its index.
+    /// Adds a column at `position`, which is below 65,535 and no column yet. There were fewer than 31. `below` says how many columns are
+    /// below it, and becomes its index.
     pub fn insert_position_at(&mut self, below: u8, position: u16)
         requires room { length self.old < 31 }
         requires small { position < 65535 }
@@ -180,7 +181,7 @@ impl Columns {
     }
 }
 
-/// An array of `items`, N at most, with `unused` behind them up to its end.
+/// Returns an array of `items`, at most N, with `unused` behind them up to its end.
 pub fn pad<T: Copy, const N: usize>(items: &[T], unused: T) -> [T; N]
     requires { length items.now ≤ N }
     ensures { result ≡ items.now ++ replicate (N - length items.now) unused }
@@ -192,7 +193,7 @@ pub fn pad<T: Copy, const N: usize>(items: &[T], unused: T) -> [T; N]
     padded
 }
 
-/// How many of `lanes` stand before the first that is not below `bound`; 32 if all are below.
+/// Returns how many of `lanes` stand before the first that is not below `bound`; 32 if all are below.
 #[inline(always)]
 pub fn count_below(lanes: u16x32, bound: u16) -> u8
     ensures { result ≡ front_below bound lanes }
@@ -201,7 +202,8 @@ pub fn count_below(lanes: u16x32, bound: u16) -> u8
     reached.trailing_zeros() as u8
 }
 
-/// Puts `element` in at index `at` among the first `count` of `items`. Those from there on move up by one; the item behind them is lost.
+/// Puts `element` in at index `at` among the first `count` of `items`. The items from there on move back by one, and the item behind the
+/// first `count` is lost.
 pub fn insert_element<T: Copy>(items: &mut [T], count: usize, at: usize, element: T)
     requires in_range { at ≤ count }
     requires room { count < length items.old }
@@ -211,7 +213,7 @@ pub fn insert_element<T: Copy>(items: &mut [T], count: usize, at: usize, element
     items[at] = element;
 }
 
-/// Takes the item at index `at` out of the first `count` of `items`. Those behind it move down by one, and `fill` comes behind them.
+/// Takes the item at index `at` out of the first `count` of `items`. Those behind it move forward by one, and `fill` comes behind them.
 pub fn remove_element<T: Copy>(items: &mut [T], count: usize, at: usize, fill: T)
     requires in_range { at < count }
     requires room { count ≤ length items.old }
@@ -223,8 +225,8 @@ pub fn remove_element<T: Copy>(items: &mut [T], count: usize, at: usize, fill: T
     items[count - 1] = fill;
 }
 
-/// Moves those of the first `count` positions whose bit 31-j is set in `used` to the front, where j is their index. Returns how many
-/// these are. All behind them are 65,535 then.
+/// Keeps, of the first `count` of `positions`, those whose bit 31-j is set in `used`, where j is their index. They move to the front, and
+/// all behind them become 65,535. Returns how many are kept.
 fn keep_used_positions(positions: &mut [u16; MAX_COLUMNS], count: usize, used: u32) -> usize
     requires few { count ≤ 31 }
     requires unused { drop count positions.old ≡ replicate (31 - count) 65535 }
@@ -244,8 +246,8 @@ fn keep_used_positions(positions: &mut [u16; MAX_COLUMNS], count: usize, used: u
     found
 }
 
-/// The highest index i at which row `padded_rows[i]` complies with the dense key: it has no bit that `dense` lacks. The first row is 0, so
-/// there is one.
+/// Returns the highest index i at which row `padded_rows[i]` complies with the dense key: it has no bit that `dense` lacks. The first row
+/// is 0, so there is one.
 pub fn search_plain(padded_rows: &[u32; MAX_ENTRIES], dense: u32) -> u8
     requires { slice_index padded_rows.now 0 ≡ 0 }
     ensures { IsFound padded_rows.now dense result }
@@ -259,7 +261,7 @@ pub fn search_plain(padded_rows: &[u32; MAX_ENTRIES], dense: u32) -> u8
     best
 }
 
-/// The index that `search_plain` returns, by one comparison of all 32 rows as lanes of a vector.
+/// Returns the index that `search_plain` returns, by one comparison of all 32 rows as lanes of a vector.
 pub fn search_lanes(padded_rows: &[u32; MAX_ENTRIES], dense: u32) -> u8
     requires { slice_index padded_rows.now 0 ≡ 0 }
     ensures { IsFound padded_rows.now dense result }
@@ -267,7 +269,7 @@ pub fn search_lanes(padded_rows: &[u32; MAX_ENTRIES], dense: u32) -> u8
     search_rows(u32x32::from_array(*padded_rows), dense)
 }
 
-/// The index that `search_plain` returns, where the rows are lanes already.
+/// Returns the index that `search_plain` returns, where the rows are lanes already.
 #[inline(always)]
 pub fn search_rows(padded_rows: u32x32, dense: u32) -> u8
     requires { slice_index padded_rows 0 ≡ 0 }
@@ -276,7 +278,7 @@ pub fn search_rows(padded_rows: u32x32, dense: u32) -> u8
     (63 - mark_complying(padded_rows, dense).leading_zeros()) as u8
 }
 
-/// A mask whose bit i is set exactly if lane i complies with `dense`: it has no bit that `dense` lacks.
+/// Returns a mask whose bit i is set exactly if lane i complies with `dense`: it has no bit that `dense` lacks.
 #[inline(always)]
 fn mark_complying(lanes: u32x32, dense: u32) -> u64
     ensures { result ≡ mask_l (map (complies dense) lanes) }

@@ -8,9 +8,9 @@ ghost use Rattle.finite_map.specs.Calls.{LegalCalls, RisesFrom, StandsIn, change
 use finite_map::{Call, Change, Kind, Note, Reply};
 use key_bits::Key;
 
-/// Whether `front` is legal, and `notes` are legal in it as the calls of pass `pass`. Then each note has the map's reply at its place, and
-/// the places never fall. The pass's changes in `front` are just those that the notes tell of. The time rises with the square of the
-/// lengths.
+/// Returns whether `front` is legal, and `notes` are legal in it as the calls of pass `pass`. Then each note has the map's reply at its
+/// place, and the places never fall. The changes of the pass in `front` are just those that the notes tell of. The time rises with the
+/// square of the lengths.
 pub fn are_legal(front: &[Change], pass: u16, notes: &[Note]) -> bool
     ensures { IsTrue result ↔ LegalCalls front.now pass notes.now }
 {
@@ -20,7 +20,7 @@ pub fn are_legal(front: &[Change], pass: u16, notes: &[Note]) -> bool
         && tell_own_changes(front, pass, notes)
 }
 
-/// The kind and the value of the change that `call` makes if its reply is `reply`; `None` if it changes nothing.
+/// Returns the kind and the value of the change that `call` makes if its reply is `reply`; `None` if it changes nothing.
 fn effect_of(call: &Call, reply: Reply) -> Option<(Kind, u64)>
     ensures { result ≡ effect_of call.now reply }
 {
@@ -37,7 +37,7 @@ fn effect_of(call: &Call, reply: Reply) -> Option<(Kind, u64)>
     }
 }
 
-/// The value of `key` in the map of all changes of `front`; `None` if the key is absent there.
+/// Returns the value of `key` in the map of all changes of `front`; `None` if the key is absent there.
 fn held_value(front: &[Change], key: &Key) -> Option<u64>
     ensures { result ≡ value_at (map_of front.now) key.now }
 {
@@ -53,7 +53,7 @@ fn held_value(front: &[Change], key: &Key) -> Option<u64>
     held
 }
 
-/// Whether a change of the kind `kind` with `value` is legal where the key has the value `held`; `None` stands for an absent key.
+/// Returns whether a change of the kind `kind` with `value` is legal where its key has the value `held`; `None` stands for an absent key.
 fn is_legal_change(kind: Kind, held: Option<u64>, value: u64) -> bool
     ensures { IsTrue result ↔ FitsKind kind held value }
 {
@@ -64,7 +64,7 @@ fn is_legal_change(kind: Kind, held: Option<u64>, value: u64) -> bool
     }
 }
 
-/// Whether each change of `front` is legal on the map of those before it, which is empty at first.
+/// Returns whether each change of `front` is legal on the map that the changes before it have made of an empty one.
 fn is_legal_front(front: &[Change]) -> bool
     ensures { IsTrue result ↔ LegalFront front.now }
 {
@@ -80,14 +80,14 @@ fn is_legal_front(front: &[Change]) -> bool
     true
 }
 
-/// Whether the call of `note` changed the map.
+/// Returns whether the call of `note` changed the map.
 fn changes_map(note: &Note) -> bool
     ensures { result ≡ is_change note.now }
 {
     effect_of(&note.call, note.reply).is_some()
 }
 
-/// Whether `change` is the one that the call of `note` made, as a call of `pass`.
+/// Returns whether `change` is the one that the call of `note` made, as a call of `pass`.
 fn tells_of_change(note: &Note, pass: u16, change: &Change) -> bool
     ensures { IsTrue result ↔ (change_of pass note.now ≡ Some change.now) }
 {
@@ -102,7 +102,7 @@ fn tells_of_change(note: &Note, pass: u16, change: &Change) -> bool
     }
 }
 
-/// Whether the change that `note` tells of stands at its place in `front`. True if it tells of none.
+/// Returns whether the change that `note` tells of stands at the note's place in `front`. True if it tells of none.
 fn names_change(front: &[Change], pass: u16, note: &Note) -> bool
     ensures { IsTrue result ↔ ((c : Change) → change_of pass note.now ≡ Some c → slice_get front.now note.now.place ≡ Some c) }
 {
@@ -115,8 +115,8 @@ fn names_change(front: &[Change], pass: u16, note: &Note) -> bool
     }
 }
 
-/// Whether `note` is legal in `front` as a note of `pass`. Its place is in the front, and its reply is that of the map there. The change
-/// that it tells of, if any, stands at that place.
+/// Returns whether `note` is legal in `front` as a note of `pass`. Its place is in the front, and its reply is that of the map there. The
+/// change that it tells of, if any, stands at that place.
 fn note_fits_front(front: &[Change], pass: u16, note: &Note) -> bool
     ensures { IsTrue result ↔ StandsIn front.now pass note.now }
 {
@@ -127,7 +127,7 @@ fn note_fits_front(front: &[Change], pass: u16, note: &Note) -> bool
     note.reply == note.call.reply(held) && names_change(front, pass, note)
 }
 
-/// Whether the places of `notes` begin at `low` or later, never fall, and rise behind each note that tells of a change.
+/// Returns whether the places of `notes` begin at `low` or later, never fall, and rise behind each note that tells of a change.
 fn places_rise_from(low: u128, notes: &[Note]) -> bool
     ensures { IsTrue result ↔ RisesFrom low notes.now }
 {
@@ -139,7 +139,7 @@ fn places_rise_from(low: u128, notes: &[Note]) -> bool
     low <= place && places_rise_from(next, later)
 }
 
-/// Whether the changes of `front` by `pass` are just those that `notes` tell of, in the same order.
+/// Returns whether the changes of `front` by `pass` are just those that `notes` tell of, in the same order.
 fn tell_own_changes(front: &[Change], pass: u16, notes: &[Note]) -> bool
     ensures { IsTrue result ↔ (own_changes pass front.now ≡ changes_of pass notes.now) }
 {

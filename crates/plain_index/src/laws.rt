@@ -12,19 +12,21 @@ pub fn weave_of_legal_calls_is_legal()
     ensures two { WeaveOfTwoIsLegal }
 {}
 
-/// If the calls of several passes are each legal in one front, their weave has just these calls, each once and those of a pass in order.
+/// Let the calls of several passes each be legal in one front. Their weave has just these calls, each once, and those of a pass in order.
 pub fn weave_of_passes_keeps_calls()
     ensures any { WeaveOfPassesKeepsCalls }
     ensures two { WeaveOfTwoKeepsCalls }
 {}
 
-/// Let neither places nor a list of passes' calls, all legal in one front, put one before another known to have returned when it began.
-/// Then the list's weave is a legal history, with each call once, and none before one known to have returned when it began.
+/// Take the calls of passes, all legal in one front, and a list of them. Let neither the places nor the list put a call before one that is
+/// known to have returned when it began. Then the list's weave is a legal history, with each call once. It puts no call before one that is
+/// known to have returned when it began, either.
 pub fn weave_puts_returned_calls_first()
     ensures { WeavePutsReturnedFirst }
 {}
 
-/// The first `limit` pairs of a range in a front's map, with `more` exactly if there are others, are a lawful scan while the front stays.
+/// Take the first `limit` pairs of a range in a front's map, with `more` exactly if there are others. They are a lawful scan while the
+/// front stays.
 pub fn first_pairs_are_a_still_scan()
     ensures { FirstPairsAreAStillScan }
 {}
@@ -34,8 +36,8 @@ pub fn still_scan_gives_first_pairs()
     ensures { StillScanGivesFirstPairs }
 {}
 
-/// Each key of a lawful scan's range has the listed value, or none if none is listed, at some moment between the scan's fronts. If the scan
-/// has `more`, that holds of the keys up to that of its last pair.
+/// Take a key of a lawful scan's range. At some moment between the scan's fronts it has the value that is listed, or none if none is
+/// listed. If the scan has `more`, that holds of the keys up to that of its last pair.
 pub fn scan_agrees_with_gets()
     ensures { ScanIsGets }
 {}

@@ -24,7 +24,7 @@ impl Model for PlainIndex {
 }
 
 impl PlainIndex {
-    /// An index without a key.
+    /// Returns an index without a key.
     pub fn new(alloc: Global) -> PlainIndex
         ensures { result ≡ [] }
     {
@@ -67,7 +67,7 @@ impl PlainIndex {
     }
 
     /// Gives `key` the value `value` if it has the value `expected`, and returns `Exchanged`. Else nothing changes, and it returns
-    /// `Differs` with the key's value, or `Absent`. It returns no error.
+    /// `Differs` with the key's value, or `Absent`. There is never an error.
     fn exchange_value(&mut self, key: Key, expected: u64, value: u64) -> Result<Reply, AllocError>
         ensures reply { IfOk result (λ reply. reply ≡ reply_of self.old (Exchange key expected value)) }
         ensures map { OnOk result (self.new ≡ map_after self.old (Exchange key expected value)) }
@@ -84,7 +84,7 @@ impl PlainIndex {
     }
 
     /// Adds `delta` to the value of `key`, modulo 2 to the power of 64, and returns `Was` with the value before. An absent key stays
-    /// absent, and `Absent` is returned. It returns no error.
+    /// absent, and `Absent` is returned. There is never an error.
     fn add_to_value(&mut self, key: Key, delta: u64) -> Result<Reply, AllocError>
         ensures reply { IfOk result (λ reply. reply ≡ reply_of self.old (Add key delta)) }
         ensures map { OnOk result (self.new ≡ map_after self.old (Add key delta)) }
@@ -114,8 +114,8 @@ impl PlainIndex {
         }
     }
 
-    /// The keys from `from` to `upto`, both included, with their values: the first `limit` of them, in the order of the keys. `more` says
-    /// whether there are others. It finds `from` by one search, and reads the pairs that it returns and the one behind them. It returns
+    /// Returns the keys from `from` to `upto`, both included, with their values: the first `limit` of them, in the order of the keys.
+    /// `more` says whether there are others. `from` is found by one search, and only the pairs returned and the one behind them are read.
     /// `AllocError` if memory is refused for a pair.
     pub fn scan(
         &self,
@@ -141,8 +141,8 @@ impl PlainIndex {
         Ok(Scan { pairs, more: false })
     }
 
-    /// Makes `calls` one after the other, and returns their replies. It returns `AllocError` where memory is refused. Then some first calls
-    /// were made, and no other.
+    /// Makes `calls` one after the other, and returns their replies. `AllocError` where memory is refused. Then some first calls were made,
+    /// and no other.
     pub fn run(&mut self, alloc: Global, calls: Vec<Call>) -> Result<Vec<Reply>, AllocError>
         ensures replies { IfOk result (λ replies. replies.items ≡ replies_of self.old calls.items) }
         ensures map { OnOk result (self.new ≡ map_after_all self.old calls.items) }

@@ -59,7 +59,7 @@ impl PlainTrie {
     ghost use Rattle.plain_trie.specs.Views.{trie_map, EndsAt, ShowsTrie, IsHeldInLeaf};
     ghost use Rattle.compound_node.specs.Nodes.{height_of};
 
-    /// A trie without a key. It takes no memory yet.
+    /// Returns a trie without a key. It takes no memory yet.
     pub fn new(alloc: Global) -> PlainTrie
         ensures map { trie_map result ≡ [] }
         ensures memory { (result.node_capacity ≡ 0) × (result.leaf_capacity ≡ 0) }
@@ -71,7 +71,7 @@ impl PlainTrie {
         }
     }
 
-    /// The root's entry; `None` if the trie has no key.
+    /// Returns the root's entry; `None` if the trie has no key.
     pub fn top(&self) -> Option<Entry>
         ensures top { result ≡ self.now.top }
         ensures shows { ShowsTrie self.now }
@@ -79,7 +79,7 @@ impl PlainTrie {
         self.top
     }
 
-    /// The height of the trie: that of the root's entry, so 0 for one key or none.
+    /// Returns the height of the trie: that of the root's entry, so 0 for one key or none.
     pub fn height(&self) -> u16
         ensures { MatchOption self.now.top (result ≡ 0) (λ entry. result ≡ height_of entry) }
     {
@@ -89,15 +89,15 @@ impl PlainTrie {
         }
     }
 
-    /// The node whose record has the number `number`; `None` if no record has it.
+    /// Returns the node whose record has the number `number`; `None` if no record has it.
     pub fn node(&self, number: u32) -> Option<&Node>
         ensures { MatchOption result (slice_get self.now.nodes number ≡ None) (λ node. slice_get self.now.nodes number ≡ Some node.now) }
     {
         self.nodes.get(number as usize)
     }
 
-    /// The value of `key`; `None` if the trie hasn't the key. The search reads one record a level, and compares `key` with that of the one
-    /// leaf at which it ends.
+    /// Returns the value of `key`; `None` if the trie hasn't the key. The search reads one record a level, and compares `key` with that of
+    /// the one leaf at which it ends.
     pub fn get(&self, key: &Key) -> Option<u64>
         ensures { result ≡ value_at (trie_map self.now) key.now }
     {
@@ -115,14 +115,14 @@ impl PlainTrie {
     }
 
     /// Gives `key` the value `value` if it has none, and returns `Inserted`; or returns `Exists` with the value that it has and keeps. Only
-    /// a key that was absent takes memory. Room is made for its leaf and for the most nodes that one insertion can add. These are
-    /// `height() + 1`, one for each level and one above the root, and none for the first key.
+    /// a key that was absent takes memory. Room is made for its leaf and for the most nodes that one insertion can add: one for each level
+    /// and one above the root, `height() + 1` in all. The first key adds no node.
     ///
-    /// It returns `AllocError` only where a vector had to grow for that many and got no memory, or too few 32-bit numbers are left. These
-    /// are too few with 4,294,967,296 leaves, or with more than `4,294,967,295 - height()` nodes. Most insertions add fewer nodes than room
-    /// is made for, so one may be refused though its own would find room. A refused call leaves all records and the root as they were.
+    /// `AllocError` only where a vector had to grow for that many records and got no memory, or too few 32-bit numbers are left. There are
+    /// too few with 4,294,967,296 leaves, or with more than `4,294,967,295 - height()` nodes. Most insertions add fewer nodes than room is
+    /// made for, so one may be refused though its own would find room. A refused call leaves all records and the root as they were.
     ///
-    /// A key that is added below a node changes the nodes by the case of the affected one, as `choose_case` of `insert_cases` names it.
+    /// A key that is added below a node changes the nodes by the case of the affected one, which `choose_case` of `insert_cases` names.
     /// Those above it change by what rises from there.
     pub fn insert(&mut self, key: &Key, value: u64) -> Result<Reply, AllocError>
         ensures ok { IfOk result (IsTrieAnswer (Insert key.now value) self.old self.new) }
@@ -137,8 +137,8 @@ impl PlainTrie {
         }
     }
 
-    /// Gives `key` the value `value`, and returns `New`, or `Was` with the value that it had. Only a key that was absent takes memory. It
-    /// returns `AllocError` where `insert` would; then all records and the root stay as they were.
+    /// Gives `key` the value `value`, and returns `New`, or `Was` with the value that the key had. Only a key that was absent takes memory.
+    /// `AllocError` where `insert` would return it; then all records and the root stay as they were.
     pub fn upsert(&mut self, key: &Key, value: u64) -> Result<Reply, AllocError>
         ensures ok { IfOk result (IsTrieAnswer (Upsert key.now value) self.old self.new) }
         ensures err { OnErr result (IsOutOfMemory (Upsert key.now value) self.old self.new) }
@@ -184,7 +184,7 @@ impl PlainTrie {
         Ok(None)
     }
 
-    /// Adds `key` with `value` to a trie without keys. If memory is refused, it returns `AllocError`, and nothing is changed.
+    /// Adds `key` with `value` to a trie without keys. `AllocError`, and nothing changes, if memory is refused.
     fn add_first_leaf(&mut self, key: &Key, value: u64) -> Result<(), AllocError>
         requires { self.old.top ≡ None }
         ensures map { OnOk result (trie_map self.new ≡ with_value (trie_map self.old) key.now value) }
@@ -214,7 +214,7 @@ impl PlainTrie {
         };
     }
 
-    /// The number of the leaf record at which the search for `key` ends, from the root's entry `top` down.
+    /// Returns the number of the leaf record at which the search for `key` ends, from the root's entry `top` down.
     fn find_leaf(&self, key: &Key, top: Entry) -> usize
         requires { self.now.top ≡ Some top }
         ensures { EndsAt self.now top key.now result }
@@ -231,7 +231,7 @@ impl PlainTrie {
     }
 }
 
-/// The entry of `node` to which the search for `key` leads.
+/// Returns the entry of `node` to which the search for `key` leads.
 fn find_entry(node: &Node, key: &Key) -> Entry
     ensures { result ≡ seek key.now (piece node.now) }
 {

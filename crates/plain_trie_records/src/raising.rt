@@ -14,8 +14,8 @@ ghost use Rattle.plain_trie_records.specs.Risen.{RisenShows, OthersStay, pushed_
 use compound_node::{Cut, Entry, Half, Node};
 use insert_cases::{Grown, Risen};
 
-/// Stores `grown`, which node `number` of the height `height` has become, and returns the entry or fork that takes the node's place. Of two
-/// halves that are nodes the first takes the old one's record, and the other a new one, for which there is room.
+/// Stores `grown`, which the node `number` of the height `height` has become, and returns the entry or fork that takes the node's place. If
+/// both halves are nodes, the first takes the old node's record, and the other a new one, for which there is room.
 pub fn store_grown(nodes: &mut Vec<Node>, number: u32, height: u16, grown: Grown) -> Risen
     requires number { number < vec_len nodes.old }
     requires room { vec_len nodes.old < vec_capacity nodes.old }
@@ -38,7 +38,7 @@ pub fn store_grown(nodes: &mut Vec<Node>, number: u32, height: u16, grown: Grown
     }
 }
 
-/// Stores the two halves of `cut`, into which node `number` of the height `height` was cut, and returns the fork of their entries.
+/// Stores the two halves of `cut`, into which the node `number` of the height `height` was cut, and returns the fork of their entries.
 fn store_cut(nodes: &mut Vec<Node>, number: u32, height: u16, cut: Cut) -> Risen
     requires number { number < vec_len nodes.old }
     requires room { vec_len nodes.old < vec_capacity nodes.old }
@@ -81,8 +81,8 @@ fn store_cut(nodes: &mut Vec<Node>, number: u32, height: u16, cut: Cut) -> Risen
     }
 }
 
-/// The entry of `half`: one entry is returned as it is, and a node is put into record `number`. `Half::Same` is the node that stands there,
-/// of the height `height`.
+/// Returns the entry of `half`. One entry is returned as it is, and a node is put into the record `number`. `Half::Same` is the node that
+/// stands there, of the height `height`.
 fn put_half(nodes: &mut Vec<Node>, number: u32, height: u16, half: Half) -> Entry
     requires { number < vec_len nodes.old }
     ensures nodes { nodes.new.items ≡ kept_nodes nodes.old.items number half }
@@ -97,8 +97,8 @@ fn put_half(nodes: &mut Vec<Node>, number: u32, height: u16, half: Half) -> Entr
     }
 }
 
-/// The entry of `half`: one entry is returned as it is, and a node is put into a new record. `Half::Same` is node `number`, of the height
-/// `height`.
+/// Returns the entry of `half`. One entry is returned as it is, and a node is put into a new record. `Half::Same` is the node `number`, of
+/// the height `height`.
 fn push_half_if_node(nodes: &mut Vec<Node>, number: u32, height: u16, half: Half) -> Entry
     requires room { vec_len nodes.old < vec_capacity nodes.old }
     requires small { vec_len nodes.old < 2 ^ 32 }
@@ -115,7 +115,7 @@ fn push_half_if_node(nodes: &mut Vec<Node>, number: u32, height: u16, half: Half
     }
 }
 
-/// Puts `node` into record `number`, and returns its entry.
+/// Puts `node` into the record `number`, and returns the entry that names it.
 pub fn put_node(nodes: &mut Vec<Node>, number: u32, node: Node) -> Entry
     requires { number < vec_len nodes.old }
     ensures nodes { nodes.new.items ≡ slice_set nodes.old.items number node }
@@ -128,7 +128,7 @@ pub fn put_node(nodes: &mut Vec<Node>, number: u32, node: Node) -> Entry
     Entry::Node { number, height }
 }
 
-/// Puts `node` into a new record behind the others, and returns its entry.
+/// Puts `node` into a new record behind the others, and returns the entry that names it.
 fn push_node(nodes: &mut Vec<Node>, node: Node) -> Entry
     requires room { vec_len nodes.old < vec_capacity nodes.old }
     requires small { vec_len nodes.old < 2 ^ 32 }
@@ -145,7 +145,7 @@ fn push_node(nodes: &mut Vec<Node>, node: Node) -> Entry
     entry
 }
 
-/// Puts a node of `zero` and `one`, with a fork at `position`, into a new record behind the others, and returns its entry.
+/// Puts a node of `zero` and `one`, with a fork at `position`, into a new record behind the others, and returns the entry that names it.
 pub fn push_pair(nodes: &mut Vec<Node>, position: u16, zero: Entry, one: Entry) -> Entry
     requires room { vec_len nodes.old < vec_capacity nodes.old }
     requires small { vec_len nodes.old < 2 ^ 32 }

@@ -10,7 +10,7 @@ use std::alloc::AllocError;
 /// A vector has at most this many records, so that a number of 32 bits names each.
 const MAX_RECORDS: usize = 4_294_967_296;
 
-/// Makes room for one leaf more, whose number is returned, and for `count` nodes. `AllocError` if memory or numbers of 32 bits don't
+/// Makes room for one leaf more and for `count` nodes, and returns the leaf's number. `AllocError` if memory or numbers of 32 bits don't
 /// suffice. All records stay in any case.
 pub fn make_room(
     nodes: &mut Vec<Node>,

@@ -25,9 +25,9 @@ pub struct ScanRange<'a> {
     pub limit: usize,
 }
 
-/// Goes on with `scan`, that of the pairs before those below `entry`: adds the pairs of `range` below `entry`, in the order of their keys.
-/// If the limit is reached, it sets `more` instead of adding a further pair. All leaves below `entry` are read. `AllocError` if memory is
-/// refused for a pair; the pairs before that one are added then.
+/// Goes on with `scan`, which has the pairs before those below `entry`: adds the pairs of `range` below `entry`, in the order of their
+/// keys. If the limit is reached, it sets `more` instead of adding a further pair. All leaves below `entry` are read. `AllocError` if
+/// memory is refused for a pair; the pairs before that one are added then.
 pub fn scan_below(
     nodes: &Vec<Node>,
     leaves: &Vec<LeafRecord>,
@@ -53,8 +53,8 @@ pub fn scan_below(
     }
 }
 
-/// Goes on with `scan`, a scan of the pairs before `leaf`: adds the leaf's pair if its key is in `range`. Where the limit is reached it
-/// sets `more` instead. `AllocError` if memory is refused for the pair.
+/// Goes on with `scan`, which has the pairs before `leaf`: adds the leaf's pair if its key is in `range`. If the limit is reached, it sets
+/// `more` instead. `AllocError` if memory is refused for the pair.
 fn scan_leaf(leaf: &LeafRecord, range: ScanRange, scan: &mut Scan) -> Result<(), AllocError>
     ensures scan { (m : Map) → IsScanOf m range.entry.from.now range.entry.upto.now range.entry.limit scan.old →
         MatchResult result (λ _. IsScanOf (m ++ (leaf.now.key, leaf.now.value) ∷ []) range.entry.from.now range.entry.upto.now range.entry.limit scan.new)
@@ -72,7 +72,7 @@ fn scan_leaf(leaf: &LeafRecord, range: ScanRange, scan: &mut Scan) -> Result<(),
     Ok(())
 }
 
-/// Whether `key` is neither below `range` nor above it.
+/// Returns whether `key` is neither below `range` nor above it.
 fn is_in_range(range: ScanRange, key: &Key) -> bool
     ensures { result ≡ is_within range.entry.from.now range.entry.upto.now key.now }
 {

@@ -25,7 +25,7 @@ pub fn led_pass_may_lock_node()
     ensures { LedMayLock }
 {}
 
-/// In a node that a pass has locked, let one node be all on the other side of the last fork on a key's path. The pass may lock that node.
+/// In a node that a pass has locked, let the whole other side of the last fork on a key's path be one node. The pass may lock that node.
 pub fn lock_holder_may_lock_sibling()
     ensures { BesideMayLock }
 {}
@@ -42,8 +42,8 @@ pub fn acts_keep_recall()
 
 // What rises
 
-/// Let a locked node's entry on a key's path name another locked node. Let an insertion affect no more there than that entry. Then the
-/// upper node's first fork is before the position of the insertion.
+/// Let a locked node's entry on a key's path name another locked node. Let an insertion affect no more in the upper node than that entry.
+/// Then the upper node's first fork is before the position of the insertion.
 pub fn upper_fork_is_before_insertion()
     ensures { AboveGoesOn }
 {}
@@ -55,19 +55,22 @@ pub fn first_key_may_be_published()
     ensures { MayAddFirstKey }
 {}
 
-/// A pass may publish the one entry that has risen from a locked node, at the locked spot that names this node. If the spot is in a node,
-/// no other entry there is affected, and the new one is lower than that node. The publish unlinks the nodes that were copied or cut.
+/// Let one entry have risen from a locked node, and let the spot that names this node be locked, too. If the spot is in a node, let no
+/// other entry there be affected, and the new entry be lower than that node. The pass may publish the entry at the spot. The publish
+/// unlinks the nodes that were copied or cut.
 pub fn insertion_may_be_published()
     ensures { Insertion }
 {}
 
-/// A pass may publish a normal insert that affects not just one node. A copy with the new leaf replaces the old node, which is unlinked.
+/// A pass may publish a normal insert, unless what it affects is just one child node. A copy with the new leaf replaces the old node, which
+/// is unlinked.
 pub fn normal_insert_may_be_published()
     ensures { NormalInsert }
 {}
 
-/// A pass may publish an overflow that affects not just one node: the old node with the new leaf is cut at its first fork. A node of both
-/// sides, an intermediate node or a new root, takes the old node's place. Each side is an entry or a new node. The old node is unlinked.
+/// A pass may publish an overflow, unless what it affects is just one child node. The old node with the new leaf is cut at its first fork.
+/// A node of both sides, an intermediate node or a new root, takes the old node's place. Each side is an entry or a new node. The old node
+/// is unlinked.
 pub fn overflow_may_be_published()
     ensures { Overflow }
 {}
@@ -89,7 +92,8 @@ pub fn pull_up_may_end_in_overflow()
     ensures { PullUpOverflow }
 {}
 
-/// A pass may publish a leaf pushdown, or the second key, if one leaf alone is affected. A node of it and the new leaf replaces it.
+/// A pass may publish a leaf pushdown, or the second key, if one leaf alone is affected. A node of that leaf and the new one replaces that
+/// leaf.
 pub fn pair_of_leaves_may_be_published()
     ensures { MayPair }
 {}
@@ -109,14 +113,16 @@ pub fn removal_may_be_published()
 {}
 
 /// A pass that has locked a leaf's node, its sibling and the node above may publish a merge. One new node has what is left beside the leaf,
-/// and the sibling's entries. What is left of the node above, with that node as one entry for two, takes its place, at a locked spot. The
-/// publish unlinks the leaf and the three old nodes. The value that the key had is the one that the pass has loaded under its locks.
+/// and the sibling's entries. The new node is one entry for two in what is left of the node above. That takes the place of the node above,
+/// at a locked spot.
+///
+/// The publish unlinks the leaf and the three old nodes. The value that the key had is the one that the pass has loaded under its locks.
 pub fn merge_may_be_published()
     ensures { MayMerge }
 {}
 
-/// A pass that has locked the anchor may publish the removal of the only leaf, which empties the root. The value that its key had is the one
-/// that the pass has loaded under its lock.
+/// A pass that has locked the anchor may publish the removal of the only leaf, which empties the root. The value that the leaf's key had is
+/// the one that the pass has loaded under the anchor's lock.
 pub fn last_removal_may_be_published()
     ensures { MayRemoveLast }
 {}
@@ -171,13 +177,13 @@ pub fn finished_end_leaves_nothing()
 
 // Runs of one pass
 
-/// In a table with one pass steps that are no publishes leave a node record outside the tree, where one stood there.
+/// In a table with one pass, let a node record stand outside the tree. Steps that are no publishes leave one outside the tree.
 pub fn spare_stays<G: Gate>()
     ensures { SpareStays G.becomes }
 {}
 
-/// In a table with one pass, let steps that are no publishes begin and end where the pass has no record. They leave each node record free that
-/// was free.
+/// In a table with one pass, let steps that are no publishes end where the pass has no record. They leave each node record free that was
+/// free before.
 pub fn free_stays<G: Gate>()
     ensures { FreeStays G.becomes }
 {}

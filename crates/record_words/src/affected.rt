@@ -13,9 +13,9 @@ use crate::search::{positions_in, rows_in};
 use partial_keys::count_below;
 use std::simd::prelude::*;
 
-/// The first and the last affected slot, in each node whose head has `words`. From the one to the other stand just the entries whose rows
-/// agree with that of `slot` in all columns below `position`. No head is made: the words are compared as vectors. Rows rise, so those
-/// that agree in the first columns follow each other.
+/// Returns the first and the last slot that `position` affects, seen from `slot`, in each node whose head has `words`. From the first to
+/// the last stand just the entries whose rows agree with that of `slot` in all columns below `position`. They follow each other, since rows
+/// rise. The words are compared as vectors, and no head is made.
 #[inline(always)]
 pub fn affected_slots(words: &[u64], slot: u8, position: u16) -> (u8, u8)
     requires long { length words.now ≡ HEAD_WORDS }
@@ -28,12 +28,13 @@ pub fn affected_slots(words: &[u64], slot: u8, position: u16) -> (u8, u8)
     let rest = u32::MAX >> count_below(positions, position);
     let row = row_in(words, slot);
     let rows = rows_in(words);
+    // The rows that agree with `row` below `position` are those from `row & !rest` to `row | rest`.
     let first = count_rows_below(rows, row & !rest);
     let end = count_rows_upto(rows, row | rest).min(read_numbers(words[0]).count as u32);
     (first as u8, (end - 1) as u8)
 }
 
-/// The row of `slot` of each node whose head has `words`; 4,294,967,295 past the last entry.
+/// Returns the row of `slot` of each node whose head has `words`; 4,294,967,295 for a slot behind the last entry.
 #[inline(always)]
 fn row_in(words: &[u64], slot: u8) -> u32
     requires { (length words.now ≡ HEAD_WORDS) × (slot < 32) }
@@ -43,7 +44,7 @@ fn row_in(words: &[u64], slot: u8) -> u32
     numbers.row_of(words[numbers.index_of_row(slot)], slot)
 }
 
-/// How many of `rows` are below `bound`.
+/// Returns how many of `rows` are below `bound`.
 #[inline(always)]
 fn count_rows_below(rows: u32x32, bound: u32) -> u32
     ensures { result ≡ count_by (λ x. nat_lt x bound) rows }
@@ -51,7 +52,7 @@ fn count_rows_below(rows: u32x32, bound: u32) -> u32
     rows.simd_lt(u32x32::splat(bound)).to_bitmask().count_ones()
 }
 
-/// How many of `rows` are `bound` or below it.
+/// Returns how many of `rows` are `bound` or below it.
 #[inline(always)]
 fn count_rows_upto(rows: u32x32, bound: u32) -> u32
     ensures { result ≡ count_by (λ x. nat_lt x (bound + 1)) rows }

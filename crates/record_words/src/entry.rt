@@ -7,7 +7,8 @@ ghost use Rattle.record_words.specs.Reading.{IsSpelledBy, IsSpelling};
 use crate::HEIGHT_BIT;
 use compound_node::Entry;
 
-/// The word of `entry`; 0 for `None`. A node's height is at least 1.
+/// Returns the word of `entry`; 0 for `None`. Its lowest two bits are 1 for a leaf and 2 for a node. The number stands from bit 2 on, and a
+/// node's height, which is at least 1, from bit 34 on.
 pub fn pack_entry(entry: Option<Entry>) -> u64
     requires { HasEntryWord entry }
     ensures { result ≡ entry_word entry }
@@ -21,7 +22,7 @@ pub fn pack_entry(entry: Option<Entry>) -> u64
     }
 }
 
-/// The entry whose word is `word`, one that `pack_entry` makes; `None` for 0.
+/// Returns the entry whose word is `word`, one that `pack_entry` makes; `None` for 0.
 pub fn read_entry(word: u64) -> Option<Entry>
     requires { IsSpelling HasEntryWord entry_word word }
     ensures { IsSpelledBy HasEntryWord entry_word word result }
@@ -32,7 +33,7 @@ pub fn read_entry(word: u64) -> Option<Entry>
     }
 }
 
-/// The entry whose word is `word`, one that `pack_entry` makes of an entry, so not 0.
+/// Returns the entry whose word is `word`, one that `pack_entry` makes of an entry, so not 0.
 pub fn read_some_entry(word: u64) -> Entry
     requires { IsSpelling (λ entry. HasEntryWord (Some entry)) (λ entry. entry_word (Some entry)) word }
     ensures { IsSpelledBy (λ entry. HasEntryWord (Some entry)) (λ entry. entry_word (Some entry)) word result }

@@ -13,7 +13,7 @@ use crate::{HEAD_WORDS, MIDDLE_KIND, NARROW_KIND};
 use partial_keys::{Columns, MAX_COLUMNS};
 use std::simd::prelude::*;
 
-/// The positions of the columns of each node whose head has `words`, and 65,535 behind them up to 31.
+/// Returns the positions of the columns of each node whose head has `words`, and 65,535 behind them up to 31 elements.
 pub(crate) fn read_positions(words: &[u64]) -> [u16; MAX_COLUMNS]
     requires { length words.now ≡ HEAD_WORDS }
     ensures { InNodesOf words.now (λ node. result ≡ with_free node.columns) }
@@ -23,9 +23,9 @@ pub(crate) fn read_positions(words: &[u64]) -> [u16; MAX_COLUMNS]
     positions
 }
 
-/// The first word of a head of the kind `kind` over `columns`. Its lowest byte is the number of entries, `count`, and the next one that of
-/// columns. Bits 16 to 31 have the height. Bits 32 to 39 have the index of the first column's byte, or 0 if the kind is wide. The bits from
-/// 40 on have the kind: 0 for wide, 1 for narrow, 2 for middle.
+/// Returns the first word of a head of the kind `kind` over `columns`. Its lowest byte is the number of entries, `count`, and the next byte
+/// the number of columns. Bits 16 to 31 have the height. Bits 32 to 39 have the index of the first column's byte, or 0 if the kind is wide.
+/// The bits from 40 on have the kind: 0 for wide, 1 for narrow, 2 for middle.
 pub(crate) fn word_of_numbers(count: u8, columns: &Columns, height: u16, kind: HeadKind) -> u64
     requires { kind ≡ kind_of columns.now }
     ensures { result ≡ numbers_word kind count height columns.now }
@@ -39,20 +39,21 @@ pub(crate) fn word_of_numbers(count: u8, columns: &Columns, height: u16, kind: H
     }
 }
 
-/// Word `j` of the eight words of positions in a wide head, counted from 0. It has the four from `positions[4 * j]` on, in 16 bits each,
-/// the first in its lowest bits. 65,535 stands for one past the last.
+/// Returns word `j`, counted from 0, of the eight words of positions in a wide head. It has the four from `positions[4 * j]` on, in 16 bits
+/// each, the first in its lowest bits. 65,535 stands for a position behind the last.
 pub(crate) fn word_of_positions(positions: &[u16; MAX_COLUMNS], j: usize) -> u64
     requires { j < 8 }
     ensures { result ≡ position_word positions.now j }
 {
-    let at = 4 * j;
-    let low = position_at(positions, at) as u64 + ((position_at(positions, at + 1) as u64) << 16);
-    let high = position_at(positions, at + 2) as u64
-        + ((position_at(positions, at + 3) as u64) << 16);
+    let first = 4 * j;
+    let low = position_at(positions, first) as u64
+        + ((position_at(positions, first + 1) as u64) << 16);
+    let high = position_at(positions, first + 2) as u64
+        + ((position_at(positions, first + 3) as u64) << 16);
     low + (high << 32)
 }
 
-/// The position at index `at` of `positions`, from 0; 65,535 past the last.
+/// Returns the position at index `at` of `positions`, counted from 0; 65,535 behind the last.
 fn position_at(positions: &[u16; MAX_COLUMNS], at: usize) -> u16
     ensures { result ≡ position_at positions.now at }
 {
@@ -63,7 +64,7 @@ fn position_at(positions: &[u16; MAX_COLUMNS], at: usize) -> u16
     }
 }
 
-/// The eight words of the sixteen `rows`: two in each word, the first of them in its low half.
+/// Returns the eight words of the sixteen `rows`: two in each word, the first of them in its low half.
 #[inline(always)]
 pub(crate) fn words_of_rows(rows: u32x16) -> u64x8
     ensures whole { length result ≡ 8 }
@@ -72,7 +73,7 @@ pub(crate) fn words_of_rows(rows: u32x16) -> u64x8
     u64x8::from_le_bytes(rows.to_le_bytes())
 }
 
-/// The four words of the highest bytes of the 32 `rows`: eight in each word, the first in its lowest bits.
+/// Returns the four words of the highest bytes of the 32 `rows`: eight in each word, the first in its lowest bits.
 #[inline(always)]
 pub(crate) fn words_of_high_bytes(rows: u32x32) -> u64x4
     ensures { result ≡ row_words Narrow rows }
@@ -80,7 +81,7 @@ pub(crate) fn words_of_high_bytes(rows: u32x32) -> u64x4
     u64x4::from_le_bytes((rows >> u32x32::splat(24)).cast::<u8>())
 }
 
-/// The eight words of the higher halves of the 32 `rows`: four in each word, the first in its lowest bits.
+/// Returns the eight words of the higher halves of the 32 `rows`: four in each word, the first in its lowest bits.
 #[inline(always)]
 pub(crate) fn words_of_high_halves(rows: u32x32) -> u64x8
     ensures { result ≡ row_words Middle rows }

@@ -26,7 +26,7 @@ impl HeadKind {
     ghost use Rattle.std.specs.Prelude.{◌≡◌};
     ghost use Rattle.record_words.specs.Kinds.{head_size, rows_from, rows_a_word};
 
-    /// How many words of a head of this kind say something: 25, 7 or 13. The words behind them are all ones.
+    /// Returns how many words a head of this kind uses: 25, 7 or 13. The words behind them are all ones.
     #[inline(always)]
     pub fn head_words(self) -> usize
         ensures { result ≡ head_size self }
@@ -38,7 +38,7 @@ impl HeadKind {
         }
     }
 
-    /// The index of the first word with rows, in a head of this kind.
+    /// Returns the index of the first word with rows, in a head of this kind.
     #[inline(always)]
     pub fn first_rows(self) -> usize
         ensures { result ≡ rows_from self }
@@ -50,7 +50,7 @@ impl HeadKind {
         }
     }
 
-    /// How many rows a word of a head of this kind has.
+    /// Returns how many rows a word of a head of this kind has.
     #[inline(always)]
     pub fn rows_a_word(self) -> usize
         ensures { result ≡ rows_a_word self }
@@ -63,7 +63,7 @@ impl HeadKind {
     }
 }
 
-/// The kind of a head with `columns`: the smallest that can spell them.
+/// Returns the kind of a head with `columns`: narrow or middle if all are near and few enough, else wide.
 pub fn kind_of(columns: &Columns) -> HeadKind
     ensures { result ≡ kind_of columns.now }
 {
@@ -78,7 +78,7 @@ pub fn kind_of(columns: &Columns) -> HeadKind
     }
 }
 
-/// Whether all bits at `columns` are in sixteen bytes within `MAX_BYTES`, and none is the 1 before a byte.
+/// Returns whether all bits at `columns` are in sixteen bytes of a key, within its first `MAX_BYTES`, and none is the 1 before a byte.
 fn are_near(columns: &Columns) -> bool
     ensures { result ≡ are_near columns.now }
 {

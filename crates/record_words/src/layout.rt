@@ -64,7 +64,7 @@ impl LeafClass {
     ghost use Rattle.record_words.specs.Layout.{class_size};
     ghost use Rattle.record_words.specs.declared.TheConstants.{LEAF_CLASSES};
 
-    /// How many words a leaf record of this class has.
+    /// Returns how many words a leaf record of this class has.
     pub fn words(self) -> usize
         ensures { result ≡ class_size self }
     {
@@ -77,7 +77,7 @@ impl LeafClass {
         }
     }
 
-    /// The number of this class: from 0 for `Short`, the smallest, to 4 for `Long`.
+    /// Returns the number of this class: from 0 for `Short`, the smallest, to 4 for `Long`.
     pub fn index(self) -> usize
         ensures { result < LEAF_CLASSES }
     {
@@ -126,8 +126,8 @@ impl Layout {
     ghost use Rattle.record_words.specs.Limits.{IsPassCount, IsStockPassCount, IsNodeCount, IsLeafCount, IsRecordCount};
     ghost use Rattle.record_words.specs.Layout.{node_start, class_size, leaf_size, leaf_start, word_count, address, HasStock, leaves_of, IsInTable, IsLocationOf};
 
-    /// The layout of a table for `passes` passes, 1 to 64, with `nodes` node records, 1 to 65,535. It has `leaves` leaf records, 1 to
-    /// 262,143, all long. The fault names the first number that is out of range.
+    /// Returns the layout of a table for `passes` passes, 1 to 64, with `nodes` node records, 1 to 65,535. It has `leaves` leaf records, 1
+    /// to 262,143, all long. The fault names the first of the three numbers that is out of range.
     pub fn of(passes: u32, nodes: u32, leaves: u32) -> Result<Layout, LayoutFault>
         ensures ok { IfOk result (λ layout. (layout.passes ≡ passes) × (layout.nodes ≡ nodes) × (layout.leaves ≡ leaves) × (layout.long_from ≡ 0)) }
         ensures passes { (result ≡ Err LayoutFault.Passes) ↔ ¬ IsPassCount passes }
@@ -154,8 +154,9 @@ impl Layout {
         })
     }
 
-    /// The layout of a table for `passes` passes, 1 to `MAX_STOCK_PASSES`, with the records of `stock`. That has 1 to 4,294,967,295 node
-    /// records, and within the same bounds leaf records of all classes together. The fault names the first number that is out of range.
+    /// Returns the layout of a table for `passes` passes, 1 to `MAX_STOCK_PASSES`, with the records of `stock`. A stock has 1 to
+    /// 4,294,967,295 node records, and within the same bounds leaf records of all classes together. The fault names the first number that
+    /// is out of range, of passes, nodes and leaves.
     pub fn with_stock(passes: u32, stock: Stock) -> Result<Layout, LayoutFault>
         ensures ok { IfOk result (λ layout. (layout.passes ≡ passes) × HasStock layout stock) }
         ensures passes { (result ≡ Err LayoutFault.Passes) ↔ ¬ IsStockPassCount passes }
@@ -187,21 +188,21 @@ impl Layout {
         })
     }
 
-    /// The number of the word with the pin of `pass`.
+    /// Returns the number of the word with the pin of `pass`.
     pub fn pin(&self, pass: u16) -> usize
         ensures { result ≡ FIRST_PIN + LINE_WORDS * pass }
     {
         FIRST_PIN + LINE_WORDS * pass as usize
     }
 
-    /// The number of the first word of node record `number`.
+    /// Returns the number of the first word of the node record `number`.
     pub fn node(&self, number: u32) -> usize
         ensures { result ≡ node_start self.now number }
     {
         FIRST_PIN + LINE_WORDS * self.passes as usize + NODE_WORDS * number as usize
     }
 
-    /// The class of leaf record `number`; the long one past the last record.
+    /// Returns the class of the leaf record `number`; `Long` for a number behind the last record.
     pub fn class_of(&self, number: u32) -> LeafClass
         ensures { class_size result ≡ leaf_size self.now number }
     {
@@ -218,7 +219,7 @@ impl Layout {
         }
     }
 
-    /// How many words leaf record `number` has.
+    /// Returns how many words the leaf record `number` has.
     pub fn leaf_size(&self, number: u32) -> usize
         ensures size { result ≡ leaf_size self.now number }
         ensures few { (SHORT_WORDS ≤ result) × (result ≤ LEAF_WORDS) }
@@ -226,9 +227,9 @@ impl Layout {
         self.class_of(number).words()
     }
 
-    /// The number of the first leaf record with at least `words` words: all before it have fewer, and all from it on have enough. If none
-    /// has, it is how many there are. If `words` is more than any class has, it is the number of the first long one, or of where that would
-    /// be.
+    /// Returns the number of the first leaf record with at least `words` words: all before it have fewer, and all from it on have enough.
+    /// If none has, the result is the number of leaf records. If `words` is more than any class has, it is where the long ones begin, or
+    /// would begin.
     pub fn first_leaf_with(&self, words: usize) -> u32
         ensures below { (q : ℕ) → q < result → leaf_size self.now q < words }
         ensures from { words ≤ LEAF_WORDS → (q : ℕ) → result ≤ q → words ≤ leaf_size self.now q }
@@ -247,7 +248,7 @@ impl Layout {
         }
     }
 
-    /// The number behind the last leaf record of the class that leaf record `number` has.
+    /// Returns the number behind the last leaf record of the class to which the leaf record `number` belongs.
     pub fn class_end(&self, number: u32) -> u32
         requires { number < self.now.leaves }
         ensures upto { (number < result) × (result ≤ self.now.leaves) }
@@ -266,7 +267,7 @@ impl Layout {
         }
     }
 
-    /// The number of the first word of leaf record `number`.
+    /// Returns the number of the first word of the leaf record `number`.
     pub fn leaf(&self, number: u32) -> usize
         ensures { result ≡ leaf_start self.now number }
     {
@@ -278,21 +279,21 @@ impl Layout {
             + (LEAF_WORDS - WIDE_WORDS) * number.saturating_sub(self.long_from) as usize
     }
 
-    /// How many words the table has.
+    /// Returns how many words the table has.
     pub fn words(&self) -> usize
         ensures { result ≡ word_count self.now }
     {
         self.leaf(self.leaves)
     }
 
-    /// How many bytes the table takes.
+    /// Returns how many bytes the table takes.
     pub fn bytes(&self) -> usize
         ensures { result ≡ WORD_BYTES * word_count self.now }
     {
         WORD_BYTES * self.words()
     }
 
-    /// The number of the word at `location`.
+    /// Returns the number of the word at `location`.
     pub fn address(&self, location: Location) -> usize
         ensures { result ≡ address self.now location }
     {
@@ -306,8 +307,8 @@ impl Layout {
         }
     }
 
-    /// The one location of the table whose word has the number `word`. `None` for the words that keep others apart, and for those past
-    /// the table.
+    /// Returns the one location of the table whose word has the number `word`. `None` for the words that keep others apart, and for a
+    /// number behind the table.
     pub fn location(&self, word: usize) -> Option<Location>
         ensures { IsLocationOf self.now word result }
     {
@@ -332,7 +333,7 @@ impl Layout {
         }
     }
 
-    /// The location of the word with the number `word`, a word of a leaf record.
+    /// Returns the location of the word with the number `word`, a word of a leaf record.
     fn leaf_location(&self, word: usize) -> Location
         requires { (leaf_start self.now 0 ≤ word) × (word < word_count self.now) }
         ensures here { address self.now result ≡ word }
@@ -356,8 +357,8 @@ impl Layout {
     }
 }
 
-/// The location of the word that stands `within` words behind the first one of leaf record `first`. That record and those behind have
-/// `size` words each.
+/// Returns the location of the word that stands `within` words behind the first word of the leaf record `first`. That record and those
+/// behind it have `size` words each.
 fn locate_leaf_word(first: u32, size: usize, within: usize) -> Location
     requires size { (1 ≤ size) × (size ≤ LEAF_WORDS) }
     requires few { first + within / size < 2 ^ 32 }

@@ -8,7 +8,7 @@ ghost use Rattle.record_words.specs.Leaf.{HasLeafWords, key_word, leaf_words, wo
 use crate::{FIRST_KEY_WORD, KEY_OFFSET, KEY_WORDS, LEAF_FIELDS, LENGTH_INDEX, VALUE_INDEX};
 use key_bits::{Key, MAX_BYTES};
 
-/// How many words the bytes of a key take in a leaf, if it has `length` of them: 0 to `KEY_WORDS`.
+/// Returns how many words the bytes of a key of `length` bytes take in a leaf: 0 to `KEY_WORDS`.
 pub fn count_key_words(length: u64) -> usize
     requires { length ≤ MAX_BYTES }
     ensures { result ≡ words_of_key length }
@@ -16,7 +16,7 @@ pub fn count_key_words(length: u64) -> usize
     (length as usize + 7) / 8
 }
 
-/// How many words a leaf record needs for `key`: those of the state, the value and the length, and the key's own.
+/// Returns how many words a leaf record needs for `key`: those of the state, the value and the length, and the key's own.
 pub fn count_leaf_words(key: &Key) -> usize
     ensures words { result ≡ words_for (length key.now) }
     ensures few { result ≤ LEAF_WORDS }
@@ -24,7 +24,8 @@ pub fn count_leaf_words(key: &Key) -> usize
     KEY_OFFSET as usize + count_key_words(key.as_bytes().len() as u64)
 }
 
-/// Word `j` of `key`, counted from 0: its eight bytes from byte `8 * j` on, the first in the highest bits. Bytes past the key's end are 0.
+/// Returns word `j` of `key`, counted from 0: its eight bytes from byte `8 * j` on, the first in the highest bits. Bytes past the key's end
+/// are 0.
 pub fn key_word_at(key: &Key, j: usize) -> u64
     requires { j < KEY_WORDS }
     ensures { result ≡ key_word key.now j }
@@ -34,7 +35,7 @@ pub fn key_word_at(key: &Key, j: usize) -> u64
     u64::from_be_bytes(eight)
 }
 
-/// The words of a leaf record from offset 1 on: `value`, the length of `key` and its bytes, and 0 behind these.
+/// Returns the words of a leaf record from offset 1 on: `value`, the length of `key` in bytes and its bytes, and 0 behind these.
 pub fn pack_leaf(key: &Key, value: u64) -> [u64; LEAF_FIELDS]
     ensures words { result ≡ leaf_words (key.now, value) }
     ensures fits { HasLeafWords (key.now, value) }
@@ -49,8 +50,8 @@ pub fn pack_leaf(key: &Key, value: u64) -> [u64; LEAF_FIELDS]
     words
 }
 
-/// Writes `word`, the key's word `j` counted from 0, to `bytes`. Its eight bytes go from byte `8 * j` on, the highest first. All other
-/// bytes stay.
+/// Writes `word`, which is word `j` of a key, counted from 0, to `bytes`. Its eight bytes go from byte `8 * j` on, the highest first. All
+/// other bytes stay.
 pub fn write_key_word(bytes: &mut [u8; MAX_BYTES], j: usize, word: u64)
     requires { j < KEY_WORDS }
     ensures written { key_word bytes.new j ≡ word }

@@ -10,8 +10,8 @@
 //!
 //! The columns of a node decide the kind of its head ([`kind_of`]). Near columns have their bits in sixteen bytes of a key, from the first
 //! column's byte on, and none is the bit that says that there is a byte; these sixteen end at most at byte 240. A head is narrow if all its
-//! columns are near, and at most 8. It is middle if all are near, and 9 to 16, and else wide. A word of a head in which it has nothing is all
-//! ones.
+//! columns are near, and at most 8. It is middle if all are near, and 9 to 16, and else wide. A word of a head in which it has nothing is
+//! all ones.
 //!
 //! ```text
 //! index   narrow (kind 1)            middle (kind 2)              wide (kind 0)
@@ -20,9 +20,10 @@
 //!  rows    3 ..6 eight a word        5 ..12 four a word           9 ..24 two a word
 //! ```
 //!
-//! Parts of a word are counted from its lowest bits. An index is a column's byte less the first one, and a mask its bit in that byte, a byte
-//! each. Column j has lane 15-j of 16 lanes, and a narrow head has no word for the first eight: so the lanes in which a key has a 1 are its
-//! dense key. A lane without a column has 0 and 0. Rows have their highest 8, 16 or 32 bits, the others are 0; unused rows are all ones.
+//! Parts of a word are counted from its lowest bits. An index is a column's byte less the first one, and a mask its bit in that byte, a
+//! byte each. Column j has lane 15-j of 16 lanes, and a narrow head has no word for the first eight: so the lanes in which a key has a 1
+//! are its dense key. A lane without a column has 0 and 0. Rows have their highest 8, 16 or 32 bits, the others are 0; unused rows are all
+//! ones.
 //!
 //! And a leaf record these:
 //!
@@ -36,8 +37,8 @@
 //!
 //! ## Heads by kind: where what stands
 //!
-//! `specs/Kinds` says which kind columns take, and what the lanes of near ones are. `specs/Packed` has the words: `column_words`, `row_words`,
-//! `kind_words`, and `fixed_words`, which takes the kind of the columns. So the words of a head stay a function of the head.
+//! `specs/Kinds` says which kind columns take, and what the lanes of near ones are. `specs/Packed` has the words: `column_words`,
+//! `row_words`, `kind_words`, and `fixed_words`, which takes the kind of the columns. So the words of a head stay a function of the head.
 //! `specs/HeadParts` has the parts that a search loads, and `AreNumbersOf`, what the first word tells. `specs/Decoding` says what words
 //! tell, whatever they are.
 //!
@@ -54,12 +55,12 @@
 //! | `put_columns`, `put_rows`, `put_head` | the words are `column_words`, `row_words`, those of the head |
 //! | `affected_slots`, `add_leaf`, `drop_entry`, `close_fork`, `read_node` | as of words of one kind |
 //!
-//! Near columns and their lanes are in the lemma files `NearLanes`, `NearSpelling` and `NearDense`. `HeadsByKind` and `TellingHead` say what each
-//! part of a head's words tells, and `HeadPut` how they are written.
+//! Near columns and their lanes are in the lemma files `NearLanes`, `NearSpelling` and `NearDense`. `HeadsByKind` and `TellingHead` say
+//! what each part of a head's words tells, and `HeadPut` how they are written.
 //!
-//! A search loads the first word, and then as many as its kind says. Whoever reads one row or position of a locked node loads the first word
-//! before. A word of rows can be all ones although it has a row: that row is, and all behind it are unused. So whoever stores only the words
-//! that say something may leave it out, too. A replay decodes by the kind, makes the words anew and compares all of them.
+//! A search loads the first word, and then as many as its kind says. Whoever reads one row or position of a locked node loads the first
+//! word before. A word of rows can be all ones although it has a row: that row is, and all behind it are unused. So whoever stores only the
+//! words that say something may leave it out, too. A replay decodes by the kind, makes the words anew and compares all of them.
 //!
 //! # What carries the proof
 //!

@@ -17,7 +17,7 @@ const BIT_OF_LOW_MASK: [u8; 16] = [0, 8, 7, 0, 6, 0, 0, 0, 5, 0, 0, 0, 0, 0, 0, 
 /// Which of the nine bits has 16 times this mask.
 const BIT_OF_HIGH_MASK: [u8; 16] = [0, 4, 3, 0, 2, 0, 0, 0, 1, 0, 0, 0, 0, 0, 0, 0];
 
-/// The bytes of two words, those of `low` first, the lowest of each first.
+/// Returns the bytes of two words, those of `low` first, the lowest byte of each first.
 #[inline(always)]
 pub(crate) fn bytes_of_words(low: u64, high: u64) -> u8x16
     ensures whole { length result ≡ 16 }
@@ -27,7 +27,7 @@ pub(crate) fn bytes_of_words(low: u64, high: u64) -> u8x16
     u64x2::from_array([low, high]).to_le_bytes()
 }
 
-/// The two words of sixteen bytes, the first eight of them first, each from its lowest bits up.
+/// Returns two words of the sixteen bytes `lanes`, the first eight in the first word, each word from its lowest bits up.
 #[inline(always)]
 pub(crate) fn words_of_bytes(lanes: u8x16) -> u64x2
     ensures { result ≡ lane_words 8 2 lanes }
@@ -35,8 +35,8 @@ pub(crate) fn words_of_bytes(lanes: u8x16) -> u64x2
     u64x2::from_le_bytes(lanes)
 }
 
-/// How far each of `positions` is behind the first bit of byte `first`, lane 15-i for that of column i. It is 0 for 65,535, which stands
-/// for no column.
+/// Returns how far each of `positions` is behind the first bit of byte `first`. Lane 15-i has the distance of column i; it is 0 for 65,535,
+/// which stands for no column.
 #[inline(always)]
 fn distances_of(positions: u16x16, first: u16) -> u16x16
     requires { first < 7282 }
@@ -50,7 +50,7 @@ fn distances_of(positions: u16x16, first: u16) -> u16x16
         .reverse()
 }
 
-/// The lanes of near columns: of the indexes of their bytes, counted from the first column's, and of the masks of their bits. `positions`
+/// Returns the lanes of near columns: the indexes of their bytes, counted from the first column's, and the masks of their bits. `positions`
 /// are those of the columns, and 65,535 behind them.
 #[inline(always)]
 pub(crate) fn near_lanes_of(positions: u16x16) -> (u8x16, u8x16)
@@ -59,14 +59,15 @@ pub(crate) fn near_lanes_of(positions: u16x16) -> (u8x16, u8x16)
 {
     let first = positions.to_array()[0] / 9;
     let distances = distances_of(positions, first);
+    // A distance is below 144. There 57 / 512 of it, rounded down, is a ninth of it.
     let indexes = (distances * u16x16::splat(57)) >> u16x16::splat(9);
     let bits = distances - indexes * u16x16::splat(9);
     let masks = u8x16::from_array(MASKS).swizzle_dyn_within::<16>(bits.cast::<u8>());
     (indexes.cast::<u8>(), masks)
 }
 
-/// The positions of near columns, and 65,535 behind them up to 16. `indexes` and `masks` are their lanes, and the first column's bit is one
-/// of byte `first`.
+/// Returns the positions of near columns, and 65,535 behind them up to 16 lanes. `indexes` and `masks` are the columns' lanes, and `first`
+/// is the byte with the first column's bit.
 #[inline(always)]
 pub(crate) fn near_positions(indexes: u8x16, masks: u8x16, first: u8) -> u16x16
     ensures { (columns : List ℕ) → AreNearLanes columns indexes masks first → result ≡ with_free_to_16 columns }
@@ -84,8 +85,9 @@ pub(crate) fn near_positions(indexes: u8x16, masks: u8x16, first: u8) -> u16x16
         .reverse()
 }
 
-/// The dense key of `key` for near columns: the bit of column j is bit 31-j. `indexes` and `masks` are their lanes, and the first column's
-/// bit is one of byte `first`. The sixteen bytes from there on are read at once. Behind the key's end they are 0, as its bits are there.
+/// Returns the dense key of `key` for near columns: bit 31-j has the key's bit at column j. `indexes` and `masks` are the columns' lanes,
+/// and `first` is the byte with the first column's bit. Sixteen bytes of the key are read at once, from `first` on. Those behind the key's
+/// end are 0, as its bits are there.
 #[inline(always)]
 pub(crate) fn extract_near(indexes: u8x16, masks: u8x16, first: u8, key: &Key) -> u32
     requires { (columns : List ℕ) × AreNearLanes columns indexes masks first }

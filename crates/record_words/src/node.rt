@@ -41,7 +41,7 @@ use partial_keys::{
 };
 use std::simd::prelude::*;
 
-/// The words of `node` in a node record, from offset 1 on: its head, its entries, and 0 behind these.
+/// Returns the words of `node` in a node record, from offset 1 on: its head, its entries, and 0 behind these.
 pub fn pack_node(node: &Node) -> [u64; NODE_FIELDS]
     ensures words { result ≡ node_words node.now }
     ensures fits { HasNodeWords node.now }
@@ -54,7 +54,7 @@ pub fn pack_node(node: &Node) -> [u64; NODE_FIELDS]
     words
 }
 
-/// The words of `head` in a node record, from offset 1 on.
+/// Returns the words of `head` in a node record, from offset 1 on.
 pub fn pack_head(head: &Head) -> [u64; HEAD_WORDS]
     ensures { result ≡ head_words head.now }
 {
@@ -73,7 +73,8 @@ fn put_head(words: &mut [u64; NODE_FIELDS], head: &Head)
     put_parts(words, head.count(), head.height(), head.columns(), rows);
 }
 
-/// Writes the words of the head of these parts to the front of `words`, those of a node. The words of the entries stay.
+/// Writes the words of a head with `count` entries, `height`, `columns` and `rows` to the front of `words`, those of a node. The words of
+/// the entries stay.
 fn put_parts(
     words: &mut [u64; NODE_FIELDS],
     count: u8,
@@ -92,7 +93,8 @@ fn put_parts(
 }
 
 /// Writes `columns` into `words`, the words of a node, as a head of the kind `kind` has them. A wide head has their positions. A middle one
-/// has the indexes of their bytes in two words, and their masks in two; a narrow one has one word of each. All other words stay.
+/// has two words with the indexes of their bytes, and two with the masks of their bits. A narrow one has one word of each. All other words
+/// stay.
 #[inline(always)]
 fn put_columns(words: &mut [u64; NODE_FIELDS], kind: HeadKind, columns: &Columns)
     requires kind { kind ≡ kind_of columns.now }
@@ -126,7 +128,7 @@ fn put_positions(words: &mut [u64; NODE_FIELDS], positions: &[u16; MAX_COLUMNS])
     }
 }
 
-/// The words of near columns: two with the indexes of their bytes, and two with the masks of their bits.
+/// Returns the words of the near columns `columns`: two with the indexes of their bytes, and two with the masks of their bits.
 #[inline(always)]
 fn near_words_of(columns: &Columns) -> (u64x2, u64x2)
     requires { (kind_of columns.now ≢ Wide) × IsColumns columns.now }
@@ -157,7 +159,7 @@ fn put_rows(words: &mut [u64; NODE_FIELDS], kind: HeadKind, rows: u32x32)
     }
 }
 
-/// Whether the node of `words` has leaves alone, and room for one more.
+/// Returns whether the node of `words` has leaves alone, and room for one more.
 pub fn can_take_leaf(words: &[u64; NODE_FIELDS]) -> bool
     ensures { (node : NodeView) → HasNodeWords node → node_words node ≡ words.now → IsTrue result ↔ CanTakeLeaf node }
 {
@@ -165,9 +167,9 @@ pub fn can_take_leaf(words: &[u64; NODE_FIELDS]) -> bool
     numbers.height == 1 && (numbers.count as usize) < MAX_ENTRIES
 }
 
-/// Changes `words`, those of a node with leaves alone and room for one more, to those of the node with the leaf of record `leaf`. A new
-/// fork at `position` stands over the affected slots `first` to `last`, of which no fork has that position. The leaf stands straight after
-/// them if `bit` is true, else straight before.
+/// Adds the leaf of the record `leaf` to `words`, those of a node with leaves alone and room for one more. A new fork at `position` stands
+/// over the affected slots `first` to `last`, of which no fork has that position. The leaf stands straight after them if `bit` is true,
+/// else straight before.
 #[inline(always)]
 pub fn add_leaf(
     words: &mut [u64; NODE_FIELDS],
@@ -192,8 +194,9 @@ pub fn add_leaf(
     insert_element(words, end, at, pack_entry(Some(Entry::Leaf(leaf))));
 }
 
-/// Changes the words of the head to those with a new fork at `position` over the slots from `first` to `last`. The leaf's slot follows from
-/// `bit`, as in `add_leaf`. The words of the entries stay. Mostly `position` is a column already, and the words of the positions stay too.
+/// Changes the head in `words` to the one with a new fork at `position` over the slots from `first` to `last`. The leaf's slot follows from
+/// `bit`, as in `add_leaf`. The words of the entries stay. Mostly `position` is a column already, and then the words of the positions stay,
+/// too.
 #[inline(always)]
 fn add_fork(words: &mut [u64; NODE_FIELDS], first: u8, last: u8, position: u16, bit: bool)
     requires growing { (node : NodeView) × CanGrowAt words.old node position first last }
@@ -229,8 +232,8 @@ fn add_column_fork(words: &mut [u64; NODE_FIELDS], first: u8, last: u8, position
     put_parts(words, numbers.count + 1, 1, &columns, rows);
 }
 
-/// Takes the entry in `slot`, and the last fork on the path to it, out of the node of `words`, and returns `None`. The height is made
-/// anew. If there are two entries, the words stay, and it returns the other one.
+/// Takes the entry in `slot`, and the last fork on the path to it, out of the node of `words`, and returns `None`. The height is computed
+/// anew. If the node has just two entries, `words` stay, and it returns the other entry.
 pub fn drop_entry(words: &mut [u64; NODE_FIELDS], slot: u8) -> Option<Entry>
     requires { (node : NodeView) × HasNodeWords node × (node_words node ≡ words.old) × (slot < length node.entries) }
     ensures { (node : NodeView) → HasNodeWords node → node_words node ≡ words.old → SpellLeft words.new result (without slot (piece node)) }
@@ -246,8 +249,8 @@ pub fn drop_entry(words: &mut [u64; NODE_FIELDS], slot: u8) -> Option<Entry>
     None
 }
 
-/// Takes the row of `slot`, one of more than two, and the last fork on the path to it out of the head of `words`. Its height becomes
-/// `height`. The words of the entries stay. Mostly each column has a fork still, and the words of the columns stay too.
+/// Takes the row of `slot`, one of more than two, and the last fork on the path to it out of the head in `words`. The head's height becomes
+/// `height`. The words of the entries stay. Mostly each column still has a fork, and then the words of the columns stay, too.
 fn drop_row(words: &mut [u64; NODE_FIELDS], slot: u8, height: u16)
     requires dropping { (node : NodeView) × CanDropAt words.old node slot }
     requires height { 0 < height }
@@ -265,8 +268,8 @@ fn drop_row(words: &mut [u64; NODE_FIELDS], slot: u8, height: u16)
     put_rows(words, numbers.kind, rows);
 }
 
-/// Makes the head of `words` one of `count` entries and of `height`, with the first of `rows`. The columns in which `used` has 0 go, of the
-/// rows, too. The words of the entries stay.
+/// Makes the head in `words` one of `count` entries and of `height`, with the first `count` of `rows`. The columns in which `used` has 0
+/// are left out, of the rows, too. The words of the entries stay.
 fn drop_columns(words: &mut [u64; NODE_FIELDS], count: u8, height: u16, rows: u32x32, used: u32)
     requires few { count ≤ 32 }
     requires dropping { (node : NodeView) × CanDropColumns words.old node (take count rows) used }
@@ -302,8 +305,8 @@ pub fn close_fork(
     drop_entry(words, slot)
 }
 
-/// The height of a new node over the entries of `words`: one above the greatest of theirs. All of them stood in a node of the height
-/// `height`.
+/// Returns the height of a new node over the entries in `words`: one above the greatest of theirs. All of them stood in a node of the
+/// height `height`.
 fn height_over(words: &[u64], height: u16) -> u16
     requires { (entries : List Entry) × SpellEntries height words.now entries }
     ensures { (entries : List Entry) → SpellEntries height words.now entries → result ≡ 1 + greatest_height entries }
@@ -318,7 +321,7 @@ fn height_over(words: &[u64], height: u16) -> u16
     1 + greatest as u16
 }
 
-/// The node of `words`, those that some node has in its record from offset 1 on.
+/// Returns the node of `words`, which some node has in its record from offset 1 on.
 pub fn read_node(words: &[u64; NODE_FIELDS]) -> Node
     requires { IsSpelling HasNodeWords node_words words.now }
     ensures { IsSpelledBy HasNodeWords node_words words.now result }
@@ -330,7 +333,7 @@ pub fn read_node(words: &[u64; NODE_FIELDS]) -> Node
     Node::of(read_head(&words[..HEAD_WORDS]), entries)
 }
 
-/// The head whose words are `words`.
+/// Returns the head of `words`, which some node has as the words of its head.
 fn read_head(words: &[u64]) -> Head
     requires { IsSpelling HasHeadWords head_words words.now }
     ensures { IsSpelledBy HasHeadWords head_words words.now result }
@@ -345,7 +348,7 @@ fn read_head(words: &[u64]) -> Head
     )
 }
 
-/// The word of the entry in `slot` of `node`.
+/// Returns the word of the entry in `slot` of `node`.
 fn entry_word_at(node: &Node, slot: u8) -> u64
     requires { slot < length node.now.entries }
     ensures word { result ≡ entry_word (slice_get node.now.entries slot) }

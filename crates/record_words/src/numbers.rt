@@ -34,7 +34,7 @@ impl HeadNumbers {
     ghost use Rattle.record_words.specs.Packed.{position_at, row_at};
     ghost use Rattle.record_words.specs.declared.TheConstants.{HEAD_WORDS};
 
-    /// The index behind the word of the node's last entry.
+    /// Returns the index behind the word of the node's last entry.
     #[inline(always)]
     pub fn entries_end(self) -> usize
         ensures { result ≡ HEAD_WORDS + self.count }
@@ -42,7 +42,7 @@ impl HeadNumbers {
         HEAD_WORDS + self.count as usize
     }
 
-    /// The index of the word with the row of slot `slot`.
+    /// Returns the index of the word with the row of slot `slot`.
     #[inline(always)]
     pub fn index_of_row(self, slot: u8) -> usize
         ensures { result ≡ rows_from self.kind + slot / rows_a_word self.kind }
@@ -50,7 +50,7 @@ impl HeadNumbers {
         self.kind.first_rows() + slot as usize / self.kind.rows_a_word()
     }
 
-    /// The index of the word with the position of column `column`, or with the index of its byte.
+    /// Returns the index of the word with the position of column `column`, or with the index of its byte.
     #[inline(always)]
     pub fn index_of_position(self, column: u8) -> usize
         ensures { result ≡ position_index self.kind column }
@@ -63,7 +63,7 @@ impl HeadNumbers {
         }
     }
 
-    /// The index of the word with the mask of column `column`; the same as `index_of_position` in a wide head.
+    /// Returns the index of the word with the mask of column `column`; the same as `index_of_position` in a wide head.
     #[inline(always)]
     pub fn index_of_mask(self, column: u8) -> usize
         ensures { result ≡ mask_index self.kind column }
@@ -76,8 +76,8 @@ impl HeadNumbers {
         }
     }
 
-    /// The row of slot `slot`, in each node whose head has these numbers and `word` at [`HeadNumbers::index_of_row`]. It is 4,294,967,295
-    /// past the last entry.
+    /// Returns the row of slot `slot`, in each node whose head has these numbers and `word` at [`HeadNumbers::index_of_row`]. It is
+    /// 4,294,967,295 for a slot behind the last entry.
     #[inline(always)]
     pub fn row_of(self, word: u64, slot: u8) -> u32
         ensures { InNodesWith self (rows_from self.kind + slot / rows_a_word self.kind) word (λ node. result ≡ row_at node.rows slot) }
@@ -92,8 +92,8 @@ impl HeadNumbers {
         }
     }
 
-    /// The position of column `column`, in each node whose head has these numbers, `word` at [`HeadNumbers::index_of_position`] and `masks`
-    /// at [`HeadNumbers::index_of_mask`]. It is 65,535 past the last column.
+    /// Returns the position of column `column`, in each node whose head has these numbers, `word` at [`HeadNumbers::index_of_position`] and
+    /// `masks` at [`HeadNumbers::index_of_mask`]. It is 65,535 for a column behind the last.
     #[inline(always)]
     pub fn read_position(self, word: u64, masks: u64, column: u8) -> u16
         ensures { InNodesWith self (position_index self.kind column) word (λ node. slice_index (head_words (head_of node)) (mask_index self.kind column) ≡ masks →
@@ -115,7 +115,7 @@ impl HeadNumbers {
     }
 }
 
-/// The numbers of entries and of columns, the height and the kind of each node whose head begins with `word`.
+/// Returns the numbers of entries and of columns, the height, the kind and the first byte, of each node whose head begins with `word`.
 #[inline(always)]
 pub fn read_numbers(word: u64) -> HeadNumbers
     ensures parts { (result.count ≡ count_in word) × (result.columns ≡ column_count_in word) × (result.height ≡ height_in word) × (result.kind ≡ kind_in word) ×
@@ -132,7 +132,7 @@ pub fn read_numbers(word: u64) -> HeadNumbers
     }
 }
 
-/// The kind of each node whose head begins with `word`.
+/// Returns the kind of each node whose head begins with `word`.
 #[inline(always)]
 fn read_kind(word: u64) -> HeadKind
     ensures { result ≡ kind_in word }
@@ -144,8 +144,8 @@ fn read_kind(word: u64) -> HeadKind
     }
 }
 
-/// The number that tells the kind of each node whose head begins with `word`: `NARROW_KIND`, `MIDDLE_KIND`, or 0 for a wide one. A search
-/// compares it as it is, since a `HeadKind` takes some ten instructions more.
+/// Returns the number that tells the kind of each node whose head begins with `word`: `NARROW_KIND`, `MIDDLE_KIND`, or 0 for a wide one. A
+/// search compares the number as it is, since a `HeadKind` takes some ten instructions more.
 #[inline(always)]
 pub fn kind_number(word: u64) -> u64
     ensures { result ≡ word / 2 ^ 40 }
@@ -153,7 +153,8 @@ pub fn kind_number(word: u64) -> u64
     word >> 40
 }
 
-/// The position of a near column. Its byte is `index` behind byte `first_byte`, and its bit there is `mask`, which is not 0.
+/// Returns the position of a near column, whose byte is `index` behind byte `first_byte`, and whose bit there has the mask `mask`, which is
+/// not 0.
 #[inline(always)]
 fn near_position(first_byte: u8, index: u8, mask: u8) -> u16
     ensures { (p : ℕ) → bit_mask p ≡ mask → 0 < mask → p / 9 ≡ first_byte + index → result ≡ p }
@@ -161,7 +162,8 @@ fn near_position(first_byte: u8, index: u8, mask: u8) -> u16
     9 * (first_byte as u16 + index as u16) + 1 + mask.leading_zeros() as u16
 }
 
-/// The index of the word that tells the first position of a head of these numbers. A wide head has it there, others have its mask.
+/// Returns the index of the word that tells the first position in a head of the kind `kind`. A wide head has the position there, the others
+/// have its mask.
 #[inline(always)]
 pub fn index_of_first_position(kind: HeadKind) -> usize
     ensures { result ≡ mask_index kind 0 }
@@ -173,7 +175,7 @@ pub fn index_of_first_position(kind: HeadKind) -> usize
     }
 }
 
-/// The position of the first column, in each node whose head has `numbers` and `word` at [`index_of_first_position`].
+/// Returns the position of the first column, in each node whose head has `numbers` and `word` at [`index_of_first_position`].
 #[inline(always)]
 pub fn first_position_of(numbers: HeadNumbers, word: u64) -> u16
     ensures { InNodesWith numbers (mask_index numbers.kind 0) word (λ node. result ≡ slice_index node.columns 0) }

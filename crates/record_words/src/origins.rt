@@ -34,7 +34,7 @@ pub struct Origins {
 }
 
 impl Origins {
-    /// The origins of a table of `layout`.
+    /// Returns the origins of a table of `layout`.
     pub fn of(layout: Layout) -> Origins
         ensures { result.layout ≡ layout }
     {
@@ -49,7 +49,7 @@ impl Origins {
         }
     }
 
-    /// The number of the first word of node record `number`.
+    /// Returns the number of the first word of the node record `number`.
     #[inline(always)]
     pub fn start_of_node(&self, number: u32) -> usize
         ensures { result ≡ node_start self.now.layout number }
@@ -57,7 +57,7 @@ impl Origins {
         self.nodes + NODE_WORDS * number as usize
     }
 
-    /// The number of the first word of leaf record `number`.
+    /// Returns the number of the first word of the leaf record `number`.
     #[inline(always)]
     pub fn start_of_leaf(&self, number: u32) -> usize
         ensures { result ≡ leaf_start self.now.layout number }
@@ -76,7 +76,7 @@ impl Origins {
         }
     }
 
-    /// The number of the word at `location`.
+    /// Returns the number of the word at `location`.
     #[inline(always)]
     pub fn address(&self, location: Location) -> usize
         ensures { result ≡ address self.now.layout location }

@@ -10,7 +10,7 @@ pub enum Rec {
 impl Default for Rec {
     ghost use Rattle.std.specs.Prelude.{◌≡◌};
 
-    /// The first node, which fills the unused elements of a list.
+    /// Returns the first node record, which fills the unused elements of a list.
     fn default() -> Rec
         ensures { result ≡ Rec.Node 0 }
     {

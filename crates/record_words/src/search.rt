@@ -31,8 +31,8 @@ const PLACES: [u32; 32] = [
     26, 27, 28, 29, 30, 31,
 ];
 
-/// The dense key of `key` for each node whose head is wide and begins with `words`: the bit of column j is bit 31-j. The positions are
-/// read as a vector as they stand. `search_row_words` needs only the words behind `words`, so a caller can load those later.
+/// Returns the dense key of `key` for each node whose head is wide and begins with `words`: bit 31-j has the key's bit at column j. The
+/// positions are read as a vector as they stand. `search_row_words` needs only the words behind `words`, so a caller can load those later.
 #[inline(always)]
 pub fn extract_dense_key(words: &[u64; FIRST_ROWS], key: &Key) -> u32
     requires { IsSpelling (HasHeadOf Wide) front_words words.now }
@@ -42,8 +42,8 @@ pub fn extract_dense_key(words: &[u64; FIRST_ROWS], key: &Key) -> u32
     extract_dense_key_by_lanes(positions, read_numbers(words[0]).columns, key)
 }
 
-/// The slot to which the forks lead by the dense key `dense`, in each node whose head is wide and ends with `words`. As `Head::search`, but
-/// no head is made: the rows are searched as a vector as they stand.
+/// Returns the slot to which the dense key `dense` leads, in each node whose head is wide and ends with `words`. It is the slot that
+/// `Head::search` returns, but no head is made: the rows are searched as a vector as they stand.
 #[inline(always)]
 pub fn search_row_words(words: &[u64; ROW_WORDS], dense: u32) -> u8
     requires { IsSpelling (HasHeadOf Wide) back_words words.now }
@@ -53,8 +53,8 @@ pub fn search_row_words(words: &[u64; ROW_WORDS], dense: u32) -> u8
     search_rows(wide_rows_in(words), dense)
 }
 
-/// The slot to which the bits of `key` lead, in each node whose head is narrow and begins with `words`. Its rows are searched as they
-/// stand.
+/// Returns the slot to which the bits of `key` lead, in each node whose head is narrow and begins with `words`. The rows are searched as
+/// they stand.
 #[inline(always)]
 pub fn search_narrow(words: &[u64; NARROW_HEAD_WORDS], key: &Key) -> u8
     requires { IsSpelling (HasHeadOf Narrow) narrow_words words.now }
@@ -64,11 +64,13 @@ pub fn search_narrow(words: &[u64; NARROW_HEAD_WORDS], key: &Key) -> u8
     let (indexes, masks) = (bytes_of_words(0, words[1]), bytes_of_words(0, words[2]));
     let dense = extract_near(indexes, masks, numbers.first_byte, key);
     let rows = bytes_in(u64x4::from_slice(&words[FIRST_NARROW_ROWS..]));
+    // A row complies if it has no bit that the dense key lacks.
     let lacking = u8x32::splat(!((dense >> 24) as u8)) & rows;
     last_of(lacking.simd_eq(u8x32::splat(0)).to_bitmask(), numbers.count)
 }
 
-/// The slot to which the bits of `key` lead, in each node whose head is middle and begins with `words`. As `search_narrow`.
+/// Returns the slot to which the bits of `key` lead, in each node whose head is middle and begins with `words`. The rows are searched as
+/// they stand.
 #[inline(always)]
 pub fn search_middle(words: &[u64; MIDDLE_HEAD_WORDS], key: &Key) -> u8
     requires { IsSpelling (HasHeadOf Middle) middle_words words.now }
@@ -79,6 +81,7 @@ pub fn search_middle(words: &[u64; MIDDLE_HEAD_WORDS], key: &Key) -> u8
     let masks = bytes_of_words(words[3], words[4]);
     let dense = extract_near(indexes, masks, numbers.first_byte, key);
     let rows = split_into_quarters(u64x8::from_slice(&words[FIRST_MIDDLE_ROWS..]));
+    // A row complies if it has no bit that the dense key lacks.
     let lacking = u16x32::splat(!((dense >> 16) as u16)) & rows;
     last_of(
         lacking.simd_eq(u16x32::splat(0)).to_bitmask(),
@@ -86,7 +89,7 @@ pub fn search_middle(words: &[u64; MIDDLE_HEAD_WORDS], key: &Key) -> u8
     )
 }
 
-/// The index of the highest bit of `mask` below bit `count`. Bit 0 is set.
+/// Returns the index of the highest bit set in `mask` below bit `count`. Bit 0 of `mask` is set.
 #[inline(always)]
 fn last_of(mask: u64, count: u8) -> u8
     requires some { mask % 2 ≡ 1 }
@@ -96,7 +99,7 @@ fn last_of(mask: u64, count: u8) -> u8
     (63 - (mask & ((1 << count) - 1)).leading_zeros()) as u8
 }
 
-/// The positions of the columns of each node whose head has `words`, and 65,535 behind them up to 32.
+/// Returns the positions of the columns of each node whose head has `words`, and 65,535 behind them up to 32 lanes.
 #[inline(always)]
 pub(crate) fn positions_in(words: &[u64]) -> u16x32
     requires long { length words.now ≡ HEAD_WORDS }
@@ -118,7 +121,7 @@ pub(crate) fn positions_in(words: &[u64]) -> u16x32
     }
 }
 
-/// The sixteen `positions`, and 65,535 behind them up to 32.
+/// Returns the sixteen `positions`, and 65,535 behind them up to 32 lanes.
 #[inline(always)]
 fn widen(positions: u16x16) -> u16x32
     ensures { result ≡ positions ++ replicate 16 65535 }
@@ -126,7 +129,7 @@ fn widen(positions: u16x16) -> u16x32
     join_lanes(positions, u16x16::splat(u16::MAX))
 }
 
-/// The rows of each node whose head has `words`: lane `i` is that of slot `i`. Lanes past the last entry are 4,294,967,295.
+/// Returns the rows of each node whose head has `words`: lane `i` has the row of slot `i`. Lanes behind the last entry are 4,294,967,295.
 #[inline(always)]
 pub(crate) fn rows_in(words: &[u64]) -> u32x32
     requires long { length words.now ≡ HEAD_WORDS }
@@ -148,7 +151,7 @@ pub(crate) fn rows_in(words: &[u64]) -> u32x32
     }
 }
 
-/// The first `count` of `rows`, and 4,294,967,295 behind them up to 32.
+/// Returns the first `count` of `rows`, and 4,294,967,295 behind them up to 32 lanes.
 #[inline(always)]
 pub(crate) fn with_unused_from(rows: u32x32, count: u8) -> u32x32
     ensures whole { length result ≡ 32 }
@@ -160,8 +163,8 @@ pub(crate) fn with_unused_from(rows: u32x32, count: u8) -> u32x32
         .select(rows, u32x32::splat(u32::MAX))
 }
 
-/// The rows of each node whose head is wide and ends with `words`: lane `i` is that of slot `i`. Lanes past the last entry are
-/// 4,294,967,295.
+/// Returns the rows of each node whose head is wide and ends with `words`: lane `i` has the row of slot `i`. Lanes behind the last entry
+/// are 4,294,967,295.
 #[inline(always)]
 fn wide_rows_in(words: &[u64]) -> u32x32
     requires { length words.now ≡ ROW_WORDS }
@@ -178,7 +181,7 @@ fn wide_rows_in(words: &[u64]) -> u32x32
     )
 }
 
-/// The four quarters of 16 bits of each of `words`, that with the lowest bits first.
+/// Returns the four quarters of 16 bits of each of `words`, the one with the lowest bits first.
 #[inline(always)]
 pub(crate) fn split_into_quarters(words: u64x8) -> u16x32
     ensures whole { length result ≡ 32 }
@@ -187,7 +190,7 @@ pub(crate) fn split_into_quarters(words: u64x8) -> u16x32
     u16x32::from_le_bytes(words.to_le_bytes())
 }
 
-/// Whether one of `lanes` is `number`.
+/// Returns whether one of `lanes` is `number`.
 #[inline(always)]
 pub(crate) fn has_lane(lanes: u16x32, number: u16) -> bool
     ensures { result ≡ has lanes number }
@@ -195,7 +198,7 @@ pub(crate) fn has_lane(lanes: u16x32, number: u16) -> bool
     lanes.simd_eq(u16x32::splat(number)).to_bitmask() != 0
 }
 
-/// The two halves of 32 bits of each of `words`, the low one first.
+/// Returns the two halves of 32 bits of each of `words`, the low one first.
 #[inline(always)]
 pub(crate) fn split_into_halves(words: u64x8) -> u32x16
     ensures whole { length result ≡ 16 }
@@ -204,7 +207,7 @@ pub(crate) fn split_into_halves(words: u64x8) -> u32x16
     u32x16::from_le_bytes(words.to_le_bytes())
 }
 
-/// The bytes of `words`, the lowest of each first.
+/// Returns the bytes of `words`, the lowest byte of each first.
 #[inline(always)]
 fn bytes_in(words: u64x4) -> u8x32
     ensures { result ≡ digits_l (2 ^ 8) 32 (number_l (2 ^ 64) words) }
@@ -212,7 +215,7 @@ fn bytes_in(words: u64x4) -> u8x32
     words.to_le_bytes()
 }
 
-/// The lanes of `low`, and those of `high` behind them.
+/// Returns the lanes of `low`, and those of `high` behind them.
 #[inline(always)]
 pub(crate) fn join_lanes(low: u16x16, high: u16x16) -> u16x32
     ensures { result ≡ low ++ high }

@@ -25,7 +25,7 @@ pub enum Tag {
     Obsolete(u64),
 }
 
-/// The state word of `tag`; an epoch is from 1 to `EPOCHS - 1`.
+/// Returns the state word of `tag`; an epoch is from 1 to `EPOCHS - 1`.
 pub fn pack_state(tag: Tag) -> u64
     requires { HasStateWord tag }
     ensures { result ≡ state_word tag }
@@ -39,7 +39,7 @@ pub fn pack_state(tag: Tag) -> u64
     }
 }
 
-/// The state word of a record that was retired in `epoch`.
+/// Returns the state word of a record that was retired in `epoch`: 8 times the epoch, and 4.
 pub fn obsolete_word(epoch: u64) -> u64
     requires { epoch < EPOCHS }
     ensures { result ≡ state_word (Obsolete epoch) }
@@ -47,7 +47,7 @@ pub fn obsolete_word(epoch: u64) -> u64
     8 * epoch + 4
 }
 
-/// The epoch in which a record with the state word `word` was retired; `None` if it wasn't.
+/// Returns the epoch in which a record with the state word `word` was retired; `None` if `word` tells no such epoch.
 pub fn read_obsolete_epoch(word: u64) -> Option<u64>
     ensures { MatchOption result ((epoch : ℕ) → HasStateWord (Obsolete epoch) → word ≢ state_word (Obsolete epoch))
         (λ epoch. HasStateWord (Obsolete epoch) × (word ≡ state_word (Obsolete epoch))) }
@@ -59,7 +59,7 @@ pub fn read_obsolete_epoch(word: u64) -> Option<u64>
     None
 }
 
-/// The tag whose state word is `word`; `Err(Bad)` if no tag has it.
+/// Returns the tag whose state word is `word`; `Err(Bad)` if no tag has it.
 pub fn unpack_state(word: u64) -> Result<Tag, WordFault>
     ensures { IsReading HasStateWord state_word word result }
 {

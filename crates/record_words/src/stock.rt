@@ -15,7 +15,7 @@ use crate::{
 use key_bits::MAX_BYTES;
 
 impl LeafClass {
-    /// The smallest class with room for a key of `bytes` bytes; more than 240, which no key has, count as 240.
+    /// Returns the smallest class with room for a key of `bytes` bytes. No key has more than 240; more count as 240.
     pub fn for_key(bytes: usize) -> LeafClass
         ensures { result ≡ class_for bytes }
     {
@@ -35,17 +35,17 @@ impl LeafClass {
 }
 
 impl Stock {
-    /// A stock for up to `count` keys at once, of at most `longest` bytes each; more than 240 count as 240. All its leaf records are of the
-    /// smallest class with room for such keys.
+    /// Returns a stock for up to `count` keys at once, of at most `longest` bytes each; more than 240 count as 240. All its leaf records
+    /// are of the smallest class with room for such keys.
     ///
-    /// It has one node record for 3 keys, and one leaf record for each key and one more for 3 keys. Of both it has one to spare for up to 32
-    /// keys; for more 10 and one for 16 keys, but no more than 512. Sums stop at 4,294,967,295. So each index of 1 to 1,024 passes can be made
-    /// with it where there is memory.
+    /// It has one node record for 3 keys, and one leaf record for each key and one more for 3 keys. Of both kinds it has one record to
+    /// spare for up to 32 keys. For more keys it has 10 to spare and one for 16 keys, but no more than 512. Sums stop at 4,294,967,295. So
+    /// each index of 1 to 1,024 passes can be made with it where there is memory.
     ///
-    /// For more than 32 keys the nodes are a measured number (`docs/SIZING.md`) and no bound. Keys may be such that each node has two entries,
-    /// so that `count` of them take `count - 1` nodes. Up to 32 keys stand in one node. What is to spare is for the records that passes have
-    /// replaced and can't use again yet. That is enough for one pass that changes the index. If several do, let `count` be 256 for each at
-    /// least, for eight at most: else they may have to wait.
+    /// For more than 32 keys the nodes are a measured number (`docs/SIZING.md`) and no bound. Keys may be such that each node has two
+    /// entries, so that `count` of them take `count - 1` nodes. Up to 32 keys stand in one node. What is to spare is for the records that
+    /// passes have replaced and can't use again yet. That is enough for one pass that changes the index. If several do, let `count` be 256
+    /// for each at least, for eight at most: else they may have to wait.
     pub fn for_keys(count: u32, longest: usize) -> Stock
         ensures stock { result ≡ stock_for count longest }
         ensures nodes { IsRecordCount result.nodes }
@@ -61,12 +61,13 @@ impl Stock {
         )
     }
 
-    /// A stock that is always enough for up to `count` keys at once, of at most `longest` bytes each, in an index of `passes` passes. More
-    /// than 240 bytes count as 240. All its leaf records are of the smallest class with room for such keys.
+    /// Returns a stock that is always enough for up to `count` keys at once, of at most `longest` bytes each, in an index of `passes`
+    /// passes. More than 240 bytes count as 240. All its leaf records are of the smallest class with room for such keys.
     ///
-    /// A tree has fewer nodes than keys (`versions::laws::nodes_in_tree_are_fewer_than_keys`). So it has a node record and a leaf record for
-    /// each key. For each pass it has those that one change claims at most: a leaf record, 18 node records for each byte, and one. Records
-    /// that passes have replaced come back once no call can reach them; calls may wait for them. Sums stop at 4,294,967,295.
+    /// A tree has fewer nodes than keys (`versions::laws::nodes_in_tree_are_fewer_than_keys`). So the stock has a node record and a leaf
+    /// record for each key. For each pass it has the records that one change claims at most: a leaf record, 18 node records for each byte
+    /// of a key, and one. Records that passes have replaced come back once no call can reach them; calls may wait for them. Sums stop at
+    /// 4,294,967,295.
     pub fn for_any_keys(count: u32, longest: usize, passes: u32) -> Stock
         ensures stock { result ≡ stock_for_any count longest passes }
         ensures size { 1 ≤ passes → IsRecordCount result.nodes × IsRecordCount (leaves_of result) }
@@ -81,7 +82,7 @@ impl Stock {
         )
     }
 
-    /// A stock of `nodes` node records, and of `leaves` leaf records, all of the class `class`.
+    /// Returns a stock of `nodes` node records, and of `leaves` leaf records, all of the class `class`.
     pub fn of_class(nodes: u32, class: LeafClass, leaves: u32) -> Stock
         ensures { result ≡ stock_of nodes class leaves }
     {
@@ -104,7 +105,8 @@ impl Stock {
     }
 }
 
-/// How many node records, and how many leaf records, a stock for `count` keys has to spare.
+/// Returns how many records of each kind a stock for `count` keys has to spare: 1 for up to 32 keys, else 10 and one more for each 16 keys,
+/// but at most 512.
 fn count_spare(count: u32) -> u32
     ensures { result ≡ spare_for count }
 {

@@ -7,7 +7,8 @@ pub fn steps_stay_lawful()
     ensures { StepsStayLawful }
 {}
 
-/// A legal step of one pass leaves another its records, locks, pin and round, and all versions. It adds to the changes none of that other.
+/// A legal step of one pass leaves another pass its records, locks, pin and round, and leaves all versions. It adds no change of that other
+/// pass.
 pub fn steps_leave_what_others_have()
     ensures { StepsLeaveOthers }
 {}
@@ -27,7 +28,8 @@ pub fn root_load_sees_all_changes()
     ensures { RootLoadSeesAll }
 {}
 
-/// A pass has just the records of its own, the locks of nodes in the tree and the anchor's lock that it knows to have.
+/// A pass has just those records of its own that it knows to have. The same holds of its locks of nodes in the tree, and of the anchor's
+/// lock.
 pub fn pass_knows_all_it_has()
     ensures { PassKnowsAllItHas }
 {}
@@ -58,20 +60,20 @@ pub fn only_publish_appends()
     ensures { EachActAppends }
 {}
 
-/// Let the search of a pinned pass be led to a node, since the version of the pin or a later one. Then since the same version it is led to
-/// the child that the node's words show now. This holds whether the node is still linked or not.
+/// Let the search of a pinned pass be led to a node, since some version not before that of the pin. Then since the same version it is led
+/// to the child that the node's words show now. This holds whether the node is still linked or not.
 pub fn hindsight()
     ensures { Hindsight }
 {}
 
-/// Keys below two entries of a node, in any versions of its life, first differ at the fork between the two. That below the first has 0
-/// there.
+/// Keys below two entries of a node, in any versions of its life, first differ at the fork between these entries. A key below the first
+/// entry has 0 there.
 pub fn keys_part_at_fork_between_entries()
     ensures { KeysPartAtFork }
 {}
 
-/// A record that was in the tree in a version since a pass's pin is neither free nor held. It has the words of that version, but for its
-/// state, a node's entries and what stands behind a leaf's key.
+/// Take a record that was in the tree in a version since a pass's pin. It is neither free nor held. It has the words of that version, but
+/// for its state, a node's entries and what stands behind a leaf's key.
 pub fn reach_keeps_its_words()
     ensures { ReachKeepsWords }
 {}
@@ -87,8 +89,8 @@ pub fn publish_is_map_step()
     ensures { PublishIsAStep }
 {}
 
-/// Let the store of an entry word show a bit trie with other leaves than the newest version has. If one change of its pass leads from the
-/// one to the other, the publish of that word makes this change.
+/// Let the store of an entry word show a bit trie with other leaves than the newest version has. If one change of the storing pass leads
+/// from the old leaves to the new ones, the publish of that word makes this change.
 pub fn legality_finds_change()
     ensures { FindsChange }
 {}

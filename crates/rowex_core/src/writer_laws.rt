@@ -2,8 +2,9 @@
 
 ghost use Rattle.rowex_core.specs.Writers.{LedIsInTree, PublishIsLegal, OwnedAfterPublish, SlotIsStored, ValueIsLegal};
 
-/// Let a pass that has a spot's lock store an entry word there, after which a node's words still spell one. If the versions allow this as
-/// the publish of a tree with other leaves, it is a legal publish. It makes that tree, and the change that the versions tell.
+/// Let a pass that has a spot's lock store an entry word there, after which the words of that node are still those of a node. If the
+/// versions allow this as the publish of a tree with other leaves, it is a legal publish. It makes that tree, and the change that the
+/// versions tell.
 pub fn allowed_store_is_legal_publish()
     ensures { PublishIsLegal }
 {}
@@ -13,7 +14,8 @@ pub fn guarded_store_of_value_is_legal_publish()
     ensures { ValueIsLegal }
 {}
 
-/// Let words spell a node, and a lower entry be stored in one of its slots. Then they spell the node with that entry there.
+/// Let words be those of a node, and a lower entry be stored in one of its slots. Then the words are those of the node with that entry
+/// there.
 pub fn stored_slot_is_shown()
     ensures { SlotIsStored }
 {}
@@ -23,7 +25,8 @@ pub fn led_live_node_is_in_tree()
     ensures { LedIsInTree }
 {}
 
-/// Let a pass own just what its publish links anew. Then it owns just what it unlinks, and has just its locks of nodes still linked.
+/// Let a pass own just those records that its publish links anew. After the publish it owns just those that it unlinked, and has just its
+/// locks of nodes still linked.
 pub fn publisher_owns_what_it_unlinked()
     ensures { OwnedAfterPublish }
 {}

@@ -14,8 +14,9 @@ use record_words::affected_slots;
 use rowex_core::Gate;
 use rowex_table::{HotTable, TableSeat};
 
-/// The slots of the first and the last entry of the node `step` that a new fork at `position` affects. The entry in `step.slot`, a slot
-/// that the node has, is one of these. It loads as many words of the node's head as say something, and `gate` is told of each load.
+/// Returns the slots of the first and the last entry of the node `step.number` that a new fork at `position` affects. The entry in
+/// `step.slot`, a slot that the node has, is one of these. It loads the words of the node's head that its kind uses, and `gate` is told of
+/// each load.
 #[inline(always)]
 pub fn find_affected<G: Gate>(
     table: &HotTable,

@@ -35,7 +35,8 @@ pub enum Found {
 }
 
 /// Searches for `key` from the root down, and returns what stands at the end. Sets `way` to the nodes on the way, the topmost first, each
-/// with the slot taken. The key had the value that was found, or was absent, in a version since the load of the root.
+/// with the slot taken. In some version since the load of the root, the key had the value found, or was absent if no leaf with it was
+/// found.
 pub fn search_way<G: Gate>(
     table: &HotTable,
     seat: &mut TableSeat,

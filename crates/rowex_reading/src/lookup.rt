@@ -18,8 +18,8 @@ use key_bits::Key;
 use rowex_core::{Gate, Rec};
 use rowex_table::{HotTable, RecordAt, TableSeat};
 
-/// Returns the value of `key`, or `None` if the key is absent. This was so in a version since the load of the root. It makes that load, and
-/// at most 26 for each node on the path and 32 for a leaf. `gate` is told each. It touches four words of each node.
+/// Returns the value of `key`, or `None` if the key is absent. This was so in some version since the load of the root. It loads the root,
+/// and at most 26 words for each node on the path and 32 for a leaf. `gate` is told each load. It touches four words of each node.
 pub fn look_up<G: Gate>(
     table: &HotTable,
     seat: &mut TableSeat,
@@ -44,7 +44,7 @@ pub fn look_up<G: Gate>(
     }
 }
 
-/// The slot in `node` to which the bits of `key` lead.
+/// Returns the slot in `node` to which the bits of `key` lead. The words of the node's head are loaded, and `gate` is told of each load.
 #[inline(always)]
 pub(crate) fn find_slot<G: Gate>(
     table: &HotTable,

@@ -32,7 +32,7 @@ use record_words::{
 use rowex_core::{Gate, Rec, Spot};
 use rowex_table::{HotTable, RecordAt, TableSeat};
 
-/// Loads the root's entry; `None` if the tree is empty.
+/// Loads and returns the root's entry; `None` if the tree is empty.
 pub fn load_root<G: Gate>(table: &HotTable, seat: &mut TableSeat, gate: &mut G) -> Option<Entry>
     requires own { IsSeatOf table.now seat.old }
     requires pinned { IsSome seat.old.known.pin }
@@ -44,7 +44,7 @@ pub fn load_root<G: Gate>(table: &HotTable, seat: &mut TableSeat, gate: &mut G) 
     read_entry(word)
 }
 
-/// Loads words of the head of `node`, from word `first` on, counted from 0, until `words` are full.
+/// Loads words of the head of `node` into `words`, from the head's word `first` on, counted from 0, until `words` are full.
 #[inline(always)]
 fn load_head_part<G: Gate>(
     table: &HotTable,
@@ -68,8 +68,8 @@ fn load_head_part<G: Gate>(
     }
 }
 
-/// Returns the words of the head of node `number`. The first word tells the kind of the head. Then as many words are loaded as say something
-/// in that kind: 7, 13 or 25 in all. The others are all ones, and need no load.
+/// Returns the words of the head of the node `number`. The first word tells the kind of the head. Then the words that this kind uses are
+/// loaded: 7, 13 or 25 in all. The others are all ones, and need no load.
 #[inline(always)]
 pub(crate) fn load_head_words<G: Gate>(
     table: &HotTable,
@@ -114,7 +114,7 @@ pub(crate) fn load_head_words<G: Gate>(
     words
 }
 
-/// Loads the head of node `number`, as [`load_head_words`] does. Returns the node as one of a path that takes its first entry.
+/// Loads the head of the node `number`, as [`load_head_words`] does. Returns the node as one of a path that takes its first entry.
 #[inline(always)]
 pub fn load_path_node<G: Gate>(
     table: &HotTable,
@@ -134,7 +134,7 @@ pub fn load_path_node<G: Gate>(
     path_node(number, numbers, word, 0)
 }
 
-/// Node `number` as one of a path that takes `slot`. Its head has `numbers`, and `word` at [`index_of_first_position`].
+/// Returns the node `number` as one of a path that takes `slot`. Its head has `numbers`, and `word` at [`index_of_first_position`].
 #[inline(always)]
 fn path_node(number: u32, numbers: HeadNumbers, word: u64, slot: u8) -> PathNode
     ensures same { (result.number ≡ number) × (result.slot ≡ slot) }
@@ -150,8 +150,8 @@ fn path_node(number: u32, numbers: HeadNumbers, word: u64, slot: u8) -> PathNode
     }
 }
 
-/// Asks for the cache lines of the entries of `node`, so that they come while its head is searched. From the last entry on, one word of
-/// each line is touched. The line of those before them has words of the head, too.
+/// Touches the cache lines of the entries of `node`, so that they come while its head is searched. The words touched are the last entry's,
+/// and those one, two and three lines before it. Entries before these share a line with words of the head, which are loaded anyway.
 #[inline(always)]
 pub(crate) fn touch_entries(table: &HotTable, seat: &mut TableSeat, node: RecordAt)
     requires own { IsSeatOf table.now seat.old }
@@ -165,11 +165,12 @@ pub(crate) fn touch_entries(table: &HotTable, seat: &mut TableSeat, node: Record
     table.touch(seat, node, last);
 }
 
-/// Loads the head of `node` and searches it for `key`. Returns the node of the key's path, with the slot to which the bits of `key` lead.
+/// Loads the head of `node` and searches it for `key`. Returns the node as one of the key's path, with the slot to which the bits of `key`
+/// lead.
 ///
-/// The first word tells the kind of the head. Then as many words are loaded as say something in that kind: 7, 13 or 25 in all, and none
-/// waits for another. Nor does the load of an entry, whose line is asked for here. The rows of a wide head are loaded last, and stay in
-/// registers.
+/// The first word tells the kind of the head. Then the words that this kind uses are loaded, 7, 13 or 25 in all, and none of these loads
+/// waits for another. Nor does the later load of an entry, whose cache line is touched here. The rows of a wide head are loaded last, and
+/// stay in registers.
 #[inline(always)]
 pub fn search_node<G: Gate>(
     table: &HotTable,
@@ -220,7 +221,7 @@ pub fn search_node<G: Gate>(
     }
 }
 
-/// Loads the entry in `slot` of `node`, which has that slot.
+/// Loads and returns the entry in `slot` of `node`, which has that slot.
 #[inline(always)]
 pub fn load_entry<G: Gate>(
     table: &HotTable,
@@ -241,12 +242,12 @@ pub fn load_entry<G: Gate>(
     read_some_entry(word)
 }
 
-/// Loads `leaf`, to which the pass was led. Returns its key's length in bytes and its value. Writes the bytes of the key to the first of
-/// `places`.
+/// Loads the leaf `leaf`, to which the pass was led. Returns its key's length in bytes and its value. Writes the bytes of the key to the
+/// front of `places`.
 ///
-/// Words behind the key are not loaded, and their bytes in `places` stay. If all were 0 before, those behind the key are 0 still, as
-/// `Key::from_padded` wants them; else they mean nothing. Keys of eight bytes are common: their one word is loaded without a loop. Inline,
-/// so that a caller has the bytes where they were read.
+/// Words behind the key are not loaded, and their bytes in `places` stay. If all of `places` was 0 before, the bytes behind the key are
+/// still 0, as `Key::from_padded` wants them; else they mean nothing. Keys of eight bytes are common: their one word is loaded without a
+/// loop. Inline, so that a caller has the bytes where they were read.
 #[inline(always)]
 pub fn load_leaf<G: Gate>(
     table: &HotTable,
@@ -281,8 +282,8 @@ pub fn load_leaf<G: Gate>(
     (length as usize, value)
 }
 
-/// Loads and returns the value of leaf `number`, if the leaf has `key`; `None` if it has another key. Keys of eight bytes are common: what
-/// is compiled for them alone has no loop.
+/// Loads and returns the value of the leaf `number`, if the leaf has `key`; `None` if it has another key. Keys of eight bytes are common:
+/// what is compiled for them alone has no loop.
 pub fn load_value<G: Gate>(
     table: &HotTable,
     seat: &mut TableSeat,
@@ -303,8 +304,8 @@ pub fn load_value<G: Gate>(
     compare_leaf(table, seat, gate, leaf, key, size)
 }
 
-/// Returns the value of `leaf`, loaded last, if the leaf has `key`, of `size` bytes; `None` if it has another key. It compares lengths, and
-/// then words up to the first that differs. Inline, so that a `size` that is known beforehand needs no loop.
+/// Returns the value of `leaf`, loaded last, if the leaf has `key`, of `size` bytes; `None` if it has another key. The lengths are
+/// compared, and then words up to the first that differs. Inline, so that a `size` known beforehand needs no loop.
 #[inline(always)]
 fn compare_leaf<G: Gate>(
     table: &HotTable,

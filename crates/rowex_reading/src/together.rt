@@ -25,10 +25,10 @@ use rowex_table::{HotTable, TableSeat};
 /// How many keys go down side by side.
 const TOGETHER: usize = 16;
 
-/// Looks up each of `keys` once, and writes to `found`, in the order of the keys, the value of each, or `None` if it is absent. Each was so
-/// in a version since the load of the root, in no order among the keys. `found` has as many elements as there are keys.
+/// Looks up each of `keys` once, and writes to `found`, in the order of the keys, the value of each, or `None` if it is absent. Each result
+/// was true in some version since the load of the root, in no order among the keys. `found` is as long as `keys`.
 ///
-/// It loads the root once, and at most 26 words for each node on a key's way and 32 for its leaf. `gate` is told each.
+/// It loads the root once, and at most 26 words for each node on a key's way and 32 for its leaf. `gate` is told each load.
 pub fn look_up_all<G: Gate>(
     table: &HotTable,
     seat: &mut TableSeat,
@@ -60,7 +60,7 @@ pub fn look_up_all<G: Gate>(
     }
 }
 
-/// Looks up `keys`, `TOGETHER` at most, from `root` on, the root's entry. Writes to `found` as `look_up_all` does.
+/// Looks up `keys`, at most `TOGETHER`, from the root's entry `root` on. Writes to `found` as `look_up_all` does.
 fn look_up_group<G: Gate>(
     table: &HotTable,
     seat: &mut TableSeat,
@@ -83,8 +83,8 @@ fn look_up_group<G: Gate>(
     load_values(table, seat, gate, keys, tips, found);
 }
 
-/// Goes down one node on the path of each of `keys`, from its entry in `tips` to the entry that the path takes there. A leaf stays. Returns
-/// whether any was a node.
+/// Goes down one node on the path of each of `keys`: from its entry in `tips`, if that is a node, to the entry that the path takes there. A
+/// leaf stays. Returns whether any entry was a node.
 fn go_down<G: Gate>(
     table: &HotTable,
     seat: &mut TableSeat,
@@ -111,8 +111,8 @@ fn go_down<G: Gate>(
     lower
 }
 
-/// Goes down one node on the path of `key`, which has led to node `number`. It searches the head, loads and returns the entry there, and
-/// touches that entry's record.
+/// Goes down one node on the path of `key`, which has led to the node `number`. It searches the node's head, loads and returns the entry
+/// that the path takes there, and touches that entry's record.
 #[inline(always)]
 fn enter_node<G: Gate>(
     table: &HotTable,
@@ -133,8 +133,8 @@ fn enter_node<G: Gate>(
     entry
 }
 
-/// Asks for the cache lines of the record that `entry` names, so that they come while other keys go down. Of a node these are all, and of a
-/// leaf those of its first words.
+/// Touches the cache lines of the record that `entry` names, so that they come while other keys go down. Of a node these are all its lines,
+/// and of a leaf those of its first words.
 #[inline(always)]
 fn touch_record(table: &HotTable, seat: &mut TableSeat, entry: Entry)
     requires own { IsSeatOf table.now seat.old }
@@ -157,8 +157,8 @@ fn touch_record(table: &HotTable, seat: &mut TableSeat, entry: Entry)
     }
 }
 
-/// Compares each of `keys` with its leaf in `tips`. Writes to `found`, in the order of the keys, the leaf's value, or `None` if the leaf
-/// has another key.
+/// Compares each of `keys` with its leaf in `tips`. Writes the leaf's value to `found`, in the order of the keys, or `None` if the leaf has
+/// another key.
 fn load_values<G: Gate>(
     table: &HotTable,
     seat: &mut TableSeat,

@@ -39,7 +39,7 @@ struct Turn {
 }
 
 impl RecordKind {
-    /// The record of this kind with the number `number`, counted from 0 at the first. A kind of leaf records must have that number.
+    /// Returns the record of this kind with the number `number`, counted from 0 at the first. A kind of leaf records must have that number.
     fn record_at(self, number: u32) -> Rec
         requires { HasIndex self number }
         ensures { result ≡ record_of self number }
@@ -50,8 +50,8 @@ impl RecordKind {
         }
     }
 
-    /// The number of the word at which the record of this kind with the number `number` begins. If `number` is their count, it is where one
-    /// more would begin.
+    /// Returns the number of the word at which the record of this kind with the number `number` begins. If `number` is how many there are,
+    /// it is where one more would begin.
     fn start_at(self, layout: &Layout, number: u32) -> usize
         requires { number ≤ count_of self layout.now }
         ensures { result ≡ first_word self layout.now number }
@@ -62,8 +62,8 @@ impl RecordKind {
         }
     }
 
-    /// The span that begins with record `number` of this kind, which the kind must have. It has this record, and those of the kind straight
-    /// behind it that are as large.
+    /// Returns the span that begins with the record `number` of this kind, which the kind must have. It has this record, and those of the
+    /// kind straight behind it that are as large.
     fn span_from(self, layout: &Layout, number: u32) -> Span
         requires kind { IsKindOf self layout.now }
         requires low { number < count_of self layout.now }
@@ -85,7 +85,7 @@ impl RecordKind {
         }
     }
 
-    /// How many records of this kind a table of `layout` has.
+    /// Returns how many records of this kind a table of `layout` has.
     fn count(self, layout: Layout) -> u32
         ensures { result ≡ count_of self layout }
     {
@@ -96,10 +96,11 @@ impl RecordKind {
     }
 }
 
-/// Claims the first record of `kind` that it finds free and returns its number, counted from 0 at the first of the kind.
+/// Claims the first record of `kind` that it finds free. Returns its number, counted from 0 at the first of the kind; `None` if no try
+/// found one free.
 ///
-/// Each record is tried once, from number `from` on, and from 0 on after the last; `None` if no try found one free. A try loads the
-/// state, and claims only what it saw free. A `from` that is out of range counts as 0. Inline, since callers know the kind.
+/// Each record is tried once, from number `from` on, and from 0 on after the last. A try loads the state, and claims only a record that it
+/// saw free. A `from` that is out of range counts as 0. Inline, since callers know the kind.
 #[inline(always)]
 pub fn claim_record<G: Gate>(
     table: &HotTable,
@@ -123,10 +124,11 @@ pub fn claim_record<G: Gate>(
     claim_next_record(table, seat, gate, kind, from, &mut left)
 }
 
-/// Claims the first record of `kind` that it finds free, of the next `left` ones from number `from` on. Returns its number; `None` if
-/// none of them was free.
+/// Claims the first record of `kind` that it finds free, of the next `left` ones from number `from` on. Returns its number; `None` if none
+/// of them was free.
 ///
-/// It tries records as [`claim_record`] does. `left` becomes less by those that were tried. Inline, since callers know the kind.
+/// Records are tried as by [`claim_record`]. `left` becomes less by the number of those that were tried. Inline, since callers know the
+/// kind.
 #[inline(always)]
 pub fn claim_next_record<G: Gate>(
     table: &HotTable,
@@ -153,7 +155,7 @@ pub fn claim_next_record<G: Gate>(
 }
 
 /// Claims the first record of `kind` that it finds free, of those of `turn`. Returns its number, or `None` if none of them was free, and
-/// how many it tried. Inline, since mostly the first one is free.
+/// how many were tried. Inline, since mostly the first one is free.
 #[inline(always)]
 fn claim_and_count_tries<G: Gate>(
     table: &HotTable,
@@ -180,8 +182,9 @@ fn claim_and_count_tries<G: Gate>(
     claim_record_behind(table, seat, gate, kind, Turn { from: begin, most })
 }
 
-/// Claims the first record of `kind` that it finds free, of those of `turn` but the first, which was tried and not free. Returns the
-/// record's number, or `None` if none was free, and how many were tried, the first counted.
+/// Tries the records of `turn` from the second on, and claims the first of `kind` that it finds free. The first record of `turn` was tried
+/// before, and wasn't free. Returns the number of the claimed record, or `None` if none was free, and how many were tried, the first
+/// counted.
 fn claim_record_behind<G: Gate>(
     table: &HotTable,
     seat: &mut TableSeat,
@@ -214,7 +217,7 @@ fn claim_record_behind<G: Gate>(
     (None, most)
 }
 
-/// Claims the first record of `span`, of records of `kind`, that it finds free. Returns how many it tried before that one; `None` if none
+/// Claims the first record of `span`, of records of `kind`, that it finds free. Returns how many were tried before that one; `None` if none
 /// was free.
 fn claim_record_in_span<G: Gate>(
     table: &HotTable,
@@ -242,8 +245,9 @@ fn claim_record_in_span<G: Gate>(
     None
 }
 
-/// Claims the record of `kind` with this `number`, counted from 0 at the first of the kind, if it is free. Returns whether the pass has it
-/// now. If the kind has no such number: `false`, and no step. `gate` is told each step. Inline, since callers know the kind.
+/// Claims the record of `kind` with the number `number`, counted from 0 at the first of the kind, if it is free. Returns whether the pass
+/// has it now. If the kind has no such number, the result is `false`, and no step is made. `gate` is told each step. Inline, since callers
+/// know the kind.
 #[inline(always)]
 pub fn claim_by_number<G: Gate>(
     table: &HotTable,
@@ -284,10 +288,11 @@ fn try_claim_record<G: Gate>(
     table.claim_at(seat, gate, at) == pack_state(Tag::Free)
 }
 
-/// Returns the number of the first record of `kind` that a load finds free, counted from 0 at the first of the kind. It claims nothing.
+/// Returns the number of the first record of `kind` that a load finds free, counted from 0 at the first of the kind. Nothing is claimed.
+/// `None` if none of those looked at was free.
 ///
-/// It loads the states of `most` records, once each, from number `from` on, and from 0 on after the last. `None` if none of them was free.
-/// `most` counts as no more than the kind has. A `from` that is out of range counts as 0.
+/// The states of `most` records are loaded, once each, from number `from` on, and from 0 on after the last. A `most` above the number of
+/// records of the kind counts as that number. A `from` that is out of range counts as 0.
 pub fn find_free_record<G: Gate>(
     table: &HotTable,
     seat: &mut TableSeat,
@@ -317,7 +322,7 @@ pub fn find_free_record<G: Gate>(
     None
 }
 
-/// The number to begin at, of `all` records: `from`, or 0 if `from` is out of range.
+/// Returns the number to begin at, of `all` records: `from`, or 0 if `from` is out of range.
 fn number_or_zero(from: u32, all: u32) -> u32
     ensures begin { result ≡ begin_of all from }
     ensures low { 0 < all → result < all }
@@ -336,7 +341,7 @@ pub fn give_up_record<G: Gate>(table: &HotTable, seat: &mut TableSeat, gate: &mu
     table.release(seat, gate, rec);
 }
 
-/// Makes the records `recs` free again, which are all that the pass has. Each of them is claimed and not made ready.
+/// Makes the records `recs` free again. They are all that the pass has, each claimed and not made ready.
 pub fn give_up_records<G: Gate>(table: &HotTable, seat: &mut TableSeat, gate: &mut G, recs: &[Rec])
     requires own { IsSeatOf table.now seat.old }
     requires range { All (HasRecord table.now.layout) recs.now }

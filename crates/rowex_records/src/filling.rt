@@ -60,8 +60,8 @@ pub fn fill_leaf<G: Gate>(
 /// How many words of a node are stored by one loop.
 const GROUP: usize = 8;
 
-/// Fills the claimed node record `number` with `words`, those of a node but its state, in a step for each. None is looked at: a store
-/// costs less.
+/// Fills the claimed node record `number` with `words`, those of a node but its state, by one step for each word. The words are stored
+/// whatever they are, since a store costs less than a look.
 pub fn fill_node<G: Gate>(
     table: &HotTable,
     seat: &mut TableSeat,
@@ -90,7 +90,7 @@ pub fn fill_node<G: Gate>(
 }
 
 /// Stores `GROUP` of `words` in the claimed node record `node`, from index `first` on, counted from 0 behind the state. Inline, so that
-/// offsets are constants.
+/// offsets are known when it is compiled.
 #[inline(always)]
 fn store_group<G: Gate>(
     table: &HotTable,

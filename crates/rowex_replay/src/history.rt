@@ -26,14 +26,14 @@ unsafe impl Sync for History {}
 impl History {
     ghost use Rattle.rowex_replay.specs.Runs.{new_run, with_event};
 
-    /// The history of no event yet, of an index of the layout `_layout`.
+    /// Returns the history of no event yet, of an index of the layout `_layout`.
     pub(crate) fn new(_layout: &Layout) -> History
         ensures { result.run ≡ new_run _layout.now }
     {
         History {}
     }
 
-    /// The history with `_event` appended.
+    /// Returns the history with `_event` appended.
     pub(crate) fn append_event(&self, _event: &Event) -> History
         ensures { result.run ≡ with_event self.now.run _event.now }
     {

@@ -39,7 +39,7 @@ impl Replay {
     ghost use Rattle.rowex_replay.specs.Runs.{core_of, new_run, with_event};
     ghost use Rattle.rowex_replay.specs.Replays.{MayWantMemory};
 
-    /// A replay of no event yet, of an index of `layout`; an error if memory is refused.
+    /// Returns a replay of no event yet, of an index of `layout`; `AllocError` if memory is refused.
     pub fn new(alloc: Global, layout: Layout) -> Result<Replay, AllocError>
         ensures { IfOk result (λ replay. replay ≡ new_run layout) }
     {
@@ -49,9 +49,9 @@ impl Replay {
         })
     }
 
-    /// Makes `event` if it is a step that is legal where the run so far leads, and returns Ok. `Illegal` if it isn't legal; `Memory` if
-    /// memory was refused, which only a publish under the lock of its word takes. `Load` only if it is a bulk load, which a replay never
-    /// makes. A fault changes nothing. Only a publish takes time linear in the table.
+    /// Makes `event` if it is a step that is legal where the run so far leads. If not, the error is `Illegal`. It is `Load` for a bulk
+    /// load, which a replay never makes. It is `Memory` if memory was refused, which only a publish under the lock of its word takes. An
+    /// error changes nothing. Only a publish takes time linear in the table.
     pub fn step(&mut self, event: Event) -> Result<(), ReplayFault>
         ensures ok { OnOk result (Legal (core_of self.old) event.pass event.act × (self.new ≡ with_event self.old event)) }
         ensures illegal { result ≡ Err ReplayFault.Illegal → ¬ Legal (core_of self.old) event.pass event.act }
@@ -64,14 +64,15 @@ impl Replay {
         Ok(())
     }
 
-    /// How many changes the run has made so far.
+    /// Returns how many changes the run has made so far.
     pub fn changes(&self) -> u64
         ensures { result ≡ length (core_of self.now).changes }
     {
         self.state.changes()
     }
 
-    /// The keys of the newest version with their values, in key order: the map after the run's changes. An error if memory is refused.
+    /// Returns the keys of the newest version with their values, in key order: the map after the run's changes. `AllocError` if memory is
+    /// refused.
     pub fn content(&self, alloc: Global) -> Result<Vec<(Key, u64)>, AllocError>
         ensures version { IfOk result (λ pairs. pairs.items ≡ content ((core_of self.now).past.version (core_of self.now).past.now)) }
         ensures map { IfOk result (λ pairs. pairs.items ≡ map_of (core_of self.now).changes) }

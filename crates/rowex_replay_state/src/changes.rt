@@ -9,8 +9,9 @@ use crate::linked::Item;
 use finite_map::{Change, Kind};
 use std::cmp::Ordering;
 
-/// The change by which `pass` made the leaves `before` the leaves `after`. It is one more, one less, or one for another of its key. `None`
-/// exactly if it was no such change. Both lists are in the order of the keys, and leaves of one number are one leaf.
+/// Returns the change by which `pass` made the leaves `before` the leaves `after`: one leaf more, one less, or one for another of its key.
+/// `None` exactly if the two lists don't differ by such a change. Both lists are in the order of the keys, and leaves of one number are one
+/// leaf.
 pub fn change_between(pass: u16, before: &[Item], after: &[Item]) -> Option<Change>
     ensures { AreSame (map read_item before.now) (map read_item after.now) → IsFoundChange pass (map read_item before.now) (map read_item after.now) result }
 {
@@ -18,25 +19,26 @@ pub fn change_between(pass: u16, before: &[Item], after: &[Item]) -> Option<Chan
     change_from_first_difference(pass, &before[front..], &after[front..])
 }
 
-/// The change by which `pass` made the leaves `gone` the leaves `come`, if it is one, as `change_between` says. The first leaves of both
-/// lists, if both have one, have different numbers.
+/// Returns the change by which `pass` made the leaves `gone` the leaves `come`, or `None`, as `change_between` does. If both lists have a
+/// first leaf, these two leaves have different numbers.
 fn change_from_first_difference(pass: u16, gone: &[Item], come: &[Item]) -> Option<Change>
     requires { BeginApart (map read_item gone.now) (map read_item come.now) }
     ensures { AreSame (map read_item gone.now) (map read_item come.now) → IsFoundChange pass (map read_item gone.now) (map read_item come.now) result }
 {
     match (gone.split_first(), come.split_first()) {
         (None, None) => None,
-        (None, Some((y, rest))) => make_change(pass, y, Kind::Added, gone, rest),
-        (Some((x, rest)), None) => make_change(pass, x, Kind::Removed, rest, come),
-        (Some((x, gone_rest)), Some((y, come_rest))) => match x.key.cmp(&y.key) {
-            Ordering::Less => make_change(pass, x, Kind::Removed, gone_rest, come),
-            Ordering::Equal => make_change(pass, y, Kind::Replaced, gone_rest, come_rest),
-            Ordering::Greater => make_change(pass, y, Kind::Added, gone, come_rest),
+        (None, Some((new, rest))) => make_change(pass, new, Kind::Added, gone, rest),
+        (Some((old, rest)), None) => make_change(pass, old, Kind::Removed, rest, come),
+        (Some((old, gone_rest)), Some((new, come_rest))) => match old.key.cmp(&new.key) {
+            Ordering::Less => make_change(pass, old, Kind::Removed, gone_rest, come),
+            Ordering::Equal => make_change(pass, new, Kind::Replaced, gone_rest, come_rest),
+            Ordering::Greater => make_change(pass, new, Kind::Added, gone, come_rest),
         },
     }
 }
 
-/// The change of `pass` of the kind `kind`, for the leaf `item`. `None` if the other leaves, `before` and `after`, have different numbers.
+/// Returns the change of `pass` of the kind `kind` for the leaf `item`. `None` if the other leaves, `before` and `after`, have different
+/// numbers.
 fn make_change(
     pass: u16,
     item: &Item,
@@ -58,7 +60,7 @@ fn make_change(
     }
 }
 
-/// How many leaves have the same numbers in `before` and `after` up to the first that differ, or to the end of the shorter list.
+/// Returns how many leaves have the same numbers in `before` and `after`, up to the first that differ, or to the end of the shorter list.
 fn count_same_first_items(before: &[Item], after: &[Item]) -> usize
     ensures within { result ≤ length before.now }
     ensures within_both { result ≤ length after.now }

@@ -6,7 +6,7 @@ ghost use Rattle.record_words.specs.Reading.{IsReading};
 use compound_node::Entry;
 use record_words::{HEIGHT_BIT, WordFault};
 
-/// The entry whose word is `word`, and `None` for 0; `WordFault::Bad` for the word of no entry.
+/// Returns the entry whose word is `word`, and `None` for 0; `WordFault::Bad` if `word` is that of no entry.
 pub fn unpack_entry(word: u64) -> Result<Option<Entry>, WordFault>
     ensures { IsReading HasEntryWord entry_word word result }
 {

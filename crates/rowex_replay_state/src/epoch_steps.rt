@@ -10,7 +10,7 @@ use crate::state::State;
 use record_words::EPOCHS;
 
 impl State {
-    /// The pin and the round of `pass`, one of the index's passes.
+    /// Returns the pin and the round of `pass`, one of the index's passes.
     pub(crate) fn pass_state(&self, pass: u16) -> PassState
         requires { pass < length self.now.passes }
         ensures { slice_get self.now.passes pass ≡ Some result }
@@ -18,14 +18,15 @@ impl State {
         self.passes[pass as usize]
     }
 
-    /// The pin and the round of `pass`; `None` if the index hasn't that pass.
+    /// Returns the pin and the round of `pass`; `None` if the index hasn't that pass.
     fn find_pass_state(&self, pass: u16) -> Option<PassState>
         ensures { result ≡ slice_get self.now.passes pass }
     {
         self.passes.get(pass as usize).copied()
     }
 
-    /// Begins a round of `pass`: it loads the epoch and finds `word`. Returns whether that is legal: the two are equal. If not, all stays.
+    /// Begins a round of `pass`, by a load of the epoch that finds `word`. Returns whether the step is legal: `word` is the epoch. If not,
+    /// nothing changes.
     pub(crate) fn load_epoch(&mut self, pass: u16, word: u64) -> bool
         requires { pass < length self.old.passes }
         ensures { IsStepped result self.old self.new pass (LoadEpoch word) }
@@ -39,8 +40,8 @@ impl State {
         true
     }
 
-    /// Raises the epoch by one if it is `expected`, as an exchange by `pass`, which may be any. Returns whether that is legal: `found` is
-    /// the epoch before, and `expected` is 1 to `EPOCHS` - 2. If not, nothing changes.
+    /// Raises the epoch by one if it is `expected`, as an exchange by `pass`, which may be any. Returns whether the step is legal: `found`
+    /// is the epoch before, and `expected` is 1 to `EPOCHS` - 2. If not, nothing changes.
     pub(crate) fn advance(&mut self, pass: u16, expected: u64, found: u64) -> bool
         ensures { IsStepped result self.old self.new pass (Advance expected found) }
     {
@@ -53,8 +54,8 @@ impl State {
         true
     }
 
-    /// Pins `pass` by `word`. Returns whether that is legal: it isn't pinned, and its last load of the epoch found `word`. If not, nothing
-    /// changes.
+    /// Pins `pass` by `word`. Returns whether the step is legal: the pass isn't pinned, and its last load of the epoch found `word`. If
+    /// not, nothing changes.
     pub(crate) fn set_pin(&mut self, pass: u16, word: u64) -> bool
         requires { pass < length self.old.passes }
         ensures { IsStepped result self.old self.new pass (SetPin word) }
@@ -68,7 +69,7 @@ impl State {
         true
     }
 
-    /// Unpins `pass`. Returns whether that is legal: the pass is pinned. If not, nothing changes.
+    /// Unpins `pass`. Returns whether the step is legal: the pass is pinned. If not, nothing changes.
     pub(crate) fn clear_pin(&mut self, pass: u16) -> bool
         requires { pass < length self.old.passes }
         ensures { IsStepped result self.old self.new pass ClearPin }
@@ -82,8 +83,8 @@ impl State {
         true
     }
 
-    /// Loads the pin of pass `of`, finding `word`, into the round of `pass`. Returns whether that is legal: the index has pass `of`, and
-    /// `word` is its pin, or 0 if it has none. If not, nothing changes.
+    /// Notes in the round of `pass` that it has loaded the pin of pass `of`, and found `word`. Returns whether the step is legal: the index
+    /// has pass `of`, and `word` is its pin, or 0 if it has none. If not, nothing changes.
     pub(crate) fn load_pin(&mut self, pass: u16, of: u16, word: u64) -> bool
         requires { pass < length self.old.passes }
         ensures { IsStepped result self.old self.new pass (LoadPin of word) }

@@ -20,6 +20,7 @@ pub enum ReplayFault {
 impl fmt::Display for ReplayFault {
     ghost output = { λ fault. Some (replay_fault_text fault) };
 
+    /// Writes the text of the fault.
     fn fmt<W: fmt::Write>(&self, f: &mut fmt::Formatter<W>) -> fmt::Result {
         match self {
             ReplayFault::Illegal => write!(f, "illegal event"),

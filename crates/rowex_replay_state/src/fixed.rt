@@ -9,7 +9,7 @@ ghost use Rattle.record_words.specs.declared.TheConstants.{HEAD_WORDS};
 use arrayvec::ArrayVec;
 use record_words::HeadNumbers;
 
-/// The columns of each node whose head has `words` and `numbers`.
+/// Returns the columns of each node whose head has `words`, with `numbers` in their first word.
 pub(crate) fn read_columns(words: &[u64], numbers: HeadNumbers) -> ArrayVec<u16, 31>
     requires { length words.now ≡ HEAD_WORDS }
     ensures { InNodesOf words.now (λ node. AreNumbersOf numbers node → result.items ≡ node.columns) }
@@ -23,7 +23,8 @@ pub(crate) fn read_columns(words: &[u64], numbers: HeadNumbers) -> ArrayVec<u16,
     columns
 }
 
-/// The 32 sparse partial keys of each node whose head has `words` and `numbers`; past the last entry, 4,294,967,295.
+/// Returns the 32 rows of each node whose head has `words`, with `numbers` in their first word. Behind the last entry they are
+/// 4,294,967,295.
 pub(crate) fn read_rows(words: &[u64], numbers: HeadNumbers) -> [u32; 32]
     requires { length words.now ≡ HEAD_WORDS }
     ensures { InNodesOf words.now (λ node. AreNumbersOf numbers node → result ≡ with_unused node.rows) }
@@ -35,7 +36,7 @@ pub(crate) fn read_rows(words: &[u64], numbers: HeadNumbers) -> [u32; 32]
     rows
 }
 
-/// Whether `words` and `others` are the same.
+/// Returns whether `words` and `others` are the same.
 pub(crate) fn are_same(words: &[u64], others: &[u64]) -> bool
     ensures { IsTrue result ↔ (words.now ≡ others.now) }
 {

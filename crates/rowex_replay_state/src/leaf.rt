@@ -9,8 +9,8 @@ ghost use Rattle.record_words.specs.Reading.{IsReading};
 use key_bits::{Key, MAX_BYTES};
 use record_words::{LEAF_FIELDS, WordFault, count_key_words, write_key_word};
 
-/// The key and the value of a leaf record with `words` from offset 1 on. The words behind the last one of its key may be any.
-/// `WordFault::Bad` if the length is above 240, or if a byte behind the key in that word isn't 0.
+/// Returns the key and the value of a leaf record with `words` from offset 1 on. `WordFault::Bad` if the key's length is above 240, or if a
+/// byte behind the key in its last word isn't 0. The words behind that one may be any.
 pub fn unpack_leaf(words: &[u64; LEAF_FIELDS]) -> Result<(Key, u64), WordFault>
     ensures { IsReading HasLeafWords leaf_words (up_to_key words.now) result }
 {
@@ -20,8 +20,8 @@ pub fn unpack_leaf(words: &[u64; LEAF_FIELDS]) -> Result<(Key, u64), WordFault>
     unpack_leaf_with_bytes(words, &unpack_key_bytes(words))
 }
 
-/// The key and the value of a leaf record, as `unpack_leaf` says, whose key has at most 240 bytes. `bytes` are those of the key's words,
-/// and 0 behind these.
+/// Returns the key and the value of a leaf record with `words`, as `unpack_leaf` does. The key's length is at most 240. `bytes` are those
+/// of the key's words, and 0 behind these.
 fn unpack_leaf_with_bytes(words: &[u64; LEAF_FIELDS], bytes: &[u8]) -> Result<(Key, u64), WordFault>
     requires short { slice_index words.now 1 ≤ MAX_BYTES }
     requires spelled { IsBytesOf bytes.now (take KEY_WORDS (drop 2 (up_to_key words.now))) }
@@ -37,14 +37,15 @@ fn unpack_leaf_with_bytes(words: &[u64; LEAF_FIELDS], bytes: &[u8]) -> Result<(K
     }
 }
 
-/// Whether all of `bytes` are 0.
+/// Returns whether all of `bytes` are 0.
 fn are_zero_bytes(bytes: &[u8]) -> bool
     ensures { IsTrue result ↔ EachIndex bytes.now (λ i. slice_index bytes.now i ≡ 0) }
 {
     bytes.iter().all(|byte| *byte == 0)
 }
 
-/// The bytes of the key in a leaf's words, up to the end of the word in which it ends, and 0 behind these. Its length is 240 at most.
+/// Returns the bytes of the key in `words`, those of a leaf, up to the end of the key's last word, and 0 behind these. The key's length is
+/// at most 240.
 fn unpack_key_bytes(words: &[u64; LEAF_FIELDS]) -> [u8; MAX_BYTES]
     requires { slice_index words.now 1 ≤ MAX_BYTES }
     ensures { IsBytesOf result (take KEY_WORDS (drop 2 (up_to_key words.now))) }

@@ -8,8 +8,9 @@ ghost use Rattle.rowex_replay_state.specs.Links.{AllMayBeLinked, AllMayBeUnlinke
 use crate::fate::Fate;
 
 impl Fate {
-    /// Whether the fate lets `pass` publish a tree that links the record, or one that doesn't if `is_linked` is false. What is linked must
-    /// be in the tree already, or made ready by `pass`. What isn't linked may have any fate.
+    /// Returns whether a record that has come to this fate lets `pass` publish a tree. `is_linked` says whether the tree links the record.
+    /// A record that it links must be in the tree already, or made ready by `pass`. Anything may have become of a record that it doesn't
+    /// link.
     fn may_be_linked(self, pass: u16, is_linked: bool) -> bool
         ensures { IsTrue result ↔ MayBeLinked pass is_linked self }
     {
@@ -20,8 +21,8 @@ impl Fate {
         }
     }
 
-    /// Whether the fate lets `pass` publish a tree that links the node, or one that doesn't if `is_linked` is false. A node of the tree may
-    /// be left out only if `pass` has locked it. `lock` is the pass that has, if any.
+    /// Returns whether a node that has come to this fate lets `pass` publish a tree. `is_linked` says whether the tree links the node, and
+    /// `lock` which pass has locked the node, if any. A node that is in the tree may be left out only if `pass` has locked it.
     fn may_be_unlinked(self, pass: u16, is_linked: bool, lock: Option<u16>) -> bool
         ensures { IsTrue result ↔ MayBeUnlinked pass is_linked lock self }
     {
@@ -31,8 +32,9 @@ impl Fate {
         }
     }
 
-    /// The fate after `pass` has published version `now + 1`, of which `is_linked` says whether it links the record. A ready record that is
-    /// linked is in the tree then. One of the tree that isn't linked is unlinked, and all other fates stay.
+    /// Returns what has become of a record after `pass` has published version `now + 1`, by what had become of it before. `is_linked` says
+    /// whether that version links the record. A ready record that is linked is in the tree then. A record of the tree that isn't linked is
+    /// unlinked. All else stays.
     fn fate_after_publish(self, now: u64, pass: u16, is_linked: bool) -> Fate
         requires { now + 1 < 2 ^ 64 }
         ensures { stored_fate result ≡ next_fate now pass is_linked (stored_fate self) }
@@ -49,8 +51,8 @@ impl Fate {
     }
 }
 
-/// Whether the `fates` of all nodes, or of all leaves, let `pass` publish a tree that links just those that `linked` marks. `may_be_linked`
-/// says so of each. A record past the last flag isn't linked.
+/// Returns whether the `fates` of all nodes, or of all leaves, let `pass` publish a tree that links just those that `linked` marks.
+/// `may_be_linked` says so of each. A record behind the last mark isn't linked.
 pub(crate) fn may_link(fates: &[Fate], pass: u16, linked: &[bool]) -> bool
     ensures { IsTrue result ↔ AllMayBeLinked pass linked.now fates.now }
 {
@@ -62,8 +64,8 @@ pub(crate) fn may_link(fates: &[Fate], pass: u16, linked: &[bool]) -> bool
     true
 }
 
-/// Whether the `fates` and `locks` of all nodes let `pass` publish a tree that links just those that `linked` marks. `may_be_unlinked` says
-/// so of each. A node past the last flag isn't linked, and one past the last lock isn't locked.
+/// Returns whether the `fates` and `locks` of all nodes let `pass` publish a tree that links just those that `linked` marks.
+/// `may_be_unlinked` says so of each. A node behind the last mark isn't linked, and a node behind the last lock isn't locked.
 pub(crate) fn may_unlink(fates: &[Fate], locks: &[Option<u16>], pass: u16, linked: &[bool]) -> bool
     ensures { IsTrue result ↔ AllMayBeUnlinked pass linked.now locks.now fates.now }
 {
@@ -75,8 +77,8 @@ pub(crate) fn may_unlink(fates: &[Fate], locks: &[Option<u16>], pass: u16, linke
     true
 }
 
-/// Makes each of `fates` the one after `pass` has published version `now + 1`, which links just the records that `linked` marks. A record
-/// past the last flag isn't linked.
+/// Makes each of `fates` what has become of its record after `pass` has published version `now + 1`. That version links just the records
+/// that `linked` marks. A record behind the last mark isn't linked.
 pub(crate) fn update_each_fate(fates: &mut [Fate], now: u64, pass: u16, linked: &[bool])
     requires { now + 1 < 2 ^ 64 }
     ensures { AreNextFates now pass linked.now fates.old fates.new }
@@ -86,14 +88,14 @@ pub(crate) fn update_each_fate(fates: &mut [Fate], now: u64, pass: u16, linked: 
     }
 }
 
-/// The flag at index `at`; `false` past the last one.
+/// Returns the flag at index `at` of `flags`; `false` behind the last one.
 fn flag_at(flags: &[bool], at: usize) -> bool
     ensures { result ≡ get_or flags.now at false }
 {
     flags.get(at).copied().unwrap_or(false)
 }
 
-/// The pass that has locked node `at`; `None` if none has, and past the last one.
+/// Returns the pass that has locked the node `at`; `None` if none has, or if `at` is behind the last lock.
 fn lock_at(locks: &[Option<u16>], at: usize) -> Option<u16>
     ensures { result ≡ get_or locks.now at None }
 {

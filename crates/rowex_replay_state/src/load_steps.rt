@@ -13,7 +13,7 @@ use record_words::{HEAD_WORDS, MAX_ENTRIES};
 use rowex_core::{Rec, Spot};
 
 impl State {
-    /// Whether it is legal that `pass` loads the word at `spot` and finds `word`: the table has the spot, and `word` stands there.
+    /// Returns whether it is legal that `pass` loads the word at `spot` and finds `word`: the table has that spot, and `word` stands there.
     pub(crate) fn load_ref(&self, pass: u16, spot: Spot, word: u64) -> bool
         ensures { IsStepped result self.now self.now pass (LoadRef spot word) }
     {
@@ -30,8 +30,8 @@ impl State {
         }
     }
 
-    /// Whether it is legal that `pass` loads the word at `offset` of `rec` and finds `word`: that stands there. `false` too if `offset` is
-    /// that of the state, of an entry or of no word.
+    /// Returns whether it is legal that `pass` loads the word at `offset` of `rec` and finds `word`: `word` stands there. `false`, too, if
+    /// `offset` is that of the state, of an entry or of no word.
     pub(crate) fn load_fixed(&self, pass: u16, rec: Rec, offset: u8, word: u64) -> bool
         ensures { IsStepped result self.now self.now pass (LoadFixed rec offset word) }
     {
@@ -41,7 +41,8 @@ impl State {
         self.records.has_word(rec, offset as usize - 1, word)
     }
 
-    /// Whether it is legal that `pass` loads the state of `rec` and finds `word`: the table has the record, and `word` is its state word.
+    /// Returns whether it is legal that `pass` loads the state of `rec` and finds `word`: the table has the record, and `word` is its state
+    /// word.
     pub(crate) fn load_state(&self, pass: u16, rec: Rec, word: u64) -> bool
         ensures { IsStepped result self.now self.now pass (LoadState rec word) }
     {
@@ -49,7 +50,7 @@ impl State {
     }
 }
 
-/// Whether `word` is that of `entry`. `None` is an empty root, whose word is 0.
+/// Returns whether `word` is that of `entry`. `None` is an empty root, whose word is 0.
 fn is_entry_word(entry: Option<Entry>, word: u64) -> bool
     ensures { IsTrue result ↔ (HasEntryWord entry × (word ≡ entry_word entry)) }
 {

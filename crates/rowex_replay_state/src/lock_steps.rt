@@ -11,15 +11,15 @@ use record_words::{Tag, pack_state};
 use rowex_core::{Rec, Target};
 
 impl State {
-    /// Whether `pass` has locked the anchor.
+    /// Returns whether `pass` has locked the anchor.
     pub(crate) fn has_locked_anchor(&self, pass: u16) -> bool
         ensures { IsTrue result ↔ (self.now.anchor ≡ Some pass) }
     {
         self.anchor == Some(pass)
     }
 
-    /// Locks `target` for `pass` if it is live and unlocked. Returns whether that is legal: `found` is its state word before, and a node
-    /// that is live and unlocked is in the tree. If not, nothing changes.
+    /// Locks `target` for `pass` if it is live and unlocked. Returns whether the step is legal: `found` is the target's state word before,
+    /// and a node that is live and unlocked is in the tree. If not, nothing changes.
     pub(crate) fn lock(&mut self, pass: u16, target: Target, found: u64) -> bool
         ensures { IsStepped result self.old self.new pass (Lock target found) }
     {
@@ -29,7 +29,8 @@ impl State {
         }
     }
 
-    /// Unlocks `target`. Returns whether that is legal: `pass` has locked it, and a node is in the tree. If not, nothing changes.
+    /// Unlocks `target`. Returns whether the step is legal: `pass` has locked the target, which, if it is a node, is in the tree. If not,
+    /// nothing changes.
     pub(crate) fn unlock(&mut self, pass: u16, target: Target) -> bool
         ensures { IsStepped result self.old self.new pass (Unlock target) }
     {
@@ -39,7 +40,7 @@ impl State {
         }
     }
 
-    /// Locks the anchor for `pass` if it is unlocked. Returns whether that is legal, as `lock` says.
+    /// Locks the anchor for `pass` if it is unlocked. Returns whether the step is legal, as `lock` does. If not, nothing changes.
     fn lock_anchor(&mut self, pass: u16, found: u64) -> bool
         ensures { IsStepped result self.old self.new pass (Lock Anchor found) }
     {
@@ -52,7 +53,8 @@ impl State {
         true
     }
 
-    /// Locks node `node` for `pass` if it is live and unlocked. Returns whether that is legal, as `lock` says.
+    /// Locks the node `node` for `pass` if it is live and unlocked. Returns whether the step is legal, as `lock` does. If not, nothing
+    /// changes.
     fn lock_node(&mut self, pass: u16, node: u32, found: u64) -> bool
         ensures { IsStepped result self.old self.new pass (Lock (NodeTarget node) found) }
     {
@@ -79,7 +81,7 @@ impl State {
         true
     }
 
-    /// Unlocks node `node`. Returns whether that is legal, as `unlock` says.
+    /// Unlocks the node `node`. Returns whether the step is legal, as `unlock` does. If not, nothing changes.
     fn unlock_node(&mut self, pass: u16, node: u32) -> bool
         ensures { IsStepped result self.old self.new pass (Unlock (NodeTarget node)) }
     {

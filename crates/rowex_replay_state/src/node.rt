@@ -13,8 +13,8 @@ use record_words::{
     HEAD_WORDS, MAX_ENTRIES, NODE_FIELDS, WordFault, pack_head, pack_node, read_numbers,
 };
 
-/// The node of a node record with `words` from offset 1 on; `WordFault::Bad` if no node has these words. The node is read by the kind of its
-/// head. Its words are then made anew, and all are compared.
+/// Returns the node of a node record with `words` from offset 1 on; `WordFault::Bad` if no node has these words. The node is read by the
+/// kind of its head. Then its words are made anew, and all are compared with `words`.
 pub fn unpack_node(words: &[u64; NODE_FIELDS]) -> Result<Node, WordFault>
     ensures { IsReading HasNodeWords node_words words.now result }
 {
@@ -39,8 +39,8 @@ pub fn unpack_node(words: &[u64; NODE_FIELDS]) -> Result<Node, WordFault>
     }
 }
 
-/// The head of a node record with `words` from offset 1 up to its entries, whatever these are; `WordFault::Bad` if no head has these words.
-/// As `unpack_node`.
+/// Returns the head of a node record with `words` from offset 1 up to its entries, whatever these are. `WordFault::Bad` if no head has
+/// these words. It is read as by `unpack_node`.
 pub fn unpack_head(words: &[u64; HEAD_WORDS]) -> Result<Head, WordFault>
     ensures { IsReading HasHeadWords head_words words.now result }
 {
@@ -59,7 +59,8 @@ pub fn unpack_head(words: &[u64; HEAD_WORDS]) -> Result<Head, WordFault>
     }
 }
 
-/// The entries whose words are `words`, up to the first 0. `WordFault::Bad` if a word is that of no entry, or one behind a 0 isn't 0.
+/// Returns the entries whose words are `words`, up to the first 0. `WordFault::Bad` if a word is that of no entry, or one behind a 0 isn't
+/// 0.
 fn unpack_entries(words: &[u64]) -> Result<ArrayVec<Entry, MAX_ENTRIES>, WordFault>
     requires { length words.now ≡ MAX_ENTRIES }
     ensures { IsReading (λ entries. HaveEntryWords entries.items) (λ entries. entry_words entries.items) words.now result }

@@ -21,9 +21,9 @@ pub(crate) struct RecordedWords<'a> {
     pub leaves: &'a [[u64; LEAF_FIELDS]],
 }
 
-/// Reads the part of a tree that begins at `entry`, from the words in `records`, and adds what it links to `linked`, which has a mark for
-/// each record. Returns whether the words show a lawful part, with no fork before position `least`. If not, or if memory is refused, which
-/// is an error, `linked` may have some of it.
+/// Reads the part of a tree that begins at `entry`, from the words in `records`. Adds what that part links to `linked`, which has a mark
+/// for each record. Returns whether the words show a lawful part, with no fork before position `least`. `AllocError` if memory is refused.
+/// Then, or if the result is `false`, `linked` may have some of the part.
 #[cycle(reading)]
 pub(crate) fn read_entry(
     records: RecordedWords,
@@ -51,7 +51,7 @@ pub(crate) fn read_entry(
     }
 }
 
-/// Reads the part of a tree below `half`, one side of a fork, as `read_entry` does. `false` for `Half::Same`.
+/// Reads the part of a tree below `half`, one side of a fork, and returns what `read_entry` does. `false` for `Half::Same`.
 #[cycle(reading)]
 fn read_half(
     records: RecordedWords,
@@ -70,7 +70,7 @@ fn read_half(
     }
 }
 
-/// Reads the part of a tree below `cut`, a node's root fork and its two sides, as `read_entry` does.
+/// Reads the part of a tree below `cut`, a node's root fork with its two sides, and returns what `read_entry` does.
 #[cycle(reading)]
 fn read_cut(
     records: RecordedWords,
@@ -97,8 +97,8 @@ fn read_cut(
     Ok(are_parted_keys(position, &linked.items[zero].key, &linked.items[one].key))
 }
 
-/// Adds leaf record `number` of `leaves` to `linked`, and returns `true`. `false`, and nothing is added, if the table has no such record or
-/// its words are those of no leaf. An error if memory is refused.
+/// Adds the leaf record `number` of `leaves` to `linked`, and returns `true`. Returns `false`, and adds nothing, if the table has no such
+/// record or its words are those of no leaf. `AllocError` if memory is refused.
 fn read_leaf(
     leaves: &[[u64; LEAF_FIELDS]],
     number: u32,
@@ -118,7 +118,8 @@ fn read_leaf(
     Ok(true)
 }
 
-/// The node of the height `height` in record `number`; `None` if the table hasn't the record, or its words are those of no such node.
+/// Returns the node in the record `number`, if it has the height `height`. `None` if it hasn't, if the table hasn't the record, or if no
+/// node has its words.
 fn node_at(nodes: &[[u64; NODE_FIELDS]], number: u32, height: u16) -> Option<Node>
     ensures { IsNodeAt nodes.now number height result }
 {
@@ -131,7 +132,7 @@ fn node_at(nodes: &[[u64; NODE_FIELDS]], number: u32, height: u16) -> Option<Nod
     }
 }
 
-/// Whether the keys `zero` and `one` differ first at `position`, where `zero` has 0.
+/// Returns whether the keys `zero` and `one` differ first at `position`, where `zero` has 0.
 fn are_parted_keys(position: u16, zero: &Key, one: &Key) -> bool
     ensures { IsTrue result ↔ IsParted position zero.now one.now }
 {

@@ -21,7 +21,7 @@ pub(crate) struct PassState {
 impl PassState {
     ghost use Rattle.rowex_replay_state.specs.Passes.{fresh_pass, in_round, with_pin_seen, HasLoadedPins, IsOutOfReach, MayPin};
 
-    /// A pass that has done nothing yet.
+    /// Returns a pass that has done nothing yet.
     pub(crate) fn new() -> PassState
         ensures { result ≡ fresh_pass }
     {
@@ -34,7 +34,8 @@ impl PassState {
         }
     }
 
-    /// The pass when it has loaded `epoch` at `version`. Its round has loaded no pin yet, and its own pin stays.
+    /// Returns the pass when it has loaded `epoch` while version `version` was the newest. Its round has loaded no pin yet, and its own pin
+    /// stays.
     pub(crate) fn begin_round(self, epoch: u64, version: u64) -> PassState
         ensures { result ≡ in_round self epoch version }
     {
@@ -47,7 +48,7 @@ impl PassState {
         }
     }
 
-    /// The pass when its round has loaded `pin`, that of pass `of`, which may be itself. `None` is that of a pass that isn't pinned. The
+    /// Returns the pass when its round has loaded `pin`, the pin of pass `of`, which may be the pass itself. `None` stands for no pin. The
     /// bound falls to `pin` if that is lower.
     pub(crate) fn see_pin(self, of: u16, pin: Option<u64>) -> PassState
         ensures { result ≡ with_pin_seen self of pin }
@@ -67,15 +68,15 @@ impl PassState {
         }
     }
 
-    /// Whether the pass may be pinned by `epoch`: it isn't pinned, and that is the epoch that it loaded last. `false` for 0.
+    /// Returns whether the pass may be pinned by `epoch`: it isn't pinned, and `epoch` is what it loaded last, and not 0.
     pub(crate) fn may_pin(&self, epoch: u64) -> bool
         ensures { IsTrue result ↔ MayPin self.now epoch }
     {
         self.pin.is_none() && epoch == self.epoch && epoch >= 1
     }
 
-    /// Whether this pass's round shows that no pass can reach what was marked with `epoch`. That is at least 1 and below the round's bound,
-    /// and the round has loaded the pins of the first `passes` passes.
+    /// Returns whether this pass's round shows that no pass can reach what was marked with `epoch`. It does if `epoch` is at least 1 and
+    /// below the round's bound, and the round has loaded the pins of the first `passes` passes.
     pub(crate) fn is_unreachable(&self, epoch: u64, passes: usize) -> bool
         ensures { IsTrue result ↔ IsOutOfReach self.now epoch passes }
     {
@@ -85,7 +86,7 @@ impl PassState {
         self.has_seen_all(passes)
     }
 
-    /// Whether the pass has loaded the pin of each of the first `passes` passes in its round.
+    /// Returns whether the pass has loaded the pin of each of the first `passes` passes in its round.
     fn has_seen_all(&self, passes: usize) -> bool
         ensures { IsTrue result ↔ HasLoadedPins self.now passes }
     {

@@ -21,9 +21,11 @@ use rowex_core::{Rec, Spot};
 use std::alloc::AllocError;
 
 impl State {
-    /// Stores `word` at `spot`. Returns whether that is legal. At the root or a slot `pass` has locked the word there, `word` spells an
-    /// entry or none, and what the words show then is a lawful next version. Of a value it has locked what names the leaf. If not, nothing
-    /// changes. An error, which changes nothing either, if memory is refused. That can only be where `pass` has the lock.
+    /// Stores `word` at `spot`. Returns whether the step is legal; if not, nothing changes. To store at the root or a slot, `pass` must
+    /// have locked the word there, and `word` must be that of an entry or 0. The words must then show a lawful next version. To store a
+    /// value, `pass` must have locked what names the leaf.
+    ///
+    /// `AllocError`, and nothing changes, if memory is refused. That can only be where `pass` has the lock.
     pub(crate) fn publish(&mut self, pass: u16, spot: Spot, word: u64) -> Result<bool, AllocError>
         ensures ok { IfOk result (λ made. IsStepped made self.old self.new pass (Publish spot word)) }
         ensures err { OnErr result (self.new ≡ self.old) }
@@ -37,7 +39,7 @@ impl State {
         }
     }
 
-    /// Stores the value `word` to leaf `leaf`. Returns whether that is legal, with the errors of `publish`.
+    /// Stores the value `word` to the leaf `leaf`. Returns whether the step is legal, or the error, as `publish` does.
     fn publish_value(&mut self, pass: u16, leaf: u32, word: u64) -> Result<bool, AllocError>
         ensures ok { IfOk result (λ made. IsStepped made self.old self.new pass (Publish (Value leaf) word)) }
         ensures err { OnErr result (self.new ≡ self.old) }
@@ -60,8 +62,8 @@ impl State {
         Ok(true)
     }
 
-    /// Whether `pass` has locked what names leaf `leaf`. That is the anchor if the leaf is the root, or a node of the tree that has it as
-    /// an entry.
+    /// Returns whether `pass` has locked what names the leaf `leaf`. That is the anchor if the leaf is the root, or a node of the tree that
+    /// has the leaf as an entry.
     fn has_locked_namer(&self, pass: u16, leaf: u32) -> bool
         ensures { IsTrue result ↔ HasNamerLocked self.now pass leaf }
     {
@@ -69,14 +71,14 @@ impl State {
         self.has_locked_root(pass, entry) || self.records.has_locked_entry(pass, pack_entry(entry))
     }
 
-    /// Whether `pass` has locked the anchor, and `root` is the root.
+    /// Returns whether `pass` has locked the anchor, and `root` is the root.
     fn has_locked_root(&self, pass: u16, root: Option<Entry>) -> bool
         ensures { IsTrue result ↔ ((self.now.anchor ≡ Some pass) × (self.now.root ≡ root)) }
     {
         self.has_locked_anchor(pass) && self.root == root
     }
 
-    /// Stores `word`, that of the entry `root`, at the root. Returns whether that is legal, with the errors of `publish`.
+    /// Stores `word`, that of the entry `root`, at the root. Returns whether the step is legal, or the error, as `publish` does.
     fn publish_root(
         &mut self,
         pass: u16,
@@ -95,7 +97,8 @@ impl State {
         self.publish_tree(pass, root)
     }
 
-    /// Stores `word`, that of an entry or 0, in slot `entry` of node `node`. Returns whether that is legal, with the errors of `publish`.
+    /// Stores `word`, that of an entry or 0, in slot `entry` of the node `node`. Returns whether the step is legal, or the error, as
+    /// `publish` does.
     fn publish_entry(
         &mut self,
         pass: u16,
@@ -136,9 +139,9 @@ impl State {
         }
     }
 
-    /// Makes the tree that the words show from `root` the newest version, by one change of `pass`, and returns `true`. `false`, and nothing
-    /// changes, if it is no lawful tree, is not one change from the newest, or fates and locks don't allow it. An error, which changes
-    /// nothing, if memory is refused.
+    /// Makes the tree that the words show from `root` the newest version, by one change of `pass`, and returns `true`. Returns `false`, and
+    /// nothing changes, if the tree isn't lawful, is not one change from the newest, or fates and locks don't allow it. `AllocError`, and
+    /// nothing changes, if memory is refused.
     fn publish_tree(&mut self, pass: u16, root: Option<Entry>) -> Result<bool, AllocError>
         ensures ok { IfOk result (λ made. IsPublishJudged made self.old self.new pass root) }
         ensures err { OnErr result (self.new ≡ self.old) }
@@ -169,7 +172,7 @@ impl State {
     }
 }
 
-/// Gives the leaf of number `leaf` the value `value`.
+/// Gives the leaf with the number `leaf` the value `value`, in `items`. All other leaves stay.
 fn set_value(items: &mut Vec<Item>, leaf: u32, value: u64)
     ensures { AreRevalued leaf value items.old.items items.new.items }
 {

@@ -12,7 +12,8 @@ use record_words::{FIRST_ENTRY, Layout, NODE_WORDS, Tag, pack_state};
 use rowex_core::Rec;
 
 impl State {
-    /// Claims `rec` for `pass` if it is free. Returns whether that is legal: `found` is its state word before. If not, nothing changes.
+    /// Claims `rec` for `pass` if it is free. Returns whether the step is legal: `found` is the record's state word before. If not, nothing
+    /// changes.
     pub(crate) fn claim(&mut self, pass: u16, rec: Rec, found: u64) -> bool
         ensures { IsStepped result self.old self.new pass (Claim rec found) }
     {
@@ -25,8 +26,8 @@ impl State {
         true
     }
 
-    /// Stores `word` at `offset` of `rec`. Returns whether that is legal: `pass` holds the record, which has a word other than its state
-    /// there. If not, nothing changes.
+    /// Stores `word` at `offset` of `rec`. Returns whether the step is legal: `pass` holds the record, and `offset` is that of one of its
+    /// words other than the state. If not, nothing changes.
     pub(crate) fn fill(&mut self, pass: u16, rec: Rec, offset: u8, word: u64) -> bool
         ensures { IsStepped result self.old self.new pass (Fill rec offset word) }
     {
@@ -37,8 +38,8 @@ impl State {
         true
     }
 
-    /// Makes `rec` live. Returns whether that is legal: `pass` holds the record, and its words spell a node, or a leaf for whose key it has
-    /// room. If not, nothing changes.
+    /// Makes `rec` live. Returns whether the step is legal: `pass` holds the record, and its words are those of a node, or of a leaf for
+    /// whose key the record has room. If not, nothing changes.
     pub(crate) fn ready(&mut self, pass: u16, rec: Rec) -> bool
         ensures { IsStepped result self.old self.new pass (Ready rec) }
     {
@@ -49,7 +50,7 @@ impl State {
         true
     }
 
-    /// Makes `rec` free. Returns whether that is legal: `pass` holds the record. If not, nothing changes.
+    /// Makes `rec` free. Returns whether the step is legal: `pass` holds the record. If not, nothing changes.
     pub(crate) fn release(&mut self, pass: u16, rec: Rec) -> bool
         ensures { IsStepped result self.old self.new pass (Release rec) }
     {
@@ -60,8 +61,8 @@ impl State {
         true
     }
 
-    /// Makes `rec` obsolete with `epoch`, and unlocks it. Returns whether that is legal: `pass` has unlinked the record, and after that its
-    /// last load of the epoch found `epoch`. If not, nothing changes.
+    /// Makes `rec` obsolete with `epoch`, and unlocks it. Returns whether the step is legal: `pass` has unlinked the record, and its last
+    /// load of the epoch came later and found `epoch`. If not, nothing changes.
     pub(crate) fn mark(&mut self, pass: u16, rec: Rec, epoch: u64) -> bool
         requires { pass < length self.old.passes }
         ensures { IsStepped result self.old self.new pass (Mark rec epoch) }
@@ -78,8 +79,8 @@ impl State {
         true
     }
 
-    /// Frees `rec` if it is marked with `epoch`. Returns whether that is legal: `found` is its state word before, and the round of `pass`
-    /// shows that no pass can reach what is marked with `epoch`. If not, nothing changes.
+    /// Frees `rec` if it is marked with `epoch`. Returns whether the step is legal: `found` is the record's state word before, and the
+    /// round of `pass` shows that no pass can reach what is marked with `epoch`. If not, nothing changes.
     pub(crate) fn give_back(&mut self, pass: u16, rec: Rec, epoch: u64, found: u64) -> bool
         requires { pass < length self.old.passes }
         ensures { IsStepped result self.old self.new pass (GiveBack rec epoch found) }
@@ -100,7 +101,7 @@ impl State {
     }
 }
 
-/// Whether `rec` has a word other than its state at `offset`, in a table of `layout`, which needn't have the record.
+/// Returns whether `rec` has a word other than its state at `offset`, in a table of `layout`, which needn't have the record.
 fn is_offset(layout: Layout, rec: Rec, offset: u8) -> bool
     ensures { IsTrue result ↔ (IsOffset rec offset × HasWord layout rec offset) }
 {
@@ -110,7 +111,8 @@ fn is_offset(layout: Layout, rec: Rec, offset: u8) -> bool
     }
 }
 
-/// Whether `rec` has a word at `offset` that is neither its state nor an entry nor a value, in a table of `layout`, which needn't have the record.
+/// Returns whether `rec` has a word at `offset` that is neither its state nor an entry nor a value. The table of `layout` needn't have the
+/// record.
 pub(crate) fn is_offset_of_fixed_word(layout: Layout, rec: Rec, offset: u8) -> bool
     ensures { IsTrue result ↔ (IsFixedOffset rec offset × HasWord layout rec offset) }
 {

@@ -46,7 +46,7 @@ impl Records {
     ghost use Rattle.rowex_core.specs.Opening.{opening};
     ghost use Rattle.rowex_replay_state.specs.Records.{AreRecordsOf, HasEntryStored, HasLockedEntry, HasKeyIn, HasState, AreNextRecords, IsEntryLocked, IsSpelledIn, MayPublishTree, HasWordStored, IsPackedIn, fate_in, lock_in, with_fate_unlocked_in, tag_in, words_in, with_fate_in, with_lock_in, with_words_in};
 
-    /// Free records of a table of `layout`: all words are 0, and nothing is locked. An error if memory is refused.
+    /// Returns the records of a table of `layout`, all free: all words are 0, and nothing is locked. `AllocError` if memory is refused.
     pub(crate) fn new(alloc: Global, layout: Layout) -> Result<Records, AllocError>
         ensures { let c = opening layout in IfOk result (λ s. AreRecordsOf s layout c.words c.fate c.lock) }
     {
@@ -60,14 +60,14 @@ impl Records {
         })
     }
 
-    /// The layout of the table.
+    /// Returns the layout of the table.
     pub(crate) fn layout(&self) -> Layout
         ensures { result ≡ self.now.layout }
     {
         self.layout
     }
 
-    /// What has become of `rec`; `None` if the table hasn't the record.
+    /// Returns what has become of `rec`; `None` if the table hasn't the record.
     pub(crate) fn fate(&self, rec: Rec) -> Option<Fate>
         ensures { result ≡ fate_in self.now rec }
     {
@@ -77,7 +77,7 @@ impl Records {
         }
     }
 
-    /// The pass that has locked `rec`; `Some(None)` if none has, and for any leaf number. `None` if the table hasn't the node.
+    /// Returns the pass that has locked `rec`; `Some(None)` if none has, and for any leaf number. `None` if the table hasn't the node.
     pub(crate) fn lock_of(&self, rec: Rec) -> Option<Option<u16>>
         ensures { result ≡ lock_in self.now rec }
     {
@@ -87,7 +87,7 @@ impl Records {
         }
     }
 
-    /// The state of `rec`; `None` if the table hasn't the record.
+    /// Returns the state of `rec`; `None` if the table hasn't the record.
     pub(crate) fn state(&self, rec: Rec) -> Option<Tag>
         ensures { result ≡ tag_in self.now rec }
     {
@@ -96,7 +96,7 @@ impl Records {
         Some(fate.state(lock))
     }
 
-    /// The words of `rec` but its state; `None` if the table hasn't the record.
+    /// Returns the words of `rec` but its state; `None` if the table hasn't the record.
     pub(crate) fn words(&self, rec: Rec) -> Option<&[u64]>
         ensures { MatchOption result (words_in self.now rec ≡ None) (λ words. words_in self.now rec ≡ Some words.now) }
     {
@@ -112,22 +112,22 @@ impl Records {
         }
     }
 
-    /// The words of each node record but its state.
+    /// Returns the words of each node record but its state.
     pub(crate) fn nodes(&self) -> &[[u64; NODE_FIELDS]]
         ensures { result.now ≡ self.now.nodes }
     {
         &self.nodes
     }
 
-    /// The words of each leaf record but its state.
+    /// Returns the words of each leaf record but its state.
     pub(crate) fn leaves(&self) -> &[[u64; LEAF_FIELDS]]
         ensures { result.now ≡ self.now.leaves }
     {
         &self.leaves
     }
 
-    /// Whether fates and locks allow `pass` to publish a tree that links just the nodes and leaves that `nodes` and `leaves` mark. A record
-    /// past the last flag isn't linked.
+    /// Returns whether `pass` may publish a tree, by what has become of the records and by their locks. The tree links just the nodes and
+    /// leaves that `nodes` and `leaves` mark. A record behind the last mark isn't linked.
     pub(crate) fn may_publish(&self, pass: u16, nodes: &[bool], leaves: &[bool]) -> bool
         ensures { IsTrue result ↔ MayPublishTree self.now pass nodes.now leaves.now }
     {
@@ -140,8 +140,8 @@ impl Records {
         may_unlink(&self.node_fates, &self.locks, pass, nodes)
     }
 
-    /// Gives each record its fate after `pass` has published version `now + 1`, which links just the nodes and leaves that `nodes` and
-    /// `leaves` mark. A record past the last flag isn't linked. All but the fates stays.
+    /// Notes what has become of each record after `pass` has published version `now + 1`. That version links just the nodes and leaves that
+    /// `nodes` and `leaves` mark. A record behind the last mark isn't linked. Words and locks stay.
     pub(crate) fn update_fates(&mut self, now: u64, pass: u16, nodes: &[bool], leaves: &[bool])
         requires { now + 1 < 2 ^ 64 }
         ensures { AreNextRecords now pass nodes.now leaves.now self.old self.new }
@@ -150,7 +150,7 @@ impl Records {
         update_each_fate(&mut self.leaf_fates, now, pass, leaves);
     }
 
-    /// Whether `word` is the state word of `rec`; `false` if the table hasn't the record.
+    /// Returns whether `word` is the state word of `rec`; `false` if the table hasn't the record.
     pub(crate) fn has_state_word(&self, rec: Rec, word: u64) -> bool
         ensures { IsTrue result ↔ HasState self.now rec word }
     {
@@ -160,7 +160,8 @@ impl Records {
         }
     }
 
-    /// Whether `word` stands at place `at` among the words of `rec`, counted from 0 behind the state. `false` if there is no such word.
+    /// Returns whether `word` stands at index `at` among the words of `rec`, counted from 0 behind the state. `false` if there is no such
+    /// word.
     pub(crate) fn has_word(&self, rec: Rec, at: usize, word: u64) -> bool
         ensures { IsTrue result ↔ HasWordStored self.now rec at word }
     {
@@ -170,7 +171,7 @@ impl Records {
         }
     }
 
-    /// Whether `pass` has locked a node of the tree one of whose entries has the word `word`.
+    /// Returns whether `pass` has locked a node of the tree one of whose entries has the word `word`.
     pub(crate) fn has_locked_entry(&self, pass: u16, word: u64) -> bool
         ensures { IsTrue result ↔ HasLockedEntry self.now pass word }
     {
@@ -182,14 +183,14 @@ impl Records {
         false
     }
 
-    /// Whether node `node` is in the tree, `pass` has locked it, and one of its entries has the word `word`.
+    /// Returns whether the node `node` is in the tree, `pass` has locked it, and one of its entries has the word `word`.
     fn is_entry_locked(&self, node: u32, pass: u16, word: u64) -> bool
         ensures { IsTrue result ↔ IsEntryLocked self.now pass word node }
     {
         self.is_locked_by(node, pass) && self.is_node_in_tree(node) && self.has_entry(node, word)
     }
 
-    /// Whether one of the entries of node `node` has the word `word`.
+    /// Returns whether one of the entries of the node `node` has the word `word`.
     fn has_entry(&self, node: u32, word: u64) -> bool
         ensures { IsTrue result ↔ HasEntryStored self.now node word }
     {
@@ -201,7 +202,8 @@ impl Records {
         false
     }
 
-    /// Whether the words of `rec` spell a node, or a leaf for whose key the record has room. `false` if the table hasn't the record.
+    /// Returns whether the words of `rec` are those of a node, or of a leaf for whose key the record has room. `false` if the table hasn't
+    /// the record.
     pub(crate) fn has_valid_words(&self, rec: Rec) -> bool
         ensures { IsTrue result ↔ IsPackedIn self.now rec }
     {
@@ -217,14 +219,14 @@ impl Records {
         }
     }
 
-    /// Whether leaf record `number` has room for a key of the length in `words`, a leaf's words from offset 1 on.
+    /// Returns whether the leaf record `number` has room for a key of the length that `words` say, a leaf's words from offset 1 on.
     fn has_room_for_key(&self, number: u32, words: &[u64; LEAF_FIELDS]) -> bool
         ensures { IsTrue result ↔ FitsIn self.now.layout (a_leaf number) words.now }
     {
         words[1] <= 8 * (self.layout.leaf_size(number) as u64 - 3)
     }
 
-    /// Whether `pass` holds `rec`.
+    /// Returns whether `pass` holds `rec`.
     pub(crate) fn is_held(&self, rec: Rec, pass: u16) -> bool
         ensures { IsTrue result ↔ (fate_in self.now rec ≡ Some (Held pass)) }
     {
@@ -234,7 +236,7 @@ impl Records {
         }
     }
 
-    /// Whether `rec` is marked with `epoch`.
+    /// Returns whether `rec` is marked with `epoch`.
     pub(crate) fn is_marked(&self, rec: Rec, epoch: u64) -> bool
         ensures { IsTrue result ↔ ((since : ℕ) × (last : ℕ) × (fate_in self.now rec ≡ Some (Marked since last epoch))) }
     {
@@ -244,21 +246,21 @@ impl Records {
         }
     }
 
-    /// Whether node `number` is in the tree; `false` if the table hasn't it.
+    /// Returns whether the node `number` is in the tree; `false` if the table hasn't it.
     pub(crate) fn is_node_in_tree(&self, number: u32) -> bool
         ensures { IsTrue result ↔ ((since : ℕ) × (fate_in self.now (a_node number) ≡ Some (InTree since))) }
     {
         matches!(self.fate(Rec::Node(number)), Some(Fate::InTree { .. }))
     }
 
-    /// Whether `pass` has locked node `number`.
+    /// Returns whether `pass` has locked the node `number`.
     pub(crate) fn is_locked_by(&self, number: u32, pass: u16) -> bool
         ensures { IsTrue result ↔ (lock_in self.now (a_node number) ≡ Some (Some pass)) }
     {
         self.lock_of(Rec::Node(number)) == Some(Some(pass))
     }
 
-    /// Puts `word` at place `at` among the words of `rec`, counted from 0 behind the state. If there is no such word, nothing changes.
+    /// Puts `word` at index `at` among the words of `rec`, counted from 0 behind the state. If there is no such word, nothing changes.
     pub(crate) fn set_word(&mut self, rec: Rec, at: usize, word: u64)
         ensures { MatchOption (words_in self.old rec) (self.new ≡ self.old) (λ words. self.new ≡ with_words_in self.old rec (set words at word)) }
     {
@@ -280,21 +282,21 @@ impl Records {
         }
     }
 
-    /// The words of node record `number` but its state; `None` if the table hasn't the record.
+    /// Returns the words of the node record `number` but its state; `None` if the table hasn't the record.
     pub(crate) fn node(&self, number: u32) -> Option<[u64; NODE_FIELDS]>
         ensures { result ≡ words_in self.now (a_node number) }
     {
         self.nodes.get(number as usize).copied()
     }
 
-    /// The words of leaf record `number` but its state; `None` if the table hasn't the record.
+    /// Returns the words of the leaf record `number` but its state; `None` if the table hasn't the record.
     pub(crate) fn leaf(&self, number: u32) -> Option<[u64; LEAF_FIELDS]>
         ensures { result ≡ words_in self.now (a_leaf number) }
     {
         self.leaves.get(number as usize).copied()
     }
 
-    /// The key of leaf record `number`; `None` if the table hasn't the record, or its words spell no leaf.
+    /// Returns the key of the leaf record `number`; `None` if the table hasn't the record, or its words are those of no leaf.
     pub(crate) fn key_of(&self, number: u32) -> Option<Key>
         ensures { MatchOption result (¬ (IsSpelledIn self.now (a_leaf number))) (λ key. HasKeyIn self.now number key) }
     {
@@ -307,14 +309,14 @@ impl Records {
         }
     }
 
-    /// Gives node record `number` the words `words`, all but its state. If the table hasn't the record, nothing changes.
+    /// Gives the node record `number` the words `words`, all but its state. If the table hasn't the record, nothing changes.
     pub(crate) fn set_node(&mut self, number: u32, words: [u64; NODE_FIELDS])
         ensures { self.new ≡ with_words_in self.old (a_node number) words }
     {
         set_item(&mut self.nodes, number as usize, words);
     }
 
-    /// Gives `rec` the fate `fate`. If the table hasn't the record, nothing changes.
+    /// Notes `fate` as what has become of `rec`. If the table hasn't the record, nothing changes.
     pub(crate) fn set_fate(&mut self, rec: Rec, fate: Fate)
         ensures { self.new ≡ with_fate_in self.old rec fate }
     {
@@ -324,7 +326,7 @@ impl Records {
         }
     }
 
-    /// Gives `rec` the fate `fate`, and unlocks it if it is a node. If the table hasn't the record, nothing changes.
+    /// Notes `fate` as what has become of `rec`, and unlocks it if it is a node. If the table hasn't the record, nothing changes.
     pub(crate) fn set_fate_and_unlock(&mut self, rec: Rec, fate: Fate)
         ensures { self.new ≡ with_fate_unlocked_in self.old rec fate }
     {
@@ -334,7 +336,7 @@ impl Records {
         self.set_fate(rec, fate);
     }
 
-    /// Makes `lock` the pass that has locked node `number`; `None` unlocks it. If the table hasn't the node, nothing changes.
+    /// Makes `lock` the pass that has locked the node `number`; `None` unlocks it. If the table hasn't the node, nothing changes.
     pub(crate) fn set_lock(&mut self, number: u32, lock: Option<u16>)
         ensures { self.new ≡ with_lock_in self.old number lock }
     {
@@ -342,7 +344,7 @@ impl Records {
     }
 }
 
-/// A list of `count` copies of `item`; an error if memory is refused.
+/// Returns a list of `count` copies of `item`; `AllocError` if memory is refused.
 pub(crate) fn repeat_item<T: Copy>(alloc: Global, item: T, count: u32) -> Result<Vec<T>, AllocError>
     ensures { IfOk result (λ copies. copies.items ≡ replicate count item) }
 {
@@ -353,7 +355,7 @@ pub(crate) fn repeat_item<T: Copy>(alloc: Global, item: T, count: u32) -> Result
     Ok(copies)
 }
 
-/// Puts `item` at place `at` of `items`. Past the last one, nothing changes.
+/// Puts `item` at index `at` of `items`. If `at` is behind the last item, nothing changes.
 pub(crate) fn set_item<T: Copy>(items: &mut Vec<T>, at: usize, item: T)
     ensures { items.new.items ≡ set items.old.items at item }
 {
@@ -362,7 +364,7 @@ pub(crate) fn set_item<T: Copy>(items: &mut Vec<T>, at: usize, item: T)
     }
 }
 
-/// `words` with `word` at place `at`. Past the last place, they are as they were.
+/// Returns `words` with `word` at index `at`; just `words` if `at` is behind the last one.
 pub(crate) fn with_word<const N: usize>(words: [u64; N], at: usize, word: u64) -> [u64; N]
     ensures { result ≡ set words.entry at word }
 {
@@ -373,14 +375,14 @@ pub(crate) fn with_word<const N: usize>(words: [u64; N], at: usize, word: u64) -
     filled
 }
 
-/// Whether `words`, from offset 1 on, are those of a node.
+/// Returns whether `words`, from offset 1 on, are those of a node.
 pub(crate) fn are_node_words(words: &[u64; NODE_FIELDS]) -> bool
     ensures { (n : ℕ) → IsTrue result ↔ IsPacked (a_node n) words.now }
 {
     unpack_node(words).is_ok()
 }
 
-/// Whether `words`, from offset 1 on, are those of a leaf, up to the end of its key.
+/// Returns whether `words`, from offset 1 on, are those of a leaf, up to the end of its key.
 fn are_leaf_words(words: &[u64; LEAF_FIELDS]) -> bool
     ensures { (n : ℕ) → IsTrue result ↔ IsPacked (a_leaf n) words.now }
 {

@@ -52,7 +52,7 @@ impl State {
     ghost use Rattle.rowex_core.specs.Opening.{opening};
     ghost use Rattle.rowex_replay_state.specs.States.{IsLockedPublish, IsStateOf, IsStepped};
 
-    /// The state of an index of `layout` when no event has come yet; an error if memory is refused.
+    /// Returns the state of an index of `layout` before its first event; `AllocError` if memory is refused.
     pub fn new(alloc: Global, layout: Layout) -> Result<State, AllocError>
         ensures { IfOk result (λ state. IsStateOf state (opening layout)) }
     {
@@ -68,9 +68,9 @@ impl State {
         })
     }
 
-    /// Makes `event` if it is a legal step, and returns Ok. `Illegal` if it isn't legal; `Memory` if memory was refused, which only a
-    /// publish under the lock of its word takes. `Load` only if it is a bulk load, which no state makes. A fault changes nothing. Only a
-    /// publish takes time linear in the table.
+    /// Makes `event` if it is a legal step. If not, the error is `Illegal`. It is `Load` for a bulk load, which is no step. It is `Memory`
+    /// if memory was refused, which only a publish under the lock of its word takes. An error changes nothing. Only a publish takes time
+    /// linear in the table.
     pub fn step(&mut self, event: Event) -> Result<(), ReplayFault>
         ensures ok { OnOk result ((c : Core) → ∥ IsLawful c ∥₁ → IsStateOf self.old c
             → Legal c event.pass event.act × IsStateOf self.new (after c event.pass event.act)) }
@@ -93,7 +93,7 @@ impl State {
         }
     }
 
-    /// Makes the act `act` of `pass` if it is legal, and returns whether it was; if not, nothing changes. An error, which changes nothing,
+    /// Makes the act `act` of `pass` if it is legal, and returns whether it is; if not, nothing changes. `AllocError`, and nothing changes,
     /// if memory is refused to a publish under the lock of its word.
     fn make_act(&mut self, pass: u16, act: Act) -> Result<bool, AllocError>
         requires pass { pass < length self.old.passes }
@@ -124,14 +124,14 @@ impl State {
         }
     }
 
-    /// How many changes have been made so far.
+    /// Returns how many changes have been made so far.
     pub fn changes(&self) -> u64
         ensures { (c : Core) → IsStateOf self.now c → result ≡ length c.changes }
     {
         self.changes.len() as u64
     }
 
-    /// The keys that the newest version holds, with their values, in the order of the keys. An error if memory is refused.
+    /// Returns the keys that the newest version holds, with their values, in the order of the keys. `AllocError` if memory is refused.
     pub fn content(&self, alloc: Global) -> Result<Vec<(Key, u64)>, AllocError>
         ensures { IfOk result (λ pairs. (c : Core) → IsStateOf self.now c → pairs.items ≡ content (c.past.version c.past.now)) }
     {
@@ -143,7 +143,7 @@ impl State {
     }
 }
 
-/// Whether `act` is a bulk load, which is no atomic step.
+/// Returns whether `act` is a bulk load, which is no atomic step.
 fn is_load(act: Act) -> bool
     ensures load { result ≡ true → ¬ IsAtomicAct act }
     ensures atomic { result ≡ false → IsAtomicAct act }

@@ -9,9 +9,10 @@ use compound_node::Entry;
 use record_words::{LEAF_FIELDS, NODE_FIELDS};
 use std::alloc::{AllocError, Global};
 
-/// What the tree links that begins at the entry `root`; it is empty for `None`. `nodes` and `leaves` are the words of the table's records,
-/// each from offset 1 on. `None` if these show no lawful tree there, or if that links a record that the table hasn't, or one whose words
-/// spell no value. An error if memory is refused. Its time is linear in the table's records and the tree.
+/// Returns what the tree that begins at the entry `root` links; nothing for `None`. `nodes` and `leaves` are the words of the table's
+/// records, each from offset 1 on. The result is `None` if these show no lawful tree there. It is `None`, too, if the tree links a record
+/// that the table hasn't, or whose words are those of no node or leaf. `AllocError` if memory is refused. The time is linear in the table's
+/// records and the tree.
 pub fn read_tree(
     alloc: Global,
     nodes: &[[u64; NODE_FIELDS]],
@@ -33,7 +34,7 @@ pub fn read_tree(
     Ok(Some(linked))
 }
 
-/// A list of `count` marks, all `false`; an error if memory is refused.
+/// Returns a list of `count` marks, all `false`; `AllocError` if memory is refused.
 fn make_unset_marks(alloc: Global, count: usize) -> Result<Vec<bool>, AllocError>
     ensures { IfOk result (λ marks. marks.items ≡ replicate count false) }
 {

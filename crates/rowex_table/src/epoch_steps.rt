@@ -24,7 +24,7 @@ impl HotTable {
         self.load_word_at::<Brand, G>(seat, gate, Act::LoadEpoch { word: 0 }, epoch)
     }
 
-    /// Makes the epoch `expected + 1` if it is `expected`, from 1 to 2^60 - 2; else it stays. Returns the epoch that it found.
+    /// Makes the epoch `expected + 1` if it is `expected`, from 1 to 2^60 - 2; else the epoch stays. Returns the epoch that the step found.
     pub fn advance<G: Gate>(&self, seat: &mut TableSeat, gate: &mut G, expected: u64) -> u64
         requires own { IsSeatOf self.now seat.old }
         requires range { (1 ≤ expected) × (expected + 1 < EPOCHS) }
@@ -36,7 +36,7 @@ impl HotTable {
         self.compare_exchange_at::<Brand, G>(seat, gate, act, epoch, Exchange { expected, new })
     }
 
-    /// Stores `word`, the epoch that the pass loaded last, as the pass's pin, where it has none.
+    /// Stores `word` as the pass's pin. `word` is the epoch that the pass loaded last, and the pass has no pin before.
     pub fn set_pin<G: Gate>(&self, seat: &mut TableSeat, gate: &mut G, word: u64)
         requires fits { IsPassOf self.now seat.old }
         requires may { MayStep self.now.layout (λ _. SetPin word) seat.old.known }
@@ -46,7 +46,7 @@ impl HotTable {
         self.store_word_at::<Brand, G>(seat, gate, Act::SetPin { word }, pin, word);
     }
 
-    /// Clears the pass's pin, which is set: stores `NO_PIN`. A call ends with this step, and its notes `said` come with it.
+    /// Clears the pass's pin, which is set, by a store of `NO_PIN`. A call ends with this step, and its notes, `said`, come with it.
     pub fn clear_pin<G: Gate>(&self, seat: &mut TableSeat, gate: &mut G)
         ghost said: { Known → List Note }
         requires fits { IsPassOf self.now seat.old }

@@ -20,7 +20,7 @@ pub fn call_steps_are_in_one_run<G: Gate>()
     ensures { CallStepsAreInOneRun G.becomes }
 {}
 
-/// By the rule of the table, of the steps that two passes know, now or earlier, one list begins with the other.
+/// By the rule of the table, take the steps that two passes know of, now or earlier. One of these two lists begins with the other.
 pub fn traces_are_of_one_run()
     ensures { TracesAreOfOneRun }
 {}

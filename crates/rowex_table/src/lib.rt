@@ -4,11 +4,11 @@
 //!
 //! The rule of the table (`Ruled`): the words show a lawful core, what each seat knows is true of it, and no number belongs to two seats. A
 //! run of steps leads to that core, and begins with each seat's trace (`HasTraces`). So steps of one pass stand in one run
-//! (`laws::call_steps_are_in_one_run`), and so do the traces of two (`laws::traces_are_of_one_run`). Stamps, follows and meetings are counted
-//! (`asides`), and so are touches (`touches`), of which few stand beside a step (`MayTouch`). Each step function owes that the step is legal
-//! in every core that agrees with what the seat knows (`MayStep`, `MayLock`). One lemma serves loads, stores and exchanges (`allows` in
-//! `proofs/Rule`). Contracts of steps are `Steps`, of runs `Runs`; a gate hears just these (`laws::gate_is_told_each_step`). `meet_seats`
-//! joins two seats, makes one load, and parts them. A stamp is a seat that owns no number (`stamp_seat`, `follow_stamp`).
+//! (`laws::call_steps_are_in_one_run`), and so do the traces of two (`laws::traces_are_of_one_run`). Stamps, follows and meetings are
+//! counted (`asides`), and so are touches (`touches`), of which few stand beside a step (`MayTouch`). Each step function owes that the step
+//! is legal in every core that agrees with what the seat knows (`MayStep`, `MayLock`). One lemma serves loads, stores and exchanges
+//! (`allows` in `proofs/Rule`). Contracts of steps are `Steps`, of runs `Runs`; a gate hears just these (`laws::gate_is_told_each_step`).
+//! `meet_seats` joins two seats, makes one load, and parts them. A stamp is a seat that owns no number (`stamp_seat`, `follow_stamp`).
 #![tactic(auto)]
 
 mod epoch_steps;

@@ -7,7 +7,7 @@ ghost use Rattle.rowex_table.specs.Rule.{HasEntrySlot};
 use record_words::{FIRST_ENTRY, Location, STATE_OFFSET, VALUE_OFFSET};
 use rowex_core::{Spot, Target};
 
-/// The location of `spot`: the root, the word of slot 0 to 31 of a node record, or the value of a leaf record.
+/// Returns the location of `spot`: the root, the word of slot 0 to 31 of a node record, or the value of a leaf record.
 pub(crate) fn spot_location(spot: Spot) -> Location
     requires { HasEntrySlot spot }
     ensures { result ≡ spot_word spot }
@@ -25,7 +25,7 @@ pub(crate) fn spot_location(spot: Spot) -> Location
     }
 }
 
-/// The location of the word by which `target` is locked: the anchor, or a node's state.
+/// Returns the location of the word by which `target` is locked: the anchor, or a node's state.
 pub(crate) fn lock_location(target: Target) -> Location
     ensures { result ≡ target_word target }
 {

@@ -23,7 +23,7 @@ pub struct RecordAt {
 }
 
 impl RecordAt {
-    /// `rec` with the number of its first word, in a table that has these `origins`.
+    /// Returns `rec` with the number of its first word, in a table that has these `origins`.
     #[inline(always)]
     pub fn find(origins: &Origins, rec: Rec) -> RecordAt
         requires { HasRecord origins.now.layout rec }
@@ -37,7 +37,7 @@ impl RecordAt {
         RecordAt { rec, start }
     }
 
-    /// The record's number among those of its kind.
+    /// Returns the record's number among those of its kind.
     #[inline(always)]
     pub fn number(self) -> u32
         ensures { result ≡ record_number self.rec }
@@ -49,7 +49,7 @@ impl RecordAt {
 }
 
 impl HotTable {
-    /// `rec` with the number of its first word, for several steps on it.
+    /// Returns `rec` with the number of its first word, for several steps on it.
     #[inline(always)]
     pub fn locate(&self, rec: Rec) -> RecordAt
         requires { HasRecord self.now.layout rec }
@@ -59,7 +59,7 @@ impl HotTable {
         RecordAt::find(&self.origins, rec)
     }
 
-    /// Claims `rec` if it is free; else its state stays. Returns the state word that it found: 0 exactly if this step claimed `rec`.
+    /// Claims `rec` if it is free; else its state stays. Returns the state word that the step found: 0 exactly if it claimed `rec`.
     pub fn claim<G: Gate>(&self, seat: &mut TableSeat, gate: &mut G, rec: Rec) -> u64
         requires own { IsSeatOf self.now seat.old }
         requires range { HasRecord self.now.layout rec }
@@ -68,7 +68,8 @@ impl HotTable {
         self.claim_at(seat, gate, self.locate(rec))
     }
 
-    /// Claims the record `at` if it is free; else its state stays. Returns the state word that it found: 0 exactly if this step claimed it.
+    /// Claims the record `at` if it is free; else its state stays. Returns the state word that the step found: 0 exactly if it claimed the
+    /// record.
     #[inline(always)]
     pub fn claim_at<G: Gate>(&self, seat: &mut TableSeat, gate: &mut G, at: RecordAt) -> u64
         requires own { IsSeatOf self.now seat.old }
@@ -81,7 +82,7 @@ impl HotTable {
         self.compare_exchange_at::<Brand, G>(seat, gate, act, at.start, Exchange { expected, new })
     }
 
-    /// Stores `word` at `offset` of `rec`, which the pass holds. `offset` is that of a word of `rec`, and not 0, where the state stands.
+    /// Stores `word` at `offset` of `rec`, which the pass holds. `offset` is that of a word of `rec` other than its state.
     pub fn fill<G: Gate>(&self, seat: &mut TableSeat, gate: &mut G, rec: Rec, offset: u8, word: u64)
         requires own { IsSeatOf self.now seat.old }
         requires range { HasRecord self.now.layout rec × IsOffset rec offset × HasWord self.now.layout rec offset }
@@ -112,7 +113,8 @@ impl HotTable {
         self.store_word_at::<Brand, G>(seat, gate, act, at.start + offset as usize, word);
     }
 
-    /// Makes `rec`, which the pass holds, live. Its words have to spell a node, or a leaf with a key for which the record has room.
+    /// Makes `rec`, which the pass holds, live. Its words have to be those of a node, or of a leaf with a key for which the record has
+    /// room.
     pub fn ready<G: Gate>(&self, seat: &mut TableSeat, gate: &mut G, rec: Rec)
         requires own { IsSeatOf self.now seat.old }
         requires range { HasRecord self.now.layout rec }
@@ -134,7 +136,7 @@ impl HotTable {
         self.store_word_at::<Brand, G>(seat, gate, act, state, pack_state(Tag::Free));
     }
 
-    /// Loads the word at `offset` of `rec`, which is neither its state nor an entry, and returns it.
+    /// Loads and returns the word at `offset` of `rec`, which is neither its state nor an entry nor a value.
     pub fn load_fixed<G: Gate>(
         &self,
         seat: &mut TableSeat,
@@ -149,7 +151,7 @@ impl HotTable {
         self.load_fixed_at(seat, gate, self.locate(rec), offset)
     }
 
-    /// Loads the word at `offset` of the record `at`, which is neither its state nor an entry, and returns it.
+    /// Loads and returns the word at `offset` of the record `at`, which is neither its state nor an entry nor a value.
     #[inline(always)]
     pub fn load_fixed_at<G: Gate>(
         &self,
@@ -168,8 +170,8 @@ impl HotTable {
         self.load_word_at::<Brand, G>(seat, gate, act, at.start + offset as usize)
     }
 
-    /// Loads the word at `offset` of the record `at` and ignores it, so that its cache line is on its way when it is needed. This is no step: no
-    /// gate is told of it. It is counted among the `touches` of the pass.
+    /// Loads the word at `offset` of the record `at`, and ignores what it finds. So the word's cache line is on its way when it is needed.
+    /// This is no step: no gate is told of it. It is counted among the `touches` of the pass.
     #[inline(always)]
     pub fn touch(&self, seat: &mut TableSeat, at: RecordAt, offset: u8)
         requires own { IsSeatOf self.now seat.old }
@@ -182,7 +184,7 @@ impl HotTable {
             .load::<Touching>(&mut seat.seat, at.start + offset as usize);
     }
 
-    /// Makes `rec` obsolete in `epoch`. The pass has unlinked `rec`, and then loaded this epoch, and none since.
+    /// Makes `rec` obsolete in `epoch`. The pass has unlinked `rec`, then loaded `epoch`, and no epoch since.
     pub fn mark<G: Gate>(&self, seat: &mut TableSeat, gate: &mut G, rec: Rec, epoch: u64)
         requires own { IsSeatOf self.now seat.old }
         requires range { HasRecord self.now.layout rec × (epoch < EPOCHS) }
@@ -193,7 +195,7 @@ impl HotTable {
         self.store_word_at::<Brand, G>(seat, gate, act, state, obsolete_word(epoch));
     }
 
-    /// Loads the state word of `rec` and returns it.
+    /// Loads and returns the state word of `rec`.
     pub fn load_state<G: Gate>(&self, seat: &mut TableSeat, gate: &mut G, rec: Rec) -> u64
         requires own { IsSeatOf self.now seat.old }
         requires range { HasRecord self.now.layout rec }
@@ -202,7 +204,7 @@ impl HotTable {
         self.load_state_at(seat, gate, self.locate(rec))
     }
 
-    /// Loads the state word of the record `at` and returns it.
+    /// Loads and returns the state word of the record `at`.
     #[inline(always)]
     pub fn load_state_at<G: Gate>(&self, seat: &mut TableSeat, gate: &mut G, at: RecordAt) -> u64
         requires own { IsSeatOf self.now seat.old }
@@ -213,8 +215,9 @@ impl HotTable {
         self.load_word_at::<Brand, G>(seat, gate, Act::LoadState { rec, word }, at.start)
     }
 
-    /// Makes `rec` free if it is obsolete in `epoch`; else its state stays. Returns the state word that it found: that of `epoch` exactly
-    /// if this step made `rec` free. The pass has loaded the epoch, and then each pin. `epoch` is below that one and each set pin.
+    /// Makes `rec` free if it is obsolete in `epoch`; else its state stays. Returns the state word that the step found: that of `epoch`
+    /// exactly if it made `rec` free. The pass has loaded the epoch, and then each pin. `epoch` is below the loaded one and each pin that
+    /// was set.
     pub fn give_back<G: Gate>(
         &self,
         seat: &mut TableSeat,
@@ -230,7 +233,8 @@ impl HotTable {
         self.give_back_at(seat, gate, self.locate(rec), epoch)
     }
 
-    /// Does what `give_back` does for the record `at`: makes it free if it is obsolete in `epoch`. Returns the state word that it found.
+    /// Does what `give_back` does for the record `at`: makes it free if it is obsolete in `epoch`. Returns the state word that the step
+    /// found.
     #[inline(always)]
     pub fn give_back_at<G: Gate>(
         &self,

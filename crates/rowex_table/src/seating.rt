@@ -19,8 +19,8 @@ use std::alloc::{AllocError, Global};
 use std::marker::Brand;
 
 impl HotTable {
-    /// Makes a table of `layout` with an empty index. Returns it and the seats of its passes, in the order of their numbers from 0 on. An
-    /// error if memory is refused.
+    /// Makes a table of `layout` with an empty index. Returns it with the seats of its passes, in the order of their numbers from 0 on.
+    /// `AllocError` if memory is refused.
     pub fn new(alloc: Global, layout: Layout) -> Result<(HotTable, Vec<TableSeat>), AllocError>
         ensures table { IfOk result (λ made. made.0.layout ≡ layout) }
         ensures count { IfOk result (λ made. length made.1.items ≡ layout.passes) }
@@ -41,8 +41,8 @@ impl HotTable {
         )
     }
 
-    /// Makes a table of `layout` and `words`, which show pairs that were loaded. Returns it and the seats of its passes, in the order of
-    /// their numbers from 0 on. Pass 0 has loaded the pairs, by an insertion of each in the order of their keys. An error if memory is
+    /// Makes a table of `layout` and `words`, which show pairs that were loaded. Returns it with the seats of its passes, in the order of
+    /// their numbers from 0 on. Pass 0 has loaded the pairs, by an insertion of each in the order of their keys. `AllocError` if memory is
     /// refused.
     pub fn new_loaded(
         alloc: Global,
@@ -67,7 +67,8 @@ impl HotTable {
         )
     }
 
-    /// Makes the table that `first_words` says, and deals the seats of its passes, in the order of their numbers from 0 on.
+    /// Makes the table that `first_words` says. Returns it with the seats of its passes, in the order of their numbers from 0 on.
+    /// `AllocError` if memory is refused.
     fn make_with_seats(
         alloc: Global,
         first_words: &FirstWords,
@@ -97,8 +98,8 @@ impl HotTable {
         Ok((HotTable { table, origins }, seats))
     }
 
-    /// Lets the passes of two seats meet: both have then seen the changes and the steps as they are now. Returns their seats, that of
-    /// `first` first. It makes no event.
+    /// Lets the passes of the seats `first` and `second` meet: both have then seen the changes and the steps as they are now. Returns their
+    /// seats, the one of `first` first. No event is made.
     pub fn meet_seats(&self, first: TableSeat, second: TableSeat) -> (TableSeat, TableSeat)
         requires { IsSeatOf self.now first × IsSeatOf self.now second }
         ensures own { IsSeatOf self.now result.0 × IsSeatOf self.now result.1 }

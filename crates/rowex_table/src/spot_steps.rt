@@ -21,7 +21,7 @@ use rowex_core::{Act, Gate, Spot, Target};
 use std::marker::Brand;
 
 impl HotTable {
-    /// Loads the word at `spot`, which is the root, a slot of a node or the value of a leaf, and returns it.
+    /// Loads and returns the word at `spot`, which is the root, a slot of a node or the value of a leaf.
     pub fn load_ref<G: Gate>(&self, seat: &mut TableSeat, gate: &mut G, spot: Spot) -> u64
         requires own { IsSeatOf self.now seat.old }
         requires range { HasSpot self.now.layout spot }
@@ -31,7 +31,7 @@ impl HotTable {
         self.load_word_at::<Brand, G>(seat, gate, Act::LoadRef { spot, word: 0 }, entry)
     }
 
-    /// Loads the word of the entry in slot `slot`, 0 to 31, of the node's record `node`, and returns it.
+    /// Loads and returns the word of the entry in slot `slot`, 0 to 31, of the node record `node`.
     #[inline(always)]
     pub fn load_slot_at<G: Gate>(
         &self,
@@ -54,7 +54,7 @@ impl HotTable {
         self.load_word_at::<Brand, G>(seat, gate, Act::LoadRef { spot, word: 0 }, address)
     }
 
-    /// Loads the value in the leaf's record `leaf`, and returns it.
+    /// Loads and returns the value in the leaf record `leaf`.
     #[inline(always)]
     pub fn load_value_at<G: Gate>(&self, seat: &mut TableSeat, gate: &mut G, leaf: RecordAt) -> u64
         requires own { IsSeatOf self.now seat.old }
@@ -68,8 +68,8 @@ impl HotTable {
         self.load_word_at::<Brand, G>(seat, gate, Act::LoadRef { spot, word: 0 }, address)
     }
 
-    /// Locks `target`, the anchor or a node, if it is live; else its state stays. Returns the state word that it found: that of `Tag::Live`
-    /// exactly if this step locked `target`. A node has to be one of which the pass knows that it is in the tree if it is live.
+    /// Locks `target`, the anchor or a node, if it is live; else its state stays. Returns the state word that the step found: that of
+    /// `Tag::Live` exactly if it locked `target`. The pass must know of a node that it is in the tree if it is live.
     pub fn lock<G: Gate>(&self, seat: &mut TableSeat, gate: &mut G, target: Target) -> u64
         requires own { IsSeatOf self.now seat.old }
         requires range { IsInTable self.now.layout (target_word target) }
@@ -94,9 +94,11 @@ impl HotTable {
         self.store_word_at::<Brand, G>(seat, gate, act, state, live);
     }
 
-    /// Stores `word` at `spot`. It is an entry word at the root or in a slot of a node, whose lock the pass has. Or it is the value of a
-    /// leaf, and the pass has locked what names that. No other step changes the map. The words then have to show one leaf more, exchanged
-    /// or less. The pass has made ready what comes, and has locked each node that goes.
+    /// Stores `word` at `spot`. At the root or in a slot of a node `word` is that of an entry, and the pass has locked the anchor or the
+    /// node. At a leaf `word` is a value, and the pass has locked what names the leaf. No other step changes the map.
+    ///
+    /// The words then have to show one leaf more, exchanged or less. The pass has made ready the records that come, and has locked each
+    /// node that goes.
     pub fn publish<G: Gate>(&self, seat: &mut TableSeat, gate: &mut G, spot: Spot, word: u64)
         requires own { IsSeatOf self.now seat.old }
         requires range { HasSpot self.now.layout spot }

@@ -30,7 +30,7 @@ impl Model for TableStamp {
 }
 
 impl HotTable {
-    /// Makes a stamp with the changes and the steps that the pass has seen. It makes no event. The seat stays as it was, but `asides`
+    /// Returns a stamp with the changes and the steps that the pass has seen. No event is made. The seat stays as it was, but `asides`
     /// counts one more: a stamp made or followed, or a meeting.
     pub fn stamp_seat(&self, seat: &mut TableSeat) -> TableStamp
         requires { IsSeatOf self.now seat.old }
@@ -43,7 +43,7 @@ impl HotTable {
         TableStamp { seat }
     }
 
-    /// Lets the pass see the changes and the steps as they are now, all of `stamp` among them. It makes no event; `asides` counts one more.
+    /// Lets the pass see the changes and the steps as they are now, all of `stamp` among them. No event is made; `asides` counts one more.
     pub fn follow_stamp(&self, seat: &mut TableSeat, stamp: TableStamp)
         requires { IsSeatOf self.now seat.old × IsStampOf self.now stamp }
         ensures same { IsOneSeat seat.old seat.new }

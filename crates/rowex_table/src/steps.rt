@@ -21,7 +21,7 @@ pub(crate) struct Exchange {
 }
 
 impl HotTable {
-    /// The number of the word at `location` in the table.
+    /// Returns the number of the word at `location` in the table.
     #[inline(always)]
     pub(crate) fn address_of(&self, location: Location) -> usize
         requires { IsInTable self.now.layout location }
@@ -30,8 +30,8 @@ impl HotTable {
         self.origins.address(location)
     }
 
-    /// Loads the table's word number `address` as the step `act`, of which `gate` is told. Returns the word. `Q` has the act and its notes;
-    /// what `act` has as found doesn't count.
+    /// Loads the table's word with the number `address` as the step `act`, of which `gate` is told, and returns the word. `Q` names the act
+    /// and the notes that come with it. What `act` has as the found word doesn't count.
     pub(crate) fn load_word_at<Q: Step, G: Gate>(
         &self,
         seat: &mut TableSeat,
@@ -55,7 +55,8 @@ impl HotTable {
         word
     }
 
-    /// Stores `new` to the table's word number `address` as the step `act`, of which `gate` is told. `Q` has the act and its notes.
+    /// Stores `new` to the table's word with the number `address` as the step `act`, of which `gate` is told. `Q` names the act and the
+    /// notes that come with it.
     pub(crate) fn store_word_at<Q: Step, G: Gate>(
         &self,
         seat: &mut TableSeat,
@@ -77,8 +78,9 @@ impl HotTable {
         tell_gate(gate, seat, act);
     }
 
-    /// Stores `exchange.new` to the table's word number `address`, if that is `exchange.expected`, as the step `act`, of which `gate` is
-    /// told. Returns the word that it found: it has stored exactly if that is `exchange.expected`. `Q` has the act and its notes.
+    /// Stores `exchange.new` to the table's word with the number `address`, if the word is `exchange.expected`, as the step `act`, of which
+    /// `gate` is told. Returns the word that the step found: it has stored exactly if that is `exchange.expected`. `Q` names the act and
+    /// the notes that come with it.
     pub(crate) fn compare_exchange_at<Q: Step, G: Gate>(
         &self,
         seat: &mut TableSeat,
@@ -116,7 +118,7 @@ fn tell_gate<G: Gate>(gate: &mut G, seat: &TableSeat, act: Act)
     gate.at(&Event { pass, act });
 }
 
-/// `act` with `word` as what its step found. The act of a store, which finds none, stays as it is.
+/// Returns `act` with `word` as the word that its step found. The act of a store, which finds none, stays as it is.
 fn act_with_found(act: Act, word: u64) -> Act
     ensures { result ≡ found_by act word }
 {

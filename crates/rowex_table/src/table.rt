@@ -38,7 +38,7 @@ impl Model for TableSeat {
 }
 
 impl TableSeat {
-    /// The number of the pass.
+    /// Returns the number of the pass.
     pub fn number(&self) -> u16
         ensures { result ≡ self.now.known.pass }
     {
@@ -68,15 +68,15 @@ impl Model for HotTable {
 }
 
 impl HotTable {
-    /// How many passes and records the table has.
+    /// Returns how many passes and records the table has.
     pub fn layout(&self) -> Layout
         ensures { result ≡ self.now.layout }
     {
         self.origins.layout
     }
 
-    /// Where the table's records begin, as a copy. A walk over many records keeps it in registers, where a field of `self` would be loaded
-    /// again after each atomic load.
+    /// Returns where the table's records begin, as a copy. A walk over many records keeps the copy in registers. A field of `self` would be
+    /// loaded again after each atomic load.
     pub fn origins(&self) -> Origins
         ensures { result.layout ≡ self.now.layout }
     {

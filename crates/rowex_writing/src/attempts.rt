@@ -65,19 +65,23 @@ pub enum TryFault {
     FullLeaves,
 }
 
-/// Makes one attempt at `call` and returns the reply. It searches for the key, and locks what is to change, each once. It checks that this
-/// stands as found, and changes it by one store. A call with nothing to change locks nothing. An expected value is compared again under the
-/// locks: if it is another then, the reply says so. If another pass is at work there, or no record is free, nothing is changed, and the
-/// fault tells which.
+/// Makes one attempt at `call` and returns its reply. The attempt searches for the key, and locks the nodes that are to change, each by one
+/// try. It checks that these nodes are as the search found them, and makes the change by one store. A call with nothing to change locks
+/// nothing. A value that `call` expects is compared again under the locks: if the key has another one then, nothing changes, and the reply
+/// says so.
 ///
-/// The pass is pinned, has no record and no lock, and has made no change since its pin. `way` is filled with the nodes that the search went
-/// through. After a change `build.gone` lists what it unlinked; else it stays. If no record was free, `build.made` lists those that it had
-/// claimed, and has given up. A removal is never refused as `FullLeaves`. An insertion or an upsert is refused as full only if the search
-/// found the key absent. A removal is only if it found the key, with the value that it expects. An exchange or an addition never is.
+/// Returns an error, with nothing changed, if another pass is at work there (`TryFault::Busy`), or if no record is free
+/// (`TryFault::FullNodes`, `TryFault::FullLeaves`). A removal is never refused as `FullLeaves`. An insertion or an upsert is refused as
+/// full only if the search found the key absent. A removal is refused as full only if the search found the key, with the value expected. An
+/// exchange or an addition is never refused as full.
 ///
-/// If it tries no lock, it makes at most 58 atomic steps, and 26 for each node on the key's way. Else it makes at most 124, and 26 for
-/// each such node. To these come 297 for each lock that it tries, four for each leaf record and two for each node record. An exchange or an
-/// addition makes at most 66, and 26 for each such node.
+/// The pass of `seat` is pinned, has no record and no lock, and has made no change since its pin. At the end it has no record and no lock.
+/// `way` is filled with the nodes that the search went through. A change that unlinks records lists them in `build.gone`. If no record was
+/// free, `build.made` lists those that the attempt had claimed, and has given up.
+///
+/// An attempt that tries no lock makes at most 58 atomic steps, and 26 for each node on the key's way. One that tries locks makes at most
+/// 124, and 26 for each such node. To these come 297 for each lock tried, four for each leaf record and two for each node record. An
+/// exchange or an addition makes at most 66, and 26 for each such node.
 pub fn attempt<G: Gate>(
     table: &HotTable,
     seat: &mut TableSeat,
@@ -127,11 +131,11 @@ pub fn attempt<G: Gate>(
     }
 }
 
-/// Makes the change that is planned in `job`, and returns what the search found, with the value that the key had at the change. If `call`
-/// has nothing to change at the value that the key has under the locks, nothing is changed, and that is returned.
+/// Makes the change planned in `job`. Returns what the search found, with the value that the key has under the locks. If `call` has nothing
+/// to change at that value, nothing is changed.
 ///
-/// If another pass is at work there, or no record is free, nothing is changed, and the fault tells which. Before and after the pass has no
-/// record and no lock.
+/// Returns an error, with nothing changed, if another pass is at work there (`TryFault::Busy`), or if no record was free
+/// (`TryFault::FullNodes`, `TryFault::FullLeaves`). Before and after, the pass has no record and no lock.
 #[inline(always)]
 fn try_plan<G: Gate>(
     table: &HotTable,
@@ -185,8 +189,11 @@ fn try_plan<G: Gate>(
     }
 }
 
-/// Makes the change of `job`, whose nodes are locked and checked. If it takes a leaf out of a node that has one above it on the path,
-/// [`make_removal`] makes it. If it can't be made, it is undone, and the fault tells why. All is unlocked then.
+/// Makes the change of `job`, whose nodes are locked and checked. A removal from a node that has one above it on the path is made by
+/// [`make_removal`].
+///
+/// If no record was free, or the key got another value before a removal's store, the change is undone, and the error tells which. In any
+/// case all is unlocked at the end.
 fn change_span<G: Gate>(
     table: &HotTable,
     seat: &mut TableSeat,
@@ -224,8 +231,11 @@ fn change_span<G: Gate>(
     }
 }
 
-/// Makes a removal from a node that has one above it on the path. One entry that is left takes the node's place. For more than one a record
-/// is claimed, and filled by [`end_removal`]. If none was free, the change is undone, and the fault tells so.
+/// Makes the removal of `job`, from a node that has one above it on the path. If one entry is left in the node, that entry takes the node's
+/// place. If more are left, a node record is claimed for them, and [`end_removal`] goes on.
+///
+/// The removal is undone with the error `TryFault::FullNodes` if no node record was free, or with `TryFault::Busy` if the key has got
+/// another value meanwhile.
 fn make_removal<G: Gate>(
     table: &HotTable,
     seat: &mut TableSeat,
@@ -268,9 +278,9 @@ fn make_removal<G: Gate>(
     end_removal(table, seat, gate, build, job, &left)
 }
 
-/// Ends a removal for which the record of `left` is claimed. What is left of the node becomes one node with its sibling, or, if that can't
-/// be made, takes the node's place alone. If the key has got another value meanwhile, the removal is undone, and the fault is
-/// `TryFault::Busy`.
+/// Ends the removal of `job`, for which the record `left.number` is claimed. What is left of the node becomes one node with its sibling. If
+/// that can't be made, what is left takes the node's place alone. If the key has got another value meanwhile, the removal is undone, and
+/// the error is `TryFault::Busy`.
 fn end_removal<G: Gate>(
     table: &HotTable,
     seat: &mut TableSeat,
@@ -302,8 +312,8 @@ fn end_removal<G: Gate>(
     publish_or_undo(table, seat, gate, build, job, raised)
 }
 
-/// Publishes the change of `job`, for which all records are made. The value that was found is loaded once more before, since other locks
-/// have come and gone. If it is another, the change is undone, and the result is `TryFault::Busy`.
+/// Publishes the change of `job`, whose records are all made. Before that it loads the value of the found leaf once more, since other locks
+/// have come and gone. If the value isn't the one found, the change is undone, and the error is `TryFault::Busy`.
 fn publish_or_undo<G: Gate>(
     table: &HotTable,
     seat: &mut TableSeat,
@@ -330,8 +340,8 @@ fn publish_or_undo<G: Gate>(
     Ok(())
 }
 
-/// Locks what `job` is to change, checks that it stands as the search found it, and returns whether it does. If a lock is refused, or
-/// something else stands there, all locks are given back.
+/// Locks the nodes that `job` is to change, and checks that they are as the search found them. Returns whether all are locked and as found.
+/// If not, the pass has no lock at the end.
 fn lock_and_check_span<G: Gate>(
     table: &HotTable,
     seat: &mut TableSeat,
@@ -369,7 +379,7 @@ fn lock_and_check_span<G: Gate>(
     false
 }
 
-/// Undoes the change of `job`, for which no record was free: gives up the records in `build.made`, and unlocks all that is locked.
+/// Undoes the change of `job`, which is not published: gives up the records in `build.made`, and unlocks all that the pass has locked.
 fn undo_change<G: Gate>(
     table: &HotTable,
     seat: &mut TableSeat,
@@ -386,7 +396,7 @@ fn undo_change<G: Gate>(
     release_records_and_locks(table, seat, gate, build.made.as_slice(), job);
 }
 
-/// The fault of an attempt that found no record of the kind `full` free.
+/// Returns the fault of an attempt that found no record of the kind `full` free.
 fn refusal_of(full: Full) -> TryFault
     ensures { result ≡ the_refusal full }
 {

@@ -8,9 +8,9 @@
 //!
 //! 1. *Search* (`rowex_reading`): the path of the key, and the leaf at its end with the key's first mismatch. These tell what the call
 //!    requests (`asking`). A call whose answer needs no change ends here.
-//! 2. *Plan* (`plan`): which nodes of the path are remade, the span, and what is done at its lower end, the deed. A
-//!    deed puts the first leaf, gives a leaf another value, pushes a leaf down into a node of two, grows a node by a leaf, or takes a leaf out.
-//!    The cases of an insertion are those of HOT: normal insert, leaf pushdown, parent pull up, intermediate node, new root.
+//! 2. *Plan* (`plan`): which nodes of the path are remade, the span, and what is done at its lower end, the deed. A deed puts the first
+//!    leaf, gives a leaf another value, pushes a leaf down into a node of two, grows a node by a leaf, or takes a leaf out. The cases of an
+//!    insertion are those of HOT: normal insert, leaf pushdown, parent pull up, intermediate node, new root.
 //! 3. *Locks* (`locks`): the nodes of the span and the one above it are locked, from the lowest up; the anchor stands for the
 //!    root. Each is tried once. A node that is locked or obsolete makes the attempt busy, after all locks are given back.
 //! 4. *Check* (`checking`): one entry of each locked node is loaded and compared with what the search found. If all are the same,

@@ -17,9 +17,9 @@ use record_words::{Tag, pack_state};
 use rowex_core::{Gate, Target};
 use rowex_table::{HotTable, TableSeat};
 
-/// Locks the nodes of `span` on `way`, and the one above it that gets the new entry, from the lowest upwards. The anchor comes last, where
-/// the span goes up to the root. Each is tried once at most. Returns whether all are locked. If another pass has locked one or has retired
-/// it, those that were locked are given back.
+/// Locks the nodes of `span` on `way`, and the one above them that gets the new entry, from the lowest upwards. The anchor comes last,
+/// where the span goes up to the root. Each is tried once at most. Returns whether all are locked. If another pass has locked or retired
+/// one, those that were locked are given back.
 pub(crate) fn lock_span<G: Gate>(
     table: &HotTable,
     seat: &mut TableSeat,
@@ -62,7 +62,7 @@ pub(crate) fn lock_span<G: Gate>(
     false
 }
 
-/// Tries by one step to lock node `number`, of which the pass knows that it is in the tree if it is live. Returns whether it did. If the
+/// Tries by one step to lock node `number`, and returns whether it did. The pass knows that the node is in the tree if it is live. If the
 /// node is locked or retired already, the locks are as before.
 pub(crate) fn lock_node<G: Gate>(
     table: &HotTable,
@@ -97,7 +97,7 @@ pub(crate) fn lock_anchor<G: Gate>(table: &HotTable, seat: &mut TableSeat, gate:
     found == pack_state(Tag::Live)
 }
 
-/// Unlocks the nodes `steps`, the first one first. They are all that the pass has locked, but for the anchor.
+/// Unlocks the nodes `steps`, the first one first. These are all nodes that the pass has locked; the anchor's lock stays.
 pub(crate) fn unlock_nodes<G: Gate>(
     table: &HotTable,
     seat: &mut TableSeat,

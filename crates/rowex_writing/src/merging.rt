@@ -56,10 +56,11 @@ struct ClosedFork {
     entry: Entry,
 }
 
-/// Ends a removal by `merge`, and returns whether it did.
+/// Ends the removal of `job` by `merge`, and returns whether it did. There is no merge if both siblings have more than 32 entries together,
+/// or if another pass is at work there. Nor is there one if the found leaf has another value now, or if no record was free for what is left
+/// of the upper node. Without a merge the pass has the record and the locks that it had.
 ///
-/// It does only if both have at most 32 entries together, and no other pass is at work there. Another record must be free, if one is wanted.
-/// Else the pass has the record and the locks that it had. The value is loaded once more, after the last lock.
+/// The value of the found leaf is loaded once more, after the last lock.
 pub(crate) fn try_merge<G: Gate>(
     table: &HotTable,
     seat: &mut TableSeat,
@@ -72,7 +73,8 @@ pub(crate) fn try_merge<G: Gate>(
     requires beside { IsNeighbour seat.old.known job.now merge.now }
     requires claimed { HasClaimed table.now seat.old.known merge.now.left.now.number }
     requires left { IsLeftOfNode seat.old.known job.now merge.now.left.now.words }
-    ensures tries { HasFewStepsAfterTries table.now G.becomes (span_numbers job.now.way.now job.now.span) build.old.left_nodes 53 (seat.old, gate.old) (seat.new, gate.new) }
+    ensures tries { HasFewStepsAfterTries table.now G.becomes (span_numbers job.now.way.now job.now.span) build.old.left_nodes 53
+        (seat.old, gate.old) (seat.new, gate.new) }
     ensures done { result ≡ true → HasDoneDeed seat.old.known seat.new.known Take job.now.key.now job.now.value job.now.found }
     ensures later { result ≡ false → IsLater seat.old.known seat.new.known × IsSeatOf table.now seat.new × IsPossible table.now.layout seat.new.known }
     ensures same { result ≡ false → (seat.new.known.locks ≡ seat.old.known.locks) × (seat.new.known.anchor ≡ seat.old.known.anchor) ×
@@ -90,9 +92,9 @@ pub(crate) fn try_merge<G: Gate>(
 }
 
 /// Returns the merge of `left`, what is left of the node that loses a leaf, with its sibling. `None` if the other side of the last fork is
-/// not one node, or both nodes have more than 33 entries together, with the leaf. No lock is tried.
+/// not one node. `None` too if both nodes have more than 33 entries together, the leaf among them. No lock is tried.
 ///
-/// A full node has none, since 31 entries are left of it, and a sibling has two at least. The sibling isn't locked yet, and may change.
+/// A full node has no merge, since 31 entries are left of it, and a sibling has two at least. The sibling isn't locked yet, and may change.
 pub(crate) fn find_merge<'a, G: Gate>(
     table: &HotTable,
     seat: &mut TableSeat,
@@ -129,8 +131,8 @@ pub(crate) fn find_merge<'a, G: Gate>(
     })
 }
 
-/// Ends a removal by `merge`, under the locks that [`lock_for_merge`] has taken, and returns whether it did. If the merge's records can't be
-/// made, these locks are given back, and the pass has the record that it had.
+/// Ends the removal of `job` by `merge`, under the locks that [`lock_for_merge`] has taken, and returns whether it did. If the merge's
+/// records can't be made, these locks are given back, and the pass has the record that it had.
 fn merge_under_locks<G: Gate>(
     table: &HotTable,
     seat: &mut TableSeat,
@@ -162,8 +164,9 @@ fn merge_under_locks<G: Gate>(
     false
 }
 
-/// Puts the node of both siblings into the record of `merge.left`. Returns the entry for what is left of the upper node, in a new record if
-/// that has other entries, too. `None` if [`merge_siblings`] has no node, or no record was free. Then the pass has the record that it had.
+/// Puts the merged node of both siblings into the record `merge.left.number`. Returns the entry for what is left of the upper node, in a
+/// new record if that has other entries, too. `None` if both siblings have more than 32 entries ([`merge_siblings`]), or if no record was
+/// free. Then the pass has the record that it had.
 fn make_merge_records<G: Gate>(
     table: &HotTable,
     seat: &mut TableSeat,
@@ -199,8 +202,8 @@ fn make_merge_records<G: Gate>(
     Some(entry)
 }
 
-/// Returns what is left of the lower node, and all of its sibling, as one node, with a fork of the two at `merge.position`. `None` if they
-/// have more than 32 entries.
+/// Returns one node of what is left of the lower node and all of its sibling, with a fork of the two at `merge.position`. `None` if they
+/// have more than 32 entries together.
 fn merge_siblings<G: Gate>(
     table: &HotTable,
     seat: &mut TableSeat,
@@ -226,7 +229,7 @@ fn merge_siblings<G: Gate>(
     Some(merge_sides(job.key.bit(merge.position), merge.position, &left, &other))
 }
 
-/// Returns one node of the entries of `own` and `other`, with a fork of the two at `position`. `own` is the side of `bit` there.
+/// Returns one node of the entries of `own` and `other`, with a fork of the two at `position`. `own` is on the side of `bit`.
 fn merge_sides(bit: bool, position: u16, own: &Node, other: &Node) -> Node
     requires room { length own.now.entries + length other.now.entries ≤ MAX_ENTRIES }
     requires after { RisesFrom 0 (fork_of bit position (piece own.now) (piece other.now)) }
@@ -239,8 +242,8 @@ fn merge_sides(bit: bool, position: u16, own: &Node, other: &Node) -> Node
     }
 }
 
-/// Returns the entry for what is left of the node of `fork`, once `fork.entry` has taken the fork's place. It is that entry if nothing
-/// else is left, else that of a new record. `None` if no node record was free.
+/// Returns the entry for what is left of the node `fork.step.number`, once `fork.entry` has taken the fork's place. That is `fork.entry` if
+/// nothing else is left, else it names a new record. `None` if no node record was free.
 fn raise_closed_fork<G: Gate>(
     table: &HotTable,
     seat: &mut TableSeat,
@@ -271,8 +274,8 @@ fn raise_closed_fork<G: Gate>(
     make_node_from_words(table, seat, gate, build, &words)
 }
 
-/// Ends a removal that merges: makes the new records ready, and stores `entry` instead of the upper node's. Then it retires the records
-/// that [`list_merged_records`] has listed, and unlocks the node above the upper one, or the anchor.
+/// Ends a removal that merges: makes the new records ready, and stores `entry` in place of the entry that names the upper node. Then it
+/// retires the records that [`list_merged_records`] has listed, and unlocks the node above the upper one, or the anchor.
 fn publish_merge<G: Gate>(
     table: &HotTable,
     seat: &mut TableSeat,
@@ -298,7 +301,8 @@ fn publish_merge<G: Gate>(
     publish_entry(table, seat, gate, build, &store);
 }
 
-/// Lists in `build.gone` the records that a merge unlinks: those of both nodes of the span, sibling `number`, and the leaf.
+/// Sets `build.gone` to the records that a merge unlinks: those of both nodes of the span of `job`, of the sibling `number`, and of the
+/// leaf.
 fn list_merged_records(build: &mut Build, job: &Job<'_>, number: u32)
     requires within { (0 < job.now.span.end) × (job.now.span.end < length job.now.way.now) }
     requires found { (leaf value : ℕ) × (job.now.found ≡ FoundLeaf leaf value None) }

@@ -42,7 +42,7 @@ pub(crate) struct Span {
 }
 
 impl Span {
-    /// The index on the way of the first locked node: the one above the span, or 0 if the span goes up to the root.
+    /// Returns the index on the way of the first locked node: the one above the span, or 0 if the span goes up to the root.
     pub(crate) fn first_locked(self) -> usize
         ensures { result ≡ self.end - 1 }
     {
@@ -99,8 +99,8 @@ pub(crate) enum Outline {
     Beside { position: u16, level: usize },
 }
 
-/// Returns what a call with the aim `aim` does whose search went through `way` and found `found`, as far as these tell it. All is told
-/// unless a new leaf goes beside entries of a node that names other nodes.
+/// Returns the plan of a call with the aim `aim`, when its search went through `way` and ended at `found`, as far as these tell it. They
+/// tell all of it unless a new leaf goes beside entries of a node that names other nodes.
 pub(crate) fn plan_call(way: &[PathNode], aim: Aim, found: Found) -> Outline
     ensures { IsOutline way.now aim found result }
 {
@@ -128,7 +128,7 @@ pub(crate) fn plan_call(way: &[PathNode], aim: Aim, found: Found) -> Outline
     }
 }
 
-/// Returns what a removal does whose search went through `way` and found the key.
+/// Returns the plan of a removal, when its search went through `way` and found the key.
 fn plan_removal(way: &[PathNode]) -> Plan
     ensures { result ≡ a_change (length way.now) (length way.now - 1) (removal_deed way.now) }
 {
@@ -142,7 +142,8 @@ fn plan_removal(way: &[PathNode]) -> Plan
     change_plan(len, len - 1, Deed::Take)
 }
 
-/// Returns what a call does whose new leaf's key first differs from that of the found leaf at `position`, as far as `way` tells it.
+/// Returns the plan of a call with a new leaf, as far as `way` tells it. At `position` the new leaf's key first differs from that of the
+/// found leaf.
 fn plan_new_leaf(way: &[PathNode], position: u16) -> Outline
     ensures { IsBesideFound way.now position result }
 {
@@ -156,8 +157,8 @@ fn plan_new_leaf(way: &[PathNode], position: u16) -> Outline
     Outline::Beside { position, level }
 }
 
-/// Returns what a call does whose new leaf goes into the last node of `way`, that at `level`, which has leaves alone. The plan is the same
-/// whichever of these `position` affects.
+/// Returns the plan of a call whose new leaf goes into the node at `level`, the last of `way`, which has leaves alone. The plan is the same
+/// whichever leaves `position` affects.
 fn plan_in_lowest_node(way: &[PathNode], position: u16, level: usize) -> Plan
     requires last { level + 1 ≡ length way.now }
     requires low { (s : PathNodeView) → slice_get way.now level ≡ Some s → s.height ≤ 1 }
@@ -171,8 +172,8 @@ fn plan_in_lowest_node(way: &[PathNode], position: u16, level: usize) -> Plan
     }
 }
 
-/// Returns what a call does whose new leaf goes beside entries of the node at `level` of `way`. `position` affects those from `first` to
-/// `last`.
+/// Returns the plan of a call whose new leaf goes beside entries of the node at `level` of `way`: those in the slots `first` to `last`,
+/// which `position` affects.
 pub(crate) fn plan_beside_entries(
     way: &[PathNode],
     position: u16,
@@ -193,8 +194,7 @@ pub(crate) fn plan_beside_entries(
     }
 }
 
-/// Returns the plan that does `deed`, and remakes the nodes of the path from index `end` on, before `len`. None is remade if `end` is
-/// `len`.
+/// Returns the plan that does `deed`, and remakes the nodes of the way from index `end` on, before `len`. None is remade if `end` is `len`.
 fn change_plan(len: usize, end: usize, deed: Deed) -> Plan
     ensures { result ≡ a_change len end deed }
 {
@@ -204,8 +204,8 @@ fn change_plan(len: usize, end: usize, deed: Deed) -> Plan
     }
 }
 
-/// Returns what a call with the aim `aim` does whose search went through `way` and found `found`. If the entries that a new leaf affects
-/// matter, their node's head is loaded once more.
+/// Returns the plan of a call with the aim `aim`, when its search went through `way` and ended at `found`. If the entries that a new leaf
+/// affects matter, the head of their node is loaded once more.
 pub(crate) fn find_plan<G: Gate>(
     table: &HotTable,
     seat: &mut TableSeat,

@@ -22,7 +22,7 @@ pub(crate) struct Store<'a> {
     pub kept: &'a [PathNode],
 }
 
-/// Whether `spot` is the root.
+/// Returns whether `spot` is the root.
 pub(crate) fn is_root(spot: Spot) -> bool
     ensures { result ≡ is_the_root spot }
 {

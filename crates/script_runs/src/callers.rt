@@ -42,6 +42,8 @@ pub struct Waits<'a, T> {
 impl<'a, T: Wait> Caller for Waits<'a, T> {
     ghost fits = { λ caller index. Unit {0} };
 
+    /// Makes `call` through `handle`, and waits where another pass is in its way. Returns the reply, or the kind of records of which none
+    /// was free. `gate` is told each step.
     fn call<G: Gate>(
         &self,
         handle: &mut Handle<&Index>,
@@ -63,6 +65,8 @@ impl Caller for Alone {
 
     ghost fits = { λ caller index. index.layout.passes ≡ 1 };
 
+    /// Makes `call` through `handle`, whose pass is the only one of its index, by one try. Returns the reply, or the kind of records of
+    /// which none was free. `gate` is told each step.
     fn call<G: Gate>(
         &self,
         handle: &mut Handle<&Index>,

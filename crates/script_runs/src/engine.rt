@@ -42,8 +42,8 @@ fn make_call<C: Caller, G: Gate>(
     }
 }
 
-/// Runs a scan of `range` through `handle`, and adds the lines of its answer to the text of `output`. `gate` is told each step. If memory is
-/// refused, an error, and perhaps a part of the lines.
+/// Runs a scan of `range` through `handle`, and adds the lines of its answer to the text of `output`. `gate` is told each step.
+/// `AllocError` if memory is refused: then perhaps a part of the lines is added.
 fn run_scan<G: Gate>(
     handle: &mut Handle<&Index>,
     range: &KeyRange,
@@ -66,7 +66,7 @@ fn run_scan<G: Gate>(
 }
 
 /// Runs `command` through `handle`, and adds the lines of its answer to the text of `output`. A call is made by `caller`, which fits the
-/// index. `gate` is told each step. If memory is refused, an error, and perhaps a part of the lines.
+/// index. `gate` is told each step. `AllocError` if memory is refused: then perhaps a part of the lines is added.
 fn run_command<C: Caller, G: Gate>(
     caller: &C,
     handle: &mut Handle<&Index>,
@@ -89,7 +89,7 @@ fn run_command<C: Caller, G: Gate>(
 }
 
 /// Runs the commands of `script` through `handle`, one after another, and returns the lines of their answers. Calls are made by `caller`,
-/// which fits the index. `gate` is told each step. If memory is refused, an error, and the commands so far were run.
+/// which fits the index. `gate` is told each step. `AllocError` if memory is refused: the commands up to that one were run.
 pub fn run_script<C: Caller, G: Gate>(
     caller: &C,
     alloc: Global,

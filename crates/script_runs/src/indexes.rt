@@ -29,8 +29,8 @@ pub struct Records {
     ghost leaves_fit: { IsLeafCount leaves },
 }
 
-/// An empty index of `records` for `script`, and its only pass; an error if memory is refused. All leaf records are of the smallest class
-/// with room for the keys of the script's calls. So they are close together, and a scan takes less time.
+/// Returns an empty index of `records` for `script`, with its only pass; `AllocError` if memory is refused. All leaf records are of the
+/// smallest class with room for the keys of the script's calls. So they are close together, and a scan takes less time.
 pub fn create_index_for_script(
     alloc: Global,
     records: Records,
@@ -51,7 +51,7 @@ pub fn create_index_for_script(
     }
 }
 
-/// A stock of `records`, with leaf records all of the smallest class with room for keys of `longest` bytes.
+/// Returns a stock of `records`, whose leaf records are all of the smallest class with room for keys of `longest` bytes.
 fn choose_stock(records: Records, longest: usize) -> Stock
     ensures nodes { result.nodes ≡ records.nodes }
     ensures leaves { leaves_of result ≡ records.leaves }
@@ -61,8 +61,8 @@ fn choose_stock(records: Records, longest: usize) -> Stock
     Stock::of_class(records.nodes, LeafClass::for_key(longest), records.leaves)
 }
 
-/// An empty index of `records`, the passes for `files` files, `MAX_FILES` at most, and that of the last script. The passes have the numbers
-/// from 0 on in this order. All leaf records are long. An error if memory is refused.
+/// Returns an empty index of `records`, the passes for `files` files, `MAX_FILES` at most, and the pass of the last script. The passes have
+/// the numbers from 0 on, in this order. All leaf records are long. `AllocError` if memory is refused.
 pub fn create_index_for_files(
     alloc: Global,
     files: u32,

@@ -14,7 +14,7 @@ use hot_index::{Handle, Index, NoGate, Pass};
 use hot_scripts::script::Script;
 use std::alloc::{AllocError, Global};
 
-/// The answers to `script` on a new index with `records`; an error if memory is refused.
+/// Returns the answers to `script` on a new index with `records`; `AllocError` if memory is refused.
 pub fn run_on_new_index(
     alloc: Global,
     records: Records,
@@ -26,7 +26,7 @@ pub fn run_on_new_index(
     run_script_alone(alloc, &index, pass, script)
 }
 
-/// The answers to `script` on `index`, whose only pass is `pass`; an error if memory is refused.
+/// Returns the answers to `script` on `index`, whose only pass is `pass`; `AllocError` if memory is refused.
 fn run_script_alone(
     alloc: Global,
     index: &Index,

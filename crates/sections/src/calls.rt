@@ -7,7 +7,7 @@ ghost use Rattle.sections.specs.Sections.{Enters, IsInside, IsSectionOf, Leaves,
 use crate::table::{MOST_MOMENTS, Section, Sections};
 
 impl Section {
-    /// Whether the section is open: it has been entered, and not been left since.
+    /// Returns whether the section is open: it has been entered, and not been left since.
     pub fn is_inside(&self) -> bool
         ensures inside { IsInside self.now → result ≡ true }
         ensures outside { ¬ IsInside self.now → result ≡ false }
@@ -17,8 +17,8 @@ impl Section {
 }
 
 impl Sections {
-    /// Enters the section, and returns true. If it is open already, it stays so, and the call returns false. It makes two atomic steps, and
-    /// one more at the first time.
+    /// Enters the section, and returns `true`. If it is open already, it stays so, and the result is `false`. Entering takes two atomic
+    /// steps, and one more at the first time.
     pub fn enter(&self, section: &mut Section) -> bool
         requires { IsSectionOf self.now section.old }
         ensures inside { IsInside section.old → (result ≡ false) × (section.new ≡ section.old) }
@@ -33,7 +33,7 @@ impl Sections {
         true
     }
 
-    /// Leaves the section, and returns true. If it isn't open, nothing changes, and the call returns false. It makes one atomic step.
+    /// Leaves the section, and returns `true`. If it isn't open, nothing changes, and the result is `false`. Leaving takes one atomic step.
     pub fn leave(&self, section: &mut Section) -> bool
         requires { IsSectionOf self.now section.old }
         ensures outside { ¬ IsInside section.old → (result ≡ false) × (section.new ≡ section.old) }
@@ -46,8 +46,8 @@ impl Sections {
         true
     }
 
-    /// Takes a moment, and returns its number, from 1 on. Sections that are open at the call are entered before it. It makes two atomic
-    /// steps at most. The section may be open or not.
+    /// Takes a moment, and returns its number, from 1 on. Sections that are open at the call are entered before the moment. It takes two
+    /// atomic steps at most. `section` may be open or not.
     pub fn take_moment(&self, section: &mut Section) -> u64
         requires { IsSectionOf self.now section.old }
         ensures { TakesMoment result section.old section.new }
@@ -59,9 +59,9 @@ impl Sections {
         taken + 1
     }
 
-    /// Whether each section that was open before the moment of this number has been left since. It waits for none. It makes two atomic
-    /// steps, and one for each section up to the last that was ever entered. It may return false for a section that was entered as the
-    /// moment was taken.
+    /// Returns whether each section that was open before the moment with the number `moment` has been left since. It waits for no section.
+    /// It takes two atomic steps, and one for each section up to the last that was ever entered. The result may be `false` for a section
+    /// that was entered as the moment was taken.
     pub fn is_past(&self, section: &mut Section, moment: u64) -> bool
         requires { IsSectionOf self.now section.old }
         ensures looks { SeesOthers section.old section.new }
@@ -82,8 +82,8 @@ impl Sections {
     }
 }
 
-/// Whether a section with the word `word` isn't open, or was entered when moment `moment` had been taken. The word of an open section is
-/// one more than the number of moments that had been taken when it was entered. That of another is 0.
+/// Returns whether a section with the word `word` isn't open, or was entered when the moment `moment` had been taken. The word of an open
+/// section is one more than the number of moments that had been taken when it was entered. That of any other section is 0.
 fn is_newer(word: u64, moment: u64) -> bool
     ensures newer { result ≡ true → IsNewer moment word }
     ensures older { result ≡ false → (0 < word) × (word ≤ moment) }

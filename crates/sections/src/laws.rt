@@ -2,7 +2,7 @@
 
 ghost use Rattle.sections.specs.Statements.{RunsAreOne};
 
-/// By the rule of the table, of the runs that two owners know, now or earlier, one goes on from the other.
+/// By the rule of the table, take the runs that two owners know, now or earlier. One of the two goes on from the other.
 pub fn runs_are_one()
     ensures { RunsAreOne }
 {}

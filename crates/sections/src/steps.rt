@@ -8,7 +8,7 @@ use crate::plays::{Counts, Entering, FindsExtent, FindsMoments, FindsWord, Leavi
 use crate::table::{EXTENT, FIRST_SECTION, MOMENTS, MOST_MOMENTS, Section, Sections};
 
 impl Sections {
-    /// Loads the number of moments taken so far, and returns it.
+    /// Loads and returns the number of moments taken so far.
     pub(crate) fn load_moments(&self, section: &mut Section) -> u64
         requires { IsSectionOf self.now section.old }
         ensures looks { SeesOthers section.old section.new }
@@ -20,7 +20,7 @@ impl Sections {
             .load::<FindsMoments>(&mut section.seat, MOMENTS)
     }
 
-    /// Loads the extent and returns it: all sections that were ever entered have numbers below it.
+    /// Loads and returns the extent: all sections that were ever entered have numbers below it.
     pub(crate) fn load_extent(&self, section: &mut Section) -> u16
         requires { IsSectionOf self.now section.old }
         ensures looks { SeesOthers section.old section.new }
@@ -34,7 +34,7 @@ impl Sections {
         extent.min(self.count as u64) as u16
     }
 
-    /// Loads the word of section number `of` and returns it.
+    /// Loads and returns the word of the section with the number `of`.
     pub(crate) fn load_word(&self, section: &mut Section, of: u16) -> u64
         requires own { IsSectionOf self.now section.old }
         requires range { of < self.now.count }
@@ -47,7 +47,7 @@ impl Sections {
             .load::<FindsWord>(&mut section.seat, place)
     }
 
-    /// Has looks count `section` from now on: raises the extent above its number, if it isn't there.
+    /// Lets other owners' looks count `section` from now on: raises the extent above its number, if it isn't there yet.
     pub(crate) fn count_section(&self, section: &mut Section)
         requires { IsSectionOf self.now section.old }
         ensures { StartsCounting section.old section.new }
@@ -62,7 +62,8 @@ impl Sections {
         section.counted = true;
     }
 
-    /// Enters `section`, which isn't open and which looks count: stores `moments` and one in its word. `moments` is how many the owner knows.
+    /// Enters `section`: stores `moments` and one in its word. `section` isn't open, and looks count it already. `moments` is how many
+    /// moments the owner knows to be taken.
     pub(crate) fn store_entered(&self, section: &mut Section, moments: u64)
         requires own { IsSectionOf self.now section.old }
         requires outside { ¬ IsInside section.old }
@@ -91,7 +92,8 @@ impl Sections {
         section.word = 0;
     }
 
-    /// Takes a moment if `expected` have been taken up to now, which are fewer than `MOST_MOMENTS`. Else more had been taken.
+    /// Takes a moment if `expected` have been taken up to now, which are fewer than `MOST_MOMENTS`. If more had been taken, nothing
+    /// changes.
     pub(crate) fn take_next(&self, section: &mut Section, expected: u64)
         requires own { IsSectionOf self.now section.old }
         requires fewer { (expected < MOST_MOMENTS) × (expected ≡ moments_in section.old.known.run) }

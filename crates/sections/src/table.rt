@@ -65,8 +65,8 @@ impl Model for Sections {
 }
 
 impl Sections {
-    /// Makes a table of `count` sections, none of which is open. Returns it and the sections, in the order of their numbers from 0 on. An
-    /// error if memory is refused.
+    /// Makes a table of `count` sections, none of which is open. Returns it with the sections, in the order of their numbers from 0 on.
+    /// `AllocError` if memory is refused.
     pub fn new(alloc: Global, count: u16) -> Result<(Sections, Vec<Section>), AllocError>
         ensures table { IfOk result (λ made. made.0.count ≡ count) }
         ensures length { IfOk result (λ made. length made.1.items ≡ count) }

@@ -8,18 +8,20 @@ pub fn content_is_in_key_order()
     ensures { ContentRises }
 {}
 
-/// A tree is a bit trie exactly if each leaf has a key and each fork keeps two rules. All forks below it have higher positions. The first
-/// keys of its two sides agree before its position, and have 0 and 1 there.
+/// A tree is a bit trie exactly if each leaf has a key and each fork keeps two rules. All forks below the fork have higher positions. The
+/// first keys of its two sides agree before its position, and have 0 and 1 there.
 pub fn local_rules_make_a_trie()
     ensures { LocalIsTrie }
 {}
 
-/// If a bit trie has one leaf more than another tree, its map is the other's with that leaf's key, which was absent, and value added.
+/// Let a bit trie have one leaf more than another tree. Its map is the other's with that leaf's key and value added. The key was absent
+/// there.
 pub fn one_leaf_more_adds_its_key()
     ensures { AddingInserts }
 {}
 
-/// A bit trie's leaf exchanged for one of the same key changes the map by that key's value alone. It is then the new leaf's.
+/// Let a leaf of a bit trie be exchanged for one of the same key. That changes the map by that key's value alone, which becomes the new
+/// leaf's.
 pub fn exchanged_leaf_replaces_value()
     ensures { ExchangeReplaces }
 {}

@@ -12,7 +12,7 @@ use record_words::{
 };
 use std::process::Abort;
 
-/// The words of `node` with leaf 40, parted from slots `first` to `last` at `position`. Panics if the node can't take it.
+/// Returns the words of `node` with leaf 40, parted from slots `first` to `last` at `position`. Panics if the node can't take it.
 fn words_with_leaf(
     rt: &impl Abort,
     node: &Node,
@@ -31,7 +31,7 @@ fn words_with_leaf(
     words
 }
 
-/// The words of the node with columns at `positions` and leaf 40 behind all, parted from the last at `position`. Panics unless the
+/// Returns the words of the node with columns at `positions` and leaf 40 behind all, parted from the last at `position`. Panics unless the
 /// positions rise to this one, and the node can take it.
 fn words_with_last(rt: &impl Abort, positions: &[u16], position: u16) -> [u64; NODE_FIELDS] {
     let node = comb_node(rt, positions);
@@ -42,8 +42,8 @@ fn words_with_last(rt: &impl Abort, positions: &[u16], position: u16) -> [u64; N
     words_with_leaf(rt, &node, (count as u8, count as u8), position, true)
 }
 
-/// The words of a node whose head is of the kind `kind`: those of `front` first, those of `rows` where its rows begin, all ones up to the
-/// entries, and then those of `leaves`.
+/// Returns the words of a node whose head is of the kind `kind`: those of `front` first, those of `rows` where its rows begin, all ones up
+/// to the entries, and then those of `leaves`.
 fn words_of(kind: HeadKind, front: &[u64], rows: &[u64], leaves: &[u32]) -> [u64; NODE_FIELDS] {
     let mut words = [0; NODE_FIELDS];
     for index in 0..HEAD_WORDS {
@@ -61,7 +61,7 @@ fn words_of(kind: HeadKind, front: &[u64], rows: &[u64], leaves: &[u32]) -> [u64
     words
 }
 
-/// Leaves 0 to `last`, and behind them leaf 40 alone.
+/// Returns 32 leaves: 0 to `last`, and leaf 40 at each place behind.
 fn leaves_up_to(last: usize) -> [u32; 32] {
     let mut leaves = [40; 32];
     for slot in 0..32 {
@@ -236,7 +236,7 @@ fn leaves_are_added_to_wide_words(rt: HostRuntime) {
     assert!(rt; words == words_of(HeadKind::Wide, &front, &rows, &[0, 40, 1, 2]));
 }
 
-/// The affected slots that the words of the head of `node` tell, of `slot` and `position`.
+/// Returns the affected slots that the words of the head of `node` tell, of `slot` and `position`.
 fn affected_in_words(node: &Node, slot: u8, position: u16) -> (u8, u8)
     requires { slot < length node.now.entries }
 {

@@ -13,7 +13,7 @@ use std::process::Abort;
 use std::test::*;
 use std::thread::{Threads, join};
 
-/// A table of two seats, eight node records and eight leaf records, and its seats.
+/// Returns a table of two seats, eight node records and eight leaf records, and its seats.
 fn make_table(rt: &impl Abort, alloc: Global) -> (HotTable, TableSeat, TableSeat)
     ensures layout { (result.0.layout.passes ≡ 2) × (result.0.layout.nodes ≡ 8) × (result.0.layout.leaves ≡ 8) }
     ensures own { IsSeatOf result.0 result.1 × IsSeatOf result.0 result.2 }

@@ -10,7 +10,7 @@ use std::alloc::Global;
 use std::process::Abort;
 use std::test::*;
 
-/// An index for eight keys, and its two passes, which are closed.
+/// Returns an index for eight keys, and its two passes, which are closed.
 fn create_closed_passes(rt: &impl Abort, alloc: Global) -> (Index, Vec<ClosedPass>)
     ensures { All (Owns result.0) result.1.items }
 {
@@ -33,7 +33,7 @@ fn insert_by_both(
     assert!(rt; total(&[first.count(), second.count()]) == 2);
 }
 
-/// Asserts that `second`, which has inserted one key, removes both and counts -1 modulo 2^64 then; and that together they count none.
+/// Asserts that `second`, which has inserted one key, removes both and then counts -1 modulo 2^64. Asserts that together they count none.
 fn remove_both_keys(
     rt: &impl Abort,
     first: &mut Handle<&Index>,
@@ -62,7 +62,7 @@ fn a_handle_keeps_its_count_while_it_is_closed(rt: HostRuntime) {
     remove_both_keys(&rt, &mut first, &mut second, &keys);
 }
 
-/// An index of the two keys, loaded with the values 1 and 2, and its two passes, which are closed.
+/// Returns an index of the two keys, loaded with the values 1 and 2, and its two passes, which are closed.
 fn load_both_keys(rt: &impl Abort, alloc: Global, keys: &(Key, Key)) -> (Index, Vec<ClosedPass>)
     ensures { All (Owns result.0) result.1.items }
 {

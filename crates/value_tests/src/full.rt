@@ -28,7 +28,7 @@ pub enum Deed {
     Remove,
 }
 
-/// The call of `deed` with `key`. In the order of the deeds, each call finds the value that it wants.
+/// Returns the call of `deed` with `key`. In the order of the deeds, each call finds the value that it wants.
 fn make_call(deed: Deed, key: Key) -> Call {
     match deed {
         Deed::Insert => Call::Insert(key, 1),
@@ -39,14 +39,14 @@ fn make_call(deed: Deed, key: Key) -> Call {
     }
 }
 
-/// The key of two bytes of `number`, below `MANY`. Those of numbers that follow each other are far apart.
+/// Returns the key of two bytes for `number`, which is below `MANY`. The keys of numbers that follow each other are far apart.
 fn numbered_key(rt: &impl Abort, number: u32) -> Key
     requires { number < 1000 }
 {
     key(rt, &[(number * 37 % 256) as u8, (number / 256) as u8])
 }
 
-/// The reply of `map` to the call of `deed` with `key`, made again where memory is refused once.
+/// Returns the reply of `map` to the call of `deed` with `key`, made again where memory is refused once.
 fn apply_to_map(rt: &impl Abort, map: &mut PlainIndex, deed: Deed, key: &Key) -> Reply {
     let told = match map.apply(make_call(deed, key.copy())) {
         Ok(reply) => Ok(reply),
@@ -97,13 +97,13 @@ fn call_for_keys<R: Abort + Wait>(
     count
 }
 
-/// The scan of all pairs of `guest`; an error if memory is refused.
+/// Returns the scan of all pairs of `guest`; `AllocError` if memory is refused.
 fn scan_all(rt: &impl Abort, alloc: Global, guest: &mut Guest) -> Result<Scan, AllocError> {
     let (from, upto) = ends(rt);
     guest.scan(alloc, &from, &upto, usize::MAX)
 }
 
-/// The scan of all pairs of `map`; an error if memory is refused.
+/// Returns the scan of all pairs of `map`; `AllocError` if memory is refused.
 fn scan_map(rt: &impl Abort, alloc: Global, map: &PlainIndex) -> Result<Scan, AllocError> {
     let (from, upto) = ends(rt);
     map.scan(alloc, &from, &upto, usize::MAX)
@@ -131,7 +131,7 @@ pub fn expect_same_pairs(rt: &impl Abort, alloc: Global, guest: &mut Guest, map:
 }
 
 /// Fills the index by inserts until one is refused, and returns how many keys went in. Asserts that each held key takes new values then,
-/// that the key that was refused is refused again, and that the index has the pairs of the map.
+/// and that the refused key is refused again. Asserts that the index has the pairs of the map.
 fn fill<R: Abort + Wait>(rt: &R, alloc: Global, guest: &mut Guest, map: &mut PlainIndex) -> u32
     ensures { result < 1000 }
 {

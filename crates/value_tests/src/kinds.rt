@@ -46,7 +46,7 @@ const KINDS: [(&[u16], HeadKind); 13] = [
     ),
 ];
 
-/// The position of column `j` of the head with `words`, whose kind is `kind`, as the layout tells it.
+/// Returns the position of column `j` of the head with `words`, whose kind is `kind`, as the layout tells it.
 fn plain_position(words: &[u64; NODE_FIELDS], kind: HeadKind, j: usize) -> u16
     requires { j < 31 }
 {
@@ -69,7 +69,7 @@ fn plain_position(words: &[u64; NODE_FIELDS], kind: HeadKind, j: usize) -> u16
     ((9 * (first + (index >> low & 0xff))).wrapping_add(bit) & 0xffff) as u16
 }
 
-/// The row of slot `i` of the head with `words`, whose kind is `kind`, as the layout tells it.
+/// Returns the row of slot `i` of the head with `words`, whose kind is `kind`, as the layout tells it.
 fn plain_row(words: &[u64; NODE_FIELDS], kind: HeadKind, i: usize) -> u32
     requires { i < 32 }
 {
@@ -80,7 +80,7 @@ fn plain_row(words: &[u64; NODE_FIELDS], kind: HeadKind, i: usize) -> u32
     }
 }
 
-/// The slot that the words of the head of `node` lead to by `key`.
+/// Returns the slot that the words of the head of `node` lead to by `key`.
 fn search_words(node: &Node, key: &Key) -> u8 {
     let words = pack_node(node);
     match read_numbers(words[0]).kind {
@@ -144,7 +144,7 @@ fn expect_words(rt: &impl Abort, words: &[u64; NODE_FIELDS], node: &Node, want: 
     assert!(rt; *read.padded_rows() == *node.padded_rows());
 }
 
-/// Bytes of a long key, so that each search meets ones and zeros.
+/// Returns a key of `length` bytes, at most 240, made from `seed`, so that each search meets ones and zeros.
 fn long_key(rt: &impl Abort, seed: u8, length: usize) -> Key {
     let mut bytes = [0; 240];
     let mut state = seed as u32;
@@ -155,7 +155,7 @@ fn long_key(rt: &impl Abort, seed: u8, length: usize) -> Key {
     key(rt, &bytes[..length.min(240)])
 }
 
-/// Searches of the words of `node` by keys of many lengths lead where those of the node do.
+/// Asserts that searches in the words of `node`, by keys of many lengths, lead where those in the node do.
 fn expect_searches(rt: &impl Abort, node: &Node) {
     for length in [
         0, 1, 2, 3, 7, 15, 16, 17, 18, 19, 25, 200, 224, 225, 239, 240,

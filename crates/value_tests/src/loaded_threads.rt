@@ -23,18 +23,18 @@ const STAYS: u16 = 2;
 /// A handle: a pass with a reference to its index.
 type Guest<'a> = Handle<&'a Index>;
 
-/// The key of two bytes that is loaded for `number`.
+/// Returns the key of two bytes that is loaded for `number`.
 fn loaded_key(rt: &impl Abort, number: u16) -> Key {
     key(rt, &number.to_be_bytes())
 }
 
-/// The key of three bytes that takes the place of the one of `number`.
+/// Returns the key of three bytes that takes the place of the one of `number`.
 fn longer_key(rt: &impl Abort, number: u16) -> Key {
     let [high, low] = number.to_be_bytes();
     key(rt, &[high, low, 0])
 }
 
-/// An index of two passes with the keys of all numbers, each with its number as the value, and these passes.
+/// Returns an index of two passes with the keys of all numbers, each with its number as the value, and these passes.
 fn load_numbers(rt: &impl Abort, alloc: Global) -> (Index, Vec<ClosedPass>)
     ensures { All (Owns result.0) result.1.items }
 {
@@ -45,7 +45,7 @@ fn load_numbers(rt: &impl Abort, alloc: Global) -> (Index, Vec<ClosedPass>)
     finish_load(rt, alloc, load)
 }
 
-/// A map of the pairs that are left in the end: the keys that stay, and the longer ones.
+/// Returns a map of the pairs that are left in the end: the keys that stay, and the longer ones.
 fn make_map_of_rest(rt: &impl Abort, alloc: Global) -> PlainIndex {
     let mut map = PlainIndex::new(alloc);
     for number in 0..MANY {

@@ -30,7 +30,7 @@ const STOCK: Stock = Stock {
 /// A handle: a pass with a reference to its index.
 type Guest<'a> = Handle<&'a Index>;
 
-/// How many bytes the key of `number` has: lengths of each class, and of none.
+/// Returns how many bytes the mixed key of `number` has: 0 to 240, with lengths of each class of leaf records among them.
 fn mixed_length(number: u32) -> usize
     ensures { result ≤ 240 }
 {
@@ -49,7 +49,7 @@ fn mixed_length(number: u32) -> usize
     }
 }
 
-/// The key of `number`: two bytes tell it, and all others are 0, as far as the key goes. So many keys are prefixes of others.
+/// Returns the key of `number`: two bytes tell it, and all others are 0, as far as the key goes. So many keys are prefixes of others.
 fn mixed_key(rt: &impl Abort, number: u32) -> Key
     requires { number < 2000 }
 {
@@ -59,7 +59,7 @@ fn mixed_key(rt: &impl Abort, number: u32) -> Key
     key(rt, &bytes[..mixed_length(number)])
 }
 
-/// A map of all mixed keys, each with the first of its numbers.
+/// Returns a map of all mixed keys, each with the first of its numbers.
 fn make_map(rt: &impl Abort, alloc: Global) -> PlainIndex {
     let mut map = PlainIndex::new(alloc);
     for number in 0..MANY {
@@ -69,7 +69,7 @@ fn make_map(rt: &impl Abort, alloc: Global) -> PlainIndex {
     map
 }
 
-/// A load that has begun. Panics if that is refused.
+/// Returns a load that has begun. Panics if that is refused.
 pub fn begin_load(rt: &impl Abort, alloc: Global, passes: u32, stock: Stock) -> Load {
     match Load::new(alloc, passes, stock) {
         Ok(load) => load,
@@ -77,7 +77,7 @@ pub fn begin_load(rt: &impl Abort, alloc: Global, passes: u32, stock: Stock) -> 
     }
 }
 
-/// The index of the pairs of `load`, and its passes. Panics if memory is refused.
+/// Returns the index of the pairs of `load`, and its passes. Panics if memory is refused.
 pub fn finish_load(rt: &impl Abort, alloc: Global, load: Load) -> (Index, Vec<ClosedPass>)
     ensures { All (Owns result.0) result.1.items }
 {
@@ -98,8 +98,8 @@ fn push_map(rt: &impl Abort, alloc: Global, load: &mut Load, map: &PlainIndex) {
     }
 }
 
-/// Asserts that both counts have as many live leaf records of each class. The first has no more live nodes, and none that is held or
-/// obsolete.
+/// Asserts that both counts have as many live leaf records of each class. Asserts that `loaded` has no more live nodes than `single`, and
+/// none that is held or obsolete.
 fn expect_no_more_records(rt: &impl Abort, loaded: &RecordCounts, single: &RecordCounts) {
     assert!(rt; loaded.nodes.live <= single.nodes.live && loaded.nodes.held == 0);
     assert!(rt; loaded.short.live == single.short.live && loaded.medium.live == single.medium.live);

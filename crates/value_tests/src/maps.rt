@@ -10,8 +10,8 @@ use plain_trie::{Place, PlainTrie, place};
 use std::alloc::{AllocError, Global};
 use std::process::Abort;
 
-/// A call about the key of the one byte `byte`. `letter` is i, u, p or g for an insert, upsert, add or get. It is x for an exchange of
-/// `value` for the next number, d for a removal if the value is `value`, and any other for a removal.
+/// Returns a call about the key of the one byte `byte`. `letter` is i, u, p or g for an insert, upsert, add or get. It is x for an exchange
+/// of `value` for the next number, and d for a removal if the value is `value`. Any other letter is for a removal.
 fn make_call(rt: &impl Abort, letter: u8, byte: u8, value: u64) -> Call {
     let key = key(rt, &[byte]);
     match letter {
@@ -64,7 +64,7 @@ fn calls_reply_as_a_map(rt: HostRuntime) {
     }
 }
 
-/// The changes of the key `a` that `rows` list. A row is a pass, a value and a kind.
+/// Returns the changes of the key `a` that `rows` list. A row is a pass, a value and a kind.
 fn make_front(rt: &impl Abort, alloc: Global, rows: &[(u16, u64, Kind)]) -> Vec<Change> {
     let mut changes = Vec::new(alloc);
     for (pass, value, kind) in rows {
@@ -82,7 +82,7 @@ fn make_front(rt: &impl Abort, alloc: Global, rows: &[(u16, u64, Kind)]) -> Vec<
 /// A note by its place, its call's letter, the byte of its key and its value, and the reply.
 type Row = (u64, u8, u8, u64, Reply);
 
-/// The notes of `rows`.
+/// Returns the notes of `rows`.
 fn make_notes(rt: &impl Abort, alloc: Global, rows: &[Row]) -> Vec<Note> {
     let mut notes = Vec::new(alloc);
     for (place, letter, byte, value, reply) in rows {
@@ -210,7 +210,8 @@ fn scans_return_the_first_pairs(rt: HostRuntime) {
     }
 }
 
-/// A trie of the first `count` keys of one byte, or of two if `wide`, added in rising order, and of `further` if that isn't empty.
+/// Returns a trie of the first `count` keys of one byte, or of two bytes if `wide`, added in rising order. `further` is added, too, if it
+/// isn't empty.
 fn make_trie(rt: &impl Abort, alloc: Global, wide: bool, count: u16, further: &[u8]) -> PlainTrie {
     let mut trie = PlainTrie::new(alloc);
     for number in 0..count {
@@ -228,7 +229,7 @@ fn make_trie(rt: &impl Abort, alloc: Global, wide: bool, count: u16, further: &[
     trie
 }
 
-/// The node of `trie` that `entry` names. Panics if that is no node's entry.
+/// Returns the node of `trie` that `entry` names. Panics if that is no node's entry.
 fn node_at_entry<'a>(rt: &impl Abort, trie: &'a PlainTrie, entry: Option<Entry>) -> &'a Node {
     let number = match entry {
         Some(Entry::Node { number, .. }) => number,
@@ -297,8 +298,8 @@ fn tries_have_their_shapes(rt: HostRuntime) {
     }
 }
 
-/// A key that `number` chooses among those of `kind`. For 0 it has two bytes, and is one of 1,024 keys. For 1 it has eight, and is one of
-/// 512 scattered keys. Else it has 66 bytes that are 7 but for one, or just those before that one.
+/// Returns a key that `number` chooses among those of `kind`. For 0 it has two bytes, and is one of 1,024 keys. For 1 it has eight, and is
+/// one of 512 scattered keys. Else it has 66 bytes that are 7 but for one, or just those before that one.
 fn key_by_chance(rt: &impl Abort, kind: u8, number: u64) -> Key {
     if kind == 0 {
         return key(rt, &((number % 1024) as u16).to_be_bytes());
@@ -318,7 +319,7 @@ fn key_by_chance(rt: &impl Abort, kind: u8, number: u64) -> Key {
     key(rt, first_bytes(&bytes, end))
 }
 
-/// The first `count` bytes, or all if there are fewer.
+/// Returns the first `count` bytes, or all if there are fewer.
 fn first_bytes(bytes: &[u8], count: usize) -> &[u8] {
     if count < bytes.len() {
         &bytes[..count]
@@ -352,7 +353,7 @@ fn call_trie_and_index(
     assert!(rt; found.ok() == want.ok());
 }
 
-/// The reply of `trie` to a look-up of `key`.
+/// Returns the reply of `trie` to a look-up of `key`.
 fn get_reply(trie: &PlainTrie, key: &Key) -> Reply {
     match trie.get(key) {
         Some(value) => Reply::Value(value),

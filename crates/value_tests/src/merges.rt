@@ -7,7 +7,8 @@ use compound_node::{Entry, Node};
 use record_words::{NODE_FIELDS, close_fork, pack_node, read_numbers};
 use std::process::Abort;
 
-/// The node of height 2 of children 10 and 11 and leaf 12, with these rows and forks at the positions 4 and 6. Panics if there is none.
+/// Returns the node of height 2 of children 10 and 11 and leaf 12, with these rows and forks at the positions 4 and 6. Panics if there is
+/// none.
 fn node_of_two_children_and_leaf(rt: &impl Abort, rows: [u32; 3]) -> Node {
     let mut sparse = [u32::MAX; 32];
     for i in 0..3 {
@@ -20,7 +21,7 @@ fn node_of_two_children_and_leaf(rt: &impl Abort, rows: [u32; 3]) -> Node {
     }
 }
 
-/// The entry of child `number`, a node of height 1.
+/// Returns the entry of child `number`, a node of height 1.
 fn child_entry(number: u32) -> Entry
     ensures { result ≡ Entry.Node number 1 }
 {
@@ -56,7 +57,7 @@ const POSITIONS: [u16; 31] = [
     26, 27, 28, 29, 30,
 ];
 
-/// The node of `zero` and `one`, with a fork at `position` between them. Asserts that both fork later and have room in one node.
+/// Returns the node of `zero` and `one`, with a fork at `position` between them. Asserts that both fork later and have room in one node.
 fn merge_nodes(rt: &impl Abort, position: u16, zero: &Node, one: &Node) -> Node {
     assert!(rt; zero.count() + one.count() <= 32);
     assert!(rt; position < zero.first_position() && position < one.first_position());

@@ -18,7 +18,7 @@ use record_words::{
 use rowex_replay_state::{unpack_entry, unpack_head, unpack_leaf, unpack_node};
 use std::process::Abort;
 
-/// The key with the bytes `bytes`; panics if they are more than 240.
+/// Returns the key with the bytes `bytes`; panics if they are more than 240.
 pub fn key(rt: &impl Abort, bytes: &[u8]) -> Key {
     match Key::from_bytes(bytes) {
         Ok(key) => key,
@@ -73,8 +73,8 @@ const GATHERED: [(&[u8], &[u16], u32); 7] = [
     (&[1; 40], &[8, 187, 188, 359], 0xb000_0000),
 ];
 
-/// The node of leaves 0, 1 and so on, with columns at `positions`, each fork on the 1 side of the one before. Panics unless the positions
-/// rise, are 1 to 31, and are below 65,535.
+/// Returns the node of leaves 0, 1 and so on, with columns at `positions`, each fork on the 1 side of the one before. Panics unless the
+/// positions rise, are 1 to 31, and are below 65,535.
 pub fn comb_node(rt: &impl Abort, positions: &[u16]) -> Node
     ensures shown { piece result ≡ comb 0 positions.now }
     ensures last { AllBelow (slice_index positions.now (length positions.now - 1) + 1) positions.now }
@@ -123,14 +123,14 @@ fn searches_find_the_highest_complying_entry(rt: HostRuntime) {
     }
 }
 
-/// The node of three keys, leaves 0 to 2. The last two part at 8, and the first from both at 7.
+/// Returns the node of three keys, leaves 0 to 2. The last two part at 8, and the first from both at 7.
 pub fn node_of_three() -> Node
     ensures { piece result ≡ Fork 7 (Place (LeafEntry 0)) (Fork 8 (Place (LeafEntry 1)) (Place (LeafEntry 2))) }
 {
     Node::pair(7, Entry::Leaf(0), Entry::Leaf(1)).insert(1, 1, 8, true, Entry::Leaf(2))
 }
 
-/// The node of three keys with one more behind, leaf 3, which parts from them at 6.
+/// Returns the node of three keys with one more behind, leaf 3, which parts from them at 6.
 fn node_of_four() -> Node
     ensures { piece result ≡ Fork 6 (Fork 7 (Place (LeafEntry 0)) (Fork 8 (Place (LeafEntry 1)) (Place (LeafEntry 2)))) (Place (LeafEntry 3)) }
 {
@@ -155,7 +155,7 @@ fn nodes_are_searched(rt: HostRuntime) {
     assert!(rt; node.affected(0, 6) == (0, 2));
 }
 
-/// The node in `half`; panics if it has none.
+/// Returns the node in `half`; panics if it has none.
 fn node_in_half(rt: &impl Abort, half: Half) -> Node {
     match half {
         Half::Many(node) => node,
@@ -233,7 +233,7 @@ fn a_node_with_room_grows_whole(rt: HostRuntime) {
     expect_node(&rt, &node, &[6, 7, 8], &FOUR_ROWS, &[0, 1, 2, 3]);
 }
 
-/// The words of the node of the keys a, b and c over the leaves 0, 1 and 2, from offset 1 on.
+/// Returns the words of the node of the keys a, b and c over the leaves 0, 1 and 2, from offset 1 on.
 pub fn words_of_three() -> [u64; NODE_FIELDS] {
     let mut words = [u64::MAX; NODE_FIELDS];
     words[0] = 0x100_0001_0203;
@@ -249,7 +249,7 @@ pub fn words_of_three() -> [u64; NODE_FIELDS] {
     words
 }
 
-/// The words of the leaf of the key of one byte, `byte`, with `value`, from offset 1 on.
+/// Returns the words of the leaf of the key of one byte, `byte`, with `value`, from offset 1 on.
 pub fn words_of_leaf(byte: u8, value: u64) -> [u64; LEAF_FIELDS] {
     let mut words = [0; LEAF_FIELDS];
     words[0] = value;

@@ -28,7 +28,7 @@ enum Direction {
     Downwards,
 }
 
-/// Scans nine pairs at most between the two keys of `ends`, in `direction`. An error if memory is refused.
+/// Scans nine pairs at most between the two keys of `ends`, in `direction`. `AllocError` if memory is refused.
 fn scan_between_keys(
     alloc: Global,
     guest: &mut Guest,
@@ -82,7 +82,7 @@ fn scan_beside_change(
     expect_last_pair(rt, alloc, guest, &ends.1);
 }
 
-/// The last pair up to `key`, asked for again where memory is refused once. An error if it is refused twice.
+/// Returns the last pair up to `key`, asked for again where memory is refused once. It returns an error if memory is refused twice.
 fn find_last_pair(
     alloc: Global,
     guest: &mut Guest,
@@ -127,6 +127,7 @@ struct RetryingGate {
 impl Gate for RetryingGate {
     ghost becomes = { λ _ _ _. Unit {0} };
 
+    /// Gives `event` to the replay, and once more if memory was refused. Counts one wrong if it is refused in the end.
     fn at(&mut self, event: &Event) {
         let changes = self.replay.changes();
         let told = match self.replay.step(*event) {
@@ -141,7 +142,7 @@ impl Gate for RetryingGate {
     }
 }
 
-/// A replay without an event, of an index with one pass. Where memory is refused once, the next call makes it.
+/// Returns a replay without an event, of an index with one pass. Where memory is refused once, the next call makes it.
 fn make_replay(rt: &impl Abort, alloc: Global) -> Replay {
     let Ok(layout) = Layout::of(1, 2, 8) else {
         panic!(rt; "no layout")
@@ -253,7 +254,7 @@ fn push_key(rt: &impl Abort, load: &mut Load, key: &Key) {
     }
 }
 
-/// The index of forty pairs, and its pass. An error if memory is refused before the first pair, or behind the last one.
+/// Returns the index of forty pairs, and its pass. `AllocError` if memory is refused before the first pair, or behind the last one.
 fn load_keys(rt: &impl Abort, alloc: Global) -> Result<(Index, Vec<ClosedPass>), AllocError>
     ensures { IfOk result (λ made. All (Owns made.0) made.1.items) }
 {
@@ -266,7 +267,7 @@ fn load_keys(rt: &impl Abort, alloc: Global) -> Result<(Index, Vec<ClosedPass>),
     load.finish(alloc)
 }
 
-/// The index of `load_keys`, made again where memory is refused once.
+/// Returns the index of `load_keys`, made again where memory is refused once.
 fn make_loaded_index(rt: &impl Abort, alloc: Global) -> (Index, Vec<ClosedPass>)
     ensures { All (Owns result.0) result.1.items }
 {

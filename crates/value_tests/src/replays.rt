@@ -30,7 +30,7 @@ enum Step {
     GiveBack(Rec, u64, u64),
 }
 
-/// The act of `step`.
+/// Returns the act of `step`.
 fn act_of_step(step: &Step) -> Act {
     match *step {
         Step::Claim(rec, found) => Act::Claim { rec, found },
@@ -92,7 +92,7 @@ fn expect_pairs(rt: &impl Abort, alloc: Global, replay: &Replay, changes: u64, w
     }
 }
 
-/// A replay of no event yet, for `layout`. Panics if `layout` is a fault or memory is refused.
+/// Returns a replay of no event yet, for `layout`. Panics if `layout` is a fault or memory is refused.
 fn make_replay(rt: &impl Abort, alloc: Global, layout: Result<Layout, LayoutFault>) -> Replay {
     let Ok(layout) = layout else {
         panic!(rt; "no layout");

@@ -18,12 +18,13 @@ pub struct Counter {
 impl Gate for Counter {
     ghost becomes = { λ _ _ _. Unit {0} };
 
+    /// Counts the step.
     fn at(&mut self, _event: &Event) {
         self.steps = self.steps.wrapping_add(1);
     }
 }
 
-/// The key with the bytes `bytes`; panics if they are more than 240.
+/// Returns the key with the bytes `bytes`; panics if they are more than 240.
 pub fn key(rt: &impl Abort, bytes: &[u8]) -> Key {
     match Key::from_bytes(bytes) {
         Ok(key) => key,
@@ -31,20 +32,21 @@ pub fn key(rt: &impl Abort, bytes: &[u8]) -> Key {
     }
 }
 
-/// The lowest and the highest of all keys.
+/// Returns the lowest and the highest of all keys.
 pub fn ends(rt: &impl Abort) -> (Key, Key) {
     (key(rt, b""), key(rt, &[255; 240]))
 }
 
-/// An index of two nodes and eight leaves with `passes` passes, and these passes. Where memory is refused once, the next call makes it.
+/// Returns an index of two nodes and eight leaves with `passes` passes, and these passes. Where memory is refused once, the next call makes
+/// it.
 pub fn make_index(rt: &impl Abort, alloc: Global, passes: u32) -> (Index, Vec<Pass>)
     ensures { All (Owns result.0) result.1.items }
 {
     make_index_of_size(rt, alloc, passes, 2, 8)
 }
 
-/// An index of these numbers of passes, node and leaf records, and its passes. Where memory is refused once, the next call makes it. Panics
-/// if a number is out of range.
+/// Returns an index of these numbers of passes, node and leaf records, and its passes. Where memory is refused once, the next call makes
+/// it. Panics if a number is out of range.
 pub fn make_index_of_size(
     rt: &impl Abort,
     alloc: Global,

@@ -32,6 +32,7 @@ struct Stopper<'a> {
 impl<'a> Gate for Stopper<'a> {
     ghost becomes = { λ _ _ _. Unit {0} };
 
+    /// At the pin of its own pass, lets the other pass make its three tries, the removal, and one more try.
     fn at(&mut self, event: &Event) {
         if matches!(event.act, Act::SetPin { .. }) {
             self.steps = [

@@ -6,7 +6,7 @@ use record_words::Layout;
 use std::alloc::Global;
 use std::process::Abort;
 
-/// A loader for a table of two passes with so many `nodes` and `leaves`. Panics if there is no such table, or no memory.
+/// Returns a loader for a table of two passes with so many `nodes` and `leaves`. Panics if there is no such table, or no memory.
 fn new_loader(rt: &impl Abort, alloc: Global, nodes: u32, leaves: u32) -> Loader {
     let Ok(layout) = Layout::of(2, nodes, leaves) else {
         panic!(rt; "no layout");
@@ -23,7 +23,7 @@ fn expect_push(rt: &impl Abort, loader: &mut Loader, byte: u8, want: Option<Load
     assert!(rt; answer.err() == want, "{byte}");
 }
 
-/// The words of a table of two passes with eight nodes and leaves, which has the keys a, b and c alone.
+/// Returns the words of a table of two passes with eight nodes and leaves, which has the keys a, b and c alone.
 fn words_of_table() -> [u64; 808] {
     let mut words = [0; 808];
     words[0] = 1;

@@ -7,7 +7,7 @@ use rowex_replay_state::{Linked, read_tree};
 use std::alloc::Global;
 use std::process::Abort;
 
-/// What `root` shows over `nodes` and five leaves: a, b, c, q and one that spells no key. `None` if that is no lawful tree.
+/// Returns what `root` shows over `nodes` and five leaves: a, b, c, q and one whose words are no leaf's. `None` if that is no lawful tree.
 fn shown_tree(
     rt: &impl Abort,
     alloc: Global,

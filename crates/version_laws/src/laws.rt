@@ -3,19 +3,21 @@
 ghost use Rattle.version_laws.specs.Ways.{FoundSame, OneBody, PlacedSame, RootedSame, StillGrows, StillPlaced, StillRooted, WayBegins, WayEnds, WayGoesOn, WayIsBelow, WayOfLeaf};
 ghost use Rattle.version_laws.specs.Statements.{FirstKey, FoundIsKept, GetEnds, InsertAtSpot, LedPlaced, LoadsLeaf, LoadsNone, LoadsPlace, LoadsRoot, LoadsShape, MergeAtSpot, PairAtSpot, RemoveAtSpot, RemoveLast, ScanIsLawful, UpperGoesOn, UpsertAtSpot};
 
-/// The store of the entry that has risen from a locked node, at the spot that names it, is a legal publish that adds the key. If the spot
-/// is in a node, no other entry there is affected, and the new one is lower than that node.
+/// Let an entry have risen from a locked node, and let the spot that names this node be locked, too. If the spot is in a node, let no other
+/// entry there be affected, and the new entry be lower than that node. The store of the new entry at the spot is a legal publish that adds
+/// the key.
 pub fn insert_at_spot_adds_key()
     ensures { InsertAtSpot }
 {}
 
-/// Let a locked node's entry on a key's path name a node, and let an insertion affect no more there than that entry. Then the locked node's
-/// first fork is before the position of the insertion.
+/// Let a locked node's entry on a key's path name a node, and let an insertion affect no more in the locked node than that entry. Then the
+/// locked node's first fork is before the position of the insertion.
 pub fn first_fork_is_before_insertion()
     ensures { UpperGoesOn }
 {}
 
-/// Let one leaf alone be affected, at a locked spot. The publish of a node of it and the new leaf instead is legal and adds the key.
+/// Let a locked spot name a leaf, and let this leaf alone be affected. The publish there of a node of this leaf and the new one is legal,
+/// and adds the key.
 pub fn pair_at_spot_adds_key()
     ensures { PairAtSpot }
 {}
@@ -30,13 +32,14 @@ pub fn upsert_at_spot_replaces_value()
     ensures { UpsertAtSpot }
 {}
 
-/// The publish of what is left of a leaf's locked node, at the locked spot that names this node, is legal and removes the key.
+/// Let a leaf's node be locked, and the spot that names this node. The publish there of what is left of the node without the leaf is legal,
+/// and removes the key.
 pub fn remove_at_spot_removes_key()
     ensures { RemoveAtSpot }
 {}
 
-/// Let a leaf's node, its sibling, the node above and the spot that names that be locked. The publish of what is left of the node above,
-/// with one new node of what is left of both, is legal and removes the key.
+/// Let a leaf's node, its sibling, the node above the two, and the spot that names the node above be locked. What is left of the two
+/// becomes one new node. The publish of what is left of the node above, with the new node in it, is legal, and removes the key.
 pub fn merge_at_spot_removes_key()
     ensures { MergeAtSpot }
 {}
@@ -51,12 +54,12 @@ pub fn found_below_lock_stays_true()
     ensures { FoundIsKept }
 {}
 
-/// A load that finds an entry at the root tells, for each version up to now, that the entry stood there in this or a later one.
+/// A load may find an entry at the root. Then it tells of each version up to now: the entry stood there in that version or a later one.
 pub fn load_tells_root()
     ensures { LoadsRoot }
 {}
 
-/// A load that finds the root empty tells, for each version up to now, that each key was absent in this or a later one.
+/// A load may find the root empty. Then it tells of each version up to now: each key was absent in that version or a later one.
 pub fn load_tells_empty_root()
     ensures { LoadsNone }
 {}
@@ -97,7 +100,7 @@ pub fn descent_begins_at_read_node()
     ensures { WayBegins }
 {}
 
-/// A descent that has come to a node goes on by each entry that it reads there, whatever is published in between.
+/// A descent that has come to a node goes on by each entry that the pass reads there, whatever is published in between.
 pub fn descent_goes_on_by_read_entry()
     ensures { WayGoesOn }
 {}
@@ -118,23 +121,25 @@ pub fn descent_tells_way_below()
     ensures { WayIsBelow }
 {}
 
-/// If no change was made since a version, each search in the newest tree begins at the root's entry that was read since.
+/// Provided that no change was made since a version, each search in the newest tree begins at the root's entry that was read since.
 pub fn unchanged_search_begins_at_root_entry()
     ensures { StillRooted }
 {}
 
-/// Let a search in the newest tree be at a node whose forks were read, if no change was made since a version. Then it goes on by the entry
-/// that was read there since, on the key's path.
+/// Let a search in the newest tree be at a node whose forks were read, provided that no change was made since a version. Under the same
+/// proviso it goes on by the entry that was read there since, on the key's path.
 pub fn unchanged_search_goes_on_by_entry()
     ensures { StillPlaced }
 {}
 
-/// Let a search be known to have come to an entry, if no change was made since a version. That stays true while versions are added.
+/// Let a search be known to have come to an entry, provided that no change was made since a version. That stays true while versions are
+/// added.
 pub fn unchanged_search_stays_known()
     ensures { StillGrows }
 {}
 
-/// Let a node be met twice in the tree of one version, and both parts of the tree have the same forks and stems. They are equal.
+/// Let a node be met twice in the tree of one version, and let both parts of the tree have the same forks and stems. The two parts are
+/// equal.
 pub fn node_met_twice_is_equal()
     ensures { OneBody }
 {}

@@ -4,13 +4,15 @@ ghost use Rattle.versions.specs.Counts.{NodesInTreeAreFewer};
 ghost use Rattle.versions.specs.Loads.{LoadIsLawful, LoadIsLegal};
 ghost use Rattle.versions.specs.Statements.{ContentIsMap, StateHindsight, BareOpeningIsLawful, StateParting, BareReachIsKept, ReachIsSteady, StepKeepsLawful};
 
-/// Let each record of a version since m still be in the life that it had there. If a search was led to a node of such a version, the node's
-/// present words lead it to a record of one. Both times, its key follows the record's stem, or was absent in such a version.
+/// Let each record of the versions from m on still be in the life that it had there. Let a search have been led to a node of one of these
+/// versions. The node's present words lead the search on to a record of one of them. Both times, the search's key follows the record's
+/// stem, or was absent in one of these versions.
 pub fn hindsight()
     ensures { StateHindsight }
 {}
 
-/// Keys below two slots of a node, in any versions of its life, first differ at the fork between these. That below the first has 0 there.
+/// Keys below two slots of a node, in any versions of its life, first differ at the fork between these slots. A key below the first slot
+/// has 0 there.
 pub fn keys_part_at_fork_between_slots()
     ensures { StateParting }
 {}
@@ -40,7 +42,7 @@ pub fn content_is_map()
     ensures { ContentIsMap }
 {}
 
-/// No record of a pinned pass's reach is Free or Held: none that was in the tree in a version since the pin.
+/// No record of a pinned pass's reach is free or held. Its reach is all records that were in the tree in a version since the pin.
 pub fn reach_is_kept()
     ensures { BareReachIsKept }
 {}
@@ -50,7 +52,7 @@ pub fn records_in_reach_stay_same()
     ensures { ReachIsSteady }
 {}
 
-/// There are fewer node records in the tree than keys in the map; none, where that has none.
+/// There are fewer node records in the tree than keys in the map. If the map has no key, there is no node record in the tree.
 pub fn nodes_in_tree_are_fewer_than_keys()
     ensures { NodesInTreeAreFewer }
 {}

@@ -19,7 +19,7 @@ pub struct LoadHandle {
 }
 
 impl LoadHandle {
-    /// Whether the handle is open.
+    /// Returns whether the handle is open.
     pub fn is_open(&self) -> bool
         ensures { IsTrue result ↔ IsSome self.now.cell.opened }
     {
@@ -36,7 +36,7 @@ impl LoadHandle {
         self.cell.take(alloc)
     }
 
-    /// Opens the handle, which is closed, with `opened`.
+    /// Opens the closed handle with `opened`, which it holds from then on.
     pub fn open(&mut self, opened: Box<OpenLoad, Global>)
         requires { self.old.cell.opened ≡ None }
         ensures { self.new.cell.opened ≡ Some opened.value }

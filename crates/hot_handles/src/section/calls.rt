@@ -10,8 +10,8 @@ use sections::{Section, Sections};
 use std::alloc::{AllocError, Global};
 use std::sync::Arc;
 
-/// A new table of `count` sections and one more, 1 to 65,535 in all. The box holds the first of them, and keeps the others. An error if
-/// memory is refused.
+/// Makes a new table of `count` sections and one more, 1 to 65,535 in all. Returns a box that holds the first of them, and keeps the
+/// others. `AllocError` if memory is refused.
 pub fn make_keeper(alloc: Global, count: u16) -> Result<Box<OpenSection, Global>, AllocError>
     requires { count < 65_535 }
     ensures { IfOk result (λ made. KeepsSections count made.value) }
@@ -35,8 +35,8 @@ pub fn make_keeper(alloc: Global, count: u16) -> Result<Box<OpenSection, Global>
 }
 
 impl OpenSection {
-    /// Takes the last section out of `kept`, with a share of the table; `None` if none is kept. If memory is refused, an error, and all stay
-    /// kept.
+    /// Takes the last section out of `kept`, and returns it with a share of the table; `None` if none is kept. `AllocError` if memory is
+    /// refused, and then all stay kept.
     pub fn open_next(
         &mut self,
         alloc: Global,
@@ -58,7 +58,7 @@ impl OpenSection {
         }
     }
 
-    /// Whether the section is open.
+    /// Returns whether the section is open.
     pub fn is_inside(&self) -> bool
         ensures inside { IsInside self.now.section → result ≡ true }
         ensures outside { ¬ IsInside self.now.section → result ≡ false }
@@ -66,7 +66,7 @@ impl OpenSection {
         self.section.is_inside()
     }
 
-    /// Enters the section, as `Sections::enter` does.
+    /// Enters the section, and returns whether it wasn't open before, as `Sections::enter` does.
     pub fn enter(&mut self) -> bool
         ensures inside { IsInside self.old.section → (result ≡ false) × (self.new.section ≡ self.old.section) }
         ensures entered { ¬ IsInside self.old.section → (result ≡ true) × Enters self.old.section self.new.section }
@@ -75,7 +75,7 @@ impl OpenSection {
         self.sections.enter(&mut self.section)
     }
 
-    /// Leaves the section, as `Sections::leave` does.
+    /// Leaves the section, and returns whether it was open before, as `Sections::leave` does.
     pub fn leave(&mut self) -> bool
         ensures outside { ¬ IsInside self.old.section → (result ≡ false) × (self.new.section ≡ self.old.section) }
         ensures left { IsInside self.old.section → (result ≡ true) × Leaves self.old.section self.new.section }
@@ -84,7 +84,7 @@ impl OpenSection {
         self.sections.leave(&mut self.section)
     }
 
-    /// Takes a moment and returns its number, as `Sections::take_moment` does.
+    /// Takes a moment, and returns its number, as `Sections::take_moment` does.
     pub fn take_moment(&mut self) -> u64
         ensures taken { TakesMoment result self.old.section self.new.section }
         ensures keeps { (self.new.sections.value ≡ self.old.sections.value) × (self.new.kept.items ≡ self.old.kept.items) }
@@ -92,7 +92,7 @@ impl OpenSection {
         self.sections.take_moment(&mut self.section)
     }
 
-    /// Whether the moment of this number is past, as `Sections::is_past` tells.
+    /// Returns whether the moment with the number `moment` is past, as `Sections::is_past` does.
     pub fn is_past(&mut self, moment: u64) -> bool
         ensures looks { SeesOthers self.old.section self.new.section }
         ensures past { result ≡ true → IsPast moment self.new.section.known.run }
@@ -103,7 +103,7 @@ impl OpenSection {
     }
 }
 
-/// A box of `section` with a share of its table, which keeps no other. If memory is refused, the error is `section`.
+/// Returns a box of `section` with a share of its table, which keeps no other section. If memory is refused, the error is `section`.
 fn box_section(
     alloc: Global,
     sections: Arc<Sections, Global>,

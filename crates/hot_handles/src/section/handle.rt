@@ -19,7 +19,7 @@ pub struct SectionHandle {
 }
 
 impl SectionHandle {
-    /// Whether the handle is open.
+    /// Returns whether the handle is open.
     pub fn is_open(&self) -> bool
         ensures { IsTrue result ↔ IsSome self.now.cell.opened }
     {
@@ -36,7 +36,7 @@ impl SectionHandle {
         self.cell.take(alloc)
     }
 
-    /// Opens the handle, which is closed, with `opened`.
+    /// Opens the closed handle with `opened`, which it holds from then on.
     pub fn open(&mut self, opened: Box<OpenSection, Global>)
         requires { self.old.cell.opened ≡ None }
         ensures { self.new.cell.opened ≡ Some opened.value }

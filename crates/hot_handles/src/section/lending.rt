@@ -10,7 +10,7 @@ use crate::section::opened::OpenSection;
 use std::alloc::Global;
 
 impl SectionCell {
-    /// The cell as a holder of an open section.
+    /// Returns the cell as a `Held` of an open section.
     fn held(&mut self) -> &mut Held<OpenSection>
         ensures* writes_back { sem 𝓛 (LendsHeldSection self.entry result) }
         ensures value { result.now ≡ held_section self.old }
@@ -18,7 +18,7 @@ impl SectionCell {
         unsafe { &mut *(self as *mut SectionCell as *mut Held<OpenSection>) }
     }
 
-    /// Lends what the cell holds, to be read and changed where it is. The cell isn't empty.
+    /// Lends what the cell holds, to be read and changed in its place. The cell isn't empty.
     pub fn lend(&mut self) -> &mut OpenSection
         requires { IsSome self.old.opened }
         ensures* writes_back { sem 𝓛 (LendsSection self.entry result) }
@@ -27,7 +27,7 @@ impl SectionCell {
         self.held().lend()
     }
 
-    /// Takes out what the cell holds. The cell isn't empty.
+    /// Takes out and returns what the cell holds. The cell isn't empty before, and is empty then.
     pub(crate) fn take(&mut self, alloc: Global) -> Box<OpenSection, Global>
         requires { IsSome self.old.opened }
         ensures value { self.old.opened ≡ Some result.value }
@@ -36,7 +36,7 @@ impl SectionCell {
         self.held().take(alloc)
     }
 
-    /// Puts in what `boxed` held. The cell is empty.
+    /// Puts `boxed` into the cell, which is empty before.
     pub(crate) fn put(&mut self, boxed: Box<OpenSection, Global>)
         requires { self.old.opened ≡ None }
         ensures { self.new.opened ≡ Some boxed.value }

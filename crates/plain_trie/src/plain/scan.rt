@@ -11,10 +11,11 @@ use plain_trie_records::{ScanRange, scan_below};
 use std::alloc::{AllocError, Global};
 
 impl PlainTrie {
-    /// The keys from `from` to `upto`, both included, with their values: the first `limit` of them, in the order of the keys. `more` says
-    /// whether there are others. It goes through all leaves from the first one on, and its calls nest as deep as the trie is high.
+    /// Returns the keys from `from` to `upto`, both included, with their values: the first `limit` of them, in the order of the keys.
+    /// `more` says whether there are others. It goes through all leaves from the first one on, and its calls nest as deep as the trie is
+    /// high.
     ///
-    /// It takes memory for the pairs. It returns `AllocError` where they find no room, so only where it has a pair to return.
+    /// `AllocError` if memory is refused, which is needed only for a pair to return.
     pub fn scan(
         &self,
         alloc: Global,

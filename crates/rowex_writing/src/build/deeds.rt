@@ -21,8 +21,9 @@ use rowex_core::Gate;
 use rowex_reading::Found;
 use rowex_table::{HotTable, TableSeat};
 
-/// Makes the records of the change of `job`, which other passes don't see yet. Returns what is to take the place of the nodes of `job.span`,
-/// which are locked and checked. If no record of a kind was free, returns that kind: the records made by then stay in `build.made`.
+/// Makes the records of the change of `job`, which other passes don't see yet. Returns what is to take the place of the nodes of
+/// `job.span`, which are locked and checked. If no record of a kind was free, the error is that kind: the records made by then stay in
+/// `build.made`. `job.deed` is neither `Deed::Value` nor `Deed::Take`.
 pub(crate) fn carry_out_deed<G: Gate>(
     table: &HotTable,
     seat: &mut TableSeat,
@@ -48,7 +49,7 @@ pub(crate) fn carry_out_deed<G: Gate>(
     }
 }
 
-/// Makes and returns the new leaf, which is to be all of the tree. `Full::Leaves` if no leaf record with room was free.
+/// Makes and returns the new leaf, which is to be all of the tree. The error is `Full::Leaves` if no leaf record with room was free.
 pub(crate) fn put_new_leaf<G: Gate>(
     table: &HotTable,
     seat: &mut TableSeat,
@@ -71,9 +72,11 @@ pub(crate) fn put_new_leaf<G: Gate>(
     })
 }
 
-/// Makes the new leaf, and a node of it and the found leaf with a fork at `position`. Returns that node, which is to take the found leaf's
-/// place. One more node record must be free then. `Full::Leaves` if no leaf record with room was free. `Full::Nodes` if no node record was
-/// free: those made by then stay in `build.made`.
+/// Makes the new leaf, and a node of the new leaf and the found one, with a fork at `position`. Returns the node, which is to take the
+/// found leaf's place.
+///
+/// The error is `Full::Leaves` if no leaf record with room was free. It is `Full::Nodes` if no node record was free, or if no other one
+/// stays free for removals. The records made by then stay in `build.made`.
 pub(crate) fn push_leaf_down<G: Gate>(
     table: &HotTable,
     seat: &mut TableSeat,

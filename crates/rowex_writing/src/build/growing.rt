@@ -24,8 +24,9 @@ use compound_node::Entry;
 use rowex_core::Gate;
 use rowex_table::{HotTable, TableSeat};
 
-/// Makes the new leaf, and what the span's nodes become with it in the lowest one, beside the entries that `position` affects. Returns what
-/// is to take their place, or the kind of record of which none was free: those made by then stay in `build.made`.
+/// Makes the new leaf, and what the nodes of `job.span` become with it. In the lowest of them the leaf goes beside the entries that
+/// `position` affects. Returns what is to take the nodes' place. If no record of a kind was free, the error is that kind: the records made
+/// by then stay in `build.made`.
 pub(crate) fn grow_node<G: Gate>(
     table: &HotTable,
     seat: &mut TableSeat,
@@ -50,8 +51,8 @@ pub(crate) fn grow_node<G: Gate>(
     grow_with_leaf(table, seat, gate, build, job, &new)
 }
 
-/// Makes and returns what replaces the nodes of `job.span` when the lowest gets `new`, a leaf whose record is made. One more node record
-/// must be free then. `Full::Nodes` if no node record was free: those made by then stay in `build.made`.
+/// Makes and returns what replaces the nodes of `job.span` when the lowest gets `new`, a leaf whose record is made. The error is
+/// `Full::Nodes` if no node record was free, or if no other one stays free for removals: the records made by then stay in `build.made`.
 fn grow_with_leaf<G: Gate>(
     table: &HotTable,
     seat: &mut TableSeat,
@@ -86,7 +87,7 @@ fn grow_with_leaf<G: Gate>(
     })
 }
 
-/// Does nothing, and tells the proof that the number of the record of `entry` has 32 bits, as its type says.
+/// Does nothing. It tells the proof that the number of the record of `entry` has 32 bits, as its type says.
 pub(crate) fn show_number_fits(entry: Entry)
     ensures { HasNumber entry }
 {

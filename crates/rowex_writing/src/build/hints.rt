@@ -36,8 +36,8 @@ pub struct Hint {
 }
 
 impl Hint {
-    /// A hint without spare numbers, whose claims begin at the number `next`, for `records` records; an error if its memory is refused. No
-    /// later call asks for any.
+    /// Returns a hint without spare numbers for a kind or class of `records` records, whose claims begin at the number `next`. `AllocError`
+    /// if its memory is refused. No later call on the hint asks for memory.
     pub fn begin_at(alloc: Global, next: u32, records: u32) -> Result<Hint, AllocError>
         ensures spare { IfOk result (λ hint. hint.spare.items ≡ []) }
         ensures next { IfOk result (λ hint. hint.next ≡ next) }
@@ -51,8 +51,8 @@ impl Hint {
         })
     }
 
-    /// Adds `number` to the spare ones, with which claims begin. Where these have no room for more it is not kept. Whether it is kept or
-    /// not, claims skip these records no more.
+    /// Notes that the pass gave back the record `number`. The number is added to the spare ones, if these have room; the next claim begins
+    /// with it. In any case claims no longer skip the records of this hint.
     pub fn give_back(&mut self, number: u32)
         ensures kept { length self.old.spare.items < vec_capacity self.old.spare → self.new.spare.items ≡ self.old.spare.items ++ number ∷ [] }
         ensures full { vec_capacity self.old.spare ≤ length self.old.spare.items → self.new.spare.items ≡ self.old.spare.items }
@@ -88,7 +88,7 @@ pub struct Stretch {
 const SHARE: u32 = 8;
 
 impl Stretch {
-    /// An empty stretch, which begins at the number `first`.
+    /// Returns an empty stretch, which begins at the number `first`.
     pub fn begin_at(first: u32) -> Stretch
         ensures { (result.first ≡ first) × (result.end ≡ first) × (result.again ≡ first) × (result.given ≡ 0) }
     {
@@ -100,7 +100,8 @@ impl Stretch {
         }
     }
 
-    /// A stretch from the number `first` on, up to `end` if that is behind it, of which nothing was given back.
+    /// Returns the stretch from the number `first` up to, but without, `end`, of which nothing was given back. It is empty if `end` isn't
+    /// behind `first`.
     pub fn between(first: u32, end: u32) -> Stretch
         ensures { (result.first ≡ first) × (result.end ≡ max first end) × (result.again ≡ first) × (result.given ≡ 0) }
     {
@@ -112,7 +113,8 @@ impl Stretch {
         }
     }
 
-    /// The number with which the next claim begins: one of the stretch, if enough of it was given back, else the one behind it.
+    /// Returns the number with which the next claim begins. If more than an eighth of the stretch was given back, it is one of the stretch,
+    /// else the first one behind the stretch.
     pub fn start(&self) -> u32
         ensures { (result ≡ self.now.again) ⊎ (result ≡ self.now.end) }
     {
@@ -123,8 +125,8 @@ impl Stretch {
         }
     }
 
-    /// Notes that the pass gave a record back that isn't spare. Where several passes come and go, as many of its stretch are given back by
-    /// others.
+    /// Notes that the pass gave back a record that is not kept as spare. The record may be of another pass's stretch: other passes give
+    /// back about as many of this one.
     pub fn note_given(&mut self)
         ensures given { self.new.given ≡ min (self.old.given + 1) (2 ^ 32 - 1) }
         ensures same { (self.new.first ≡ self.old.first) × (self.new.end ≡ self.old.end) × (self.new.again ≡ self.old.again) }
@@ -132,11 +134,12 @@ impl Stretch {
         self.given = self.given.saturating_add(1);
     }
 
-    /// Notes that the record `number` was claimed, by a claim that began at `start`.
+    /// Notes that a claim which began at the number `start` has claimed the record `number`.
     ///
-    /// One that began in the stretch and ended behind it has found no free record from there on. The next one begins where the stretch does;
-    /// and if this one did so, too, nothing of it is free. One that began behind the stretch and ended in it has found nothing free behind:
-    /// from then on claims go on in the stretch.
+    /// If the claim began in the stretch and ended behind it, the records between were not free. The next claim begins at the stretch's
+    /// first number. If this claim began there, too, no record of the stretch is free. If the claim began behind the stretch and ended in
+    /// it, no record behind the stretch was free: from then on claims go on in the stretch. A stretch begins anew at a `number` before its
+    /// first one.
     pub fn advance_past_claim(&mut self, start: u32, number: u32)
         ensures within { self.old.first ≤ number → number < self.old.end → (self.new.first ≡ self.old.first) × (self.new.end ≡ self.old.end) }
         ensures behind { self.old.first ≤ self.old.end → self.old.end ≤ number → number + 1 < 2 ^ 32 → self.new.end ≡ number + 1 }
@@ -163,8 +166,8 @@ impl Stretch {
 
 /// Claims a record of `kind` and returns its number, counted from the first of the kind on. `None` if none was free.
 ///
-/// It tries the last spare number of `hint` first, which is spare no more. Then it tries each record once, from where `hint` says. Inline,
-/// so that no claim asks of which kind it is.
+/// The last spare number of `hint` is tried first, and is no longer spare. Then each record is tried once, from where `hint.stretch` says.
+/// Inline, so that `kind` is known when it is compiled.
 #[inline(always)]
 pub(crate) fn claim_by_hint<G: Gate>(
     table: &HotTable,
@@ -192,7 +195,7 @@ pub(crate) fn claim_by_hint<G: Gate>(
 }
 
 /// Takes the last number out of `spare`, and returns it if the pass could claim that record of `kind`. `None` if it couldn't, or if `spare`
-/// was empty. Inline, so that no claim asks of which kind it is.
+/// was empty. Inline, so that `kind` is known when it is compiled.
 #[inline(always)]
 fn claim_spare_record<G: Gate>(
     table: &HotTable,
@@ -215,10 +218,10 @@ fn claim_spare_record<G: Gate>(
     None
 }
 
-/// Claims the next free node record of the walk and returns its number. `None` if none of those left was free.
+/// Claims the next free node record on the walk of a change's claims, and returns its number. `None` if none of those left was free.
 ///
-/// It tries the last spare number of `hint` first, which is spare no more. Then it tries `left` records at most, once each, from
-/// `hint.next` on. `left` becomes less by those, and `hint.next` the number after one claimed so.
+/// The last spare number of `hint` is tried first, and is no longer spare. Then at most `left` records are tried, each once, from
+/// `hint.next` on. `left` becomes less by the number of these tries, and `hint.next` is the number after one claimed so.
 pub(crate) fn claim_node_on_walk<G: Gate>(
     table: &HotTable,
     seat: &mut TableSeat,

@@ -59,8 +59,8 @@ pub(crate) fn make_leaf<G: Gate>(
 
 /// Claims a leaf record of at least `words` words and returns its number. `None` if none was free. `classes` has the hint of each class.
 ///
-/// The classes of records that are large enough are tried one after the other, the smallest first. The smallest ones that are to be skipped
-/// come after the others.
+/// The classes whose records are large enough are tried one after the other, the smallest first. Those among the smallest that are to be
+/// skipped are tried after the others.
 fn claim_leaf<G: Gate>(
     table: &HotTable,
     seat: &mut TableSeat,
@@ -88,8 +88,8 @@ fn claim_leaf<G: Gate>(
     Some(number)
 }
 
-/// The number of the first leaf record, from `first` on, whose class is not to be skipped; `layout.leaves` if there is none. In `classes`,
-/// each class that is skipped has one claim less to skip afterwards.
+/// Returns the number of the first leaf record, from `first` on, whose class is not to be skipped; `layout.leaves` if there is none. Each
+/// class that is skipped has one claim less to skip in its hint in `classes`.
 fn skip_classes(layout: Layout, classes: &mut [Hint; LEAF_CLASSES], first: u32) -> u32
     requires { first ≤ layout.leaves }
     ensures { (first ≤ result) × (result ≤ layout.leaves) }
@@ -106,8 +106,9 @@ fn skip_classes(layout: Layout, classes: &mut [Hint; LEAF_CLASSES], first: u32) 
     from
 }
 
-/// Claims a leaf record with one of `numbers`, of the smallest class that has one free, and returns its number. `None` if none was free.
-/// By its hint in `classes` a class with none free is to be skipped then. Inline, so that the class of the first is known.
+/// Claims a leaf record with one of `numbers`, in the smallest class that has one free, and returns the number. `None` if none was free. A
+/// class with none free is skipped by later claims, as its hint in `classes` says then. Inline, so that the class of the first number is
+/// known when it is compiled.
 #[inline(always)]
 fn claim_leaf_between<G: Gate>(
     table: &HotTable,

@@ -29,10 +29,11 @@ use rowex_core::{Gate, Rec};
 use rowex_records::{RecordKind, fill_node, find_free_record};
 use rowex_table::{HotTable, TableSeat};
 
-/// Makes a record for `node`, adds it to `build.made`, and returns its entry. `None` if no node record was free: none is added.
+/// Makes a record for `node`, adds it to `build.made`, and returns the entry that names it. `None` if no node record was free: none is
+/// added.
 ///
-/// The claim tries the last spare record, and then `build.left_nodes` others at most, from `build.nodes.next` on. These are all, where the
-/// change has claimed none yet.
+/// The claim tries the last spare record, and then `build.left_nodes` others at most, from `build.nodes.next` on. At a change's first claim
+/// these are all node records.
 pub(crate) fn make_node<G: Gate>(
     table: &HotTable,
     seat: &mut TableSeat,
@@ -53,8 +54,8 @@ pub(crate) fn make_node<G: Gate>(
     make_node_from_words(table, seat, gate, build, &words)
 }
 
-/// Makes a node record of `words`, which are those of a node, adds it to `build.made`, and returns its entry. `None` if no node record was
-/// free: none is added. Claims go on as in [`make_node`].
+/// Makes a node record of `words`, which are those of a node, adds the record to `build.made`, and returns the entry that names it. `None`
+/// if no node record was free: none is added. Claims go on as in [`make_node`].
 pub(crate) fn make_node_from_words<G: Gate>(
     table: &HotTable,
     seat: &mut TableSeat,
@@ -82,8 +83,9 @@ pub(crate) fn make_node_from_words<G: Gate>(
     })
 }
 
-/// Makes a record for the node that `words` spell with the leaf `new`, adds it to `build.made`, and returns its entry. `None` if no node
-/// record was free: none is added. The node has leaves alone and room for one more. In any case `words` get the leaf, too.
+/// Makes a record for the node of `words` with the leaf `new`, adds the record to `build.made`, and returns the entry that names it. `None`
+/// if no node record was free: none is added. The node of `words` has leaves alone, and room for one more. In any case the leaf is added to
+/// `words`, too.
 pub(crate) fn make_node_with_leaf<G: Gate>(
     table: &HotTable,
     seat: &mut TableSeat,
@@ -107,8 +109,9 @@ pub(crate) fn make_node_with_leaf<G: Gate>(
     make_node_from_words(table, seat, gate, build, words)
 }
 
-/// The entry for `half`, a side of the cut node that `old` names. It is the one entry itself, that of a new node, whose record is added to
-/// `build.made`, or `old` for the node as it was. `None` if a record was wanted and none was free: none is added.
+/// Returns the entry for `half`, one side of the cut of the node that `old` names. That is the one entry of the side, or `old` if the side
+/// is the node as it was. For another node it names a new record, which is added to `build.made`. `None` if a record was wanted and none
+/// was free: none is added.
 fn make_half_entry<G: Gate>(
     table: &HotTable,
     seat: &mut TableSeat,
@@ -131,8 +134,8 @@ fn make_half_entry<G: Gate>(
     }
 }
 
-/// Makes the fork that replaces a node with the entry `old`, which was cut in two. Each new node gets a record, that of the 1 side first.
-/// `None` if no node record was free: one made by then stays in `build.made`.
+/// Makes the fork that replaces a node with the entry `old`, which was cut in two as `cut` says. Each new node of `cut` gets a record, that
+/// of the 1 side first. `None` if no node record was free: one made by then stays in `build.made`.
 pub(crate) fn make_fork_of_cut<G: Gate>(
     table: &HotTable,
     seat: &mut TableSeat,
@@ -157,10 +160,10 @@ pub(crate) fn make_fork_of_cut<G: Gate>(
     })
 }
 
-/// Claims a node record and returns its number. `None` if each was found not free since the change began to claim them.
+/// Claims a node record and returns its number. `None` if each was found not free since the change began its claims.
 ///
 /// All claims of a change try each node record once at most, spare ones aside. Where none is left to try, each was found not free, or the
-/// change has made it. Those that it has made are looked at now.
+/// change has claimed it. The states of the records in `build.made` are loaded then.
 pub(crate) fn claim_node<G: Gate>(
     table: &HotTable,
     seat: &mut TableSeat,
@@ -187,11 +190,11 @@ pub(crate) fn claim_node<G: Gate>(
     None
 }
 
-/// Whether one node record more is free than the change has claimed. It is not claimed, but left for the removals. `false` if each was
-/// found not free since the change began to claim them.
+/// Returns whether a node record is free beside those that the change has claimed. That record is not claimed, but left for removals.
+/// `false` if each node record was found not free since the change began its claims.
 ///
-/// It looks at the last spare one first, and then goes on with the walk of the claims. So the next claims begin with the one that it found.
-/// Where it finds none, the change has made those that were its own, which are looked at now.
+/// The last spare record is looked at first. Then the walk of the claims goes on, and the next claim begins with the record found. If none
+/// is found, the states of the records in `build.made` are loaded, too.
 pub(crate) fn leaves_free_node<G: Gate>(
     table: &HotTable,
     seat: &mut TableSeat,
@@ -219,7 +222,8 @@ pub(crate) fn leaves_free_node<G: Gate>(
     false
 }
 
-/// Whether a load finds the node record free that has the last number in `spare`. `false`, and no step, if there is none.
+/// Returns whether the node record with the last number in `spare` is free, by one load. `false`, without a step, if `spare` is empty, or
+/// the table has no node record of that number.
 fn is_last_free<G: Gate>(
     table: &HotTable,
     seat: &mut TableSeat,
@@ -242,7 +246,8 @@ fn is_last_free<G: Gate>(
     table.load_state(seat, gate, Rec::Node(number)) == pack_state(Tag::Free)
 }
 
-/// Loads the states of the records `made`, which the pass has made. Each load is a failed step, which tells that the record is its own.
+/// Loads the state of each record in `made`, all of them records that this pass has made. The trace has each load as a failed claim, of a
+/// record that the pass itself holds.
 fn load_states<G: Gate>(table: &HotTable, seat: &mut TableSeat, gate: &mut G, made: &[Rec])
     requires building { (news : List Made) × IsBuilding table.now seat.old made.now news }
     ensures goes { WorksOn table.now G.becomes (seat.old, gate.old) (seat.new, gate.new) }

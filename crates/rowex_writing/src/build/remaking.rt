@@ -28,7 +28,8 @@ pub(crate) struct NewLeaf<'a> {
     pub slot: u8,
 }
 
-/// Puts the leaf `new` into `node`, which has fewer than 32 entries. In it the search for `new.key` takes `new.slot`. It gets no higher.
+/// Adds the leaf `new` to `node`, which has fewer than 32 entries. The search for `new.key` in `node` takes the slot `new.slot`. The node
+/// gets no higher.
 pub(crate) fn add_leaf(node: &mut Node, new: &NewLeaf<'_>)
     requires room { length node.old.entries < MAX_ENTRIES }
     requires leads { spot new.now.key.now (piece node.old) ≡ new.now.slot }
@@ -56,7 +57,7 @@ pub(crate) fn add_leaf_to_words(words: &mut [u64; NODE_FIELDS], new: &NewLeaf<'_
     }
 }
 
-/// Does what [`add_leaf_to_words`] does. Inline, so that it is compiled for each kind of head.
+/// Does what [`add_leaf_to_words`] does, in the same words. Inline, so that it is compiled for each kind of head.
 #[inline(always)]
 fn add_leaf_beside(words: &mut [u64; NODE_FIELDS], new: &NewLeaf<'_>)
     requires takes { (node : NodeView) × AwaitsLeaf words.old node new.now × CanTakeLeaf node }
@@ -67,8 +68,8 @@ fn add_leaf_beside(words: &mut [u64; NODE_FIELDS], new: &NewLeaf<'_>)
     record_words::add_leaf(words, first, last, new.position, bit, new.number);
 }
 
-/// The two sides of the first fork that the full node `node` has with the leaf `new`. One side is `node` as it is, exactly if
-/// `new.position` is before the first fork of `node`.
+/// Returns the two sides of the first fork that the full node `node` has once the leaf `new` is added. One side is `node` as it is, exactly
+/// if `new.position` is before the first fork of `node`.
 pub(crate) fn cut_with_leaf(node: &Node, new: &NewLeaf<'_>) -> Cut
     requires full { length node.now.entries ≡ MAX_ENTRIES }
     requires leads { spot new.now.key.now (piece node.now) ≡ new.now.slot }
@@ -99,8 +100,8 @@ pub(crate) struct Fork<'a> {
     pub one: Entry,
 }
 
-/// Puts `fork` into `node`, which has fewer than 32 entries, in the place of the entry to which the search for `fork.key` leads. Both
-/// entries of `fork` are lower than `node`, which gets no higher.
+/// Puts `fork` into `node` in the place of the entry to which the search for `fork.key` leads. `node` has fewer than 32 entries. Both
+/// entries of `fork` are lower than `node`. The node gets no higher.
 pub(crate) fn add_fork(node: &mut Node, fork: &Fork<'_>)
     requires room { length node.old.entries < MAX_ENTRIES }
     requires tree { IsSubtrieOfTree (subtrie_with_fork fork.now (piece node.old)) }
@@ -114,8 +115,8 @@ pub(crate) fn add_fork(node: &mut Node, fork: &Fork<'_>)
     put_fork(node, slot, fork.position, fork.zero, fork.one);
 }
 
-/// The two sides of the first fork that the full node `node` has with `fork`. This takes the place of the entry to which the search for
-/// `fork.key` leads. Neither side is `node` as it is.
+/// Returns the two sides of the first fork that the full node `node` has once `fork` is in it. `fork` takes the place of the entry to which
+/// the search for `fork.key` leads. Neither side is `node` as it is.
 pub(crate) fn cut_with_fork(node: &Node, fork: &Fork<'_>) -> Cut
     requires full { length node.now.entries ≡ MAX_ENTRIES }
     requires tree { IsSubtrieOfTree (subtrie_with_fork fork.now (piece node.now)) }
@@ -130,8 +131,8 @@ pub(crate) fn cut_with_fork(node: &Node, fork: &Fork<'_>) -> Cut
     pull_up_full(node, slot, fork.position, fork.zero, fork.one)
 }
 
-/// A node of the entry `old` and the leaf in record `leaf`, with a fork at `position`. The leaf is on the side of the bit that `key` has
-/// there.
+/// Returns a node of two: the entry `old` and the leaf in the record `leaf`, with a fork at `position`. The leaf is on the side of the bit
+/// that `key` has at `position`.
 pub(crate) fn pair_with_leaf(key: &Key, position: u16, old: Entry, leaf: u32) -> Node
     requires { IsSubtrieOfTree (subtrie_forked (bit key.now position) position (Entry.Leaf leaf) (At old)) }
     ensures { IsBuiltFrom result (subtrie_forked (bit key.now position) position (Entry.Leaf leaf) (At old)) }

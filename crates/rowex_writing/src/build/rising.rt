@@ -35,8 +35,8 @@ use record_words::{MAX_ENTRIES, NODE_FIELDS, can_take_leaf, drop_entry, read_nod
 use rowex_core::Gate;
 use rowex_table::{HotTable, TableSeat};
 
-/// Makes what replaces the locked node `number` when it gets `fork`: one entry, or a fork of two if it was full. `None` if no node record
-/// was free: one that was made by then stays in `build.made`. The locked record stays as it is.
+/// Makes and returns what replaces the locked node `number` when it gets `fork`: one entry, or a fork of two if the node was full. `None`
+/// if no node record was free: one that was made by then stays in `build.made`. The locked record stays as it is.
 fn raise_node_with_fork<G: Gate>(
     table: &HotTable,
     seat: &mut TableSeat,
@@ -65,7 +65,7 @@ fn raise_node_with_fork<G: Gate>(
     Some(Risen::Whole(entry))
 }
 
-/// The entry that names `node`, which is in node record `number`.
+/// Returns the entry that names `node`, which is in the node record `number`.
 fn node_entry(number: u32, node: &Node) -> Entry
     ensures { result ≡ Entry.Node number node.now.height }
 {
@@ -82,8 +82,8 @@ pub(crate) struct LoadedNode {
     pub words: [u64; NODE_FIELDS],
 }
 
-/// Does what [`remake_node_with_leaf`] does, for any node, by way of a `Node` made of its words. `None` if no node record was free: one that
-/// was made by then stays in `build.made`.
+/// Does what [`remake_node_with_leaf`] does, for any node, by way of a `Node` made of `loaded.words`. `None` if no node record was free:
+/// one that was made by then stays in `build.made`.
 fn remake_node_with_leaf_by_value<G: Gate>(
     table: &HotTable,
     seat: &mut TableSeat,
@@ -111,9 +111,9 @@ fn remake_node_with_leaf_by_value<G: Gate>(
     Some((Risen::Whole(entry), false))
 }
 
-/// Makes what replaces the node `loaded` when it gets the leaf `new`: one entry, or a fork of two if it was full. The flag tells whether
-/// the node stays, as one side of that fork. `None` if no node record was free: one that was made by then stays in `build.made`.
-/// `loaded.words` may be changed: a node of leaves alone with room gets the leaf there, which costs least.
+/// Makes and returns what replaces the node `loaded` when it gets the leaf `new`: one entry, or a fork of two if the node was full. The
+/// flag tells whether the node stays, as one side of that fork. `None` if no node record was free: one that was made by then stays in
+/// `build.made`. `loaded.words` may be changed: a node of leaves alone with room gets the leaf there, which costs least.
 fn remake_node_with_leaf<G: Gate>(
     table: &HotTable,
     seat: &mut TableSeat,
@@ -135,9 +135,9 @@ fn remake_node_with_leaf<G: Gate>(
     remake_node_with_leaf_by_value(table, seat, gate, build, loaded, new)
 }
 
-/// Makes what replaces the locked node `number`, the lowest of a span, when it gets the leaf `new`. It is one entry, or a fork of two if it
-/// was full. The flag tells whether the node stays, as a side of the fork. `None` if no node record was free: one that was made by then
-/// stays in `build.made`.
+/// Makes and returns what replaces the locked node `number`, the lowest of a span, when it gets the leaf `new`: one entry, or a fork of two
+/// if the node was full. The flag tells whether the node stays, as one side of that fork. `None` if no node record was free: one that was
+/// made by then stays in `build.made`.
 fn raise_lowest_node_with_leaf<G: Gate>(
     table: &HotTable,
     seat: &mut TableSeat,
@@ -163,14 +163,14 @@ fn raise_lowest_node_with_leaf<G: Gate>(
     remake_node_with_leaf(table, seat, gate, build, &mut loaded, new)
 }
 
-/// Whether one side of `cut` is the node that was cut, as it was.
+/// Returns whether one side of `cut` is the node that was cut, as it was.
 fn has_whole_node(cut: &Cut) -> bool
     ensures { result ≡ keeps_side cut.now }
 {
     is_whole_node(&cut.zero) || is_whole_node(&cut.one)
 }
 
-/// Whether `half`, a side of a cut, is the whole node that was cut (`Half::Same`). `false` for one entry and for a new node.
+/// Returns whether `half`, a side of a cut, is the whole node that was cut (`Half::Same`). `false` for one entry and for a new node.
 fn is_whole_node(half: &Half) -> bool
     ensures { result ≡ is_same half.now }
 {
@@ -180,8 +180,8 @@ fn is_whole_node(half: &Half) -> bool
     }
 }
 
-/// The one entry for `risen`, which replaces a locked node. It is the entry itself, or that of a new node of two for a fork. `None` if no
-/// node record was free. Inline, since mostly it is the entry already.
+/// Returns one entry for `risen`, which replaces a locked node. An entry stays itself, and a fork becomes a new node of two. `None` if no
+/// node record was free for that node. Inline, since mostly it is an entry already.
 #[inline(always)]
 fn make_one_entry<G: Gate>(
     table: &HotTable,
@@ -221,7 +221,7 @@ pub(crate) struct Rise<'a> {
     pub risen: Risen,
 }
 
-/// The fork that has risen, for the key of the search.
+/// Returns the fork `rise.risen`, with the key of the search. `rise.risen` is not one whole entry.
 fn risen_fork<'a>(rise: &Rise<'a>) -> Fork<'a>
     requires { IsSplit rise.now.risen }
     ensures key { result.key.now ≡ rise.now.key.now }
@@ -242,9 +242,9 @@ fn risen_fork<'a>(rise: &Rise<'a>) -> Fork<'a>
     }
 }
 
-/// The one entry that replaces the node at `rise.end` of `way`, when `rise.risen` replaces the one at `rise.level`. If that is below, a
-/// fork has risen, which goes into the next node above. `None` if no node record was free: those made by then stay in `build.made`. Inline,
-/// since mostly these are one node.
+/// Returns the one entry that replaces the node at `rise.end` of `way`, when `rise.risen` replaces the node at `rise.level`. Where
+/// `rise.level` is above `rise.end` in number, `rise.risen` is a fork, which goes into the next node up the way. `None` if no node record
+/// was free: those made by then stay in `build.made`. Inline, since mostly the two nodes are one.
 #[inline(always)]
 fn raise_to_end<G: Gate>(
     table: &HotTable,
@@ -279,9 +279,8 @@ fn raise_to_end<G: Gate>(
     make_one_entry(table, seat, gate, build, rise.risen)
 }
 
-/// The one entry that takes the place of the node at `job.span.end`, the topmost of the span, when the lowest one, the last of the span,
-/// gets the leaf `new`. The flag tells whether the lowest node stays as it is. `None` if no node record was free: those made by then stay in
-/// `build.made`.
+/// Returns the one entry that takes the place of the span's topmost node, at `job.span.end`, when its lowest node gets the leaf `new`. The
+/// flag tells whether the lowest node stays as it is. `None` if no node record was free: those made by then stay in `build.made`.
 pub(crate) fn raise_with_leaf<G: Gate>(
     table: &HotTable,
     seat: &mut TableSeat,
@@ -323,8 +322,9 @@ pub(crate) fn raise_with_leaf<G: Gate>(
     Some((entry, stays))
 }
 
-/// Loads the words of the locked node of `step` into `words`, which are 0 before, and takes the leaf in the step's slot out of them. Some
-/// key's search leads to that leaf. If just one entry is left, returns it, and the words are of no use then.
+/// Loads the words of the locked node `step.number` into `words`, which are 0 before, and takes the leaf in `step.slot` out of them. Some
+/// key's search leads to that leaf. If just one entry is left, returns that entry, and `words` are of no use. If more are left, returns
+/// `None`.
 pub(crate) fn load_without_leaf<G: Gate>(
     table: &HotTable,
     seat: &mut TableSeat,
@@ -346,8 +346,8 @@ pub(crate) fn load_without_leaf<G: Gate>(
     drop_entry(words, step.slot)
 }
 
-/// Returns the entry for what is left of the locked node of `step` without the leaf in the step's slot. It is that of a new record, or the
-/// only entry left. `None` if no node record was free: none is made then. Some key's search leads to that leaf.
+/// Returns the entry for what is left of the locked node `step.number` without the leaf in `step.slot`. That is the only entry left, or it
+/// names a new record. `None` if no node record was free: none is made then. Some key's search leads to that leaf.
 pub(crate) fn make_entry_without_leaf<G: Gate>(
     table: &HotTable,
     seat: &mut TableSeat,

@@ -31,8 +31,8 @@ use rowex_reading::Found;
 use rowex_records::fill_node;
 use rowex_table::{HotTable, TableSeat};
 
-/// Makes what is left of the found leaf's node without the leaf, and returns the entry for that, which is to take the node's place.
-/// `Full::Nodes` if no node record was free for what is left.
+/// Makes what is left of the found leaf's node without the leaf, and returns the entry for that, which is to take the node's place. The
+/// error is `Full::Nodes` if no node record was free for what is left.
 pub(crate) fn make_without_leaf<G: Gate>(
     table: &HotTable,
     seat: &mut TableSeat,
@@ -52,7 +52,7 @@ pub(crate) fn make_without_leaf<G: Gate>(
     remake_without_leaf(table, seat, gate, build, job)
 }
 
-/// What takes the place of the found leaf, which is all of the tree: the root is to be empty. No record is made for that.
+/// Returns what takes the place of the found leaf, which is all of the tree: the root is to be empty. No record is made for that.
 pub(crate) fn empty_root(build: &mut Build, job: &Job<'_>) -> Raised
     requires found { (leaf value : ℕ) × (job.now.found ≡ FoundLeaf leaf value None) }
     ensures made { build.new.made.items ≡ [] }
@@ -69,8 +69,8 @@ pub(crate) fn empty_root(build: &mut Build, job: &Job<'_>) -> Raised
     }
 }
 
-/// Makes what is left of the span's node without the found leaf, and returns its entry, which is to replace the node. `Full::Nodes` if no
-/// node record was free for it.
+/// Makes what is left of the span's node without the found leaf, and returns the entry for that, which is to replace the node. The error is
+/// `Full::Nodes` if no node record was free for what is left.
 fn remake_without_leaf<G: Gate>(
     table: &HotTable,
     seat: &mut TableSeat,
@@ -97,8 +97,8 @@ fn remake_without_leaf<G: Gate>(
     Ok(raised_for_leftover(job, entry))
 }
 
-/// Claims a record for what is left of the lower node of `job`'s span, or for the node that this is merged into. Returns its number. `None`
-/// if no node record was free.
+/// Claims a node record for what the removal of `job` leaves of the lower node of its span, and returns the record's number. If what is
+/// left is merged with its sibling, the record is for the merged node. `None` if no node record was free.
 pub(crate) fn claim_for_leftover<G: Gate>(
     table: &HotTable,
     seat: &mut TableSeat,
@@ -120,7 +120,8 @@ pub(crate) fn claim_for_leftover<G: Gate>(
     Some(number)
 }
 
-/// Fills the record of `left`, which is the only one of the change then. What is left is to take the place of the lower node.
+/// Fills the claimed record `left.number` with `left.words`. Returns what is to take the place of the lower node of the span of `job`: the
+/// entry of that record. `build.made` lists this record alone then.
 pub(crate) fn fill_leftover<G: Gate>(
     table: &HotTable,
     seat: &mut TableSeat,
@@ -148,7 +149,7 @@ pub(crate) fn fill_leftover<G: Gate>(
     raised_for_leftover(job, entry)
 }
 
-/// What takes the place of the lower node of `job`'s span, if `entry` is all that is left of it without the leaf that the search found.
+/// Returns what takes the place of the lower node of the span of `job`. `entry` is all that is left of that node without the found leaf.
 pub(crate) fn raised_for_leftover(job: &Job<'_>, entry: Entry) -> Raised
     requires found { (leaf value : ℕ) × (job.now.found ≡ FoundLeaf leaf value None) }
     ensures same { (leaf value : ℕ) → job.now.found ≡ FoundLeaf leaf value None →

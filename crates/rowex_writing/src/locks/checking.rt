@@ -23,9 +23,9 @@ use rowex_core::{Gate, Spot};
 use rowex_reading::{Found, load_root};
 use rowex_table::{HotTable, TableSeat};
 
-/// Returns whether each node locked for the span still names what the search found there, and the root too, if the anchor is locked. Each
-/// is loaded once, from the top down, up to the first that names something else. If one does, another pass has made a change since the
-/// search loaded the root. What the search read below the lowest of them needs no second look.
+/// Returns whether each node locked for the span of `job` still names what the search found there, and the root too, if the anchor is
+/// locked. Each is loaded once, from the top down, up to the first that names something else. If one does, another pass has made a change
+/// since the search loaded the root.
 pub(crate) fn check_span<G: Gate>(
     table: &HotTable,
     seat: &mut TableSeat,
@@ -48,8 +48,8 @@ pub(crate) fn check_span<G: Gate>(
     entries_stand(table, seat, gate, job)
 }
 
-/// The entry that names the node at `index` of `way`. Past the last node it is what the search ended at, as `found` says: the leaf, or
-/// `None`.
+/// Returns the entry that names the node at `index` of `way`. If `index` is behind the last node, it is what the search ended at, as
+/// `found` says: the leaf, or `None`.
 pub(crate) fn naming_entry(way: &[PathNode], found: Found, index: usize) -> Option<Entry>
     ensures { result ≡ named way.now found index }
 {
@@ -86,8 +86,8 @@ pub(crate) fn root_stands<G: Gate>(
     are_same_entry(found, root)
 }
 
-/// Returns whether each node that is locked for `job`'s span has the entry that the search took in it. Each is loaded once, from the top
-/// down, up to the first that has another.
+/// Returns whether each node that is locked for the span of `job` has the entry that the search took in it. Each entry is loaded once, from
+/// the top down, up to the first that is another.
 fn entries_stand<G: Gate>(
     table: &HotTable,
     seat: &mut TableSeat,
@@ -138,7 +138,7 @@ pub(crate) fn entry_stands<G: Gate>(
     is_word_of(entry, word)
 }
 
-/// Whether `word` is that of `entry`, or 0 for `None`. `false` for a node of height 0, which has no word.
+/// Returns whether `word` is that of `entry`, or 0 for `None`. `false` if `entry` is a node of height 0, which has no word.
 fn is_word_of(entry: Option<Entry>, word: u64) -> bool
     ensures same { result ≡ true → HasEntryWord entry × (entry_word entry ≡ word) }
     ensures differ { result ≡ false → (e : Option EntryValue) → HasEntryWord e → entry_word e ≡ word → e ≢ entry }
@@ -152,7 +152,7 @@ fn is_word_of(entry: Option<Entry>, word: u64) -> bool
     }
 }
 
-/// Whether `one` and `other` are the same entry, or both `None`.
+/// Returns whether `one` and `other` are the same entry, or both `None`.
 fn are_same_entry(one: Option<Entry>, other: Option<Entry>) -> bool
     ensures same { result ≡ true → one ≡ other }
     ensures differ { result ≡ false → one ≢ other }

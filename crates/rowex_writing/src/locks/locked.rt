@@ -30,8 +30,9 @@ struct NodeLoads {
     numbers: HeadNumbers,
 }
 
-/// Loads the words of the locked node `number`, all but its state, into `words`, which are 0 before. Of the head as many are loaded as say
-/// something. Words of slots are loaded in groups of `SLOT_GROUP`, as far as there are entries. Those behind stay 0.
+/// Loads the words of the locked node `number`, all but its state, into `words`, which are 0 before. Words of the head that its kind
+/// doesn't use become all ones without a load. Words of slots are loaded in groups of `SLOT_GROUP`, as far as there are entries; those
+/// behind stay 0.
 pub(crate) fn load_locked_node_words<G: Gate>(
     table: &HotTable,
     seat: &mut TableSeat,
@@ -58,8 +59,8 @@ pub(crate) fn load_locked_node_words<G: Gate>(
     load_slot_group(table, seat, gate, loads, words, HEAD_WORDS + 3 * SLOT_GROUP);
 }
 
-/// Loads the words of the head of the locked node `node` into `words`, which are 0 before. The first one tells its kind, and so how many
-/// say something. The others of the head become all ones, which they are, without a load.
+/// Loads the words of the head of the locked node `node` into `words`, which are 0 before. The head's first word tells its kind, and so how
+/// many words it uses. Its other words become all ones, as they are in the record, without a load.
 #[inline(always)]
 fn load_locked_head<G: Gate>(
     table: &HotTable,
@@ -81,8 +82,8 @@ fn load_locked_head<G: Gate>(
     }
 }
 
-/// Loads the words 1 to `size` - 1 of the head of `node` into `words`, and sets the others of the head to all ones. Inline, so that each
-/// index is known when it is compiled.
+/// Loads the words 1 to `size` - 1 of the head of the locked node `node` into `words`. The head's other words are set to all ones. Inline,
+/// so that each index is known when it is compiled.
 #[inline(always)]
 fn load_rest_of_head<G: Gate>(
     table: &HotTable,
@@ -105,7 +106,7 @@ fn load_rest_of_head<G: Gate>(
     }
 }
 
-/// Loads the first word of the locked node `node`, and returns the numbers in it.
+/// Loads the first word of the locked node `node`, and returns the numbers in that word.
 #[inline(always)]
 fn load_numbers<G: Gate>(
     table: &HotTable,
@@ -123,8 +124,8 @@ fn load_numbers<G: Gate>(
     read_numbers(load_locked_word(table, seat, gate, node, NUMBERS_INDEX))
 }
 
-/// Loads the row of `slot` of the locked node of `loads`, and returns it. It is 4,294,967,295 for an unused slot. A slot from `MAX_ENTRIES` on
-/// is unused, too, and nothing is loaded for it.
+/// Loads and returns the row of `slot` of the locked node of `loads`. The row is 4,294,967,295 for an unused slot. A slot from
+/// `MAX_ENTRIES` on is unused, too, and nothing is loaded for it.
 #[inline(always)]
 fn load_row<G: Gate>(
     table: &HotTable,
@@ -200,7 +201,7 @@ fn load_rows_beside<G: Gate>(
     find_sibling(slot, before, own, after, second)
 }
 
-/// Loads the position of column `column` of the locked node `number`, and returns it; 65,535 if the node has no such column.
+/// Loads and returns the position of the column `column` of the locked node `number`; 65,535 if the node has no such column.
 pub(crate) fn load_position<G: Gate>(
     table: &HotTable,
     seat: &mut TableSeat,
@@ -224,7 +225,7 @@ pub(crate) fn load_position<G: Gate>(
     numbers.read_position(word, masks, column)
 }
 
-/// Loads the entry in `slot` of the locked node `number`, which has that slot.
+/// Loads and returns the entry in `slot` of the locked node `number`, which has that slot.
 pub(crate) fn load_locked_entry<G: Gate>(
     table: &HotTable,
     seat: &mut TableSeat,
@@ -244,8 +245,8 @@ pub(crate) fn load_locked_entry<G: Gate>(
     read_some_entry(table.load_ref(seat, gate, spot))
 }
 
-/// Loads `SLOT_GROUP` words of the locked node of `loads` into `words`, from index `first` on. None is loaded if the entries end at
-/// `first` or before. Inline, so that each index is known when it is compiled.
+/// Loads `SLOT_GROUP` words of the locked node of `loads` into `words`, from index `first` on. If the entries end at `first` or before,
+/// none is loaded. Inline, so that each index is known when it is compiled.
 #[inline(always)]
 fn load_slot_group<G: Gate>(
     table: &HotTable,
@@ -270,7 +271,7 @@ fn load_slot_group<G: Gate>(
     }
 }
 
-/// Loads the words of the locked node `number`, and returns the node that they spell.
+/// Loads the words of the locked node `number`, and returns that node as a value.
 pub(crate) fn read_locked_node<G: Gate>(
     table: &HotTable,
     seat: &mut TableSeat,
@@ -289,8 +290,8 @@ pub(crate) fn read_locked_node<G: Gate>(
     read_node(&words)
 }
 
-/// Loads the word at `index` of the locked node `node`, counted from 0 behind its state. Inline, so that neither loop over the words tests
-/// which they are.
+/// Loads and returns the word at `index` of the locked node `node`; the word behind its state has index 0. Inline, so that neither loop
+/// over the words tests whether `index` is in the head.
 #[inline(always)]
 fn load_locked_word<G: Gate>(
     table: &HotTable,

@@ -27,9 +27,9 @@ use insert_cases::PathNode;
 use rowex_core::{Gate, Target};
 use rowex_table::{HotTable, TableSeat};
 
-/// Locks node `number`, the sibling of the lower node of a removal's span. Then it locks what names the upper node, and checks that this
-/// still does. Each is tried once at most. Returns whether both are locked. If `number` is a node near the span ([`is_near_span`]), a lock
-/// is refused, or something else is named, neither stays locked.
+/// Locks node `number`, the sibling of the lower node of a removal's span. Then it locks what names the upper node, and checks that the
+/// upper node is still named there. Each lock is tried once at most. Returns whether both are locked. Neither stays locked if `number` is a
+/// node near the span ([`is_near_span`]), a lock is refused, or something else is named.
 pub(crate) fn lock_for_merge<G: Gate>(
     table: &HotTable,
     seat: &mut TableSeat,
@@ -60,7 +60,7 @@ pub(crate) fn lock_for_merge<G: Gate>(
     false
 }
 
-/// Whether `number` is that of a node of `job`'s span, or of one of the two above it on the path.
+/// Returns whether `number` is that of a node of the span of `job`, or of one of the two nodes above the span on the path.
 fn is_near_span(job: &Job<'_>, number: u32) -> bool
     requires within { (job.now.span.end ≤ job.now.span.len) × (job.now.span.len ≤ length job.now.way.now) }
     ensures near { result ≡ true → ¬ IsFarFromSpan job.now.way.now job.now.span number }
@@ -74,8 +74,8 @@ fn is_near_span(job: &Job<'_>, number: u32) -> bool
     false
 }
 
-/// Locks what names the upper node of a removal's span, the node above it or the anchor, and checks that it still does. Returns whether it
-/// is locked. If the lock is refused, or something else is named, the locks are as before.
+/// Locks what names the upper node of a removal's span: the node above it, or the anchor. Checks that the upper node is still named there.
+/// Returns whether the lock is held. If the lock is refused, or something else is named, the locks are as before.
 fn lock_target_above<G: Gate>(
     table: &HotTable,
     seat: &mut TableSeat,
@@ -103,8 +103,8 @@ fn lock_target_above<G: Gate>(
     lock_node_with_entry(table, seat, gate, job.way[end - 1], named)
 }
 
-/// Locks the anchor, and checks that the root is `root`. Returns whether it is locked. If the lock is refused, or the root is another, the
-/// locks are as before.
+/// Locks the anchor, and checks that the root is `root`. Returns whether the anchor is locked. If the lock is refused, or the root is
+/// another, the locks are as before.
 fn lock_root<G: Gate>(
     table: &HotTable,
     seat: &mut TableSeat,
@@ -131,8 +131,8 @@ fn lock_root<G: Gate>(
     false
 }
 
-/// Locks node `step.number`, and checks that its entry in `step.slot` is `entry`. Returns whether it is locked. If the lock is refused, or
-/// the entry is another, the locks are as before.
+/// Locks node `step.number`, and checks that its entry in `step.slot` is `entry`. Returns whether the node is locked. If the lock is
+/// refused, or the entry is another, the locks are as before.
 fn lock_node_with_entry<G: Gate>(
     table: &HotTable,
     seat: &mut TableSeat,
@@ -200,7 +200,7 @@ fn unlock_target_above<G: Gate>(
     }
 }
 
-/// Unlocks what [`lock_for_merge`] has locked: what names the upper node, and node `number`.
+/// Unlocks what [`lock_for_merge`] has locked: first what names the upper node of the span of `job`, then node `number`.
 pub(crate) fn release_merge_locks<G: Gate>(
     table: &HotTable,
     seat: &mut TableSeat,

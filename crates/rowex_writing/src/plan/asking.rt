@@ -16,7 +16,7 @@ pub(crate) struct Request {
     pub value: u64,
 }
 
-/// What `call` requests when the search for its key ended at `found`. It is `None` if it requests no change: for a get, for a call whose
+/// Returns what `call` requests, when the search for its key ended at `found`. `None` if it requests no change: for a get, for a call whose
 /// expected value is not the key's, and for an addition to an absent key.
 pub(crate) fn request_of(call: &Call, found: Found) -> Option<Request>
     ensures { MatchOption result (the_aim call.now (the_value found) ≡ None) (IsRequest call.now (the_value found)) }
@@ -27,8 +27,8 @@ pub(crate) fn request_of(call: &Call, found: Found) -> Option<Request>
     Some(Request { aim, value })
 }
 
-/// The value that `call` gives its key, if it changes the map. `held` is the key's value before; `None` if it is absent. The result is 0
-/// for a get, a removal, and an addition to an absent key, which give none.
+/// Returns the value that `call` gives its key, if it changes the map. `held` is the key's value before; `None` if the key is absent. The
+/// result is 0 for a get, a removal, and an addition to an absent key, which give no value.
 fn new_value(call: &Call, held: Option<u64>) -> u64
     ensures { result ≡ the_value_in call.now held }
 {
@@ -40,7 +40,7 @@ fn new_value(call: &Call, held: Option<u64>) -> u64
     }
 }
 
-/// The value of the key of a search that ended at `found`; `None` if it found nothing, or a leaf with another key.
+/// Returns the value of the key of a search that ended at `found`; `None` if it found nothing, or a leaf with another key.
 pub(crate) fn found_value(found: Found) -> Option<u64>
     ensures { result ≡ the_value found }
 {
@@ -54,7 +54,8 @@ pub(crate) fn found_value(found: Found) -> Option<u64>
     }
 }
 
-/// What `call` aims at when its key has the value `held`, or is absent (`None`). It is `None` if it is to change nothing.
+/// Returns what `call` aims at when its key has the value `held`, or is absent (`None`). The result is `None` if the call is to change
+/// nothing.
 fn aim_of(call: &Call, held: Option<u64>) -> Option<Aim>
     ensures { result ≡ the_aim call.now held }
 {
@@ -69,7 +70,7 @@ fn aim_of(call: &Call, held: Option<u64>) -> Option<Aim>
     }
 }
 
-/// `aim`, if the key has the value `expected`; `None` if `held` is another value, or the key is absent.
+/// Returns `aim` if `held` is the value `expected`; `None` if it is another value, or the key is absent.
 fn aim_if_expected(expected: u64, held: Option<u64>, aim: Aim) -> Option<Aim>
     ensures { result ≡ the_aim_where expected held aim }
 {

@@ -18,8 +18,8 @@ use rowex_core::{Gate, Rec, Target};
 use rowex_records::give_up_records;
 use rowex_table::{HotTable, TableSeat};
 
-/// Loads the epoch, straight after the publish of `store`, and marks with it the records `gone`, which that has unlinked. Then it unlocks
-/// the nodes `store.kept`, the first one first, and the anchor, if the root was stored. The pass has no record and no lock then.
+/// Loads the epoch, straight after the publish of `store`, and marks with it the records `gone`, which that store has unlinked. Then it
+/// unlocks the nodes `store.kept`, the first one first, and the anchor, if the root was stored. The pass has no record and no lock then.
 #[inline(always)]
 pub(crate) fn retire_and_unlock<G: Gate>(
     table: &HotTable,
@@ -47,7 +47,8 @@ pub(crate) fn retire_and_unlock<G: Gate>(
     }
 }
 
-/// Unlocks the nodes `kept`, the first one first, and the anchor, if `anchor` says that it is locked. These are all that the pass has.
+/// Unlocks the nodes `kept`, the first one first, and the anchor, if `anchor` says that it is locked. These are all that the pass has
+/// locked.
 pub(crate) fn unlock_kept<G: Gate>(
     table: &HotTable,
     seat: &mut TableSeat,
@@ -71,8 +72,8 @@ pub(crate) fn unlock_kept<G: Gate>(
     }
 }
 
-/// Takes a change back that was not published: gives up the records `held`, which are all that the pass has. Then it unlocks the nodes of
-/// `job`'s span and the one above them, or the anchor if the span goes up to the root. These are all that the pass has locked.
+/// Takes back a change that was not published: gives up the records `held`, which are all that the pass has. Then it unlocks the nodes of
+/// the span of `job` and the one above them, or the anchor if the span goes up to the root. These are all that the pass has locked.
 pub(crate) fn release_records_and_locks<G: Gate>(
     table: &HotTable,
     seat: &mut TableSeat,
@@ -95,7 +96,7 @@ pub(crate) fn release_records_and_locks<G: Gate>(
     }
 }
 
-/// Marks the records `recs`, all that the pass has unlinked, with `epoch`, which it has just loaded.
+/// Marks the records `recs`, all that the pass has unlinked, with `epoch`, which the pass has just loaded.
 #[inline(always)]
 fn mark_records<G: Gate>(
     table: &HotTable,

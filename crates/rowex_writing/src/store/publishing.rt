@@ -52,7 +52,7 @@ fn ready_records<G: Gate>(
     }
 }
 
-/// The word of `entry`, or that of an empty root for `None`. `entry` is one that has a word: the height of a node is at least 1.
+/// Returns the word of `entry`, or that of an empty root for `None`. `entry` has a word: the height of a node is at least 1.
 fn stored_word(entry: Option<Entry>) -> u64
     requires { HasEntryWord (entry_of (entry_word entry)) }
     ensures { result ≡ entry_word entry }
@@ -64,8 +64,8 @@ fn stored_word(entry: Option<Entry>) -> u64
     }
 }
 
-/// Publishes the change of `job`. It makes the records in `build.made` ready, stores the word of `raised.entry` above the span, and marks
-/// the records that the store unlinks. Then it unlocks the nodes that stay, the one above the span first, and the anchor, if locked.
+/// Publishes the change of `job`: makes the records in `build.made` ready, stores the word of `raised.entry` above the span, and marks the
+/// records that the store unlinks. Then it unlocks the nodes that stay, the one above the span first, and the anchor, if that is locked.
 pub(crate) fn publish_change<G: Gate>(
     table: &HotTable,
     seat: &mut TableSeat,
@@ -96,7 +96,7 @@ pub(crate) fn publish_change<G: Gate>(
     publish_entry(table, seat, gate, build, &store);
 }
 
-/// Makes the one store of a change. It makes the records in `build.made` ready, stores the word of `store.entry`, and marks the records in
+/// Makes the one store of a change: makes the records in `build.made` ready, stores the word of `store.entry`, and marks the records in
 /// `build.gone`, which the store unlinks. Then it unlocks the nodes `store.kept`, and the anchor, if the root is stored.
 #[inline(always)]
 pub(crate) fn publish_entry<G: Gate>(
@@ -119,7 +119,7 @@ pub(crate) fn publish_entry<G: Gate>(
     retire_and_unlock(table, seat, gate, build.gone.as_slice(), store);
 }
 
-/// Sets `build.gone` to the records that a change unlinks: those of the nodes of `steps`, and leaf record `leaf`, if there is one.
+/// Sets `build.gone` to the records that a change unlinks: those of the nodes `steps`, and the leaf record `leaf`, if there is one.
 #[inline(always)]
 fn list_gone_records(build: &mut Build, steps: &[PathNode], leaf: Option<u32>)
     requires { length steps.now ≤ 2160 }
@@ -136,7 +136,7 @@ fn list_gone_records(build: &mut Build, steps: &[PathNode], leaf: Option<u32>)
 }
 
 /// Returns the locked nodes of `way` that a change keeps. These are the one above `span`, if there is one, and the span's lowest, if `low`
-/// is its index. Else `low` is `span.len`.
+/// is the index of that. If the lowest goes too, `low` is `span.len`.
 #[inline(always)]
 fn list_kept_nodes(way: &[PathNode], span: Span, low: usize) -> ArrayVec<PathNode, 2>
     requires { (span.end ≤ low) × (low ≤ span.len) × (span.len ≤ low + 1) × (span.len ≤ length way.now) }
@@ -152,7 +152,7 @@ fn list_kept_nodes(way: &[PathNode], span: Span, low: usize) -> ArrayVec<PathNod
     kept
 }
 
-/// The spot of the entry above the nodes of `way` from `end` on: in the node above them, or the root if `end` is 0.
+/// Returns the spot of the entry above the nodes of `way` from index `end` on: a slot of the node above them, or the root if `end` is 0.
 pub(crate) fn spot_above(way: &[PathNode], end: usize) -> Spot
     requires { end ≤ length way.now }
     ensures { IsSpotAbove way.now end result }

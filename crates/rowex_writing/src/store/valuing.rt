@@ -21,8 +21,8 @@ use rowex_core::{Gate, Rec, Spot};
 use rowex_reading::Found;
 use rowex_table::{HotTable, TableSeat};
 
-/// Returns what the search of `job` found, with the value that the leaf has now if it has the key. The value is loaded under the lock of
-/// what names the leaf: it is the key's, after all changes that the pass has seen.
+/// Returns what the search of `job` found, with the value that the leaf has now, if the leaf has the key. The value is loaded under the
+/// lock of what names the leaf. So it is the key's value after all changes that the pass has seen.
 pub(crate) fn load_found_again<G: Gate>(
     table: &HotTable,
     seat: &mut TableSeat,
@@ -53,8 +53,8 @@ pub(crate) fn load_found_again<G: Gate>(
     }
 }
 
-/// Loads the value of the leaf that the search of `job` found, if it has the key, and returns whether it is the value in `job.found`. Else
-/// another pass has changed it since. If no leaf has the key, returns true.
+/// Returns whether the leaf that the search of `job` found still has the value in `job.found`, by one load. `false` means that another pass
+/// has changed the value since. `true`, without a step, if no leaf has the key.
 pub(crate) fn is_unchanged<G: Gate>(
     table: &HotTable,
     seat: &mut TableSeat,
@@ -79,8 +79,8 @@ pub(crate) fn is_unchanged<G: Gate>(
     }
 }
 
-/// Stores the value of `job` to the leaf that has the key, and unlocks what is locked. That store is the change. No record is claimed, and
-/// none goes.
+/// Stores the value of `job` to the leaf that has the key, and unlocks all that is locked. That store is the change. No record is claimed,
+/// and none is unlinked.
 pub(crate) fn store_value<G: Gate>(
     table: &HotTable,
     seat: &mut TableSeat,
