@@ -1,5 +1,5 @@
 -- A limit lets through some of a list that goes on behind the first part, where that part is shorter than the limit.
-use Rattle.std.proofs.Common.{◌≡◌, ◌≢◌, ℕ, zero, suc, ◌<◌, List, [], ◌∷◌, ◌++◌, length, take, sym, subst, arith}
+use Rattle.std.proofs.Common.{◌≡◌, ◌≢◌, ℕ, zero, suc, ◌<◌, List, [], ◌∷◌, ◌++◌, length, take, subst, arith}
 
 taken : {X : Type 0} (x : X) (xs : List X) (n : ℕ) → 0 < n → take n (x ∷ xs) ≢ []
 taken x xs zero some = absurd (omega arith)
