@@ -46,12 +46,16 @@ tree_plain v e t top head sound shown =
     subst (λ o. MatchOption o (Unit {0}) (λ _. IsSomeAnd (shown_tree v) IsSound)) (sym top)
     (subst (λ o. IsSomeAnd o IsSound) (sym (tree_is v e t top head sound shown)) sound)
 
+-- without an entry of the root the trie is the empty map
+pub no_map : (v : PlainView) → v.top ≡ None → trie_map v ≡ []
+no_map v top = ap map_read (ap (option_and_then (λ z. entry_tree v.nodes v.leaves (height_of z) z)) top)
+
 pub shows_trie : (v : PlainView) → ShowsSoundTree v → ShowsTrie v
 shows_trie v i = go v.top refl
   where
     go : (o : Option Entry) → v.top ≡ o → MatchOption o (trie_map v ≡ []) (λ e.
         (t : Tree) × (subtrie t ≡ Place e) × IsSound t × ShowsTree v.nodes v.leaves t × (trie_map v ≡ pairs (items t)))
-    go None top = ap map_read (ap (option_and_then (λ z. entry_tree v.nodes v.leaves (height_of z) z)) top)
+    go None top = no_map v top
     go (Some e) top = let t = plain_tree v e top i in (t.0, t.1.head, t.1.sound, t.1.shown, ap map_read t.1.is)
 
 -- the map of a trie's tree, and of none

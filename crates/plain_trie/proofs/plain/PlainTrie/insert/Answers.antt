@@ -19,3 +19,9 @@ returns-clause-ok c = elim c.match-branch-2.branch [
       let r = held_reply (trie_map c.args.self.now) k c.args.value l.value held in
       rw w.result-is (r.0, ap trie_map a.1 ∙ r.2)
 ]
+
+pub returns-clause-err : goal.returns-clause-err
+returns-clause-err c = elim c.match-branch-2.branch [
+  | in-None w ↦ rw w.result-is tt
+  | in-Some w ↦ rw w.result-is tt
+]

@@ -9,7 +9,7 @@ use Rattle.finite_map.specs.Scans.{IsScanOf, range_of}
 use Rattle.plain_trie_records.specs.Store.{ShowsSound}
 use Rattle.tries.specs.Tree.{Tree}
 use Rattle.plain_trie.specs.Views.{IsTree, PlainView}
-use Rattle.plain_trie.proofs.Views.{map_is, plain_tree}
+use Rattle.plain_trie.proofs.Views.{map_is, no_map, plain_tree}
 use Rattle.plain_trie.proofs.plain.PlainTrie.scan.Goals as goal
 use Rattle.plain_trie.proofs.plain.PlainTrie.scan.Goals.{In-Some}
 
@@ -26,6 +26,16 @@ scan_below-requires c = let d = (goal.at.scan_below-requires c).In-Some in recor
 -- the scan of no pairs
 none_yet : (from upto : List ℕ) (limit : ℕ) (scan : Scan) → scan.pairs.items ≡ [] → scan.more ≡ false → IsScanOf [] from upto limit scan
 none_yet from upto limit scan none more = record { pairs = none ∙ sym (take-nil limit); more = (λ h. absurd (false≢true (sym more ∙ h)), λ l. absurd (omega arith)) }
+
+-- without an entry of the root the map is empty
+pub returns-in_default-clause-scan : goal.returns-in_default-clause-scan
+returns-in_default-clause-scan c =
+    let scan : Scan = record { pairs = c.new.result; more = false } in
+    subst (λ (m : Map). IsScanOf m c.args.from.now c.args.upto.now c.args.limit scan)
+    (sym (no_map c.args.self.now (sym (ap (λ (v : PlainView). v.top) c.self.view_is) ∙ c.in_default.is))) (none_yet c.args.from.now c.args.upto.now c.args.limit scan c.new.ensures.items refl)
+
+pub returns-in_default-clause-memory : goal.returns-in_default-clause-memory
+returns-in_default-clause-memory c = tt
 
 pub returns-in_err-scan_below-clause-memory : goal.returns-in_err-scan_below-clause-memory
 returns-in_err-scan_below-clause-memory c =
