@@ -43,8 +43,9 @@ impl Replay {
     pub fn new(alloc: Global, layout: Layout) -> Result<Replay, AllocError>
         ensures { IfOk result (λ replay. replay ≡ new_run layout) }
     {
+        let state = State::new(alloc, layout)?;
         Ok(Replay {
-            state: State::new(alloc, layout)?,
+            state,
             history: History::new(&layout),
         })
     }
