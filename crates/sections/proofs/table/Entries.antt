@@ -1,9 +1,10 @@
 -- Entering a section, and taking a moment, by more than one step.
-use Rattle.std.proofs.Common.{◌≡◌, ◌<◌, ◌≤◌, ap, subst, ◌∙◌, arith}
+use Rattle.std.proofs.Common.{◌≡◌, ◌+◌, ◌<◌, ◌≤◌, ℕ, [], ap, inl, inr, refl, subst, ◌∙◌, arith}
 use Rattle.sections.specs.declared.events.SectionEvent.{SectionEvent}
 use Rattle.sections.specs.declared.events.SectionKnowledge.{SectionKnowledge}
+use Rattle.sections.specs.declared.table.TheConstants.{MOST_MOMENTS}
 use Rattle.sections.specs.Runs.{OthersRunOn, moments_in, word_in}
-use Rattle.sections.specs.Sections.{Enters, IsInside, SeesOthers, StartsCounting, SectionView}
+use Rattle.sections.specs.Sections.{Enters, IsInside, SeesOthers, StartsCounting, SectionView, TakesMoment, TakesNext}
 use Rattle.sections.proofs.Runs.{moments_grow, others_on, word_kept}
 
 -- a section that isn't open stays so while others act
@@ -41,3 +42,32 @@ module _ (s t u : SectionView) (counts : StartsCounting s t) (looks : SeesOthers
       }
 
 -- A moment: the number of those that had been taken at the load, and one
+module _ (s t : SectionView) (n : ℕ) (looks : SeesOthers s t) (found : n ≡ moments_in t.known.run) where
+  number_seen : t.known.number ≡ s.known.number
+  number_seen = ap (λ (z : SectionKnowledge). z.number) looks.known
+
+  count_seen : t.known.count ≡ s.known.count
+  count_seen = ap (λ (z : SectionKnowledge). z.count) looks.known
+
+  pub takes_moment : (u : SectionView) → TakesNext n t u → TakesMoment (n + 1) s u
+  takes_moment u next =
+      let more = next.taken in
+      record {
+        one = (next.table ∙ looks.table, ap (λ (z : SectionKnowledge). z.number) next.known ∙ number_seen, ap (λ (z : SectionKnowledge). z.count) next.known ∙ count_seen);
+        before = t.known.run;
+        others = looks.others;
+        fewer = omega (arith, found);
+        until = subst (λ z. OthersRunOn z t.known.run u.known.run) number_seen next.others;
+        taken = inl (omega (arith, more));
+      }
+
+  -- or none is left to take
+  pub takes_none : MOST_MOMENTS ≤ n → n ≤ MOST_MOMENTS → TakesMoment (n + 1) s t
+  takes_none all most = record {
+    one = (looks.table, number_seen, count_seen);
+    before = t.known.run;
+    others = looks.others;
+    fewer = omega (arith, found);
+    until = ([], refl, tt);
+    taken = inr (omega (arith, all, most), omega (arith, all, most, found));
+  }

@@ -10,3 +10,6 @@ store_entered-requires-clause-outside c =
 
 pub returns-clause-entered : goal.returns-clause-entered
 returns-clause-entered c out = (refl, enters_after c.args.section.now c.count_section.new.section c.load_moments-moments.new.section c.count_section.ensures c.load_moments-moments.ensures.looks c.store_entered.new.section c.store_entered.ensures)
+
+pub store_entered-requires-clause-moments : goal.store_entered-requires-clause-moments
+store_entered-requires-clause-moments c = (c.load_moments-moments.ensures.most, c.load_moments-moments.ensures.found)
