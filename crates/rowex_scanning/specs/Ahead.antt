@@ -60,9 +60,9 @@ FirstLeavesBeginAt layout count leaves starts = (i : ℕ) → i < count → IsSt
 abbrev pub LeavesBeginAt : (layout : Layout) → (leaves starts : List ℕ) → Type 0
 LeavesBeginAt layout leaves starts = (length starts ≡ length leaves) × FirstLeavesBeginAt layout (length leaves) leaves starts
 
--- The pass is sure of the entries in the next slots: those of the leaves, and then of the node, if there is one.
-pub record HasSeenAhead (direction : Direction) (known : Known) (version : ℕ) (top : PathNode) (ahead : Ahead) : Type 0 where
-  pub first : AreAhead direction known version top ahead.count ahead.leaves
+-- The pass is sure of the entries in the next slots: those of the first of these leaves, and then of the node, if there is one.
+pub record HasSeenAhead (direction : Direction) (known : Known) (version : ℕ) (top : PathNode) (leaves : List ℕ) (ahead : Ahead) : Type 0 where
+  pub first : AreAhead direction known version top ahead.count leaves
   pub node : IfSome ahead.node (IsNodeAhead direction known version top ahead.count)
 
 -- From a gap of this node, with `size` pairs so far, the walk has passed `count` leaves. It stands behind them, with their pairs.

@@ -32,9 +32,7 @@ const LEAST_PAIRS: usize = 4;
 /// What comes next in a node.
 #[derive(Clone, Copy)]
 pub(crate) struct Ahead {
-    /// The numbers of the leaves that come first, and 0 behind them.
-    pub leaves: [u32; MOST_AHEAD as usize],
-    /// How many these are.
+    /// How many leaves come first.
     pub count: u8,
     /// The node behind them, if it was looked at.
     pub node: Option<u32>,
@@ -63,6 +61,8 @@ fn most_slots(limit: usize, taken: usize) -> u8
 /// [`most_slots`] slots, or fewer if fewer are to come, but one at least. The leaves' numbers go to the first of `leaves`. Returns how many
 /// leaves these are, and that node, if there is one. Where the leaves' records begin goes to the first of `starts`. `sink` has the pairs so
 /// far.
+///
+/// What it returns has no array: one that is returned is copied, and can't be read before the stores of its elements are in the cache.
 #[inline(always)]
 pub(crate) fn load_entries_ahead<G: Gate, S: Tallies>(
     scan: &Scan,
@@ -70,6 +70,7 @@ pub(crate) fn load_entries_ahead<G: Gate, S: Tallies>(
     gate: &mut G,
     top: &PathNode,
     sink: &S,
+    leaves: &mut [u32; MOST_AHEAD as usize],
     starts: &mut [usize; MOST_AHEAD as usize],
 ) -> Ahead
     requires reader { IsReader scan.now.table.now seat.old }
@@ -82,31 +83,31 @@ pub(crate) fn load_entries_ahead<G: Gate, S: Tallies>(
         Reads scan.now.table.now G.becomes (entries_ahead result) n (seat.old, gate.old) (seat.new, gate.new) }
     ensures some { 0 < entries_ahead result }
     ensures come { entries_ahead result ≤ to_come_of scan.now.range.now.direction top.now.count top.now.slot }
-    ensures most { (result.count ≤ MOST_AHEAD) × (length result.leaves ≡ MOST_AHEAD) }
-    ensures wide { length starts.new ≡ MOST_AHEAD }
-    ensures starts { FirstLeavesBeginAt scan.now.table.now.layout result.count result.leaves starts.new }
+    ensures most { result.count ≤ MOST_AHEAD }
+    ensures wide { (length leaves.new ≡ MOST_AHEAD) × (length starts.new ≡ MOST_AHEAD) }
+    ensures starts { FirstLeavesBeginAt scan.now.table.now.layout result.count leaves.new starts.new }
     ensures few { (S.tally sink.now).size + entries_ahead result ≤ scan.now.range.now.limit + 1 }
     ensures ahead { (m : ℕ) → HasPlaces scan.now.range.now.direction seat.old.known m top.now →
-        HasSeenAhead scan.now.range.now.direction seat.new.known m top.now result }
+        HasSeenAhead scan.now.range.now.direction seat.new.known m top.now leaves.new result }
 {
     if scan.origins.layout.leaves < LEAST_LEAVES {
-        load_entries(scan, seat, gate, top, sink, starts, false)
+        load_entries::<G, S, false>(scan, seat, gate, top, sink, leaves, starts)
     } else {
-        load_entries(scan, seat, gate, top, sink, starts, true)
+        load_entries::<G, S, true>(scan, seat, gate, top, sink, leaves, starts)
     }
 }
 
-/// Does what [`load_entries_ahead`] does. The sink asks for the lines of leaves if `touches` says so: what is compiled for one value of it
+/// Does what [`load_entries_ahead`] does. The sink asks for the lines of leaves if `TOUCHES` says so: what is compiled for one value of it
 /// has a loop without that question.
 #[inline(always)]
-fn load_entries<G: Gate, S: Tallies>(
+fn load_entries<G: Gate, S: Tallies, const TOUCHES: bool>(
     scan: &Scan,
     seat: &mut TableSeat,
     gate: &mut G,
     top: &PathNode,
     sink: &S,
+    leaves: &mut [u32; MOST_AHEAD as usize],
     starts: &mut [usize; MOST_AHEAD as usize],
-    touches: bool,
 ) -> Ahead
     requires reader { IsReader scan.now.table.now seat.old }
     requires origins { scan.now.origins.now.layout ≡ scan.now.table.now.layout }
@@ -118,12 +119,12 @@ fn load_entries<G: Gate, S: Tallies>(
         Reads scan.now.table.now G.becomes (entries_ahead result) n (seat.old, gate.old) (seat.new, gate.new) }
     ensures some { 0 < entries_ahead result }
     ensures come { entries_ahead result ≤ to_come_of scan.now.range.now.direction top.now.count top.now.slot }
-    ensures most { (result.count ≤ MOST_AHEAD) × (length result.leaves ≡ MOST_AHEAD) }
-    ensures wide { length starts.new ≡ MOST_AHEAD }
-    ensures starts { FirstLeavesBeginAt scan.now.table.now.layout result.count result.leaves starts.new }
+    ensures most { result.count ≤ MOST_AHEAD }
+    ensures wide { (length leaves.new ≡ MOST_AHEAD) × (length starts.new ≡ MOST_AHEAD) }
+    ensures starts { FirstLeavesBeginAt scan.now.table.now.layout result.count leaves.new starts.new }
     ensures few { (S.tally sink.now).size + entries_ahead result ≤ scan.now.range.now.limit + 1 }
     ensures ahead { (m : ℕ) → HasPlaces scan.now.range.now.direction seat.old.known m top.now →
-        HasSeenAhead scan.now.range.now.direction seat.new.known m top.now result }
+        HasSeenAhead scan.now.range.now.direction seat.new.known m top.now leaves.new result }
 {
     let count = entries_to_come(scan.range.direction, top).min(most_slots(
         scan.range.limit,
@@ -132,31 +133,25 @@ fn load_entries<G: Gate, S: Tallies>(
     let node = RecordAt::find(scan.origins, Rec::Node(top.number));
     // Taken out of the loop by hand: each load in it is an atomic one, behind which the compiler reads memory again.
     let (direction, top) = (scan.range.direction, *top);
-    let mut leaves = [0; MOST_AHEAD as usize];
     let mut slots = Slots::to_come(direction, top);
     for index in 0..count {
         let slot = slots.next_slot();
         match load_entry(scan.table, seat, gate, node, slot) {
             Entry::Node { number, .. } => {
                 return Ahead {
-                    leaves,
                     count: index,
                     node: Some(number),
                 };
             }
             Entry::Leaf(number) => {
                 let leaf = RecordAt::find(scan.origins, Rec::Leaf(number));
-                sink.touch_leaf(scan, seat, leaf, touches);
+                sink.touch_leaf(scan, seat, leaf, TOUCHES);
                 starts[index as usize] = leaf.start;
                 leaves[index as usize] = number;
             }
         }
     }
-    Ahead {
-        leaves,
-        count,
-        node: None,
-    }
+    Ahead { count, node: None }
 }
 
 /// Asks for the first cache lines of `leaf`, which is read soon, if `touches` says so. So those of several leaves come side by side.

@@ -235,15 +235,16 @@ fn walk_slots<G: Gate, S: Sink>(
         last: [0; MAX_BYTES],
         next: [0; MAX_BYTES],
     };
+    let mut leaves = [0; MOST_AHEAD as usize];
     let mut starts = [0; MOST_AHEAD as usize];
     let Some(mut top) = way.pop() else {
         return Ok(false);
     };
     loop {
         if entries_to_come(direction, &top) > 0 {
-            let ahead = load_entries_ahead(scan, seat, gate, &top, sink, &mut starts);
+            let ahead = load_entries_ahead(scan, seat, gate, &top, sink, &mut leaves, &mut starts);
             let count = ahead.count as usize;
-            let (next, starts) = (&ahead.leaves[..count], &starts[..count]);
+            let (next, starts) = (&leaves[..count], &starts[..count]);
             match sink.take_leaves(scan, seat, gate, next, starts, places)? {
                 Verdict::Further => (),
                 Verdict::Past => return Ok(false),

@@ -16,49 +16,49 @@ same : (g : given.Over) (c : After-load_entries_ahead-ahead g) → since c.load_
 same g c = same_since (reads_trans c.loop-seat.invariant.reads.3 c.load_entries_ahead-ahead.ensures.reads.2)
 
 -- So many leaves were seen, which come next.
-long : (g : given.Over) (c : After-load_entries_ahead-ahead g) → length (take c.load_entries_ahead-ahead.result.count c.load_entries_ahead-ahead.result.leaves) ≡ c.load_entries_ahead-ahead.result.count
+long : (g : given.Over) (c : After-load_entries_ahead-ahead g) → length (take c.load_entries_ahead-ahead.result.count c.load_entries_ahead-ahead.new.leaves) ≡ c.load_entries_ahead-ahead.result.count
 long g c =
-    let (most, room) = c.load_entries_ahead-ahead.ensures.most in
-    length-take-le c.load_entries_ahead-ahead.result.count c.load_entries_ahead-ahead.result.leaves (omega (arith, most, room))
+    let most = c.load_entries_ahead-ahead.ensures.most in let room = c.load_entries_ahead-ahead.ensures.wide.0 in
+    length-take-le c.load_entries_ahead-ahead.result.count c.load_entries_ahead-ahead.new.leaves (omega (arith, most, room))
 
 next : (g : given.Over) (c : After-load_entries_ahead-ahead g) →
-    AreNext c.load_entries_ahead-ahead.new.seat.known (request_of c.args.scan.now.range.now) c.loop-seat.top c.loop-seat.way.items (g.S.Tallies.tally c.loop-seat.sink) (take c.load_entries_ahead-ahead.result.count c.load_entries_ahead-ahead.result.leaves)
+    AreNext c.load_entries_ahead-ahead.new.seat.known (request_of c.args.scan.now.range.now) c.loop-seat.top c.loop-seat.way.items (g.S.Tallies.tally c.loop-seat.sink) (take c.load_entries_ahead-ahead.result.count c.load_entries_ahead-ahead.new.leaves)
 next g c =
     let i = c.loop-seat.invariant in let e = c.load_entries_ahead-ahead.ensures in let later = reads_later e.reads.2 in let m = since c.args.seat.now.known in
-    let d = c.args.scan.now.range.now.direction in let key = first_key d (asked_range c.args.scan.now.range.now) in let leaves = take c.load_entries_ahead-ahead.result.count c.load_entries_ahead-ahead.result.leaves in
-    let (most, room) = e.most in let come = e.come in let n = long g c in
+    let d = c.args.scan.now.range.now.direction in let key = first_key d (asked_range c.args.scan.now.range.now) in let leaves = take c.load_entries_ahead-ahead.result.count c.load_entries_ahead-ahead.new.leaves in
+    let most = e.most in let room = e.wide.0 in let come = e.come in let n = long g c in
     record {
       bound = (walk_since (same g c) (walk_later later i.walk), bound_since d m key (same g c) (bound_later d m key later i.bound));
       ahead = subst (λ z. AreAhead d c.load_entries_ahead-ahead.new.seat.known z c.loop-seat.top (length leaves) leaves) (sym (same g c))
-          (ahead_first d m c.loop-seat.top c.load_entries_ahead-ahead.result.count c.load_entries_ahead-ahead.result.leaves (omega (arith, most, room)) (e.ahead m (walk_places i.walk)).first);
+          (ahead_first d m c.loop-seat.top c.load_entries_ahead-ahead.result.count c.load_entries_ahead-ahead.new.leaves (omega (arith, most, room)) (e.ahead m (walk_places i.walk)).first);
       come = omega (arith, come, n);
     }
 
 -- All leaves were passed.
-passed : (g : given.Over) (c : In-Further g) → length (take c.load_entries_ahead-ahead.result.count c.load_entries_ahead-ahead.result.leaves) ≡ c.load_entries_ahead-ahead.result.count →
-    AreNext c.load_entries_ahead-ahead.new.seat.known (request_of c.args.scan.now.range.now) c.loop-seat.top c.loop-seat.way.items (g.S.Tallies.tally c.loop-seat.sink) (take c.load_entries_ahead-ahead.result.count c.load_entries_ahead-ahead.result.leaves) →
+passed : (g : given.Over) (c : In-Further g) → length (take c.load_entries_ahead-ahead.result.count c.load_entries_ahead-ahead.new.leaves) ≡ c.load_entries_ahead-ahead.result.count →
+    AreNext c.load_entries_ahead-ahead.new.seat.known (request_of c.args.scan.now.range.now) c.loop-seat.top c.loop-seat.way.items (g.S.Tallies.tally c.loop-seat.sink) (take c.load_entries_ahead-ahead.result.count c.load_entries_ahead-ahead.new.leaves) →
     HavePassed c.take_leaves.new.seat.known (since c.args.seat.now.known) (request_of c.args.scan.now.range.now) c.loop-seat.way.items c.loop-seat.top (g.S.Tallies.tally c.loop-seat.sink).size c.load_entries_ahead-ahead.result.count (g.S.Tallies.tally c.take_leaves.new.self)
 passed g c n next =
     let r = request_of c.args.scan.now.range.now in let top = c.loop-seat.top in let frames = c.loop-seat.way.items in
-    let count = length (take c.load_entries_ahead-ahead.result.count c.load_entries_ahead-ahead.result.leaves) in let k = c.take_leaves.new.seat.known in let size = (g.S.Tallies.tally c.loop-seat.sink).size in let t = g.S.Tallies.tally c.take_leaves.new.self in
+    let count = length (take c.load_entries_ahead-ahead.result.count c.load_entries_ahead-ahead.new.leaves) in let k = c.take_leaves.new.seat.known in let size = (g.S.Tallies.tally c.loop-seat.sink).size in let t = g.S.Tallies.tally c.take_leaves.new.self in
     let p = taken_all (HavePassed k (since c.load_entries_ahead-ahead.new.seat.known) r frames top size count t) (HasTaken r.0 k r.1 t)
     (c.in_ok-take_leaves.ensures.taken top frames next) c.in-Further.is in
     subst (λ z. HavePassed k (since c.args.seat.now.known) r frames top size z t) n
     (subst (λ z. HavePassed k z r frames top size count t) (same_since (reads_trans c.loop-seat.invariant.reads.3 c.load_entries_ahead-ahead.ensures.reads.2)) p)
 
 -- The loads so far, where the scan ends at a leaf: by the limit,
-paid : (g : given.Over) (c : After-take_leaves g) → length (take c.load_entries_ahead-ahead.result.count c.load_entries_ahead-ahead.result.leaves) ≡ c.load_entries_ahead-ahead.result.count →
+paid : (g : given.Over) (c : After-take_leaves g) → length (take c.load_entries_ahead-ahead.result.count c.load_entries_ahead-ahead.new.leaves) ≡ c.load_entries_ahead-ahead.result.count →
     Walks c.args.scan.now.table.now g.G.Gate.becomes 0 c.args.scan.now.range.now.limit (c.args.seat.now, c.args.gate.now) (c.take_leaves.new.seat, c.take_leaves.new.gate)
 paid g c n =
     let i = c.loop-seat.invariant in let e = c.load_entries_ahead-ahead.ensures in let (t, few, reads) = c.take_leaves.ensures.reads in
     paid_last c.args.scan.now.range.now.limit i.reads i.walk i.reader.1 c.load_entries_ahead-ahead.result (walk_short i.walk i.reader.1) e.few e.reads (t, omega (arith, few, n), reads)
 
 -- and by the pairs that were taken.
-paid_so : (g : given.Over) (c : After-take_leaves g) → length (take c.load_entries_ahead-ahead.result.count c.load_entries_ahead-ahead.result.leaves) ≡ c.load_entries_ahead-ahead.result.count →
+paid_so : (g : given.Over) (c : After-take_leaves g) → length (take c.load_entries_ahead-ahead.result.count c.load_entries_ahead-ahead.new.leaves) ≡ c.load_entries_ahead-ahead.result.count →
     Walks c.args.scan.now.table.now g.G.Gate.becomes 0 ((g.S.Tallies.tally c.take_leaves.new.self).size + MOST_AHEAD) (c.args.seat.now, c.args.gate.now) (c.take_leaves.new.seat, c.take_leaves.new.gate)
 paid_so g c n =
     let i = c.loop-seat.invariant in let e = c.load_entries_ahead-ahead.ensures in let (t, few, reads) = c.take_leaves.ensures.reads in
-    let more = c.take_leaves.ensures.more in let (most, _) = e.most in let seen = ahead_most c.load_entries_ahead-ahead.result in
+    let more = c.take_leaves.ensures.more in let most = e.most in let seen = ahead_most c.load_entries_ahead-ahead.result in
     paid_last ((g.S.Tallies.tally c.take_leaves.new.self).size + MOST_AHEAD) i.reads i.walk i.reader.1 c.load_entries_ahead-ahead.result (omega (arith, more)) (omega (arith, more, most, seen)) e.reads (t, omega (arith, few, n), reads)
 
 -- The walk is before the node that comes behind the leaves,
@@ -103,8 +103,8 @@ take_leaves-requires-clause-next g c = (c.loop-seat.top, c.loop-seat.way.items, 
 
 pub take_leaves-requires-clause-starts : goal.take_leaves-requires-clause-starts
 take_leaves-requires-clause-starts g c =
-    let e = c.load_entries_ahead-ahead.ensures in let (most, room) = e.most in let wide = e.wide in
-    starts_first c.args.scan.now.table.now.layout c.load_entries_ahead-ahead.result.count c.load_entries_ahead-ahead.result.leaves c.load_entries_ahead-ahead.new.starts (omega (arith, most, room)) (omega (arith, most, wide)) e.starts
+    let e = c.load_entries_ahead-ahead.ensures in let most = e.most in let (room, wide) = e.wide in
+    starts_first c.args.scan.now.table.now.layout c.load_entries_ahead-ahead.result.count c.load_entries_ahead-ahead.new.leaves c.load_entries_ahead-ahead.new.starts (omega (arith, most, room)) (omega (arith, most, wide)) e.starts
 
 pub take_leaves-requires-clause-few : goal.take_leaves-requires-clause-few
 take_leaves-requires-clause-few g c =
