@@ -62,7 +62,7 @@ fn most_slots(limit: usize, taken: usize) -> u8
 /// leaves these are, and that node, if there is one. Where the leaves' records begin goes to the first of `starts`. `sink` has the pairs so
 /// far.
 ///
-/// What it returns has no array: one that is returned is copied, and can't be read before the stores of its elements are in the cache.
+/// The numbers are written to the walk's own array: one that is returned would be copied, and a copy waits for the stores of its elements.
 #[inline(always)]
 pub(crate) fn load_entries_ahead<G: Gate, S: Tallies>(
     scan: &Scan,
@@ -98,7 +98,7 @@ pub(crate) fn load_entries_ahead<G: Gate, S: Tallies>(
 }
 
 /// Does what [`load_entries_ahead`] does. The sink asks for the lines of leaves if `TOUCHES` says so: what is compiled for one value of it
-/// has a loop without that question.
+/// has a loop without that question. For a count, which reads no start, the compiler leaves out what finds the records.
 #[inline(always)]
 fn load_entries<G: Gate, S: Tallies, const TOUCHES: bool>(
     scan: &Scan,

@@ -269,6 +269,8 @@ fn walk_slots<G: Gate, S: Sink>(
 }
 
 /// Loads the head of node `number`. Returns the node of a walk that stands at the gap before its first entry in the direction `direction`.
+/// Inline, so that the walk has the node's parts in registers: a processor waits where parts are stored one by one and then read as one.
+#[inline(always)]
 fn enter_node_at_gap<G: Gate>(
     table: &HotTable,
     seat: &mut TableSeat,
