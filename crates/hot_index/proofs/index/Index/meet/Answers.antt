@@ -1,5 +1,5 @@
 -- What the seats have seen, the passes have.
-use Rattle.hot_index.proofs.Common.{subst, ap, ◌∙◌, Known, IsShownAll, TableView, HaveMet, PassView, pass_of}
+use Rattle.hot_index.proofs.Common.{subst, ap, ◌∙◌, Known, IsShownAll, TableView, HaveMet, Owns, PassView, pass_of}
 use Rattle.hot_index.specs.Stamps.{HasSeenMore}
 use Rattle.hot_index.proofs.KeyCounts.Counted.{settled_on}
 use Rattle.hot_index.proofs.index.Meets.{first_settled, second_settled, passes_met, seen_more}
@@ -53,3 +53,10 @@ returns-clause-shown c =
       subst (λ (z : PassView). IsShownAll c.self.inside.table.layout z.seat one) c.first.view_is shown.0,
       subst (λ (z : PassView). IsShownAll c.self.inside.table.layout z.seat other) c.second.view_is shown.1,
     )
+
+pub returns-clause-own : goal.returns-clause-own
+returns-clause-own c =
+    subst (λ (x : TableView). Owns x (pass_of c.meet_seats-first.result.0) × Owns x (pass_of c.meet_seats-first.result.1)) c.self.view_is c.meet_seats-first.ensures.own
+
+pub returns-clause-traces : goal.returns-clause-traces
+returns-clause-traces c = assumption
