@@ -118,9 +118,17 @@ class Stalls(unittest.TestCase):
             self.watch(f"{count} pairs a command", pairs(count), under_way)
             self.watch(f"{count} look-ups a command", fields("OM.MGET", count), under_way)
             self.watch(f"{count} removals a command", fields("OM.DEL", count), under_way)
-            self.client.run_all(pairs(100))
+            self.server.client.delete("m")
+            self.watch(f"{count} new pairs a command", pairs(count), under_way)
         for name in ("OM.MGET", "OM.DEL"):
             self.watch(f"{name} of 10,000 fields", fields(name, 10_000), 1)
+
+    def test_first_index(self) -> None:
+        """Nor does it wait for the system where a server has its first index."""
+        with self.watched("first"):
+            self.client.run("OM.SET", "m", *[word for at in range(300) for word in (field(at), text(at))])
+        used, spent = self.least["first"]
+        self.assertLessEqual(spent - used, MOST)
 
     def test_large_maps(self) -> None:
         """A work that took longer is done again: something else may have been at the processor's caches."""
