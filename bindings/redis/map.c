@@ -76,18 +76,12 @@ static int set_in_block(block_edit *of, setting *it, field key, field value) {
     return 1;
 }
 
-/* Sets pairs of a small map, or of one that isn't there yet. HOT_FULL_LEAVES if they are too many for one. */
-static hot_status set_small(map *of, setting *it, map **made) {
-    block_edit edit = edit_of(small_of(of));
-    size_t at;
-    it->set = it->new_fields = 0;
-    for (at = 0; at < it->count; at++)
-        if (!set_in_block(&edit, it, it->words[2 * at], it->words[2 * at + 1]))
-            return HOT_FULL_LEAVES;
-    *made = of;
-    if (it->set > 0)
-        *made = map_of_block(edit.bytes, edit.used, edit.count);
-    return it->set > 0 && *made == NULL ? HOT_NO_MEMORY : HOT_DONE;
+/* Sets pairs in a block, and returns how many: all, or those before the first that the block is too small for. */
+static size_t set_in_small(block_edit *of, setting *it) {
+    size_t at = 0;
+    while (at < it->count && set_in_block(of, it, it->words[2 * at], it->words[2 * at + 1]))
+        at++;
+    return at;
 }
 
 static size_t take_small(map *of, const field *fields, size_t count, map **made) {
@@ -130,10 +124,8 @@ static block_reader reader_of(const small_map *of) {
     return from;
 }
 
-static indexed_map *index_of_small(const map *of) {
-    block_reader from = {0};
-    if (of != NULL)
-        from = reader_of(small_of(of));
+static indexed_map *index_of_block(const block_edit *of) {
+    block_reader from = {of->bytes, of->bytes + of->used, 0, {0}};
     return index_new(next_of_block, &from);
 }
 
@@ -205,7 +197,6 @@ static hot_status set_many(indexed_map *of, setting *it) {
 static hot_status set_indexed(indexed_map *of, setting *it) {
     hot_status status;
     step did;
-    it->set = it->new_fields = 0;
     if (it->count > 1)
         return set_many(of, it);
     status = set_in_index(of, it, it->words[0], it->words[1], &did);
@@ -214,24 +205,39 @@ static hot_status set_indexed(indexed_map *of, setting *it) {
     return status;
 }
 
-hot_status map_set(map *of, setting *it, map **made) {
+/* Sets the rest of the pairs in an index of the block that has the first. */
+static hot_status set_beyond(const block_edit *of, setting *it, size_t first, map **made) {
+    indexed_map *larger = index_of_block(of);
+    setting rest = *it;
     hot_status status;
-    indexed_map *larger;
-    *made = of;
-    if (of != NULL && of->form == INDEXED)
-        return set_indexed(indexed_of(of), it);
-    status = set_small(of, it, made);
-    if (status != HOT_FULL_LEAVES)
-        return status;
-    larger = index_of_small(of);
     if (larger == NULL)
         return HOT_NO_MEMORY;
-    status = set_indexed(larger, it);
+    rest.words += 2 * first;
+    rest.count -= first;
+    status = set_indexed(larger, &rest);
+    it->set = rest.set;
+    it->new_fields = rest.new_fields;
     if (status == HOT_DONE)
         *made = (map *)larger;
     else
         map_drop((map *)larger);
     return status;
+}
+
+hot_status map_set(map *of, setting *it, map **made) {
+    block_edit edit;
+    size_t first;
+    *made = of;
+    it->set = it->new_fields = 0;
+    if (of != NULL && of->form == INDEXED)
+        return set_indexed(indexed_of(of), it);
+    edit = edit_of(small_of(of));
+    first = set_in_small(&edit, it);
+    if (first < it->count)
+        return set_beyond(&edit, it, first, made);
+    if (it->set > 0)
+        *made = map_of_block(edit.bytes, edit.used, edit.count);
+    return *made == NULL && it->set > 0 ? HOT_NO_MEMORY : HOT_DONE;
 }
 
 /* ---- Removals ---- */
