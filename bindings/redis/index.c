@@ -256,8 +256,16 @@ static void look(indexed_map *of) {
     if (of->count > of->most)
         note_most(of);
     index_tell(of);
+    of->asked = of->count;
     if (of->count >= LARGE && hot_is_filling(of->index))
         jobs_resize(of, 0);
+}
+
+int index_is_short(const indexed_map *of, uint64_t more) {
+    /* A filling table has room for half as many more. But each takes a node, and gives one back that can be used once the job's
+     * call has ended: on a busy machine that may be late, and a command of many pairs finds none. */
+    enum { MANY = 100 };
+    return of->is_growing && of->count + more > of->asked + of->asked / (more < MANY ? 2 : 16);
 }
 
 hot_status index_put(indexed_map *of, field key, word value, word *had) {
@@ -287,6 +295,7 @@ void index_trim(indexed_map *of) {
     if (most < LARGE || of->count >= most / 8 || of->is_growing)
         return;
     of->most = of->count;
+    of->asked = most;
     if (!jobs_resize(of, 1))
         of->most = most;
 }

@@ -20,6 +20,9 @@ indexed_map *index_new(hot_source *next, void *context);
  * retired. */
 hot_status index_put(indexed_map *of, field key, word value, word *had);
 
+/* Whether so many more pairs might fill the table before a job has made the next one. */
+int index_is_short(const indexed_map *of, uint64_t more);
+
 /* Removes a field: 1 if it was there. */
 int index_take(indexed_map *of, field key, word *had);
 

@@ -45,6 +45,7 @@ typedef struct indexed_map {
     uint64_t most; /* so many pairs it had since its table was made, whose keys had this length on average */
     uint64_t mean_key;
     uint32_t next_look; /* after so many further new pairs it is looked how full the table is */
+    uint64_t asked;     /* so many pairs it had when a job was asked for another table, or more */
     retired *gone;      /* values that jobs may still read */
     size_t gone_first, gone_count, gone_room;
     void *told; /* memory of the server that stands for the index's: see index_tell */

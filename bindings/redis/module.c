@@ -11,6 +11,7 @@
 #include "jobs.h"
 #include "server.h"
 #include "type.h"
+#include "waits.h"
 #include <limits.h>
 #include <sys/prctl.h>
 
@@ -45,6 +46,7 @@ static void write_info(RedisModuleInfoCtx *ctx, int for_crash_report) {
     RedisModule_InfoAddFieldULongLong(ctx, "growths", growth_count);
     RedisModule_InfoAddFieldULongLong(ctx, "reads", read_count);
     RedisModule_InfoAddFieldULongLong(ctx, "clients_gone", gone_count);
+    RedisModule_InfoAddFieldULongLong(ctx, "waits", wait_count);
     RedisModule_InfoAddFieldULongLong(ctx, "most_pairs_at_once", most_at_once);
 }
 

@@ -173,6 +173,7 @@ typedef struct RedisModuleTypeMethods {
     X(int, UnblockClient, (RedisModuleBlockedClient * client, void *data))                                                         \
     X(void, SetDisconnectCallback, (RedisModuleBlockedClient * client, RedisModuleDisconnectFunc * call))                          \
     X(uint64_t, CreateTimer, (RedisModuleCtx * ctx, long long milliseconds, RedisModuleTimerProc *call, void *of))                 \
+    X(int, IsBlockedReplyRequest, (RedisModuleCtx * ctx))                                                                          \
     X(int, AvoidReplicaTraffic, (void))                                                                                            \
     X(int, BlockedClientMeasureTimeStart, (RedisModuleBlockedClient * client))                                                     \
     X(int, BlockedClientMeasureTimeEnd, (RedisModuleBlockedClient * client))                                                       \

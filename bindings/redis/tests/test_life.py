@@ -8,6 +8,7 @@ import random
 import threading
 import time
 import unittest
+from pathlib import Path
 from typing import Callable
 
 import redis
@@ -354,6 +355,9 @@ class Memory(unittest.TestCase):
         with Server() as server:
             before = server.figure("used_memory")
             fill(server, "m", some_pairs(50_000))
+            # Where it waited for a table, the server has a buffer with its further commands.
+            server.client.connection_pool.disconnect()
+            server.client.ping()
             used = server.figure("used_memory") - before
             self.assertGreater(used, 50_000 * 30)
             self.assertGreater(server.client.memory_usage("m"), used * 0.7)
@@ -391,6 +395,30 @@ class Memory(unittest.TestCase):
             self.assertRaises(redis.ResponseError, server.client.config_set, "ordered_map.threads", 1)
 
 
+def hold_resizer(server: Server) -> None:
+    """All threads have one processor, and the one that makes tables what others leave of it."""
+    assert server.process is not None
+    one = {min(os.sched_getaffinity(0))}
+    for task in Path(f"/proc/{server.process.pid}/task").iterdir():
+        os.sched_setaffinity(int(task.name), one)
+        if (task / "comm").read_text() == "map_resizer\n":
+            os.setpriority(os.PRIO_PROCESS, int(task.name), 19)
+
+
+def write_at_once(server: Server, pairs: "list[tuple[bytes, bytes]]") -> None:
+    """Sets a thousand pairs a command, and counts the commands. Every fifth is one of a transaction, and a client that leaves makes the same."""
+    client = redis.Redis(port=server.port)
+    for at in range(0, len(pairs), 1_000):
+        words = ["OM.SET", "m", *flat(pairs[at : at + 1_000])]
+        with client.pipeline(transaction=at % 5_000 == 0) as pipe:
+            pipe.execute_command(*words)
+            pipe.execute_command("OM.ADD", "m", "counter", 1)
+            pipe.execute()
+        other = redis.Redis(port=server.port).connection_pool.get_connection("_")
+        other.send_command(*words)
+        other.disconnect()
+
+
 class Jobs(unittest.TestCase):
     def test_reads_beside_changes(self) -> None:
         """Reads by jobs are in order, have each field that stays, and each value whole, while values are replaced and fields come and go, maps are
@@ -417,6 +445,28 @@ class Jobs(unittest.TestCase):
                         pipe.execute()
                 pipe.execute()
             self.assertEqual(server.run("OM.RANGE", "m", "-", "+", "WITHVALUES"), flat(sorted(pairs.items())))
+
+    def test_waits(self) -> None:
+        """Where the thread that makes tables gets little of a processor, clients wait for one. Each change is made once, and in the file and the
+        replica, too. Clients that can't wait don't, and some leave."""
+        pairs = some_pairs(60_000)
+        with Server("--appendonly", "yes") as server, Server("--replicaof", f"127.0.0.1 {server.port}") as replica:
+            hold_resizer(server)
+            writers = [threading.Thread(target=write_at_once, args=(server, list(pairs.items())[at::4])) for at in range(4)]
+            for writer in writers:
+                writer.start()
+            for writer in writers:
+                writer.join()
+            self.assertGreater(server.figure("ordered_map_waits"), 0)
+            self.assertEqual(server.figure("blocked_clients"), 0)
+            pairs[b"counter"] = b"60"
+            self.assertEqual(server.run("OM.RANGE", "m", "-", "+", "WITHVALUES"), flat(sorted(pairs.items())))
+            before = digest(server)
+            self.assertEqual(server.client.wait(1, 30_000), 1)
+            self.assertEqual(digest(replica), before)
+            server.stop()
+            server.start("--appendonly", "yes")
+            self.assertEqual(digest(server), before)
 
     def test_clients_that_go(self) -> None:
         """A read for a client that has left ends, and the map goes with it."""
