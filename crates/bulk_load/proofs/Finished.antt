@@ -2,7 +2,7 @@
 use Rattle.bulk_load.proofs.Common.{◌≡◌, ◌⊎◌, inl, inr, ℕ, zero, suc, ◌+◌, ◌*◌, ◌^◌, ◌<◌, ◌≤◌, Bool, nat_lt, if◌then◌else◌, List, [], Option, Some, None, get_or, length, refl, ap, sym, subst, ◌∙◌, arith, All, set, cases_lt, le-ltb, lt-ltb, get_or-set_same, get_or-set_other, length-set, none-some, All-from_get_or, trie_if_local, some_injective, Entry, Leaf, Node, MAX_BYTES, Place, size, size_pos, EPOCH_WORD, ROOT_WORD, ANCHOR_WORD, FIRST_PIN, LINE_WORDS, Layout, Epoch, Root, Anchor, PinOf, NodeWord, LeafWord, HasEntryWord, entry_word, node_start, leaf_start, leaf_size, address, IsInTable, state_word, size_fits, Item, items, IsLocal, Tree, leaf, node, fork, subtrie, IsTrie, IsBuilt, lower_positive, Rec, a_node, a_leaf, Heap, IsShown, IsLinked, IsTop, items_of, linked_cases, Core, heap_of, fields_in, HasRecord, FitsIn, IsLoad, after, loaded_root, loaded_tree, tree_of, opening, IsPacked, node_words_of, leaf_of, word_at, tag_of, entry_of_word}
 use Rattle.bulk_load.specs.declared.builder.Builder.{Builder}
 use Rattle.bulk_load.specs.declared.tips.Tip.{Tip}
-use Rattle.bulk_load.specs.Loading.{IsOnePiece, IsPiece, IsTreeOf, StandsFor}
+use Rattle.bulk_load.specs.Loading.{IsOnePiece, IsPiece, IsTreeOf, MayTakePlaceOf}
 use Rattle.bulk_load.specs.Stacks.{LeftPiece, whole_of, with_right}
 use Rattle.bulk_load.proofs.Stacks.{length_tips}
 use Rattle.bulk_load.specs.Tips.{tip, tips_of}
@@ -173,7 +173,7 @@ node_left l t xs a count long = go (cases_lt 1 count)
 
 -- the tree that stands for it then, of one entry
 pub closed_tree : (l m : Builder) (t : Tree) (xs : List Item) → IsOnePiece l t xs → (count result : ℕ) → count ≡ length l.tips.items → result ≡ (if nat_lt 1 count then 1 else count) →
-    ((ls : List LeftPiece) (z : Tree) (right : Option LeftPiece) → IsPiece l ls z right count 0 → (y : Tree) × StandsFor y z result × IsTreeOf m (whole_of ls (with_right y right))) →
+    ((ls : List LeftPiece) (z : Tree) (right : Option LeftPiece) → IsPiece l ls z right count 0 → (y : Tree) × MayTakePlaceOf y z result × IsTreeOf m (whole_of ls (with_right y right))) →
     (y : Tree) × IsTreeOf m y × (items y ≡ xs) × (size (subtrie y) ≡ 1)
 closed_tree l m t xs a count result long is closes =
     let (y, st, ty) = closes [] t None (lone_piece l t a.tree count long) in

@@ -10,9 +10,9 @@ use Rattle.rowex_core.specs.Opening.{opening}
 use Rattle.rowex_core.specs.Words.{Shows}
 use Rattle.bulk_load.specs.Views.{load_act}
 
--- the words of a table show a load of these leaves, which leaves a node record spare
-pub record IsFinished (layout : Layout) (words : List ℕ) (xs : List Item) : Type 0 where
+-- The words of a table show what a load has made of the leaves `taken`: their tree, and the core after the load. Some node record is spare.
+pub record IsFinished (layout : Layout) (words : List ℕ) (taken : List Item) : Type 0 where
   pub load : IsLoad layout words
   pub shows : Shows (after (opening layout) 0 (load_act words)) words
-  pub items : items_of (loaded_tree layout words) ≡ xs
-  pub spare : (n : ℕ) × (n < layout.nodes) × ¬ IsLinked (loaded_tree layout words) (a_node n)
+  pub items : items_of (loaded_tree layout words) ≡ taken
+  pub spare : (number : ℕ) × (number < layout.nodes) × ¬ IsLinked (loaded_tree layout words) (a_node number)

@@ -23,12 +23,12 @@ use Rattle.bulk_load.specs.Tips.{tips_of}
 use Rattle.bulk_load.specs.Stacks.{LeftPiece, whole_of, counts, position_of, with_right}
 use Rattle.bulk_load.specs.Tables.{AreCursors, HoldsTree, leaf_class, state_in}
 
--- the leaves of the trees below the tips' entries, as the words show them
+-- the leaves of the trees below the entries of these tips, as the words of records show them
 abbrev pub items_under : Heap → List Tip → List Item
 items_under heap [] = []
-items_under heap (s ∷ ss) = items_of (tree_of heap (Some s.entry)) ++ items_under heap ss
+items_under heap (tip ∷ tips) = items_of (tree_of heap (Some tip.entry)) ++ items_under heap tips
 
--- the leaves that a builder has taken
+-- the leaves that a builder has taken, as its words and tips show them
 abbrev pub items_in : Builder → List Item
 items_in builder = items_under (heap_of (fields_in builder.layout builder.words.items)) builder.tips.items
 
@@ -38,88 +38,90 @@ greatest_key (leaf number key value) = key
 greatest_key (node number fixed body) = greatest_key body
 greatest_key (fork position left right) = greatest_key right
 
--- The builder's words and tips show the tree, which is a lawful one. Its nodes are among those that were taken.
+-- The words and tips of the builder show the tree, which is lawful. The builder has taken the node records of its nodes.
 pub record IsTreeOf (builder : Builder) (tree : Tree) : Type 0 where
   pub table : HoldsTree builder.layout builder.words.items (Some tree)
   pub ordered : IsLocal tree
   pub built : IsBuilt tree
   pub tips_are : builder.tips.items ≡ tips_of 0 (subtrie tree)
-  pub taken : (n : ℕ) → Links tree (a_node n) → n < builder.nodes
+  pub taken : (number : ℕ) → Links tree (a_node number) → number < builder.nodes
 
--- the builder counts the entries of these pieces and of the tree to their right, at most 32 each
-pub record HasPieces (builder : Builder) (ls : List LeftPiece) (top : Tree) : Type 0 where
-  pub counts_are : map (λ (p : StackedPiece). p.count) builder.pieces.items ≡ counts ls top
-  pub few : All (λ n. n ≤ 32) (counts ls top)
+-- The builder counts the entries of the pieces on its stack, and of the tree to their right. Each has at most 32.
+pub record HasPieces (builder : Builder) (levels : List LeftPiece) (top : Tree) : Type 0 where
+  pub counts_are : map (λ (one : StackedPiece). one.count) builder.pieces.items ≡ counts levels top
+  pub few : All (λ count. count ≤ 32) (counts levels top)
 
--- No node was taken yet, and one node takes all tips and `more` leaves more. Closing takes one record then, and one is left.
+-- The builder has taken no node record yet. One node has room for all tips and `more` leaves more. To close the pieces takes one record
+-- then, and one is left.
 abbrev pub FitsOneNode : (builder : Builder) → (more : ℕ) → Type 0
 FitsOneNode builder more = (builder.nodes ≡ 0) × (length builder.tips.items + more ≤ 32) × (2 ≤ builder.layout.nodes)
 
--- Node records are left for closing all pieces, once there are `more` leaves more. There are two for each piece, or one for each tip, or
--- one for all.
+-- Node records are left to close all pieces, once there are `more` leaves more. There are two for each piece, or one for each tip, or one
+-- for all.
 abbrev pub HasNodesFor : (builder : Builder) → (more : ℕ) → Type 0
 HasNodesFor builder more =
     (builder.nodes + 2 * (length builder.pieces.items + more) ≤ builder.layout.nodes) ⊎
     ((builder.nodes + length builder.tips.items + more ≤ builder.layout.nodes) ⊎ FitsOneNode builder more)
 
--- the piece is a leaf, or leaves that one node takes
+-- the piece on the stack is a leaf, or leaves that one node has room for
 abbrev pub IsOfLeaves : StackedPiece → Type 0
-IsOfLeaves p = (p.height ≤ 1) × (1 < p.count → 1 ≤ p.height)
+IsOfLeaves one = (one.height ≤ 1) × (1 < one.count → 1 ≤ one.height)
 
--- the builder's pieces are those of a tree with these leaves, and its last key is the tree's last
-pub record IsStackOf (builder : Builder) (xs : List Item) : Type 0 where
+-- The pieces on the builder's stack are those of the tree of these leaves. Its last key is the tree's last.
+pub record IsStackOf (builder : Builder) (taken : List Item) : Type 0 where
   pub levels : List LeftPiece
   pub top : Tree
   pub tree : IsTreeOf builder (whole_of levels top)
   pub pieces : HasPieces builder levels top
-  pub content : items (whole_of levels top) ≡ xs
+  pub content : items (whole_of levels top) ≡ taken
   pub last : builder.last ≡ greatest_key (whole_of levels top)
   pub room : HasNodesFor builder 0
-  -- each node has replaced at least one tip
-  pub few : builder.nodes + length builder.tips.items ≤ length xs
-  -- where no node is taken each piece is of leaves alone, and none is taken while one takes all leaves
+  -- each node record that was taken has taken the place of at least one tip
+  pub few : builder.nodes + length builder.tips.items ≤ length taken
+  -- while no node record is taken, each piece is of leaves alone; none is taken while one node has room for all leaves
   pub low : builder.nodes ≡ 0 → All IsOfLeaves builder.pieces.items
-  pub bare : length xs ≤ 32 → builder.nodes ≡ 0
+  pub bare : length taken ≤ 32 → builder.nodes ≡ 0
 
--- the builder has these leaves, and one that parts from the last of them at this position belongs beside the top piece
-pub record IsStackBehind (builder : Builder) (xs : List Item) (position : ℕ) : Type 0 where
-  pub stack : IsStackOf builder xs
+-- The builder has taken these leaves. A leaf whose key parts from the last one at this position belongs beside the top piece.
+pub record IsStackBehind (builder : Builder) (taken : List Item) (position : ℕ) : Type 0 where
+  pub stack : IsStackOf builder taken
   pub above : IsAbove position stack.top
   pub low : (stack.levels ≡ []) ⊎ (position_of stack.levels < position)
 
 -- the builder has taken no leaf
-pub record HasTakenNone (builder : Builder) (xs : List Item) : Type 0 where
-  pub none : xs ≡ []
+pub record HasTakenNone (builder : Builder) (taken : List Item) : Type 0 where
+  pub none : taken ≡ []
   pub table : HoldsTree builder.layout builder.words.items None
   pub no_pieces : builder.pieces.items ≡ []
   pub no_tips : builder.tips.items ≡ []
   pub no_nodes : builder.nodes ≡ 0
 
--- All pieces have become one, the tree of these leaves. Two node records are left, or one for each tip.
-pub record IsOnePiece (builder : Builder) (t : Tree) (xs : List Item) : Type 0 where
-  pub tree : IsTreeOf builder t
-  pub content : items t ≡ xs
-  pub few : size (subtrie t) ≤ 32
+-- All pieces have become one, which is the tree of these leaves. Two node records are left, or one for each tip.
+pub record IsOnePiece (builder : Builder) (whole : Tree) (taken : List Item) : Type 0 where
+  pub tree : IsTreeOf builder whole
+  pub content : items whole ≡ taken
+  pub few : size (subtrie whole) ≤ 32
   pub room : (builder.nodes + 2 ≤ builder.layout.nodes) ⊎ (builder.nodes + length builder.tips.items ≤ builder.layout.nodes)
 
--- the builder's top piece is the last leaf
-pub record EndsInLeaf (builder : Builder) (xs : List Item) : Type 0 where
-  pub stack : IsStackOf builder xs
+-- The builder has taken these leaves, and its top piece is the last of them.
+pub record EndsInLeaf (builder : Builder) (taken : List Item) : Type 0 where
+  pub stack : IsStackOf builder taken
   pub alone : (position : ℕ) → IsAbove position stack.top
 
 -- each class of leaf records has its cursor in the builder
 abbrev pub HasCursors : Builder → Type 0
 HasCursors builder = (length builder.leaves ≡ LEAF_CLASSES) × AreCursors builder.layout builder.words.items builder.leaves
 
--- the builder has taken these leaves, and each class has its cursor
+-- The builder has taken these leaves, as between two pairs of a load. Each class of leaf records has its cursor.
 abbrev pub IsLoading : Builder → List Item → Type 0
-IsLoading builder xs = HasCursors builder × (HasTakenNone builder xs ⊎ EndsInLeaf builder xs)
+IsLoading builder taken = HasCursors builder × (HasTakenNone builder taken ⊎ EndsInLeaf builder taken)
 
--- there is memory for one tip more, and for one piece more
+-- the builder has memory for one tip more, and for one piece more
 abbrev pub HasSpace : Builder → Type 0
 HasSpace builder = (vec_len builder.tips < vec_capacity builder.tips) × (vec_len builder.pieces < vec_capacity builder.pieces)
 
--- The leaf record is the next of its class and has room for the key. The leaf belongs behind a fork at this position.
+-- The leaf record of this number is the next of its class, and has room for the key. The leaf belongs behind a fork at this position. Node
+-- records are left for one leaf more.
 pub record IsNextLeaf (builder : Builder) (key : Key) (position number : ℕ) : Type 0 where
   pub inside : number < builder.layout.leaves
   pub room : words_for (length key) ≤ leaf_size builder.layout number
@@ -139,68 +141,68 @@ pub record HasSameFields (old new : Builder) : Type 0 where
   pub nodes : new.nodes ≡ old.nodes
   pub leaves : new.leaves ≡ old.leaves
 
--- the builder's leaves, its last key and its memory for more stay
+-- From `old` to `new` the builder's leaf records, its last key and its memory for more stay.
 pub record KeepsLeaves (old new : Builder) : Type 0 where
   pub layout : new.layout ≡ old.layout
   pub last : new.last ≡ old.last
   pub cursors : new.leaves ≡ old.leaves
-  pub states : (n : ℕ) → n < old.layout.leaves → state_in old.layout new.words.items (a_leaf n) ≡ state_in old.layout old.words.items (a_leaf n)
+  pub states : (number : ℕ) → number < old.layout.leaves → state_in old.layout new.words.items (a_leaf number) ≡ state_in old.layout old.words.items (a_leaf number)
   pub space : HasSpace old → HasSpace new
 
--- the builder's leaves stay, and node records are left for as many more leaves as before
+-- From `old` to `new` the builder's leaf records stay. Node records are left for as many more leaves as before.
 pub record KeepsNodes (old new : Builder) : Type 0 where
   pub leaves : KeepsLeaves old new
   pub nodes : (more : ℕ) → HasNodesFor old more → HasNodesFor new more
-  pub few : (n : ℕ) → old.nodes + length old.tips.items ≤ n → new.nodes + length new.tips.items ≤ n
+  pub few : (most : ℕ) → old.nodes + length old.tips.items ≤ most → new.nodes + length new.tips.items ≤ most
 
 -- ---- closing a piece
 
--- the number of entries of the piece to the right, 0 where there is none
+-- the number of entries of the piece to the right; 0 where there is none
 abbrev pub size_right : Option LeftPiece → ℕ
 size_right None = 0
 size_right (Some right) = size (subtrie right.tree)
 
--- the new tree may replace the old one in a piece, and has so many entries at its top
-pub record StandsFor (new old : Tree) (count : ℕ) : Type 0 where
+-- The tree `new` may take the place of the tree `old` in a piece: both have the same leaves. It has `count` entries at its top.
+pub record MayTakePlaceOf (new old : Tree) (count : ℕ) : Type 0 where
   pub count_is : size (subtrie new) ≡ count
   pub same_items : items new ≡ items old
   pub same_first : first new ≡ first old
   pub same_last : greatest_key new ≡ greatest_key old
   pub above : (position : ℕ) → IsAbove position old → IsAbove position new
 
--- the builder's tree has the piece `z`, of `count` tips, before the last `behind` tips
-pub record IsPiece (builder : Builder) (ls : List LeftPiece) (z : Tree) (right : Option LeftPiece) (count behind : ℕ) : Type 0 where
-  pub tree : IsTreeOf builder (whole_of ls (with_right z right))
-  pub count_is : count ≡ size (subtrie z)
+-- The builder's tree has the piece `part`, of `count` tips. `behind` tips stand to its right, those of the piece `right`.
+pub record IsPiece (builder : Builder) (levels : List LeftPiece) (part : Tree) (right : Option LeftPiece) (count behind : ℕ) : Type 0 where
+  pub tree : IsTreeOf builder (whole_of levels (with_right part right))
+  pub count_is : count ≡ size (subtrie part)
   pub behind_is : behind ≡ size_right right
 
 -- ---- a new leaf
 
--- A key that parts from the last one at this position may be taken next. No leaf was taken yet, or the new one belongs beside the top
--- piece.
+-- The builder may next take a key that parts from the last one at this position. It has taken no leaf yet, or the new leaf belongs beside
+-- the top piece.
 abbrev pub MayTakeNext : (builder : Builder) → (taken : List Item) → (position : ℕ) → (key : Key) → Type 0
 MayTakeNext builder taken position key =
     (HasTakenNone builder taken × (position ≡ 0)) ⊎ (IsStackBehind builder taken position × IsParted position builder.last key)
 
 -- ---- joining pieces
 
--- the builder's last two pieces have become one, at the fork between them
-pub record IsJoined (builder : Builder) (xs : List Item) (before : List LeftPiece) : Type 0 where
+-- The last two pieces on the builder's stack, which was `before`, have become one at the fork between them.
+pub record IsJoined (builder : Builder) (taken : List Item) (before : List LeftPiece) : Type 0 where
   pub joint : LeftPiece
-  pub stack : IsStackOf builder xs
+  pub stack : IsStackOf builder taken
   pub were : before ≡ joint ∷ stack.levels
   pub above : (position : ℕ) → position < joint.position → IsAbove position stack.top
 
--- the builder's top piece may stand beside a leaf that parts from the last one at this position
-pub record MayStandBeside (builder : Builder) (xs : List Item) (position : ℕ) : Type 0 where
-  pub stack : IsStackOf builder xs
+-- The builder's top piece may stand beside a leaf whose key parts from the last one at this position.
+pub record MayStandBeside (builder : Builder) (taken : List Item) (position : ℕ) : Type 0 where
+  pub stack : IsStackOf builder taken
   pub above : IsAbove position stack.top
   pub zero : bit builder.last position ≡ false
 
--- the builder's pieces may be joined at forks behind this position
+-- the pieces on the builder's stack may be joined at forks behind this position
 abbrev pub CanJoin : (builder : Builder) → (taken : List Item) → (position : ℕ) → Type 0
 CanJoin builder taken position = HasTakenNone builder taken ⊎ MayStandBeside builder taken position
 
--- the builder's pieces are joined as far as a leaf that parts at this position needs
+-- the pieces on the builder's stack are joined as far as is needed for a leaf that parts from the last one at this position
 abbrev pub CanPart : (builder : Builder) → (taken : List Item) → (position : ℕ) → Type 0
 CanPart builder taken position = HasTakenNone builder taken ⊎ IsStackBehind builder taken position

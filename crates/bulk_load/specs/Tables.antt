@@ -14,7 +14,7 @@ use Rattle.versions.specs.Heap.{IsShown}
 use Rattle.rowex_core.specs.Cores.{heap_of, fields_in, size_of, HasRecord, FitsIn}
 use Rattle.rowex_core.specs.Reading.{IsPacked}
 
--- the first word of a record, that of its state
+-- the index of the first word of a record, which is that of its state
 abbrev pub start_of : (layout : Layout) → (rec : Rec) → ℕ
 start_of layout (a_node number) = node_start layout number
 start_of layout (a_leaf number) = leaf_start layout number
@@ -25,17 +25,18 @@ leaf_class layout number =
     if nat_lt number layout.medium_from then 0 else (if nat_lt number layout.large_from then 1 else
     (if nat_lt number layout.wide_from then 2 else (if nat_lt number layout.long_from then 3 else 4)))
 
--- the state word of a record in a table's words
+-- the state word of the record in the words of a table
 abbrev pub state_in : (layout : Layout) → (table : List ℕ) → (rec : Rec) → ℕ
 state_in layout table rec = get_or table (start_of layout rec) 0
 
--- one record is written and live, and the words of all others are as before
+-- From `old` to `new` the record was written and is live. The words of all other records are as before.
 pub record IsPut (layout : Layout) (old new : List ℕ) (rec : Rec) : Type 0 where
   pub size : length new ≡ length old
   pub state : state_in layout new rec ≡ state_word Live
-  pub others : (k : ℕ) → (k < start_of layout rec) ⊎ (start_of layout rec + size_of layout rec ≤ k) → get_or new k 0 ≡ get_or old k 0
+  pub others : (index : ℕ) → (index < start_of layout rec) ⊎ (start_of layout rec + size_of layout rec ≤ index) →
+      get_or new index 0 ≡ get_or old index 0
 
--- the words that belong to no record are those of a table without keys, and the root has no entry yet
+-- The words of the table that belong to no record are those of a table without keys. So the root has no entry yet.
 pub record IsRootless (layout : Layout) (table : List ℕ) : Type 0 where
   pub size : length table ≡ word_count layout
   pub epoch : get_or table EPOCH_WORD 0 ≡ 1
@@ -43,11 +44,11 @@ pub record IsRootless (layout : Layout) (table : List ℕ) : Type 0 where
   pub anchor : get_or table ANCHOR_WORD 0 ≡ state_word Live
   pub pins : (pass : ℕ) → pass < layout.passes → get_or table (FIRST_PIN + LINE_WORDS * pass) 0 ≡ NO_PIN
 
--- the words show the tree
+-- the words of the table show the tree, if there is one
 abbrev pub WordsShow : (layout : Layout) → (table : List ℕ) → (tree : Option Tree) → Type 0
-WordsShow layout table tree = (u : Tree) → tree ≡ Some u → IsShown (heap_of (fields_in layout table)) u
+WordsShow layout table tree = (shown : Tree) → tree ≡ Some shown → IsShown (heap_of (fields_in layout table)) shown
 
--- The table holds just the records of the tree. They stand in the table, and their words spell values for which it has room.
+-- Just the records of the tree are live in the table. The table has each, with room for it, and their words encode nodes and leaves.
 pub record HoldsTree (layout : Layout) (table : List ℕ) (tree : Option Tree) : Type 0 where
   pub blank : IsRootless layout table
   pub live : (rec : Rec) → IsLinked tree rec → state_in layout table rec ≡ state_word Live
@@ -56,11 +57,12 @@ pub record HoldsTree (layout : Layout) (table : List ℕ) (tree : Option Tree) :
       FitsIn layout rec (fields_in layout table rec)
   pub shows : WordsShow layout table tree
 
--- The records of a class that were taken are those below its cursor. The cursor stands in the class as long as one is left.
+-- `next` is the cursor of the class of the leaf record `number`. The records of the class below the cursor were taken, and those from it on
+-- are free. The cursor stands in the class as long as one is left.
 pub record IsCursorOf (layout : Layout) (table : List ℕ) (next number : ℕ) : Type 0 where
   pub taken : state_in layout table (a_leaf number) ≡ state_word Free → next ≤ number
   pub free : next ≤ number → (state_in layout table (a_leaf number) ≡ state_word Free) × (leaf_class layout next ≡ leaf_class layout number)
 
--- each class of leaf records has its cursor in this list
+-- each class of leaf records has its cursor among these
 abbrev pub AreCursors : (layout : Layout) → (table cursors : List ℕ) → Type 0
 AreCursors layout table cursors = (number : ℕ) → number < layout.leaves → IsCursorOf layout table (get_or cursors (leaf_class layout number) 0) number

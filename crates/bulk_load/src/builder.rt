@@ -8,7 +8,7 @@ ghost use Rattle.record_words.specs.State.{state_word};
 ghost use Rattle.std.specs.Prelude.{ℕ, ◌≡◌, ◌≢◌, ◌↔◌, ◌+◌, ◌≤◌, ◌<◌, ◌++◌, ◌∷◌, [], if◌then◌else◌, get_or, Err, IfOk, IfSome, IsNone, IsTrue, false, List, OnOk, OnErr, Option as Maybe, Some, length};
 ghost use Rattle.std.specs.Vec.{vec_len};
 ghost use Rattle.bulk_load.specs.Finished.{IsFinished};
-ghost use Rattle.bulk_load.specs.Loading.{CanJoin, CanPart, HasCursors, HasNodesFor, HasSameFields, HasSpace, EndsInLeaf, FitsOneNode, IsOnePiece, IsJoined, IsOfLeaves, IsLoading, IsPiece, IsNextLeaf, IsStackOf, IsTreeOf, KeepsLeaves, KeepsNodes, MayTakeNext, StandsFor};
+ghost use Rattle.bulk_load.specs.Loading.{CanJoin, CanPart, HasCursors, HasNodesFor, HasSameFields, HasSpace, EndsInLeaf, FitsOneNode, IsOnePiece, IsJoined, IsOfLeaves, IsLoading, IsPiece, IsNextLeaf, IsStackOf, IsTreeOf, KeepsLeaves, KeepsNodes, MayTakeNext, MayTakePlaceOf};
 ghost use Rattle.bulk_load.specs.Stacks.{LeftPiece, whole_of, with_right};
 ghost use Rattle.bulk_load.specs.Tables.{IsRootless, leaf_class, state_in};
 ghost use Rattle.bulk_load.specs.Views.{IsAboveLast, IsTakenLeaf};
@@ -329,7 +329,7 @@ impl Builder {
         requires room { IsTrue closes → (2 ≤ count) × (count ≤ 32) × (self.old.nodes < self.old.layout.nodes) }
         requires piece { (ls : List LeftPiece) × (z : Tree) × (right : Maybe LeftPiece) × IsPiece self.old ls z right count behind }
         ensures closed { (ls : List LeftPiece) (z : Tree) (right : Maybe LeftPiece) → IsPiece self.old ls z right count behind →
-            (y : Tree) × StandsFor y z result × IsTreeOf self.new (whole_of ls (with_right y right)) }
+            (y : Tree) × MayTakePlaceOf y z result × IsTreeOf self.new (whole_of ls (with_right y right)) }
         ensures pieces { self.new.pieces ≡ self.old.pieces }
         ensures nodes { self.new.nodes ≡ self.old.nodes + (if closes then 1 else 0) }
         ensures count { result ≡ (if closes then 1 else count) }
@@ -351,7 +351,7 @@ impl Builder {
         requires room { (2 ≤ count) × (count ≤ 32) × (self.old.nodes < self.old.layout.nodes) }
         requires piece { (ls : List LeftPiece) × (z : Tree) × (right : Maybe LeftPiece) × IsPiece self.old ls z right count behind }
         ensures closed { (ls : List LeftPiece) (z : Tree) (right : Maybe LeftPiece) → IsPiece self.old ls z right count behind →
-            (y : Tree) × StandsFor y z 1 × IsTreeOf self.new (whole_of ls (with_right y right)) }
+            (y : Tree) × MayTakePlaceOf y z 1 × IsTreeOf self.new (whole_of ls (with_right y right)) }
         ensures pieces { self.new.pieces ≡ self.old.pieces }
         ensures nodes { self.new.nodes ≡ self.old.nodes + 1 }
         ensures tips { vec_len self.new.tips + count ≡ vec_len self.old.tips + 1 }

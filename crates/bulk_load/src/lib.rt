@@ -8,7 +8,7 @@
 //! # What carries the proof
 //!
 //! A stack of pieces is one tree, with the forks between them (`whole_of`). A piece is closed by writing its node, which leaves the tree's
-//! leaves and forks as they are (`StandsFor`). A new key parts from the last leaf at its fork, so pieces join at forks behind it alone.
+//! leaves and forks as they are (`MayTakePlaceOf`). A new key parts from the last leaf at its fork, so pieces join at forks behind it alone.
 //! Node records are left for all that `finish` has to close, so it never fails. Its contract is what `HotTable::new_loaded` requires.
 #![tactic(auto)]
 

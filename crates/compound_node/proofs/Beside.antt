@@ -6,7 +6,7 @@ use Rattle.compound_node.proofs.Lawful.{same_count}
 use lib.Count.{count_trailing_zeros, trailing_of_zero}
 use Rattle.compound_node.proofs.Ladders.{front_at, ladder-rows, length-rows, raised, rest_at, rows-fork, rows-later, rows_fit}
 use Rattle.compound_node.proofs.Removal.{later_positive, several_forked}
-use Rattle.compound_node.specs.Beside.{AreRound, IsBesideIn, at_columns, column_before}
+use Rattle.compound_node.specs.Beside.{AreRowsRound, IsBesideIn, at_columns, column_before}
 use Rattle.compound_node.specs.Nodes.{IsLawfulNode, NodeView, piece}
 use Rattle.compound_node.specs.declared.entries.Entry.{Entry}
 use Rattle.compound_node.specs.Ladders.{IsLadder}
@@ -251,7 +251,7 @@ module _ (node : NodeView) (lawful : IsLawfulNode node) where
           ap (λ n. n % 32) e ∙ mod-eq_of_lt (omega (arith, few, column_few node.columns lawful.shows.columns_rise (seam k (piece node)) (seam_is k))))
           (cases_eq k 0)
 
-  pub told_beside : (at before own after second : ℕ) → at < length node.entries → AreRound node.rows at before own after second →
+  pub told_beside : (at before own after second : ℕ) → at < length node.entries → AreRowsRound node.rows at before own after second →
       IsBesideIn node at (beside_by at (column_before before) (column_before own) (column_before after) (column_before second))
   told_beside at before own after second l round =
       let P : Piece Entry = piece node in

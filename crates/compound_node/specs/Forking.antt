@@ -5,7 +5,7 @@ use Rattle.partial_keys.specs.Spread.{forked_rows, spread_row}
 use Rattle.node_tries.specs.Growth.{edited}
 use Rattle.node_tries.specs.Positions.{front_below, has, with_position}
 
--- the head with a fork at the position over the rows from first to last, and with this height
+-- The head with a new fork at the position, over the rows from `first` to `last`, and with this height. `bit` is that of the new entry.
 abbrev pub forked_head : (height position first last : ℕ) → Bool → HeadView → HeadView
 forked_head height position first last bit head =
     let at = front_below position head.columns in

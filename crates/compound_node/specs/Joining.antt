@@ -6,8 +6,9 @@ use Rattle.partial_keys.specs.Shows.{Covers}
 use Rattle.node_tries.specs.Piece.{Piece}
 use Rattle.node_tries.specs.Positions.{has}
 
--- the new columns are the old ones and these positions, and the first `count` rows show what they showed before
+-- The new columns are the old ones and those of `further`. The first `count` rows show over the new columns what they showed over the old
+-- ones.
 pub record IsWidened (count : ℕ) (further old old_rows new new_rows : List ℕ) : Type 0 where
-  pub columns : (q : ℕ) → has new q ≡ (has old q || has further q)
+  pub columns : (position : ℕ) → has new position ≡ (has old position || has further position)
   pub positions : IsColumns old → IsColumns new
   pub rows : (entries : List Entry) (shown : Piece Entry) → Covers old (take count old_rows) entries shown → Covers new (take count new_rows) entries shown

@@ -2,7 +2,8 @@
 use Rattle.std.specs.Prelude.{ℕ, ◌≡◌, ◌+◌, ◌-◌, ◌^◌, ◌<◌, ◌≤◌, bit_and, List, length, slice_index}
 use Rattle.partial_keys.specs.Squeezed.{or_all}
 
--- The row may follow the one before. Down to its lowest 1 it is that row, which has a 0 there. That 1 is of the fork between the two.
+-- The row may follow the row `before`. Above its lowest 1 it has the bits of that row, which has a 0 there. That 1 is of the fork between
+-- the two entries.
 pub record IsNextRow (before row : ℕ) : Type 0 where
   pub takes_up : bit_and row (row - 1) ≤ before
   pub goes_on : before < row
@@ -10,9 +11,9 @@ pub record IsNextRow (before row : ℕ) : Type 0 where
 -- the first row is 0, and each later one may follow the one before
 pub record IsLadder (rows : List ℕ) : Type 0 where
   pub first : slice_index rows 0 ≡ 0
-  pub steps : (k : ℕ) → k + 1 < length rows → IsNextRow (slice_index rows k) (slice_index rows (k + 1))
+  pub steps : (row : ℕ) → row + 1 < length rows → IsNextRow (slice_index rows row) (slice_index rows (row + 1))
 
--- the rows are those of some piece over n columns, which uses each column
-pub record AreSparseKeys (n : ℕ) (rows : List ℕ) : Type 0 where
+-- The rows are those of some piece over `count` columns, each of which the piece uses.
+pub record AreSparseKeys (count : ℕ) (rows : List ℕ) : Type 0 where
   pub ladder : IsLadder rows
-  pub used : or_all rows ≡ 2 ^ 32 - 2 ^ (32 - n)
+  pub used : or_all rows ≡ 2 ^ 32 - 2 ^ (32 - count)

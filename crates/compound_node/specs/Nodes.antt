@@ -18,12 +18,12 @@ abbrev pub height_of : Entry → ℕ
 height_of (Leaf number) = 0
 height_of (Node number height) = height
 
--- an entry that some node may have: a leaf, or a child with a height from 1 to 65,534
+-- the entry may stand in some node: it is a leaf, or a node with a height from 1 to 65,534
 abbrev pub IsEntry : Entry → Type 0
 IsEntry (Leaf number) = Unit {0}
 IsEntry (Node number height) = (0 < height) × (height < 65535)
 
--- an entry that a node of this height may have
+-- the entry may stand in a node of this height
 abbrev pub StandsBelow : (height : ℕ) → (entry : Entry) → Type 0
 StandsBelow height entry = IsEntry entry × (height_of entry < height)
 
@@ -34,7 +34,7 @@ greatest_height (entry ∷ entries) = max (height_of entry) (greatest_height ent
 
 -- ---- nodes
 
--- what contracts see of a node: its stored height, its columns, and each entry with its sparse partial key
+-- What contracts see of a node: its stored height, its columns, and each entry with its row.
 pub record NodeView : Type 0 where
   pub height : ℕ
   pub columns : List ℕ
@@ -45,7 +45,7 @@ pub record NodeView : Type 0 where
 abbrev pub piece : NodeView → Piece Entry
 piece node = piece_of (Leaf 0) node.columns node.rows node.entries
 
--- the columns, rows and entries are those of a node, whatever its height
+-- the columns, rows and entries are those of a lawful node, whatever its height
 pub record FitTogether (columns rows : List ℕ) (entries : List Entry) : Type 0 where
   pub several : 2 ≤ length entries
   pub room : length entries ≤ 32
@@ -54,7 +54,7 @@ pub record FitTogether (columns rows : List ℕ) (entries : List Entry) : Type 0
   pub shows : ShowsPiece columns rows entries (piece_of (Leaf 0) columns rows entries)
   pub children : All IsEntry entries
 
--- a lawful node: 2 to 32 entries below its height, and rows that show a piece over its columns
+-- A lawful node. It has 2 to 32 entries, which are lower than the node, and rows that show a piece over its columns.
 pub record IsLawfulNode (node : NodeView) : Type 0 where
   pub several : 2 ≤ length node.entries
   pub room : length node.entries ≤ 32
@@ -64,30 +64,30 @@ pub record IsLawfulNode (node : NodeView) : Type 0 where
   pub above : All (λ entry. height_of entry < node.height) node.entries
   pub bound : node.height ≤ 65535
 
--- a node that was built anew to show this piece: its height is one above the greatest of its entries
+-- The node was built anew to show this piece. So its height is one above the greatest of its entries.
 pub record IsBuiltFrom (node : NodeView) (shown : Piece Entry) : Type 0 where
   pub lawful : IsLawfulNode node
   pub shows_it : piece node ≡ shown
   pub height_is : node.height ≡ 1 + greatest_height node.entries
 
--- the entries in the two slots have the same bit in each column whose position is below this one
+-- the rows of the two slots have the same bit at each column whose position is below this one
 abbrev pub AgreeBefore : (node : NodeView) → (position slot other_slot : ℕ) → Type 0
-AgreeBefore node position i k =
-    (j : ℕ) → j < length node.columns → slice_index node.columns j < position →
-    bit_at (slice_index node.rows i) (31 - j) ≡ bit_at (slice_index node.rows k) (31 - j)
+AgreeBefore node position slot other_slot =
+    (column : ℕ) → column < length node.columns → slice_index node.columns column < position →
+    bit_at (slice_index node.rows slot) (31 - column) ≡ bit_at (slice_index node.rows other_slot) (31 - column)
 
--- the node of these fields, without the unused rows behind those of its entries
+-- the node with these fields, where the unused rows behind those of its entries are left out
 abbrev pub node_from : (height : ℕ) → (columns padded_rows : List ℕ) → (entries : List Entry) → NodeView
 node_from height columns padded_rows entries = record { height = height; columns = columns; rows = take (length entries) padded_rows; entries = entries }
 
--- the fields are those of a lawful node, with 4,294,967,295 as each unused row
+-- The fields are those of a lawful node. Each unused row is 4,294,967,295.
 pub record IsNode (height : ℕ) (columns padded_rows : List ℕ) (entries : List Entry) : Type 0 where
   pub padded : padded_rows ≡ with_unused (take (length entries) padded_rows)
   pub lawful : IsLawfulNode (node_from height columns padded_rows entries)
 
 -- ---- heads
 
--- what contracts see of a head: a node's stored height, columns and rows
+-- What contracts see of a head: the stored height, the columns and the rows of a node.
 pub record HeadView : Type 0 where
   pub height : ℕ
   pub columns : List ℕ
@@ -97,7 +97,7 @@ pub record HeadView : Type 0 where
 abbrev pub head_of : NodeView → HeadView
 head_of node = record { height = node.height; columns = node.columns; rows = node.rows }
 
--- each lawful node with this head has the property
+-- `IsSo` holds of each lawful node with this head
 abbrev pub InEachNode : HeadView → (NodeView → Type 0) → Type 0
 InEachNode head IsSo = (node : NodeView) → IsLawfulNode node → head_of node ≡ head → IsSo node
 
@@ -105,21 +105,21 @@ InEachNode head IsSo = (node : NodeView) → IsLawfulNode node → head_of node 
 abbrev pub node_of : HeadView → List Entry → NodeView
 node_of head entries = record { height = head.height; columns = head.columns; rows = head.rows; entries = entries }
 
--- some node with `count` entries has this height, these columns and these rows, filled up by unused ones
+-- some lawful node with `count` entries has this height, these columns and these rows, filled up by unused ones
 abbrev pub IsHead : (count height : ℕ) → (columns padded_rows : List ℕ) → Type 0
 IsHead count height columns padded_rows = (entries : List Entry) × (length entries ≡ count) × IsNode height columns padded_rows entries
 
--- so many leaves, as entries whose numbers don't matter
+-- so many entries, each a leaf of number 0, where the entries of a node don't matter
 abbrev pub leaves : ℕ → List Entry
 leaves count = replicate count (Leaf 0)
 
--- the fields of a head fit together: a node of so many leaves has them
+-- The fields of the head fit together: a lawful node of `count` leaves has them. `padded_rows` are its rows, filled up by unused ones.
 pub record FitsHead (count : ℕ) (padded_rows : List ℕ) (head : HeadView) : Type 0 where
   pub padded : padded_rows ≡ with_unused head.rows
   pub counted : length head.rows ≡ count
   pub lawful : IsLawfulNode (node_of head (leaves count))
 
--- columns and words of a head, apart from its height
+-- These are the columns, and the rows filled up by unused ones, of a head for `count` entries, whatever its height.
 pub record FitsWords (count : ℕ) (columns padded_rows : List ℕ) : Type 0 where
   pub several : 2 ≤ count
   pub room : count ≤ 32

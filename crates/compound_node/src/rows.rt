@@ -10,7 +10,7 @@ ghost use Rattle.partial_keys.specs.Squeezed.{IsRowOver, closed_row, or_all, squ
 ghost use Rattle.node_tries.specs.Growth.{edited};
 ghost use Rattle.node_tries.specs.Positions.{front_below};
 ghost use Rattle.compound_node.specs.Ladders.{AreSparseKeys, IsLadder};
-ghost use Rattle.compound_node.specs.Beside.{AreRound, IsBesideIn, column_before};
+ghost use Rattle.compound_node.specs.Beside.{AreRowsRound, IsBesideIn, column_before};
 ghost use Rattle.compound_node.specs.Nodes.{IsLawfulNode, NodeView};
 ghost use Rattle.compound_node.specs.Lowering.{lowered_row};
 ghost use Rattle.compound_node.specs.Removal.{lowest, bit_after, cleared_front, removed_row};
@@ -439,7 +439,7 @@ pub fn find_sibling(
 ) -> Option<(u8, u8)>
     requires { slot < 32 }
     ensures { (node : NodeView) → IsLawfulNode node → slot < length node.entries →
-        AreRound node.rows slot before own after after_next → IsBesideIn node slot result }
+        AreRowsRound node.rows slot before own after after_next → IsBesideIn node slot result }
 {
     let (before, own) = (fork_column(before), fork_column(own));
     let (after, after_next) = (fork_column(after), fork_column(after_next));

@@ -2,7 +2,7 @@
 use Rattle.std.specs.Prelude.{ℕ, ◌/◌, min, max}
 use Rattle.record_words.specs.declared.layout.Layout.{Layout}
 
--- How many retired records a pass lets come before it makes a small round. It is an eighth of the number of passes, or what lets all passes
--- together keep a quarter of the nodes, if that is less. It is 32 at least, and 96 at most.
+-- How many records a pass retires before it makes a small round. It is the least of an eighth of the number of passes, each pass's share of
+-- a quarter of the node records, and 96. But it is 32 at least.
 abbrev pub due_after : Layout → ℕ
 due_after layout = max (min (min (layout.passes / 8) (layout.nodes / 4 / layout.passes)) 96) 32

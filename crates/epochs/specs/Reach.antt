@@ -7,12 +7,12 @@ use Rattle.versions.specs.State.{Stands}
 use Rattle.versions.specs.Core.{Free, Held}
 use Rattle.rowex_core.specs.Cores.{Core}
 
--- the record stood in the tree in a version since the pin of some pass
+-- the record stood in the tree in some version since the pin of some pass, so that pass may still read it
 abbrev pub IsInReach : (core : Core) → (rec : Rec) → Type 0
 IsInReach core rec =
     (pass : ℕ) × (pin : Pin) × (version : ℕ) × (tree : Tree) × (core.pins pass ≡ Some pin) × (pin.version ≤ version) × (version ≤ core.past.now) ×
     Stands core.past version rec tree
 
--- no record in a pinned pass's reach is free or held
+-- no record that is in reach of a pinned pass is free, or held by a pass that fills it anew
 abbrev pub IsReachKept : Core → Type 0
-IsReachKept core = (rec : Rec) → IsInReach core rec → (core.fate rec ≢ Free) × ((o : ℕ) → core.fate rec ≢ Held o)
+IsReachKept core = (rec : Rec) → IsInReach core rec → (core.fate rec ≢ Free) × ((by : ℕ) → core.fate rec ≢ Held by)

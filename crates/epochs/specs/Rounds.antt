@@ -1,4 +1,4 @@
--- Rounds of collection.
+-- Rounds, which give retired records back: which steps they make.
 use Rattle.std.specs.Prelude.{◌≡◌, ◌≢◌, ℕ, ◌<◌, ◌≤◌, ◌+◌, List, [], ◌∷◌, ◌++◌, Bool, true, false, nat_eq, nat_lt, if◌then◌else◌, count_by, length}
 use Rattle.record_words.specs.declared.TheConstants.{EPOCHS}
 use Rattle.record_words.specs.declared.state.Tag.TheVariants.{Obsolete}
@@ -16,32 +16,33 @@ use Rattle.epochs.specs.Runs.{collecting, paced}
 use Rattle.epochs.specs.declared.limbo.Visited.{Visited}
 use Rattle.epochs.specs.declared.limbo.Visited.TheVariants.{Given}
 
--- the exchange that raises an epoch by one; at the last epoch there is none
+-- the exchange that raises the epoch by one, where the exchange finds `found`; at the last epoch there is none
 abbrev pub advance_steps : (epoch found : ℕ) → List Act
 advance_steps epoch found = if nat_lt (epoch + 1) EPOCHS then Advance epoch found ∷ [] else []
 
--- the act is a load of this pass's pin, and no other
+-- the acts are one load of this pass's pin
 abbrev pub LoadsPin : (pass : ℕ) → (acts : List Act) → Type 0
 LoadsPin pass acts = (word : ℕ) × (acts ≡ LoadPin pass word ∷ [])
 
--- A visit of a record: its state is loaded. If that is obsolete in an epoch below the bound, one exchange follows.
+-- The acts of a visit of a record. The record's state is loaded. If the record is marked with an epoch below the bound, one exchange
+-- follows, to give the record back.
 pub data Visits (bound : ℕ) (rec : Rec) : List Act → Type 0 where
   passes : (word : ℕ) → ((epoch : ℕ) → 1 ≤ epoch → epoch < bound → word ≢ state_word (Obsolete epoch)) → Visits bound rec (LoadState rec word ∷ [])
   tries : (epoch found : ℕ) → 1 ≤ epoch → epoch < bound →
       Visits bound rec (LoadState rec (state_word (Obsolete epoch)) ∷ GiveBack rec epoch found ∷ [])
 
--- the acts are visits of these records, one after the other
+-- the acts are those of a visit of each of these records, one after the other
 abbrev pub VisitEach : (bound : ℕ) → (recs : List Rec) → (acts : List Act) → Type 0
 VisitEach bound [] acts = acts ≡ []
 VisitEach bound (rec ∷ recs) acts = (first : List Act) × (rest : List Act) × Visits bound rec first × VisitEach bound recs rest × (acts ≡ first ++ rest)
 
--- the step gives a record back: its exchange found the state that it expected
+-- whether the act gives a record back: it is an exchange of the state, and found the state that it expected
 abbrev pub has_given : Act → Bool
-has_given (GiveBack r epoch found) = nat_eq found (state_word (Obsolete epoch))
+has_given (GiveBack rec epoch found) = nat_eq found (state_word (Obsolete epoch))
 has_given act = false
 
--- A round of collection. The pass loads the epoch, raises it, loads it again and loads each pin. The least of that epoch and of the pins
--- that are set is its bound. Then it visits each record, nodes first, and gives so many nodes and leaves back.
+-- A round. The pass loads the epoch, raises it, loads it again and loads each pin. The bound is the least of the epoch loaded last and of
+-- the pins that are set. Then the pass visits each record, nodes first. It gives `given_nodes` nodes and `given_leaves` leaves back.
 pub record IsRound {G : Type 0} (table : TableView) (becomes : G → Event → G → Type 0) (old new : SeatView × G)
     (given_nodes given_leaves : ℕ) : Type 0 where
   pub epoch : ℕ
@@ -52,13 +53,13 @@ pub record IsRound {G : Type 0} (table : TableView) (becomes : G → Event → G
   pub leaves : List Act
   pub does : Does table becomes collecting (LoadEpoch epoch ∷ advance_steps epoch found ++ LoadEpoch next ∷ pins ++ nodes ++ leaves) old new
   pub loads_pins : InTurn LoadsPin table.layout.passes pins
-  pub visits_nodes : InTurn (λ n. Visits new.0.known.round.bound (a_node n)) table.layout.nodes nodes
-  pub visits_leaves : InTurn (λ n. Visits new.0.known.round.bound (a_leaf n)) table.layout.leaves leaves
+  pub visits_nodes : InTurn (λ number. Visits new.0.known.round.bound (a_node number)) table.layout.nodes nodes
+  pub visits_leaves : InTurn (λ number. Visits new.0.known.round.bound (a_leaf number)) table.layout.leaves leaves
   pub nodes_given : given_nodes ≡ count_by has_given nodes
   pub leaves_given : given_leaves ≡ count_by has_given leaves
 
--- A small round of collection. The pass loads the epoch, raises it, and loads it again and each pin, as in a round. Then it visits at most
--- `most` records.
+-- A small round. It begins as a round does: the pass loads the epoch, raises it, and loads it again and each pin. Then the pass visits at
+-- most `most` records.
 pub record IsSmallRound {G : Type 0} (table : TableView) (becomes : G → Event → G → Type 0) (most : ℕ) (old new : SeatView × G) : Type 0 where
   pub epoch : ℕ
   pub found : ℕ
@@ -71,59 +72,60 @@ pub record IsSmallRound {G : Type 0} (table : TableView) (becomes : G → Event 
   pub visits_each : VisitEach new.0.known.round.bound recs visits
   pub few : length recs ≤ most
 
--- A round of collection that visits no record. The pass loads the epoch, raises it, and loads it again and each pin.
+-- A spared round, which visits no record. The pass loads the epoch, raises it, and loads it again and each pin.
 abbrev pub IsSparedRound : {G : Type 0} → (table : TableView) → (becomes : G → Event → G → Type 0) → (old new : SeatView × G) → Type 0
 IsSparedRound table becomes old new = IsSmallRound table becomes 0 old new
 
 -- The parts of a round
 
--- The pass has loaded the first `count` pins since it last loaded the epoch. The bound is the least of that epoch and of those pins that
--- were set.
+-- The pass has loaded the first `count` pins since its last load of the epoch. The bound of its round, which is `bound`, is the least of
+-- that epoch and of those pins that were set.
 pub record HasBound (count bound : ℕ) (known : Known) : Type 0 where
   pub least : known.round.bound ≡ bound
   pub seen : (pass : ℕ) → pass < count → has_seen known.round.seen pass ≡ true
 
--- the pass loads the epoch, and raises it by one
+-- the pass loads the epoch, and raises it by one if it is not the last
 abbrev pub AdvancesEpoch : {G : Type 0} → (table : TableView) → (becomes : G → Event → G → Type 0) → (old new : SeatView × G) → Type 0
 AdvancesEpoch table becomes old new = (epoch : ℕ) × (found : ℕ) × Does table becomes paced (LoadEpoch epoch ∷ advance_steps epoch found) old new
 
--- the pass loads the epoch, and then the first `count` pins
+-- the pass loads the epoch, and then the first `count` pins; the round's bound rests on these
 abbrev pub FindsBound : {G : Type 0} → (table : TableView) → (becomes : G → Event → G → Type 0) → (count : ℕ) → (old new : SeatView × G) →
     Type 0
 FindsBound table becomes count old new =
     (next : ℕ) × (pins : List Act) × InTurn LoadsPin count pins × Does table becomes paced (LoadEpoch next ∷ pins) old new
 
--- the pass loads the epoch, raises it, and loads it again and each pin, as each round begins
+-- the pass loads the epoch, raises it, and loads it again and each pin; so each round begins
 abbrev pub BeginsRound : {G : Type 0} → (table : TableView) → (becomes : G → Event → G → Type 0) → (old new : SeatView × G) → Type 0
 BeginsRound {G = G} table becomes old new =
     (middle : SeatView × G) × AdvancesEpoch table becomes old middle × FindsBound table becomes table.layout.passes middle new
 
--- whether the visit gave its record back
+-- whether the record that was visited was given back
 abbrev pub is_given : Visited → Bool
 is_given Given = true
 is_given seen = false
 
--- the pass visits a record, and gives it back exactly if `given` is true
+-- the pass visits this record, and gives it back exactly if `given` is true
 abbrev pub VisitsOne : {G : Type 0} → (table : TableView) → (becomes : G → Event → G → Type 0) → (bound : ℕ) → (rec : Rec) →
     (given : Bool) → (old new : SeatView × G) → Type 0
 VisitsOne table becomes bound rec given old new =
     (acts : List Act) × Visits bound rec acts × Does table becomes collecting acts old new × (count_by has_given acts ≡ if given then 1 else 0)
 
--- the pass visits the first `count` records of a kind, and gives `given` of them back
+-- the pass visits the first `count` records of the kind, and gives `given` of them back
 abbrev pub VisitsFirst : {G : Type 0} → (table : TableView) → (becomes : G → Event → G → Type 0) → (bound : ℕ) → (kind : ℕ → Rec) →
     (count given : ℕ) → (old new : SeatView × G) → Type 0
 VisitsFirst table becomes bound kind count given old new =
     (acts : List Act) × InTurn (λ number. Visits bound (kind number)) count acts × Does table becomes collecting acts old new ×
     (given ≡ count_by has_given acts)
 
--- the pass visits each record of the table, nodes first, and gives `given_nodes` nodes and `given_leaves` leaves back
+-- the pass visits each record of the table, nodes first; it gives `given_nodes` nodes and `given_leaves` leaves back
 abbrev pub VisitsTable : {G : Type 0} → (table : TableView) → (becomes : G → Event → G → Type 0) → (bound given_nodes given_leaves : ℕ) →
     (old new : SeatView × G) → Type 0
 VisitsTable {G = G} table becomes bound given_nodes given_leaves old new =
     (middle : SeatView × G) × VisitsFirst table becomes bound a_node table.layout.nodes given_nodes old middle ×
     VisitsFirst table becomes bound a_leaf table.layout.leaves given_leaves middle new
 
--- If the pass had visited `before.0` records of a kind and given `before.1` back, it has visited `after.0` now and given `after.1` back.
+-- Let the pass have visited the first `before.0` records of the kind and given `before.1` of them back. Then it has now visited the first
+-- `after.0`, and given `after.1` of these back.
 abbrev pub GoesOnVisiting : {G : Type 0} → (table : TableView) → (becomes : G → Event → G → Type 0) → (bound : ℕ) → (kind : ℕ → Rec) →
     (before after : ℕ × ℕ) → (old new : SeatView × G) → Type 0
 GoesOnVisiting {G = G} table becomes bound kind before after old new =

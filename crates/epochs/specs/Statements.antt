@@ -15,26 +15,26 @@ use Rattle.rowex_table.specs.Runs.{Runs}
 use Rattle.rowex_table.specs.Seats.{TableView, SeatView}
 use Rattle.epochs.specs.Reach.{IsInReach, IsReachKept}
 
--- before and after each step of any pass, no record of a pinned pass's reach is free or held
+-- before and after each step of any pass, no record that is in reach of a pinned pass is free or held
 abbrev pub ReachIsKept : Type 0
 ReachIsKept = (layout : Layout) (act : Act) (said : Known → List Note) (old new : Known) (event : IsEvent layout act said old new) →
     IsReachKept event.core × IsReachKept (after event.core old.pass act)
 
--- before and after each step of a run, no record in a pinned pass's reach is free or held
+-- before and after each step of this run, no record that is in reach of a pinned pass is free or held
 abbrev pub KeepsReach : {G : Type 0} (table : TableView) (becomes : G → Event → G → Type 0) (acts : List Act) (old new : SeatView × G) →
     Runs table becomes acts old new → Type 0
-KeepsReach table becomes [] a b run = Unit {0}
-KeepsReach table becomes (act ∷ acts) a b run =
-    IsReachKept run.1.event.core × IsReachKept (after run.1.event.core a.0.known.pass act) × KeepsReach table becomes acts run.0 b run.2
+KeepsReach table becomes [] old new run = Unit {0}
+KeepsReach table becomes (act ∷ acts) old new run =
+    IsReachKept run.1.event.core × IsReachKept (after run.1.event.core old.0.known.pass act) × KeepsReach table becomes acts run.0 new run.2
 
--- before and after each step of each run, no record in a pinned pass's reach is free or held
+-- before and after each step of each run, no record that is in reach of a pinned pass is free or held
 abbrev pub RunsKeepReach : {G : Type 0} → (G → Event → G → Type 0) → Type 0
 RunsKeepReach {G = G} becomes =
     (table : TableView) (acts : List Act) (old new : SeatView × G) (run : Runs table becomes acts old new) → KeepsReach table becomes acts old new run
 
--- a record that a pass gives back, by an exchange that succeeds, is in no pinned pass's reach then
+-- a record that a pass gives back, by an exchange that succeeds, is then in reach of no pinned pass
 abbrev pub GivenIsOutOfReach : Type 0
 GivenIsOutOfReach =
-    (layout : Layout) (rec : Rec) (epoch : ℕ) (said : Known →
-    List Note) (old new : Known) (event : IsEvent layout (GiveBack rec epoch (state_word (Obsolete epoch))) said old new) →
+    (layout : Layout) (rec : Rec) (epoch : ℕ) (said : Known → List Note) (old new : Known)
+    (event : IsEvent layout (GiveBack rec epoch (state_word (Obsolete epoch))) said old new) →
     ¬ IsInReach event.core rec

@@ -1,5 +1,4 @@
--- Legal calls of a pass, after Herlihy and Wing: where its answered calls stand in a front, and that each was answered as a finite map
--- would.
+-- Legal calls of a pass, after Herlihy and Wing: its answered calls stand in a front, and each has the reply of a finite map there.
 use Rattle.std.specs.Prelude.{◌≡◌, ℕ, ◌+◌, ◌≤◌, List, [], ◌∷◌, length, take, slice_get, filter, filter_map, map, All, Option, Some, None, Bool, is_some, option_map, nat_eq, if◌then◌else◌}
 use Rattle.finite_map.specs.declared.Call.{Call}
 use Rattle.finite_map.specs.declared.Call.TheVariants.{Insert, Upsert, Exchange, Add, Remove, RemoveIf}
@@ -29,10 +28,10 @@ is_change note = is_some (effect_of note.call note.reply)
 
 -- the change that a note of the pass tells of, if its call changed the map
 abbrev pub change_of : (pass : ℕ) → (note : Note) → Option Change
-change_of q note =
-    option_map (λ effect. record { pass = q; key = key_of note.call; value = effect.1; kind = effect.0 }) (effect_of note.call note.reply)
+change_of pass note =
+    option_map (λ effect. record { pass = pass; key = key_of note.call; value = effect.1; kind = effect.0 }) (effect_of note.call note.reply)
 
--- the first place at which the pass's next call may stand
+-- the lowest place at which the pass's next call may stand: behind the note's change, if its call made one
 abbrev pub place_after : Note → ℕ
 place_after note = if is_change note then note.place + 1 else note.place
 
@@ -41,33 +40,33 @@ place_after note = if is_change note then note.place + 1 else note.place
 pub record StandsIn (front : List Change) (pass : ℕ) (note : Note) : Type 0 where
   pub place : note.place ≤ length front
   pub reply : note.reply ≡ reply_of (map_of (take note.place front)) note.call
-  pub change : (c : Change) → change_of pass note ≡ Some c → slice_get front note.place ≡ Some c
+  pub change : (made : Change) → change_of pass note ≡ Some made → slice_get front note.place ≡ Some made
 
 -- the notes' places are from `low` on, never fall, and rise after a call that changed the map
 abbrev pub RisesFrom : (low : ℕ) → (notes : List Note) → Type 0
 RisesFrom low [] = Unit {0}
-RisesFrom low (n ∷ ns) = (low ≤ n.place) × RisesFrom (place_after n) ns
+RisesFrom low (note ∷ notes) = (low ≤ note.place) × RisesFrom (place_after note) notes
 
 -- the changes that the pass's notes tell of, in order
 abbrev pub changes_of : (pass : ℕ) → (notes : List Note) → List Change
-changes_of q notes = filter_map (change_of q) notes
+changes_of pass notes = filter_map (change_of pass) notes
 
 -- the changes of a front that the pass has made, in order
 abbrev pub own_changes : (pass : ℕ) → (front : List Change) → List Change
-own_changes pass front = filter (λ c. nat_eq c.pass pass) front
+own_changes pass front = filter (λ change. nat_eq change.pass pass) front
 
--- The answered calls of pass q are legal in the front.
-pub record LegalCalls (front : List Change) (q : ℕ) (notes : List Note) : Type 0 where
+-- The answered calls of the pass, as its notes tell them, are legal in the front. So they happened as on a finite map.
+pub record LegalCalls (front : List Change) (pass : ℕ) (notes : List Note) : Type 0 where
   -- each change fits the map of those before it
   pub legal : LegalFront front
-  -- each call was answered as the map at its place answers, and names the change that it made
-  pub each : All (StandsIn front q) notes
+  -- each call has the reply of the map at its place; if it made a change, the front has that change there
+  pub each : All (StandsIn front pass) notes
   -- the places are in the order in which the pass made its calls
   pub rising : RisesFrom 0 notes
   -- the pass's changes are those of its calls, in order, each once
-  pub own : own_changes q front ≡ changes_of q notes
+  pub own : own_changes pass front ≡ changes_of pass notes
 
--- One after the other from the map m, the calls of the notes have the notes' replies. They lead to the map n.
-pub record IsRun (m : Map) (notes : List Note) (n : Map) : Type 0 where
-  pub replies : map (λ x. x.reply) notes ≡ replies_of m (map (λ x. x.call) notes)
-  pub map : n ≡ map_after_all m (map (λ x. x.call) notes)
+-- Made one after the other, the first on the map `before`, the calls of the notes get the notes' replies. They make it the map `after`.
+pub record IsRun (before : Map) (notes : List Note) (after : Map) : Type 0 where
+  pub replies : map (λ note. note.reply) notes ≡ replies_of before (map (λ note. note.call) notes)
+  pub map : after ≡ map_after_all before (map (λ note. note.call) notes)

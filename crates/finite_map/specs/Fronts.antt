@@ -30,10 +30,10 @@ FitsKind Removed held value = held ≡ Some value
 abbrev pub Fits : Map → Change → Type 0
 Fits pairs change = FitsKind change.kind (value_at pairs change.key) change.value
 
--- each change is legal on the map that those before it lead to, from this map on
+-- the first change is legal on the map `pairs`, and each later one on the map that those before it make of `pairs`
 abbrev pub LegalFrom : Map → List Change → Type 0
-LegalFrom m [] = Unit {0}
-LegalFrom m (c ∷ cs) = Fits m c × LegalFrom (changed m c) cs
+LegalFrom pairs [] = Unit {0}
+LegalFrom pairs (change ∷ changes) = Fits pairs change × LegalFrom (changed pairs change) changes
 
 -- each change is legal on the map of the changes before it
 abbrev pub LegalFront : List Change → Type 0
@@ -43,6 +43,6 @@ LegalFront front = LegalFrom [] front
 abbrev pub BeginsWith : (later earlier : List Change) → Type 0
 BeginsWith later earlier = (more : List Change) × (later ≡ earlier ++ more)
 
--- the later front goes on from the earlier one by changes of other passes than this one
+-- the later front is the earlier one with further changes behind it, none of which the pass has made
 abbrev pub OthersGoOn : (pass : ℕ) → (earlier later : List Change) → Type 0
-OthersGoOn q earlier later = (more : List Change) × (later ≡ earlier ++ more) × All (λ c. c.pass ≢ q) more
+OthersGoOn pass earlier later = (more : List Change) × (later ≡ earlier ++ more) × All (λ change. change.pass ≢ pass) more

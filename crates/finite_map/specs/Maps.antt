@@ -11,7 +11,7 @@ use Rattle.finite_map.specs.declared.Call.TheVariants.{Insert, Upsert, Exchange,
 use Rattle.finite_map.specs.declared.Reply.{Reply}
 use Rattle.finite_map.specs.declared.Reply.TheVariants.{Inserted, Exists, New, Was, Exchanged, Differs, Value, Absent, Removed}
 
--- the order of keys: by bytes, a prefix first
+-- the order of keys: byte by byte as by `memcmp`, where a key that another one begins with comes first
 abbrev pub key_order : (first second : List ℕ) → Ordering
 key_order = slice_cmp nat_cmp
 
@@ -19,7 +19,7 @@ key_order = slice_cmp nat_cmp
 abbrev pub Map : Type 0
 Map = List (List ℕ × ℕ)
 
--- each key is below those after it, as in every map that calls and changes lead to
+-- each key is below those after it, as in every map that calls or changes make of the empty map
 abbrev pub IsRising : Map → Type 0
 IsRising pairs = IsStrictlySortedBy key_order (keys_of pairs)
 
@@ -45,17 +45,17 @@ key_of (Get key) = key
 key_of (Remove key) = key
 key_of (RemoveIf key expected) = key
 
--- the sum of two values, which goes on from 0 behind the greatest one
+-- the sum of a held value and the number that is added, modulo 2^64
 abbrev pub wrapped_sum : (held delta : ℕ) → ℕ
 wrapped_sum held delta = (held + delta) % 2 ^ 64
 
--- What a call that expects a value makes of a map, and its reply. If the value is the expected one, they are `expected`. Else the map
--- stays, and the reply tells the value held.
+-- Of a call that acts only if its key has the expected value: the map after it, and its reply. If the key has that value, these are
+-- `expected`. Else the map stays, and the reply tells the value `held`.
 abbrev pub step_if : (is_expected : Bool) → (pairs : Map) → (held : ℕ) → (expected : Map × Reply) → Map × Reply
 step_if true pairs held expected = expected
 step_if false pairs held expected = (pairs, Differs held)
 
--- a call on a map which holds the value `held` for its key, or none: the map after it, and the reply
+-- what a call makes of a map that holds the value `held` for the call's key, or none: the map after it, and the reply
 abbrev pub step_where : (held : Option ℕ) → (pairs : Map) → (call : Call) → Map × Reply
 step_where None pairs (Insert key value) = (with_value pairs key value, Inserted)
 step_where (Some held) pairs (Insert key value) = (pairs, Exists held)
@@ -72,7 +72,7 @@ step_where (Some held) pairs (Remove key) = (without pairs key, Removed held)
 step_where None pairs (RemoveIf key expected) = (pairs, Absent)
 step_where (Some held) pairs (RemoveIf key expected) = step_if (nat_eq held expected) pairs held (without pairs key, Removed held)
 
--- one call on a map: the map after it, and the reply
+-- what one call makes of a map: the map after it, and the reply
 abbrev pub step : Map → Call → Map × Reply
 step pairs call = step_where (value_at pairs (key_of call)) pairs call
 
@@ -84,16 +84,16 @@ map_after pairs call = (step pairs call).0
 abbrev pub reply_of : Map → Call → Reply
 reply_of pairs call = (step pairs call).1
 
--- what calls return one after the other, the first on the map m
+-- the replies of calls that are made one after the other, the first on the map `pairs`
 abbrev pub replies_of : Map → List Call → List Reply
-replies_of m [] = []
-replies_of m (call ∷ calls) = reply_of m call ∷ replies_of (map_after m call) calls
+replies_of pairs [] = []
+replies_of pairs (call ∷ calls) = reply_of pairs call ∷ replies_of (map_after pairs call) calls
 
--- the map after these calls, the first on the map m
+-- the map after calls that are made one after the other, the first on the map `pairs`
 abbrev pub map_after_all : Map → List Call → Map
-map_after_all m calls = fold map_after m calls
+map_after_all pairs calls = fold map_after pairs calls
 
--- the call gives an absent key a value
+-- the call adds a key to the map: it is an insertion or an upsert, and its key is absent
 abbrev pub AddsKey : Map → Call → Type 0
 AddsKey pairs (Insert key value) = value_at pairs key ≡ None
 AddsKey pairs (Upsert key value) = value_at pairs key ≡ None

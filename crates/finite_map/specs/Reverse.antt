@@ -12,29 +12,30 @@ use Rattle.finite_map.specs.Scans.{range_of, IsLawfulScanWith, ScanOrder}
 
 -- the order of keys, turned round
 abbrev pub falling_order : (first second : List ℕ) → Ordering
-falling_order a b = key_order b a
+falling_order first second = key_order second first
 
 -- each key is above those after it
 abbrev pub HasFallingKeys : Map → Type 0
 HasFallingKeys pairs = IsStrictlySortedBy falling_order (keys_of pairs)
 
--- The scan gives the last `limit` pairs of the map in the range, the last one first. It says `more` exactly where there is a further one.
-pub record IsReverseScanOf (m : Map) (from upto : List ℕ) (limit : ℕ) (scan : Scan) : Type 0 where
-  pub pairs : scan.pairs.items ≡ take limit (reverse (range_of m from upto))
-  pub more : IsTrue scan.more ↔ (limit < length (range_of m from upto))
+-- The scan gives the last `limit` pairs of the map `whole` in the range, the last one first. `more` is true exactly if the map has further
+-- pairs in the range.
+pub record IsReverseScanOf (whole : Map) (from upto : List ℕ) (limit : ℕ) (scan : Scan) : Type 0 where
+  pub pairs : scan.pairs.items ≡ take limit (reverse (range_of whole from upto))
+  pub more : IsTrue scan.more ↔ (limit < length (range_of whole from upto))
 
--- the key is at least that of the last pair, the keys falling
+-- Of pairs with falling keys: this key is at least the last pair's. Without pairs no key is.
 abbrev pub IsDownToLast : Map → List ℕ → Type 0
-IsDownToLast pairs key = Any (λ e. key_order key e.0 ≢ Less) pairs
+IsDownToLast pairs key = Any (λ pair. key_order key pair.0 ≢ Less) pairs
 
--- the key is below that of the last pair, the keys falling
+-- Of pairs with falling keys: this key is below the last pair's. Without pairs each key is.
 abbrev pub IsBelowLast : Map → List ℕ → Type 0
-IsBelowLast pairs key = All (λ e. key_order key e.0 ≡ Less) pairs
+IsBelowLast pairs key = All (λ pair. key_order key pair.0 ≡ Less) pairs
 
 -- the order of a scan's pairs from `upto` down to `from`
 abbrev pub falling_scan : ScanOrder
 falling_scan = record { ordered = HasFallingKeys; reached = IsDownToLast; beyond = IsBelowLast }
 
--- a lawful scan from `upto` down to `from`, while the front grew
+-- a lawful scan of the keys from `upto` down to `from`, while the front grew from `before` to `after`
 abbrev pub IsLawfulReverseScan : (before after : List Change) → (from upto : List ℕ) → (limit : ℕ) → (scan : Scan) → Type 0
 IsLawfulReverseScan = IsLawfulScanWith falling_scan

@@ -14,45 +14,49 @@ use Rattle.finite_map.specs.Fronts.{map_of, BeginsWith}
 abbrev pub is_within : (from upto key : List ℕ) → Bool
 is_within from upto key = range_contains key_order (Included from) (Included upto) key
 
--- the part of the map in the range
+-- the pairs of the map whose keys are in the range
 abbrev pub range_of : (pairs : Map) → (from upto : List ℕ) → Map
-range_of pairs from upto = filter (λ e. is_within from upto e.0) pairs
+range_of pairs from upto = filter (λ pair. is_within from upto pair.0) pairs
 
--- The scan gives the first `limit` pairs of the map in the range. It says `more` exactly where there is a further one.
-pub record IsScanOf (m : Map) (from upto : List ℕ) (limit : ℕ) (scan : Scan) : Type 0 where
-  pub pairs : scan.pairs.items ≡ take limit (range_of m from upto)
-  pub more : IsTrue scan.more ↔ (limit < length (range_of m from upto))
+-- The scan gives the first `limit` pairs of the map `whole` in the range. `more` is true exactly if the map has further pairs in the range.
+pub record IsScanOf (whole : Map) (from upto : List ℕ) (limit : ℕ) (scan : Scan) : Type 0 where
+  pub pairs : scan.pairs.items ≡ take limit (range_of whole from upto)
+  pub more : IsTrue scan.more ↔ (limit < length (range_of whole from upto))
 
--- At some moment between the two fronts the key has the value. That is after the first n changes of `after`, where n is at least the length
--- of `before` and at most that of `after`.
+-- At some moment between the two fronts the key had the value. That is after the first `count` changes of `after`, where `count` is at
+-- least the length of `before` and at most that of `after`.
 abbrev pub IsHeldBetween : (before after : List Change) → (key : List ℕ) → (value : ℕ) → Type 0
-IsHeldBetween before after key value = (n : ℕ) × (length before ≤ n) × (n ≤ length after) × (value_at (map_of (take n after)) key ≡ Some value)
+IsHeldBetween before after key value =
+    (count : ℕ) × (length before ≤ count) × (count ≤ length after) × (value_at (map_of (take count after)) key ≡ Some value)
 
--- the map of the front `before` has the key, and no change of `after` behind that front removes the key
+-- The map of the front `before` has the key, and no later change of the front `after` removes it.
 abbrev pub IsHeldThroughout : (before after : List Change) → (key : List ℕ) → Type 0
-IsHeldThroughout before after key = IsSome (value_at (map_of before) key) × All (λ c. c.kind ≡ Removed → c.key ≢ key) (drop (length before) after)
+IsHeldThroughout before after key =
+    IsSome (value_at (map_of before) key) × All (λ change. change.kind ≡ Removed → change.key ≢ key) (drop (length before) after)
 
--- the key is at most that of the last pair, the keys rising
+-- Of pairs with rising keys: this key is at most the last pair's. Without pairs no key is.
 abbrev pub IsUpToLast : Map → List ℕ → Type 0
-IsUpToLast pairs key = Any (λ e. key_order key e.0 ≢ Greater) pairs
+IsUpToLast pairs key = Any (λ pair. key_order key pair.0 ≢ Greater) pairs
 
--- the key is above that of the last pair, the keys rising
+-- Of pairs with rising keys: this key is above the last pair's. Without pairs each key is.
 abbrev pub IsPastLast : Map → List ℕ → Type 0
-IsPastLast pairs key = All (λ e. key_order e.0 key ≡ Less) pairs
+IsPastLast pairs key = All (λ pair. key_order pair.0 key ≡ Less) pairs
 
--- How a direction orders the pairs of a scan: which pairs are in order, which keys are not beyond the last pair's, and which are.
+-- What a scan's direction decides of its pairs. `ordered`: their keys are in order. `reached`: a key is no further than the last pair's.
+-- `beyond`: a key is further than the last pair's.
 pub record ScanOrder : Type 1 where
   pub ordered : Map → Type 0
   pub reached : Map → List ℕ → Type 0
   pub beyond : Map → List ℕ → Type 0
 
--- a lawful scan in this order of the keys between `from` and `upto`, while the front `before` grew to `after`
+-- A lawful scan, in this order, of the keys from `from` to `upto`, while the front `before` grew to `after`. It gives at most `limit` pairs
+-- of the range, in order. Each was in the map at some moment meanwhile.
 pub record IsLawfulScanWith (order : ScanOrder) (before after : List Change) (from upto : List ℕ) (limit : ℕ) (scan : Scan) : Type 0 where
   pub begins : BeginsWith after before
   pub ordered : order.ordered scan.pairs.items
-  pub within : All (λ e. IsTrue (is_within from upto e.0)) scan.pairs.items
+  pub within : All (λ pair. IsTrue (is_within from upto pair.0)) scan.pairs.items
   pub short : length scan.pairs.items ≤ limit
-  pub held : All (λ e. IsHeldBetween before after e.0 e.1) scan.pairs.items
+  pub held : All (λ pair. IsHeldBetween before after pair.0 pair.1) scan.pairs.items
   -- without `more`, each key of the range that was there all along is listed
   pub whole : scan.more ≡ false → (key : List ℕ) → IsTrue (is_within from upto key) → IsHeldThroughout before after key →
       Contains (keys_of scan.pairs.items) key
@@ -68,6 +72,6 @@ pub record IsLawfulScanWith (order : ScanOrder) (before after : List Change) (fr
 abbrev pub rising_scan : ScanOrder
 rising_scan = record { ordered = IsRising; reached = IsUpToLast; beyond = IsPastLast }
 
--- a lawful scan from `from` up to `upto`, while the front grew
+-- a lawful scan of the keys from `from` up to `upto`, while the front grew from `before` to `after`
 abbrev pub IsLawfulScan : (before after : List Change) → (from upto : List ℕ) → (limit : ℕ) → (scan : Scan) → Type 0
 IsLawfulScan = IsLawfulScanWith rising_scan

@@ -15,37 +15,39 @@ pub data Event : Type 0 where
 
 -- the notes of this place whose calls changed nothing
 abbrev pub quiet_at : (place : ℕ) → (notes : List Note) → List Note
-quiet_at place notes = filter (λ n. nat_eq n.place place && not (is_change n)) notes
+quiet_at place notes = filter (λ note. nat_eq note.place place && not (is_change note)) notes
 
 -- the notes of this place whose calls changed the map
 abbrev pub changing_at : (place : ℕ) → (notes : List Note) → List Note
-changing_at place notes = filter (λ n. nat_eq n.place place && is_change n) notes
+changing_at place notes = filter (λ note. nat_eq note.place place && is_change note) notes
 
 -- the calls of notes, in their order
 abbrev pub calls_of : List Note → List Event
-calls_of notes = map (λ n. answered n.call n.reply) notes
+calls_of notes = map (λ note. answered note.call note.reply) notes
 
--- the call that made a change, if one of the notes tells of it, or else the change alone
+-- What stands in the woven history for a change. `notes` are those of its place whose calls changed the map. It is the call that they tell,
+-- or without one the change alone.
 abbrev pub made_by : Change → List Note → List Event
 made_by change [] = only change ∷ []
-made_by change (n ∷ ns) = calls_of (n ∷ ns)
+made_by change (note ∷ notes) = calls_of (note ∷ notes)
 
--- The history of these changes, the first of which has the number `place`. Before each change stand the calls of its place that changed
--- nothing.
+-- The history of the changes of `front`, where the first of them is number `place`. Before each change stand the calls of its place that
+-- changed nothing.
 abbrev pub weave_from : (place : ℕ) → (front : List Change) → (notes : List Note) → List Event
 weave_from place [] notes = calls_of (quiet_at place notes)
-weave_from place (c ∷ cs) notes = calls_of (quiet_at place notes) ++ (made_by c (changing_at place notes) ++ weave_from (place + 1) cs notes)
+weave_from place (change ∷ changes) notes =
+    calls_of (quiet_at place notes) ++ (made_by change (changing_at place notes) ++ weave_from (place + 1) changes notes)
 
--- The front with the calls of these notes in it. One that changed nothing stands between changes place-1 and place, and calls of one place
--- stand in the order of the notes. One that changed the map stands for its change.
+-- The front as a history, with the calls of these notes in it. A call that changed nothing stands between the changes of numbers place - 1
+-- and place. Calls of one place stand in the order of the notes. A call that changed the map stands in place of its change.
 abbrev pub weave : List Change → List Note → List Event
 weave front notes = weave_from 0 front notes
 
--- each call, one after the other from the map m, has the map's reply
+-- each call of the history has the reply of the map at its turn, where the first meets the map `pairs`
 abbrev pub LegalHistoryFrom : Map → List Event → Type 0
-LegalHistoryFrom m [] = Unit {0}
-LegalHistoryFrom m (answered call reply ∷ es) = (reply ≡ reply_of m call) × LegalHistoryFrom (map_after m call) es
-LegalHistoryFrom m (only c ∷ es) = LegalHistoryFrom (changed m c) es
+LegalHistoryFrom pairs [] = Unit {0}
+LegalHistoryFrom pairs (answered call reply ∷ events) = (reply ≡ reply_of pairs call) × LegalHistoryFrom (map_after pairs call) events
+LegalHistoryFrom pairs (only change ∷ events) = LegalHistoryFrom (changed pairs change) events
 
 -- a legal sequential history: each reply is that of a finite map, which is empty at first
 abbrev pub LegalHistory : List Event → Type 0

@@ -215,10 +215,10 @@ is_done (loaded first pairs is at) = loaded_done first pairs is at
 is_done (asked x key call before after status is never) = asked_done (is_done x) key call before after status is never
 is_done (looked_up x before after fit is) = looked_done (is_done x) before after fit is
 is_done (went_on x is) = went_done (is_done x) is
-is_done {index} (saw {q = q} {r = r} {o = o} {p = p} {l = l} {m = m} x y seen) =
+is_done {index} (saw {pass = q} {other = r} {old = o} {new = p} {leader = l} {led = m} x y seen) =
     let mine = is_done x in let other = is_done y in
     shown_done mine p.handle.pass.seat.known.front (seeing_is_done index q r mine.done other.done o.handle p.handle l.handle m.handle mine.gone other.gone (leader_seen seen)).0
-is_done {index} (was_seen {q = q} {r = r} {o = o} {p = p} {l = l} {m = m} x y seen) =
+is_done {index} (was_seen {pass = q} {other = r} {old = o} {new = p} {leader = l} {led = m} x y seen) =
     let mine = is_done x in let other = is_done y in
     shown_done mine l.handle.pass.seat.known.front (seeing_is_done index r q other.done mine.done o.handle p.handle l.handle m.handle other.gone mine.gone (leader_seen seen)).1
 

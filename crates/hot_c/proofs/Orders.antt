@@ -8,7 +8,7 @@ use Rattle.hot_c.specs.Calls.{FitsInKey, KeepsAll, StaysOpen}
 use Rattle.hot_c.specs.Orders.{Answer, IsFilledIn, IsListedIn, direction_of, in_order}
 use Rattle.hot_handles.specs.Owning.{heap}
 use Rattle.hot_c.specs.Packs.{IsListedByParts}
-use Rattle.hot_c.specs.Scans.{HasFilled, ListsInto, ListsNothing}
+use Rattle.hot_c.specs.Scans.{HasFilledList, ListsInto, ListsNothing}
 use Rattle.hot_c.specs.declared.opened.Opened.{Opened}
 use Rattle.hot_c.specs.declared.pairs.Order.{Order}
 use Rattle.hot_c.specs.declared.pairs.Order.TheVariants.{Upwards, Downwards, LastUpwards}
@@ -69,7 +69,7 @@ as_many LastUpwards pairs = length-reverse pairs
 module _ (from upto k l : List ℕ) (old new : Option Opened) (limit : ℕ) (s u : Opened) (was : old ≡ Some s) (first : (k ≡ from) × FitsInKey from) (last : (l ≡ upto) × FitsInKey upto) where
   pub filled : (order : Order) (count : ℕ) (is_more : Bool) → new ≡ Some u → u.handle.index ≡ s.handle.index → IsFilledIn order s.handle.index.layout s.handle.pass u.handle.pass (range_from k l limit) u.list is_more
       → HasMadeScanSteps s.handle.index untold limit (s.handle.pass, tt) (u.handle.pass, tt) → count ≡ length u.list → length u.list < 2 ^ 63 →
-      u.kept.items ≡ s.kept.items → HasFilled (IsFilledIn order) (range_from from upto limit) old new count is_more
+      u.kept.items ≡ s.kept.items → HasFilledList (IsFilledIn order) (range_from from upto limit) old new count is_more
   filled order count is_more is index made read many small keeps = record {
     before = s;
     after = u;
@@ -98,7 +98,7 @@ module _ (from upto k l : List ℕ) (old new : Option Opened) (limit : ℕ) (s u
       }
 
 -- the scan has left this list, which was read and then emptied
-module _ {IsMade : Answer} {range : Range} {old mid : Option Opened} {count : ℕ} {is_more : Bool} (h : HasFilled IsMade range old mid count is_more) (u : Opened) (is : mid ≡ Some u) where
+module _ {IsMade : Answer} {range : Range} {old mid : Option Opened} {count : ℕ} {is_more : Bool} (h : HasFilledList IsMade range old mid count is_more) (u : Opened) (is : mid ≡ Some u) where
   pub count_here : count ≡ length u.list
   count_here = h.count_is ∙ ap (λ (x : Opened). length x.list) (same h.after u (sym h.is ∙ is))
 
@@ -137,7 +137,7 @@ module _ {IsMade : Answer} {range : Range} {old mid : Option Opened} {count : �
 
 module _ {Room : Type 0} {IsWritten : List (List ℕ × ℕ) → Bool → Room → Room → Type 0} {range : Range} {old new : Option Opened} {before after : Room} {status : ℕ} (IsTold : Answer) where
   -- the pairs of the list were written
-  pub listed : {IsMade : Answer} {mid : Option Opened} {count : ℕ} {is_more : Bool} (h : HasFilled IsMade range old mid count is_more) (u v : Opened) (pairs : List (List ℕ × ℕ))
+  pub listed : {IsMade : Answer} {mid : Option Opened} {count : ℕ} {is_more : Bool} (h : HasFilledList IsMade range old mid count is_more) (u v : Opened) (pairs : List (List ℕ × ℕ))
       → mid ≡ Some u → new ≡ Some v → KeepsAll u v → status ≡ DONE
       → IsTold h.before.handle.index.layout h.before.handle.pass u.handle.pass range pairs is_more → IsWritten pairs is_more before after → ListsInto IsWritten IsTold range old new before after status
   listed h u v pairs is last kept done told written = record {

@@ -5,7 +5,8 @@ use Rattle.hot_c.specs.Calls.{FitsInKey}
 use Rattle.hot_c.specs.declared.around.KeyRoom.{KeyRoom}
 use Rattle.hot_c.specs.declared.status.TheConstants.{ABSENT, DONE, KEY_TOO_LONG}
 
--- The status tells whether a key was found. If so, C's room has the key, and C's number is its length. Else both are as they were.
+-- The status tells whether a key was found. If so, C's room has the key, and C's number, which was `old`, is its length `new`. Else both
+-- are as they were.
 abbrev pub IsKeyTold : (found : Option (List ℕ)) (before : KeyRoom) (old : ℕ) (after : KeyRoom) (new status : ℕ) → Type 0
 IsKeyTold None before old after new status = (status ≡ ABSENT) × (after ≡ before) × (new ≡ old)
 IsKeyTold (Some key) before old after new status = (status ≡ DONE) × (take new after.bytes ≡ key) × (new ≡ length key)

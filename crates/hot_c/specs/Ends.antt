@@ -16,9 +16,9 @@ use Rattle.hot_c.specs.declared.pairs.Order.{Order}
 use Rattle.hot_c.specs.declared.pairs.Pair.{Pair}
 use Rattle.hot_c.specs.declared.status.TheConstants.{CLOSED, KEY_TOO_LONG, NO_MEMORY}
 
--- A search for one pair through a handle. If the handle is closed, or a key that it takes is too long (not `Fits`), the status says so, and
--- nothing has changed. Else the search is made (`IsFound`), and what it found is told: C's pair is that pair, or the status says that there
--- is none. Or memory was refused for a pair that was there (`HasPair`), and C's pair is as it was. Its steps are bounded as a scan's of one.
+-- A search for one pair through a handle. If the handle is closed, or a key that the search takes is too long (not `Fits`), the status says
+-- so, and nothing has changed. Else the search is made (`IsFound`). C's pair holds what it found, or the status says that there is none. Or
+-- memory was refused for a pair that was there (`HasPair`), and C's pair is as it was. Its steps are those of a scan with limit 1.
 pub record FindsBy (Fits : Type 0) (IsFound : Layout → PassView → PassView → Option (List ℕ × ℕ) → Type 0)
     (HasPair : Layout → PassView → PassView → Type 0) (old new : Option Opened) (before after : Pair) (status : ℕ) : Type 0 where
   pub closed : old ≡ None → (status ≡ CLOSED) × (new ≡ old) × (after ≡ before)
@@ -28,12 +28,12 @@ pub record FindsBy (Fits : Type 0) (IsFound : Layout → PassView → PassView �
       ⊎ ((status ≡ NO_MEMORY) × StaysOpen (λ index was now. IsUnnoted index.layout was now × HasPair index.layout was now) old new × (after ≡ before))
   pub read : IsSome old → Fits → StaysOpen (λ index was now. HasMadeScanSteps index untold 1 (was, tt) (now, tt)) old new
 
--- the search tells the first pair from the key on, or that there is none
+-- the search tells the first pair whose key is `from` or above, or that there is none
 abbrev pub FindsFirst : (from : List ℕ) (old new : Option Opened) (before after : Pair) (status : ℕ) → Type 0
 FindsFirst from = FindsBy (FitsInKey from) (λ layout was now. IsFirstFound layout was now from)
     (λ layout was now. HasFoundPair layout was now (range_from from (last_with []) 1))
 
--- the search tells the last pair up to the key, or that there is none
+-- the search tells the last pair whose key is `upto` or below, or that there is none
 abbrev pub FindsLast : (upto : List ℕ) (old new : Option Opened) (before after : Pair) (status : ℕ) → Type 0
 FindsLast upto = FindsBy (FitsInKey upto) (λ layout was now. IsLastFound layout was now upto)
     (λ layout was now. HasFoundPair layout was now (range_from [] upto 1))

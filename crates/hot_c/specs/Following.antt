@@ -11,22 +11,22 @@ use Rattle.hot_c.specs.declared.status.TheConstants.{CLOSED, DONE}
 abbrev pub AreAtOneIndex : (one other : Option Opened) → Type 0
 AreAtOneIndex one other = (first second : Opened) → one ≡ Some first → other ≡ Some second → second.handle.index ≡ first.handle.index
 
--- What calls tell of the pass is as it was: its number, its front, its answered calls, and its steps.
+-- What calls tell of the pass is as it was: its number, front and last load of the root, its answered calls, its steps and its failures.
 abbrev pub IsAsTold : (old new : PassView) → Type 0
 IsAsTold old new =
     (new.number ≡ old.number) × (new.front ≡ old.front) × (new.fresh ≡ old.fresh) × (new.notes ≡ old.notes) × (new.steps ≡ old.steps) ×
     (new.failed ≡ old.failed)
 
--- A handle sees what its leader has seen: it has followed a stamp of all changes that the leader has seen. What calls tell of the leader
--- is as it was. If either handle is closed, the status says so, and nothing has changed.
+-- A handle sees what its leader has seen: it has followed a stamp of all changes that the leader has seen. What calls tell of the leader is
+-- as it was. If either handle is closed, the status says so, and nothing has changed.
 pub record SeesLeader (old new old_leader new_leader : Option Opened) (status : ℕ) : Type 0 where
   pub closed : (old ≡ None) ⊎ (old_leader ≡ None) → (status ≡ CLOSED) × (new ≡ old) × (new_leader ≡ old_leader)
   pub seen : (leader : Opened) → IsSome old → old_leader ≡ Some leader →
       (status ≡ DONE) × StaysOpen (λ index was now. HasCaughtUp index.layout leader.handle.pass.front was now) old new
       × StaysOpen (λ index was now. IsAsTold was now) old_leader new_leader
 
--- After a handle has seen what its leader has seen, the steps that it knows begin with those that the leader knew. The leader has made one
--- stamp, and nothing else of it has changed.
+-- Let a handle have seen what its leader had seen. The steps that the handle then knows begin with those that the leader knew. The leader
+-- has made one stamp, and is the same otherwise.
 abbrev pub SeesSteps : (old new old_leader new_leader : Option Opened) → Type 0
 SeesSteps old new old_leader new_leader =
     (was now led then : Opened) → old ≡ Some was → new ≡ Some now → old_leader ≡ Some led → new_leader ≡ Some then →

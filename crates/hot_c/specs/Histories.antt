@@ -40,7 +40,7 @@ use Rattle.hot_c.specs.declared.status.TheConstants.{ABSENT, BUSY, DIFFERS, DONE
 
 -- What a call has told
 
--- the reply that the status and C's value tell; none if the call was refused, or wasn't made
+-- The reply that a status and C's value tell; none if the call was refused, or wasn't made.
 abbrev pub told_reply : (status value : ℕ) → Option Reply
 told_reply status value =
     if nat_eq status FOUND then Some (Value value) else (if nat_eq status ABSENT then Some Absent else (if nat_eq status INSERTED then Some Inserted else
@@ -48,18 +48,18 @@ told_reply status value =
     (if nat_eq status EXCHANGED then Some Exchanged else (if nat_eq status DIFFERS then Some (Differs value) else
     (if nat_eq status REMOVED then Some (Removed value) else None))))))))
 
--- the call with the reply that the status and the value tell, if they tell one
+-- The call with the reply that the status and the value tell, as a list; an empty one if they tell no reply.
 abbrev pub told_of : (call : Call) (status value : ℕ) → List (Call × Reply)
 told_of call status value = map (λ reply. (call, reply)) (option_to_list (told_reply status value))
 
 -- the gets of many look-ups, each with the reply that its status and value tell
 abbrev pub told_of_each : (lookups : List Lookup) → List (Call × Reply)
 told_of_each [] = []
-told_of_each (it ∷ rest) = told_of (Get (key_in it)) it.status it.value ++ told_of_each rest
+told_of_each (lookup ∷ lookups) = told_of (Get (key_in lookup)) lookup.status lookup.value ++ told_of_each lookups
 
 -- the insertions of the pairs of a load, each with the reply `Inserted`
 abbrev pub loaded_each : List (Key × ℕ) → List (Call × Reply)
-loaded_each = map (λ x. (Insert x.0 x.1, Inserted))
+loaded_each = map (λ pair. (Insert pair.0 pair.1, Inserted))
 
 -- What the calls of a handle have told
 
@@ -82,31 +82,33 @@ pub record HasSeenAnother (old new leader led : Opened) : Type 0 where
   pub sees : SeesLeader (Some old) (Some new) (Some leader) (Some led) DONE
   pub steps : SeesSteps (Some old) (Some new) (Some leader) (Some led)
 
--- What the calls of a handle with pass q of the index have told since it was opened. There is an entry for each call that asked the map:
--- what the call asked, with the replies that its statuses and values tell. The entry of a refused call is empty. A handle is opened with a
--- new pass, or with the pass of a load, which has inserted each pair. Its calls ask for one key (`asked`), look up many keys, or ask the
--- map nothing (`went_on`). It sees what another handle has seen, or is seen by another. `hot_get` is never told that it is busy.
+-- What the calls of a handle have told since it was opened, with the pass of this number of the index. There is an entry for each call that
+-- asked the map: what it asked, with the replies that its statuses and values tell. The entry of a refused call is empty. A handle is
+-- opened with a new pass, or with the pass of a load, which has inserted each pair. Its calls ask for one key (`asked`), look up many keys,
+-- or ask the map nothing (`went_on`). It sees what another handle has seen, or is seen by another. `hot_get` is never told that it is busy.
 pub data HaveTold (index : TableView) : ℕ → List (List (Call × Reply)) → HandleView → Type 0 where
-  opened : {q : ℕ} {h : HandleView} → IsNewPass q h.pass → IsAt index h → HaveTold index q [] h
-  loaded : {q : ℕ} {h : HandleView} → q ≡ 0 → (pairs : List (Key × ℕ)) → IsLoaderPass index pairs h.pass → IsAt index h →
-      HaveTold index q (loaded_each pairs ∷ []) h
-  asked : {q : ℕ} {told : List (List (Call × Reply))} {o p : Opened} → HaveTold index q told o.handle →
+  opened : {pass : ℕ} {handle : HandleView} → IsNewPass pass handle.pass → IsAt index handle → HaveTold index pass [] handle
+  loaded : {pass : ℕ} {handle : HandleView} → pass ≡ 0 → (pairs : List (Key × ℕ)) → IsLoaderPass index pairs handle.pass → IsAt index handle →
+      HaveTold index pass (loaded_each pairs ∷ []) handle
+  asked : {pass : ℕ} {told : List (List (Call × Reply))} {old new : Opened} → HaveTold index pass told old.handle →
       (key : List ℕ) (call : Call) (before after status : ℕ) →
-      Answers key call (Some o) (Some p) before after status → GetsOr call (status ≢ BUSY) (Unit {0}) →
-      HaveTold index q (told ++ told_of call status after ∷ []) p.handle
-  looked_up : {q : ℕ} {told : List (List (Call × Reply))} {o p : Opened} → HaveTold index q told o.handle →
-      (before after : List Lookup) → All (λ it. FitsInKey (key_in it)) before →
-      LooksUpAll (Some o) (Some p) before after DONE → HaveTold index q (told ++ told_of_each after ∷ []) p.handle
-  went_on : {q : ℕ} {told : List (List (Call × Reply))} {o p : Opened} → HaveTold index q told o.handle →
-      StaysOpen AsksNothing (Some o) (Some p) → HaveTold index q told p.handle
-  saw : {q r : ℕ} {told others : List (List (Call × Reply))} {o p l m : Opened} →
-      HaveTold index q told o.handle → HaveTold index r others l.handle → HasSeenAnother o p l m → HaveTold index q told p.handle
-  was_seen : {q r : ℕ} {told others : List (List (Call × Reply))} {o p l m : Opened} →
-      HaveTold index q told l.handle → HaveTold index r others o.handle → HasSeenAnother o p l m → HaveTold index q told m.handle
+      Answers key call (Some old) (Some new) before after status → GetsOr call (status ≢ BUSY) (Unit {0}) →
+      HaveTold index pass (told ++ told_of call status after ∷ []) new.handle
+  looked_up : {pass : ℕ} {told : List (List (Call × Reply))} {old new : Opened} → HaveTold index pass told old.handle →
+      (before after : List Lookup) → All (λ lookup. FitsInKey (key_in lookup)) before →
+      LooksUpAll (Some old) (Some new) before after DONE → HaveTold index pass (told ++ told_of_each after ∷ []) new.handle
+  went_on : {pass : ℕ} {told : List (List (Call × Reply))} {old new : Opened} → HaveTold index pass told old.handle →
+      StaysOpen AsksNothing (Some old) (Some new) → HaveTold index pass told new.handle
+  saw : {pass other : ℕ} {told others : List (List (Call × Reply))} {old new leader led : Opened} →
+      HaveTold index pass told old.handle → HaveTold index other others leader.handle → HasSeenAnother old new leader led →
+      HaveTold index pass told new.handle
+  was_seen : {pass other : ℕ} {told others : List (List (Call × Reply))} {old new leader led : Opened} →
+      HaveTold index pass told leader.handle → HaveTold index other others old.handle → HasSeenAnother old new leader led →
+      HaveTold index pass told led.handle
 
--- A call through an open handle that says this of the handle asks nothing of the map, and leaves the handle open.
+-- Each call through an open handle of which `Says` holds asks nothing of the map, and leaves the handle open.
 abbrev pub StaysQuiet : (Says : Option Opened → Option Opened → Type 0) → Type 0
-StaysQuiet Says = (o : Opened) (new : Option Opened) → Says (Some o) new → StaysOpen AsksNothing (Some o) new
+StaysQuiet Says = (old : Opened) (new : Option Opened) → Says (Some old) new → StaysOpen AsksNothing (Some old) new
 
 -- Which calls ask nothing of the map: scans of each kind, searches for an end of a range, counts, and rounds of collection.
 pub record QuietCalls : Type 0 where
@@ -132,22 +134,22 @@ pub record QuietCalls : Type 0 where
 -- the notes of the answered calls among these happenings
 abbrev pub answered_notes : List Happening → List Note
 answered_notes [] = []
-answered_notes (x ∷ xs) = notes_of_response x ++ answered_notes xs
+answered_notes (happening ∷ happenings) = notes_of_response happening ++ answered_notes happenings
 
--- The notes are those of what calls have told. Call by call, there is a note for each reply, in some order.
+-- The notes are those of what calls have told: call by call, one note for each reply, in some order.
 pub data AreNotesOf : List (List (Call × Reply)) → List Note → Type 0 where
   none : AreNotesOf [] []
   more : {told : List (List (Call × Reply))} {notes : List Note} → AreNotesOf told notes → (replies : List (Call × Reply)) (added : List Note) →
-      IsPermutation replies (map (λ n. (n.call, n.reply)) added) → AreNotesOf (told ++ replies ∷ []) (notes ++ added)
+      IsPermutation replies (map (λ note. (note.call, note.reply)) added) → AreNotesOf (told ++ replies ∷ []) (notes ++ added)
 
 -- the steps that the pass of the open handle knows
 abbrev pub steps_known : Opened → List Event
 steps_known open_handle = open_handle.handle.pass.seat.trace
 
--- Let each pass of an index have an open handle, whose calls have told a program in C `told`. Let some handle of the index (`all`) know
--- all steps that these handles knew. Let each handle then see a leader that knows all steps that `all` knew. There is one execution in
--- which each pass makes just the calls that its handle told of, with these replies. It is linearizable: the calls have one order that a
--- map could have run. Of two calls that don't overlap, the earlier stands first.
+-- Let each pass of an index have an open handle, whose calls have told a program in C `told`. Let some handle of the index (`all`) know all
+-- steps that these handles knew. Let each handle then see a leader that knows all steps that `all` knew. There is one execution in which
+-- each pass makes just the calls that its handle told of, with these replies. It is linearizable: the calls have one order in which a map
+-- could have made them. Of two calls that don't overlap, the earlier stands first.
 abbrev pub CallsAreLinearizable : Type 0
 CallsAreLinearizable =
     (index : TableView) (told : ℕ → List (List (Call × Reply))) (was now leader led : ℕ → Opened) →
@@ -159,4 +161,4 @@ CallsAreLinearizable =
     (done : ℕ → List Happening) × (last : ℕ) × (at : ℕ → Instant) × (happens : ℕ → Happening) ×
     ((pass : ℕ) → pass < index.layout.passes → AreNotesOf (told pass) (answered_notes (done pass))) ×
     IsExecutionOf index (steps_known all) done (λ pass. (was pass).handle.pass.seat) last at happens ×
-    IsLinearizable index.layout last (λ t. configuration_of index.layout (at t)) happens
+    IsLinearizable index.layout last (λ time. configuration_of index.layout (at time)) happens

@@ -8,22 +8,22 @@ use Rattle.hot_c.specs.declared.cell.HandleCell.{HandleCell}
 use Rattle.hot_c.specs.contracts.opened.Opened.{the_row as opened_row}
 use Rattle.hot_c.specs.contracts.cell.HandleCell.{the_row as cell_row}
 
--- the handle's cell as a holder of an open handle
+-- the cell of a handle, as a holder of an open handle
 abbrev pub held_opened : HandleCell → Held Opened
 held_opened cell = record { at = cell.at; value = cell.opened }
 
--- the holder of an open handle as a handle's cell
+-- the holder of an open handle, as the cell of a handle
 abbrev pub cell_of_opened : Held Opened → HandleCell
 cell_of_opened held = record { at = held.at; opened = held.value }
 
--- the cell was lent as a holder: the handle's cell ends as this holder does
+-- The cell of a handle was lent as a holder of an open handle. The cell ends as this holder does.
 abbrev pub LendsHeldOpened : (cell : MutBor HandleCell) (held : MutBor (Held Opened)) → Fml
 LendsHeldOpened cell held = Lends cell_row (held_row opened_row) cell held cell_of_opened
 
--- the handle's cell, with this open handle in it
+-- the cell of a handle, with this open handle in it
 abbrev pub with_opened : (cell : HandleCell) (opened : Opened) → HandleCell
 with_opened cell opened = record cell { opened = Some opened }
 
--- the open handle in the cell was lent: the cell ends with the last value behind the reference
+-- The open handle in a cell was lent. The cell ends with the last value behind the reference `opened`.
 abbrev pub LendsOpened : (cell : MutBor HandleCell) (opened : MutBor Opened) → Fml
 LendsOpened cell opened = Lends cell_row opened_row cell opened (with_opened cell.now)

@@ -11,21 +11,21 @@ use Rattle.hot_c.specs.Calls.{FitsInKey, KeepsPasses}
 use Rattle.hot_c.specs.declared.opened.Opened.{Opened}
 use Rattle.hot_c.specs.declared.status.TheConstants.{CLOSED, DONE, FULL_LEAVES, FULL_NODES, KEY_TOO_LONG, NO_MEMORY, NOT_RISING}
 
--- The load has no pair yet. It is for an index with so many passes, this stock, and one more node record, which the index keeps.
+-- The load has no pair yet. It is for an index with so many passes, this stock, and one node record more, kept for removals.
 pub record IsNewLoad (passes : ℕ) (stock : Stock) (load : LoadView) : Type 0 where
   pub passes_are : load.layout.passes ≡ passes
   pub stock_is : HasStock load.layout (kept_stock stock)
   pub none : load.items ≡ []
 
--- a load was opened, for so many passes and this stock, which has no pair yet
+-- A load was opened, which has no pair yet. It is for an index with so many passes and this stock.
 abbrev pub HasBegunLoad : (passes : ℕ) (stock : Stock) (new : Option OpenLoad) → Type 0
 HasBegunLoad passes stock new = (opened : OpenLoad) × (new ≡ Some opened) × IsNewLoad passes stock opened.load
 
--- the status says why a load refuses a pair
+-- the status is one of those that say why a load refuses a pair
 abbrev pub IsOfRefusedPair : (status : ℕ) → Type 0
 IsOfRefusedPair status = (status ≡ NOT_RISING) ⊎ (status ≡ KEY_TOO_LONG) ⊎ (status ≡ FULL_LEAVES) ⊎ (status ≡ FULL_NODES) ⊎ (status ≡ NO_MEMORY)
 
--- An open load was given a pair. It took the pair, or is as before, and the status says why.
+-- An open load was given a pair. It has taken the pair, or is as before, and the status says why.
 pub record TellsPush (key : List ℕ) (value : ℕ) (old new : LoadView) (status : ℕ) : Type 0 where
   pub told : ((status ≡ DONE) × HasTakenPair key value old new) ⊎ (IsOfRefusedPair status × (new ≡ old))
   pub rising : (status ≡ NOT_RISING) ↔ ¬ IsAboveLast old.items key
@@ -33,17 +33,16 @@ pub record TellsPush (key : List ℕ) (value : ℕ) (old new : LoadView) (status
   pub leaves : status ≡ FULL_LEAVES → HasNoRoomFor old key × ¬ HasNoLeafFor old.layout key
   pub nodes : status ≡ FULL_NODES → old.layout.nodes ≤ length old.items
 
--- A pair for a load. If the load is closed, or the key longer than an index takes, the status says so, and nothing has changed. Else the
--- load is given the pair.
+-- A pair is given to a load. If the load is closed, or the key longer than any index takes, the status says so, and nothing has changed.
 pub record LoadsPair (key : List ℕ) (value : ℕ) (old new : Option OpenLoad) (status : ℕ) : Type 0 where
   pub closed : old ≡ None → (status ≡ CLOSED) × (new ≡ old)
   pub long : IsSome old → ¬ FitsInKey key → (status ≡ KEY_TOO_LONG) × (new ≡ old)
   pub given : (was : OpenLoad) → old ≡ Some was → FitsInKey key → (now : OpenLoad) × (new ≡ Some now) × TellsPush key value was.load now.load status
 
--- The open handle is the first one of the index that was made of this load. Pass 0 has inserted the pairs, and all other passes are new.
+-- The open handle is the first of an index that was made of this load. Pass 0 has inserted the pairs, and all other passes are new.
 abbrev pub KeepsLoadedPasses : (load : LoadView) (opened : Opened) → Type 0
 KeepsLoadedPasses load = KeepsPasses (λ index. IsPassOfLoad index (pairs load.items)) load.layout.passes (λ layout. layout ≡ load.layout)
 
--- the first handle was opened of the index that was made of this load
+-- The first handle was opened of an index that was made of this load.
 abbrev pub HasOpenedLoaded : (load : LoadView) (new : Option Opened) → Type 0
 HasOpenedLoaded load new = (opened : Opened) × (new ≡ Some opened) × KeepsLoadedPasses load opened

@@ -9,26 +9,26 @@ use Rattle.hot_c.specs.declared.status.TheConstants.{ABSENT, CLOSED, DONE, FOUND
 
 -- the key of the look-up
 abbrev pub key_in : Lookup → List ℕ
-key_in it = it.key.now
+key_in lookup = lookup.key.now
 
--- the look-up with what was found, which its status and value tell
-abbrev pub answer : (it : Lookup) (found : Option ℕ) → Lookup
-answer it None = record it { status = ABSENT }
-answer it (Some value) = record it { value = value; status = FOUND }
+-- The look-up with what was found for it: the value, or none. Its status and value tell it.
+abbrev pub answer : (lookup : Lookup) (found : Option ℕ) → Lookup
+answer lookup None = record lookup { status = ABSENT }
+answer lookup (Some value) = record lookup { value = value; status = FOUND }
 
--- the look-ups, each with what was found for it
+-- the look-ups, each with what was found for it, which its status and value tell
 abbrev pub are_answered : (lookups : List Lookup) (found : List (Option ℕ)) → List Lookup
 are_answered [] found = []
-are_answered (it ∷ rest) [] = it ∷ rest
-are_answered (it ∷ rest) (value ∷ found) = answer it value ∷ are_answered rest found
+are_answered (lookup ∷ lookups) [] = lookup ∷ lookups
+are_answered (lookup ∷ lookups) (value ∷ found) = answer lookup value ∷ are_answered lookups found
 
--- Look-ups of many keys through a handle. If the handle is closed or a key too long, the status says so, and nothing has changed. Else all
--- keys are looked up by one call of the index, and what was found is told. Or memory is refused, and nothing has changed. The number of
--- steps is bounded.
+-- Many keys are looked up through a handle. If the handle is closed or a key too long, the status says so, and nothing has changed. Else
+-- all keys are looked up by one call of the index, and each look-up tells what was found. Or memory is refused, and nothing has changed.
+-- The number of steps is bounded.
 pub record LooksUpAll (old new : Option Opened) (before after : List Lookup) (status : ℕ) : Type 0 where
   pub closed : old ≡ None → (status ≡ CLOSED) × (new ≡ old) × (after ≡ before)
-  pub long : IsSome old → ¬ All (λ it. FitsInKey (key_in it)) before → (status ≡ KEY_TOO_LONG) × (new ≡ old) × (after ≡ before)
-  pub made : IsSome old → All (λ it. FitsInKey (key_in it)) before →
+  pub long : IsSome old → ¬ All (λ lookup. FitsInKey (key_in lookup)) before → (status ≡ KEY_TOO_LONG) × (new ≡ old) × (after ≡ before)
+  pub made : IsSome old → All (λ lookup. FitsInKey (key_in lookup)) before →
       ((status ≡ DONE) × (found : List (Option ℕ)) × (length found ≡ length before) ×
       StaysOpen (λ index was now. AreNoted index.layout was now (gets (map key_in before) found)
       × HasMadeGetManySteps index untold (length before) (was, tt) (now, tt)) old new × (after ≡ are_answered before found))

@@ -10,21 +10,21 @@ use Rattle.packed_pairs.specs.declared.direction.Direction.TheVariants.{Upwards 
 use Rattle.hot_c.specs.declared.pairs.Order.{Order}
 use Rattle.hot_c.specs.declared.pairs.Order.TheVariants.{Upwards, Downwards, LastUpwards}
 
--- What may be said of a scan of a range, by its pairs and by whether there is a further one.
+-- What may be said of a scan of a range, from its pairs and from whether there is a further pair.
 abbrev pub Answer : Type 1
 Answer = (layout : Layout) (old new : PassView) (range : Range) (pairs : List (List ℕ × ℕ)) (is_more : Bool) → Type 0
 
--- A scan of the last pairs of a range was answered with these pairs, in rising order. A scan downwards lists them from the last one on.
+-- A scan of the last pairs of a range was answered with these pairs, in rising order. A scan downwards would list them from the last on.
 abbrev pub IsLastListed : Answer
 IsLastListed layout old new range pairs is_more = IsReverseListed layout old new range (reverse pairs) is_more
 
--- a scan was answered, with its pairs in this order
+-- a scan was answered with these pairs, in this order
 abbrev pub IsListedIn : Order → Answer
 IsListedIn Upwards = IsListed
 IsListedIn Downwards = IsReverseListed
 IsListedIn LastUpwards = IsLastListed
 
--- the pairs in this order, where `pairs` has them in the order in which the scan finds them
+-- the pairs as this order lists them, where `pairs` has them in the order in which the scan finds them
 abbrev pub in_order : (order : Order) (pairs : List (List ℕ × ℕ)) → List (List ℕ × ℕ)
 in_order Upwards pairs = pairs
 in_order Downwards pairs = pairs
@@ -36,7 +36,7 @@ direction_of Upwards = Rising
 direction_of Downwards = Falling
 direction_of LastUpwards = Falling
 
--- a scan for this order was answered, with its pairs in the order in which it found them
+-- A scan for this order was answered. Its pairs stand in the order in which it found them.
 abbrev pub IsFilledIn : Order → Answer
 IsFilledIn Upwards = IsListed
 IsFilledIn Downwards = IsReverseListed

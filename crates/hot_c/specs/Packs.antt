@@ -13,19 +13,20 @@ use Rattle.hot_c.specs.Orders.{Answer}
 use Rattle.hot_c.specs.Scans.{ListsInto}
 use Rattle.hot_c.specs.declared.opened.Opened.{Opened}
 
--- what C sees of a packed scan: an array of bytes, one of heads, the count of pairs, and whether there is a further one
+-- What C sees of a scan that packs its pairs. It is an array of bytes, one of heads, the count of pairs, and whether there is a further
+-- pair.
 pub record Packing : Type 0 where
   pub bytes : List ℕ
   pub heads : List PairHead
   pub count : ℕ
   pub more : ℕ
 
--- these values as what C sees of a packed scan
+-- these values as what C sees of a scan that packs its pairs
 abbrev pub packing : List ℕ → List PairHead → (count more : ℕ) → Packing
 packing bytes heads count more = record { bytes = bytes; heads = heads; count = count; more = more }
 
--- The arrays begin with the keys and the heads of the first pairs, as many as have keys that fit into the bytes. They are otherwise as they
--- were. There is a further pair if the scan found one, or if one didn't fit.
+-- C's arrays begin with the keys and the heads of the first pairs: as many pairs as have keys that fit into the bytes. Behind these the
+-- arrays are as they were. There is a further pair if the scan found one, or if one didn't fit.
 pub record IsPackListed (pairs : List (List ℕ × ℕ)) (is_more : Bool) (before after : Packing) : Type 0 where
   pub written : List (List ℕ × ℕ)
   pub fit : written ≡ fitting (length before.bytes) pairs
@@ -35,20 +36,21 @@ pub record IsPackListed (pairs : List (List ℕ × ℕ)) (is_more : Bool) (befor
   pub count : after.count ≡ length written
   pub more : after.more ≡ from_bool (is_more || nat_lt (length written) (length pairs))
 
--- A scan was answered. So are the scans that are cut after any of its first pairs, and have more.
+-- A scan was answered with these pairs. If it is cut behind any of its first pairs, it is a scan with their number as its limit, and has
+-- more.
 pub record IsListedByParts (IsMade : Answer) (layout : Layout) (old new : PassView) (range : Range) (pairs : List (List ℕ × ℕ)) (is_more : Bool) : Type 0 where
   pub whole : IsMade layout old new range pairs is_more
-  pub parts : (n : ℕ) → n < length pairs → IsMade layout old new (limited range n) (take n pairs) true
+  pub parts : (count : ℕ) → count < length pairs → IsMade layout old new (limited range count) (take count pairs) true
 
--- a packed scan of as many pairs as there is room for heads
+-- a scan that packs its pairs, of at most as many pairs as C has room for heads
 abbrev pub ListsPackedBy : Answer → (from upto : List ℕ) → (old new : Option Opened) → (before after : Packing) → (status : ℕ) → Type 0
 ListsPackedBy IsMade from upto old new before after status =
     ListsInto IsPackListed (IsListedByParts IsMade) (range_from from upto (length before.heads)) old new before after status
 
--- a packed scan upwards, from the first key of the range on
+-- a scan upwards that packs its pairs, from the first key of the range on
 abbrev pub ListsPacked : (from upto : List ℕ) → (old new : Option Opened) → (before after : Packing) → (status : ℕ) → Type 0
 ListsPacked = ListsPackedBy IsListed
 
--- a packed scan downwards, from the last key of the range on
+-- a scan downwards that packs its pairs, from the last key of the range on
 abbrev pub ListsPackedReverse : (from upto : List ℕ) → (old new : Option Opened) → (before after : Packing) → (status : ℕ) → Type 0
 ListsPackedReverse = ListsPackedBy IsReverseListed

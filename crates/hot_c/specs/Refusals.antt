@@ -11,32 +11,33 @@ use Rattle.hot_index_calls.specs.declared.refusals.Refusal.{Refusal}
 use Rattle.hot_index_calls.specs.declared.refusals.Refusal.TheVariants.{Busy, HeldBack, Full}
 use Rattle.hot_c.specs.declared.status.TheConstants.{BUSY, FULL_NODES, FULL_LEAVES, KEY_TOO_LONG, HELD_BACK}
 
--- of one kind and class there is no record, in whatever state
-pub record AreNone (counts : StateCounts) : Type 0 where
+-- Of one kind or class the index has no record, in whatever state.
+pub record HasNoRecord (counts : StateCounts) : Type 0 where
   pub free : counts.free ≡ 0
   pub held : counts.held ≡ 0
   pub live : counts.live ≡ 0
   pub obsolete : counts.obsolete ≡ 0
 
--- The status says that the index has no leaf record with room for a key of this length, or else that it is full.
+-- What the status says of a call that lacks a leaf record. If the index has none with room for a key of this length, the key is too long.
+-- Else the index is full.
 pub record TellsOfLeaves (length : ℕ) (counts : RecordCounts) (status : ℕ) : Type 0 where
-  pub none : OfLeaves AreNone length counts → status ≡ KEY_TOO_LONG
-  pub taken : ¬ OfLeaves AreNone length counts → status ≡ FULL_LEAVES
+  pub none : OfLeaves HasNoRecord length counts → status ≡ KEY_TOO_LONG
+  pub taken : ¬ OfLeaves HasNoRecord length counts → status ≡ FULL_LEAVES
 
--- The status says why a call of a key of this length was refused.
+-- The status says why a call for a key of this length was refused.
 abbrev pub TellsRefusal : (length : ℕ) (refusal : Refusal) (status : ℕ) → Type 0
 TellsRefusal length Busy status = status ≡ BUSY
 TellsRefusal length (HeldBack lacks) status = status ≡ HELD_BACK
 TellsRefusal length (Full Nodes counts) status = status ≡ FULL_NODES
 TellsRefusal length (Full Leaves counts) status = TellsOfLeaves length counts status
 
--- The status tells no lack of records that the call never lacks: not of node records, nor of leaf records. If the call lacks neither, it is
--- not told that it is held back.
+-- The status tells no lack of records that the call can't have, be it of node records or of leaf records. A call that can lack neither is
+-- never held back.
 pub record TellsWhatMay (call : Call) (status : ℕ) : Type 0 where
   pub nodes : ¬ MayRefuse call FullNodes → status ≢ FULL_NODES
   pub leaves : ¬ MayRefuse call FullLeaves → status ≢ FULL_LEAVES
   pub held : ¬ MayRefuse call FullNodes → ¬ MayRefuse call FullLeaves → status ≢ HELD_BACK
 
--- the status tells no lack of records, neither full nor held back
+-- the status tells no lack of records: it says neither full nor held back
 abbrev pub TellsOfNoLack : (status : ℕ) → Type 0
 TellsOfNoLack status = (status ≢ FULL_NODES) × (status ≢ FULL_LEAVES) × (status ≢ HELD_BACK)

@@ -7,13 +7,13 @@ use Rattle.hot_index_calls.specs.Reverse.{IsReverseListed}
 use Rattle.hot_index_calls.specs.Traces.{HasMadeScanSteps, untold}
 use Rattle.hot_c.specs.Calls.{FitsInKey, StaysOpen}
 use Rattle.hot_c.specs.Orders.{Answer, IsLastListed}
-use Rattle.hot_c.specs.Pairs.{AreSpelled}
+use Rattle.hot_c.specs.Pairs.{HoldPairs}
 use Rattle.hot_c.specs.declared.opened.Opened.{Opened}
 use Rattle.hot_c.specs.declared.pairs.Pair.{Pair}
 use Rattle.hot_c.specs.declared.status.TheConstants.{DONE, KEY_TOO_LONG, CLOSED, NO_MEMORY}
 
--- A scan through a handle was made, of so many pairs, with whether there is a further one. They are in the handle's list.
-pub record HasFilled (IsMade : Answer) (range : Range) (old new : Option Opened) (count : ℕ) (is_more : Bool) : Type 0 where
+-- A scan through a handle has filled the handle's list with `count` pairs. `is_more` says whether there is a further pair.
+pub record HasFilledList (IsMade : Answer) (range : Range) (old new : Option Opened) (count : ℕ) (is_more : Bool) : Type 0 where
   pub before : Opened
   pub after : Opened
   pub was : old ≡ Some before
@@ -26,8 +26,8 @@ pub record HasFilled (IsMade : Answer) (range : Range) (old new : Option Opened)
   pub made : IsMade before.handle.index.layout before.handle.pass after.handle.pass range after.list is_more
   pub read : HasMadeScanSteps before.handle.index untold range.limit (before.handle.pass, tt) (after.handle.pass, tt)
 
--- A scan through a handle lists nothing. A closed handle and a key that is too long are told as such, and nothing has changed. Else there
--- is no memory for a pair that it found, and the number of its steps is bounded.
+-- A scan through a handle lists nothing. If the handle is closed or a key too long, the status says so, and nothing has changed. Else
+-- memory was refused for a pair that the scan had found, and the number of its steps is bounded.
 pub record ListsNothing (range : Range) (old new : Option Opened) (status : ℕ) : Type 0 where
   pub closed : old ≡ None → (status ≡ CLOSED) × (new ≡ old)
   pub long : IsSome old → ¬ (FitsInKey range.from × FitsInKey range.upto) → (status ≡ KEY_TOO_LONG) × (new ≡ old)
@@ -35,8 +35,8 @@ pub record ListsNothing (range : Range) (old new : Option Opened) (status : ℕ)
       (status ≡ NO_MEMORY) × StaysOpen (λ index was now. IsUnnoted index.layout was now × HasFoundPair index.layout was now range) old new
   pub read : IsSome old → FitsInKey range.from → FitsInKey range.upto → StaysOpen (λ index was now. HasMadeScanSteps index untold range.limit (was, tt) (now, tt)) old new
 
--- A scan through a handle, of at most so many pairs. A closed handle and a key that is too long are told as such, and nothing has changed.
--- Else its pairs are written where C has room for them. Or there is no memory for a pair that it found, and nothing is written. Either way
+-- A scan through a handle. If the handle is closed or a key too long, the status says so, and nothing has changed. Else its pairs are
+-- written where C has room for them (`IsWritten`). Or memory was refused for a pair that it had found, and nothing is written. Either way
 -- the number of its steps is bounded.
 pub record ListsInto {Room : Type 0} (IsWritten : List (List ℕ × ℕ) → Bool → Room → Room → Type 0)
     (IsMade : Answer) (range : Range) (old new : Option Opened) (before after : Room) (status : ℕ) : Type 0 where
@@ -49,7 +49,7 @@ pub record ListsInto {Room : Type 0} (IsWritten : List (List ℕ × ℕ) → Boo
       × (after ≡ before))
   pub read : IsSome old → FitsInKey range.from → FitsInKey range.upto → StaysOpen (λ index was now. HasMadeScanSteps index untold range.limit (was, tt) (now, tt)) old new
 
--- what C sees of a scan: its array, the count of pairs, and whether there is a further one
+-- What C sees of a scan: its array, the count of pairs, and whether there is a further pair.
 pub record Listing : Type 0 where
   pub room : List Pair
   pub count : ℕ
@@ -59,10 +59,10 @@ pub record Listing : Type 0 where
 abbrev pub listing : (room : List Pair) (count more : ℕ) → Listing
 listing room count more = record { room = room; count = count; more = more }
 
--- The array begins with the scan's pairs, for which it has room. Behind them, and behind the key of each, it is as it was.
+-- C's array has room for the scan's pairs and begins with them. Behind them, and behind the key of each, it is as it was.
 pub record IsArrayListed (pairs : List (List ℕ × ℕ)) (is_more : Bool) (before after : Listing) : Type 0 where
   pub short : length pairs ≤ length before.room
-  pub written : AreSpelled pairs before.room after.room
+  pub written : HoldPairs pairs before.room after.room
   pub others : drop (length pairs) after.room ≡ drop (length pairs) before.room
   pub count : after.count ≡ length pairs
   pub more : after.more ≡ from_bool is_more

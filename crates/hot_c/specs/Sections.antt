@@ -6,7 +6,8 @@ use Rattle.hot_handles.specs.SectionHandles.{HasOpenedSection, KeepsSections, Is
 use Rattle.hot_handles.specs.declared.section.opened.OpenSection.{OpenSection as OpenSection}
 use Rattle.hot_c.specs.declared.status.TheConstants.{CLOSED, DONE, INSIDE, NO_HANDLE, NO_MEMORY, NOT_PAST, OUTSIDE}
 
--- A section's open handle stays open, at the same table, and keeps the sections that it kept. `Became` says what became of its own section.
+-- A section's open handle stays open, at the same table, and keeps the sections that it kept for handles to come. `Became` says what became
+-- of its own section.
 pub record KeepsSection (Became : SectionView → SectionView → Type 0) (old new : Option OpenSection) : Type 0 where
   pub before : OpenSection
   pub after : OpenSection
@@ -24,17 +25,17 @@ HoldsInside held = (section : OpenSection) × (held ≡ Some section) × IsInsid
 abbrev pub HoldsOutside : Option OpenSection → Type 0
 HoldsOutside held = (section : OpenSection) × (held ≡ Some section) × ¬ IsInside section.section
 
--- The section of a handle is entered. If the handle is closed, or the section is entered already, the status says so, and nothing has
+-- The section of a handle is entered. If the handle is closed, or its section is entered already, the status says so, and nothing has
 -- changed.
 pub record EntersSection (old new : Option OpenSection) (status : ℕ) : Type 0 where
   pub closed : old ≡ None → (status ≡ CLOSED) × (new ≡ old)
-  pub inside : HoldsInside old → (status ≡ INSIDE) × KeepsSection (λ s t. t ≡ s) old new
+  pub inside : HoldsInside old → (status ≡ INSIDE) × KeepsSection (λ section later. later ≡ section) old new
   pub entered : HoldsOutside old → (status ≡ DONE) × KeepsSection Enters old new
 
--- The section of a handle is left. If the handle is closed, or the section isn't entered, the status says so, and nothing has changed.
+-- The section of a handle is left. If the handle is closed, or its section isn't entered, the status says so, and nothing has changed.
 pub record LeavesSection (old new : Option OpenSection) (status : ℕ) : Type 0 where
   pub closed : old ≡ None → (status ≡ CLOSED) × (new ≡ old)
-  pub outside : HoldsOutside old → (status ≡ OUTSIDE) × KeepsSection (λ s t. t ≡ s) old new
+  pub outside : HoldsOutside old → (status ≡ OUTSIDE) × KeepsSection (λ section later. later ≡ section) old new
   pub left : HoldsInside old → (status ≡ DONE) × KeepsSection Leaves old new
 
 -- The status tells whether the section of a handle is entered. Nothing has changed.
@@ -44,16 +45,17 @@ pub record TellsInside (old new : Option OpenSection) (status : ℕ) : Type 0 wh
   pub inside : HoldsInside old → status ≡ INSIDE
   pub same : new ≡ old
 
--- A moment is taken, and C's word has its number. If the handle is closed, the status says so, and nothing has changed.
+-- A moment is taken, and C's word, which was `before`, has its number `after`. If the handle is closed, the status says so, and nothing has
+-- changed.
 pub record TellsMoment (old new : Option OpenSection) (before after status : ℕ) : Type 0 where
   pub closed : old ≡ None → (status ≡ CLOSED) × (new ≡ old) × (after ≡ before)
   pub taken : IsSome old → (status ≡ DONE) × KeepsSection (TakesMoment after) old new
 
--- by a look of the owner of a section, the moment is past
+-- A look of the section's owner finds that the moment of this number is past.
 abbrev pub FindsPast : (moment : ℕ) (old new : SectionView) → Type 0
 FindsPast moment old new = SeesOthers old new × IsPast moment new.known.run
 
--- by a look of the owner of a section, something holds the moment
+-- A look of the section's owner finds that the moment of this number is not past: an open section holds it.
 abbrev pub FindsHeld : (moment : ℕ) (old new : SectionView) → Type 0
 FindsHeld moment old new = SeesOthers old new × IsHeld moment new.known.run
 
@@ -63,11 +65,11 @@ pub record TellsPast (moment : ℕ) (old new : Option OpenSection) (status : ℕ
   pub told : IsSome old →
       ((status ≡ DONE) × KeepsSection (FindsPast moment) old new) ⊎ ((status ≡ NOT_PAST) × KeepsSection (FindsHeld moment) old new)
 
--- a handle was opened that keeps `count` sections of a new table, beside its own
+-- A handle was opened that has a section of a new table, and keeps `count` others for handles to come.
 abbrev pub HasOpenedSections : (count : ℕ) (new : Option OpenSection) → Type 0
 HasOpenedSections count new = (opened : OpenSection) × (new ≡ Some opened) × KeepsSections count opened
 
--- From an open handle, `was`, the next of the sections that it keeps was opened. Or it keeps none, or memory was refused.
+-- A handle was opened with the next of the sections that the open handle `was` keeps. Or `was` keeps none, or memory was refused.
 abbrev pub OpensSection : (was : OpenSection) (keeper handle : Option OpenSection) (status : ℕ) → Type 0
 OpensSection was keeper handle status = (now : OpenSection) × (keeper ≡ Some now) ×
     (((status ≡ DONE) × (opened : OpenSection) × (handle ≡ Some opened) × HasOpenedSection was now opened)

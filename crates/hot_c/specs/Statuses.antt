@@ -17,7 +17,7 @@ reply_status Exchanged = EXCHANGED
 reply_status (Differs value) = DIFFERS
 reply_status (Removed value) = REMOVED
 
--- C's value after the call: the value in the reply, if the outcome is a reply with one, and else the value before
+-- C's value after the call. If the outcome is a reply with a value, it is that value. Else it is the value `before` the call.
 abbrev pub value_after : (before : ℕ) (outcome : Result Reply Refusal) → ℕ
 value_after before (Ok (Value value)) = value
 value_after before (Ok (Exists value)) = value

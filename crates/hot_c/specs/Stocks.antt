@@ -7,11 +7,11 @@ use Rattle.record_words.specs.declared.layout.Stock.{Stock}
 use Rattle.hot_index.specs.Kept.{kept_stock}
 use Rattle.hot_c.specs.declared.stock.HotStock.{HotStock}
 
--- the stock with the numbers of C's struct
+-- the stock whose numbers stand in C's struct
 abbrev pub stock_in : HotStock → Stock
 stock_in it = record { nodes = it.nodes; short = it.short; medium = it.medium; large = it.large; wide = it.wide; long = it.long }
 
--- an index with so many passes, this stock, and one more node record, which is kept, takes `bytes` bytes
+-- An index with so many passes and this stock takes `bytes` bytes. It has one node record more than the stock, which it keeps.
 pub record TakesBytes (passes : ℕ) (stock : Stock) (bytes : ℕ) : Type 0 where
   pub layout : Layout
   pub passes_are : layout.passes ≡ passes

@@ -7,7 +7,7 @@ use Rattle.hot_c.specs.Calls.{FitsInKey, StaysOpen}
 use Rattle.hot_c.specs.declared.opened.Opened.{Opened}
 use Rattle.hot_c.specs.declared.status.TheConstants.{CLOSED, DONE, KEY_TOO_LONG, NO_MEMORY}
 
--- what C sees of a scan of values: its array, the count of values, and whether there is a further one
+-- What C sees of a scan of values: its array, the count of values, and whether there is a further one.
 pub record ValueListing : Type 0 where
   pub room : List ℕ
   pub count : ℕ
@@ -17,7 +17,7 @@ pub record ValueListing : Type 0 where
 abbrev pub value_listing : (room : List ℕ) (count more : ℕ) → ValueListing
 value_listing room count more = record { room = room; count = count; more = more }
 
--- C's array, which has room for these values, begins with them, and is otherwise as it was.
+-- C's array has room for these values and begins with them. Behind them it is as it was.
 pub record AreWritten (values : List ℕ) (is_more : Bool) (before after : ValueListing) : Type 0 where
   pub short : length values ≤ length before.room
   pub written : after.room ≡ values ++ drop (length values) before.room

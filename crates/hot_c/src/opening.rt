@@ -3,7 +3,7 @@
 ghost use Rattle.std.specs.Prelude.{◌≡◌, ◌≢◌, ◌↔◌, ◌++◌, ◌∷◌, [], ℕ, All, Err, IfErr, IfOk, IsErr, IsTrue, Some, length, map, reverse, slice_get};
 ghost use Rattle.hot_index_calls.specs.Passes.{IsNewPass, Owns, PassView};
 ghost use Rattle.hot_index.specs.Handles.{handle_at};
-ghost use Rattle.hot_c.specs.Calls.{AreClosed, AreNew, HasCounts, IsKeeper, IsNewShare, IsSize, IsStockSize, places_of};
+ghost use Rattle.hot_c.specs.Calls.{AreClosed, AreNewHandles, HasCounts, IsKeeper, IsNewShare, IsSize, IsStockSize, places_of};
 ghost use Rattle.record_words.specs.Layout.{HasStock};
 ghost use Rattle.hot_index.specs.Kept.{kept_stock};
 
@@ -73,7 +73,7 @@ pub fn make_passes(
 ) -> Result<Vec<Box<Opened, Global>>, IndexFault>
     ensures size { IsSize passes nodes leaves → IfErr result (λ fault. fault ≡ IndexFault.Memory) }
     ensures range { ¬ IsSize passes nodes leaves → IsErr result × result ≢ Err IndexFault.Memory }
-    ensures made { IfOk result (λ made. AreNew passes (HasCounts nodes leaves) (map (λ b. b.value) made.items)) }
+    ensures made { IfOk result (λ made. AreNewHandles passes (HasCounts nodes leaves) (map (λ b. b.value) made.items)) }
 {
     let (index, passes) = create(alloc, passes, nodes, leaves)?;
     share_index(alloc, index, passes).map_err(|_| IndexFault::Memory)
@@ -88,7 +88,7 @@ pub fn make_passes_with_stock(
 ) -> Result<Vec<Box<Opened, Global>>, IndexFault>
     ensures size { IsStockSize passes stock → IfErr result (λ fault. fault ≡ IndexFault.Memory) }
     ensures range { ¬ IsStockSize passes stock → IsErr result × result ≢ Err IndexFault.Memory }
-    ensures made { IfOk result (λ made. AreNew passes (λ layout. HasStock layout (kept_stock stock)) (map (λ b. b.value) made.items)) }
+    ensures made { IfOk result (λ made. AreNewHandles passes (λ layout. HasStock layout (kept_stock stock)) (map (λ b. b.value) made.items)) }
 {
     let (index, passes) = create_with(alloc, passes, stock)?;
     share_index(alloc, index, passes).map_err(|_| IndexFault::Memory)

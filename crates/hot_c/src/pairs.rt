@@ -2,7 +2,7 @@
 
 ghost use Rattle.std.specs.Prelude.{◌≡◌, ◌+◌, ◌≤◌, length, drop, reverse, slice_get};
 ghost use Rattle.hot_c.specs.Orders.{direction_of, in_order};
-ghost use Rattle.hot_c.specs.Pairs.{AreSpelled, IsPairTold, Spells};
+ghost use Rattle.hot_c.specs.Pairs.{HoldPairs, IsPairTold, HoldsPair};
 ghost use Rattle.key_bits.specs.Key.{IsKey};
 
 use crate::status::{ABSENT, FOUND};
@@ -53,7 +53,7 @@ pub struct Query<'a> {
 /// written in the opposite order.
 pub fn write_pairs_in_order(order: Order, pairs: &Pairs, room: &mut [Pair])
     requires { length pairs.now ≤ length room.old }
-    ensures written { AreSpelled (in_order order pairs.now) room.old room.new }
+    ensures written { HoldPairs (in_order order pairs.now) room.old room.new }
     ensures others { drop (length pairs.now) room.new ≡ drop (length pairs.now) room.old }
 {
     match order {
@@ -65,7 +65,7 @@ pub fn write_pairs_in_order(order: Order, pairs: &Pairs, room: &mut [Pair])
 /// Writes `pairs` to the front of `room`, which has room for all, the first one first.
 fn write_pairs(pairs: &Pairs, room: &mut [Pair])
     requires { length pairs.now ≤ length room.old }
-    ensures written { AreSpelled pairs.now room.old room.new }
+    ensures written { HoldPairs pairs.now room.old room.new }
     ensures others { drop (length pairs.now) room.new ≡ drop (length pairs.now) room.old }
 {
     for (place, (key, value)) in pairs.iter().enumerate() {
@@ -76,7 +76,7 @@ fn write_pairs(pairs: &Pairs, room: &mut [Pair])
 /// Writes `pairs` to the front of `room`, which has room for all, the last one first.
 fn write_pairs_backwards(pairs: &Pairs, room: &mut [Pair])
     requires { length pairs.now ≤ length room.old }
-    ensures written { AreSpelled (reverse pairs.now) room.old room.new }
+    ensures written { HoldPairs (reverse pairs.now) room.old room.new }
     ensures others { drop (length pairs.now) room.new ≡ drop (length pairs.now) room.old }
 {
     for (place, (key, value)) in pairs.iter().rev().enumerate() {
@@ -87,7 +87,7 @@ fn write_pairs_backwards(pairs: &Pairs, room: &mut [Pair])
 /// Writes `key`, its length and `value` to `pair`; the bytes behind the key stay.
 fn write_pair(key: &[u8], value: u64, pair: &mut Pair)
     requires { IsKey key.now }
-    ensures { Spells (key.now, value) pair.old pair.new }
+    ensures { HoldsPair (key.now, value) pair.old pair.new }
 {
     // The common lengths are copied through arrays: such a copy needs no call and no test for overlap.
     match key.len() {
@@ -108,7 +108,7 @@ fn write_pair(key: &[u8], value: u64, pair: &mut Pair)
 fn write_pair_by_ends<const N: usize>(key: &[u8], value: u64, pair: &mut Pair)
     requires key { IsKey key.now }
     requires covered { (N ≤ length key.now) × (length key.now ≤ N + N) }
-    ensures { Spells (key.now, value) pair.old pair.new }
+    ensures { HoldsPair (key.now, value) pair.old pair.new }
 {
     // The first N bytes and the last N may overlap. One array holds both in turn: with two they would go through memory.
     let last = key.len() - N;
@@ -126,7 +126,7 @@ fn write_pair_by_ends<const N: usize>(key: &[u8], value: u64, pair: &mut Pair)
 #[inline(never)]
 fn write_pair_of_any_length(key: &[u8], value: u64, pair: &mut Pair)
     requires { IsKey key.now }
-    ensures { Spells (key.now, value) pair.old pair.new }
+    ensures { HoldsPair (key.now, value) pair.old pair.new }
 {
     pair.key[..key.len()].copy_from_slice(key);
     pair.length = key.len() as u32;

@@ -2,7 +2,7 @@
 
 ghost use Rattle.std.specs.Prelude.{◌↔◌, IsTrue};
 ghost use Rattle.hot_index_calls.specs.Refusals.{OfLeaves};
-ghost use Rattle.hot_c.specs.Refusals.{AreNone, TellsOfLeaves, TellsRefusal};
+ghost use Rattle.hot_c.specs.Refusals.{HasNoRecord, TellsOfLeaves, TellsRefusal};
 
 use crate::status::{BUSY, FULL_LEAVES, FULL_NODES, HELD_BACK, KEY_TOO_LONG};
 use hot_index::{Full, RecordCounts, Refusal, StateCounts};
@@ -32,16 +32,16 @@ fn tell_lack_of_leaves(size: usize, counts: &RecordCounts) -> u32
     }
 }
 
-/// Returns whether `counts`, those of one kind and class, show no record at all.
+/// Returns whether `counts`, which are those of one kind and class, count no record at all.
 fn has_no_record(counts: &StateCounts) -> bool
-    ensures { IsTrue result ↔ AreNone counts.now }
+    ensures { IsTrue result ↔ HasNoRecord counts.now }
 {
     counts.free == 0 && counts.held == 0 && counts.live == 0 && counts.obsolete == 0
 }
 
-/// Returns whether `counts` show no leaf record at all with room for a key of `size` bytes.
+/// Returns whether `counts` count no leaf record at all with room for a key of `size` bytes.
 fn has_no_leaf_for(size: usize, counts: &RecordCounts) -> bool
-    ensures { IsTrue result ↔ OfLeaves AreNone size counts.now }
+    ensures { IsTrue result ↔ OfLeaves HasNoRecord size counts.now }
 {
     (size > SHORT_BYTES || has_no_record(&counts.short))
         && (size > MEDIUM_BYTES || has_no_record(&counts.medium))

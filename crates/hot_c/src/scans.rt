@@ -3,7 +3,7 @@
 ghost use Rattle.std.specs.Prelude.{◌≡◌, ◌<◌, ◌^◌, IfErr, IfOk};
 ghost use Rattle.hot_index_calls.specs.Answers.{range_from};
 ghost use Rattle.hot_c.specs.Orders.{IsFilledIn, IsListedIn};
-ghost use Rattle.hot_c.specs.Scans.{HasFilled, ListsUpwards, ListsBy, ListsLast, ListsNothing, ListsReverse, listing};
+ghost use Rattle.hot_c.specs.Scans.{HasFilledList, ListsUpwards, ListsBy, ListsLast, ListsNothing, ListsReverse, listing};
 
 use crate::handle::IndexHandle;
 use crate::pairs::{Order, Pair, Query, write_pairs_in_order};
@@ -106,7 +106,7 @@ pub fn fill_list(
     query: &Query,
     limit: usize,
 ) -> Result<(usize, bool), u32>
-    ensures ok { IfOk result (λ found. HasFilled (IsFilledIn query.now.order) (range_from query.now.from.now query.now.upto.now limit)
+    ensures ok { IfOk result (λ found. HasFilledList (IsFilledIn query.now.order) (range_from query.now.from.now query.now.upto.now limit)
         handle.old.cell.opened handle.new.cell.opened found.0 found.1) }
     ensures short { IfOk result (λ found. found.0 < 2 ^ 63) }
     ensures err { IfErr result (ListsNothing (range_from query.now.from.now query.now.upto.now limit) handle.old.cell.opened handle.new.cell.opened) }

@@ -9,6 +9,6 @@ use Rattle.hot_handles.specs.contracts.held.Held.{the_row}
 abbrev pub with_held : {T : Type 0} → (held : Held T) (value : T) → Held T
 with_held held value = record held { value = Some value }
 
--- the value of the holder was lent: the holder ends with the last value behind the reference
+-- The value of a holder was lent. The holder ends with the last value behind the reference `value`.
 abbrev pub LendsHeld : (R : RattleType) (held : MutBor (Held R.Denot)) (value : MutBor R.Denot) → Fml
 LendsHeld R held value = Lends (the_row R) R held value (with_held held.now)

@@ -11,7 +11,7 @@ use Rattle.std_heap.specs.contracts.GlobalAllocator.TheImpl.{ghosts}
 abbrev pub heap : Global
 heap = record { memory = record { seal = tt } }
 
--- what the cell owns at this pointer: nothing, or what a box on C's heap owns that has this value
+-- What a cell owns at this pointer: nothing, or what a box on C's heap owns that has this value.
 abbrev pub owns_held : (R : RattleType) (at : Ptr) (value : Option R.Denot) → Fml
 owns_held R at None = ftrue
 owns_held R at (Some value) = box_owns (ghosts.dealloc_token heap) R at value

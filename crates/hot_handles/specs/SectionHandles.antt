@@ -3,7 +3,7 @@ use Rattle.std.specs.Prelude.{◌≡◌, ◌+◌, ◌++◌, ◌∷◌, [], ℕ, 
 use Rattle.sections.specs.Sections.{IsNewSection}
 use Rattle.hot_handles.specs.declared.section.opened.OpenSection.{OpenSection}
 
--- The open handle has section 0 of a new table, and keeps the `count` other sections.
+-- The open handle has section 0 of a new table, and keeps the `count` others for handles to come.
 pub record KeepsSections (count : ℕ) (opened : OpenSection) : Type 0 where
   pub count_is : opened.sections.value.count ≡ count + 1
   pub kept : length opened.kept.items ≡ count
@@ -13,7 +13,7 @@ pub record KeepsSections (count : ℕ) (opened : OpenSection) : Type 0 where
 abbrev pub IsUnchangedSection : (was now : OpenSection) → Type 0
 IsUnchangedSection was now = (now.sections.value ≡ was.sections.value) × (now.section ≡ was.section) × (now.kept.items ≡ was.kept.items)
 
--- The next of the sections that `was` keeps was opened, and `now` keeps the others. The opened one keeps none.
+-- A handle was opened with the next of the sections that `was` keeps, and `now` keeps the others. The new handle keeps none.
 pub record HasOpenedSection (was now opened : OpenSection) : Type 0 where
   pub next : was.kept.items ≡ now.kept.items ++ opened.section ∷ []
   pub same : (now.sections.value ≡ was.sections.value) × (now.section ≡ was.section)

@@ -20,7 +20,7 @@ pub use Rattle.hot_index_calls.proofs.Noting.{All-part, HasLooked, IsRightPlace,
 pub use Rattle.hot_index_calls.proofs.Traces.{has_got, has_got_many, has_walked, read_told}
 pub use Rattle.hot_index_calls.specs.Answers.{AreValuesListed, GoesOn, HasFoundPair, HaveMet, IsCause, IsFoundBy, IsListedBy, IsNoted, IsOvertaken, IsRefused, IsRefusedFor, IsUnnoted, MayTake, WasFound, fault_of, got, range_from}
 pub use Rattle.hot_index_calls.specs.Asked.{HasReplied, last_try}
-pub use Rattle.hot_index_calls.specs.Calls.{AreTriesRefused, HasCause, IsCountReadWith, IsListRead, IsListReadBy, IsOfLast, IsOutcome, IsRangeRead, IsRangeReadWith, IsScanReadBy, IsTried, IsTriedAndCounted, IsValuesReadWith, MakesTries, no_part}
+pub use Rattle.hot_index_calls.specs.Calls.{AreTriesRefused, HasCause, IsCountReadWith, IsListRead, IsListReadBy, IsResultOfLast, IsOutcome, IsRangeRead, IsRangeReadWith, IsScanReadBy, IsTried, IsTriedAndCounted, IsValuesReadWith, MakesTries, no_part}
 pub use Rattle.hot_index_calls.specs.Census.{HasCounted, loads_in}
 pub use Rattle.hot_index_calls.specs.Many.{AreNoted, HasMadeGetManySteps, gets}
 pub use Rattle.hot_index_calls.specs.Noting.{change_notes, place_of}

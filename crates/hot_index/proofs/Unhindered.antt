@@ -1,5 +1,5 @@
 -- A call that is alone is not hindered: what no other pass had when it began, none has while it runs.
-use Rattle.hot_index.proofs.Common.{◌≡◌, ◌≢◌, ◌⊎◌, inl, inr, ⊎_elim, ℕ, ◌+◌, ◌<◌, ◌≤◌, List, [], ◌∷◌, ◌++◌, length, get_or, Bool, true, false, ◌&&◌, nat_eq, if◌then◌else◌, Option, Some, None, Result, Ok, Err, IsOk, refl, sym, ap, subst, ◌∙◌, arith, append-nil, append_assoc, length-append, All, ne_eqb, append_cancel_left, All-head, All-nil, All-tail, get_or_from_slice_get, slice_get_within, Call, Change, Added, Reply, BeginsWith, key_of, Key, Layout, Rec, a_node, IsLockable, ClearPin, Event, Known, Core, IsLawful, holder_of, IsFact, IsStillLoaded, Knows, opening, AreOthers, EventsLead, knows_all, SeatView, TableView, lead_layout, front_on, Full, TryFault, Busy, FullLeaves, FullNodes, NoChangeFrom, no_change_from_later, runs_begin, IsCause, MayTake, fault_of, AreTriesRefused, HasCause, IsOfLast, IsOutcome, IsTried, IsTriedAndCounted, MakesTries, loads_in, change_notes, IsCountTold, IsCountedAfter, as_tried, Refusal, IsNewPass, PassView, All-part, full_fault}
+use Rattle.hot_index.proofs.Common.{◌≡◌, ◌≢◌, ◌⊎◌, inl, inr, ⊎_elim, ℕ, ◌+◌, ◌<◌, ◌≤◌, List, [], ◌∷◌, ◌++◌, length, get_or, Bool, true, false, ◌&&◌, nat_eq, if◌then◌else◌, Option, Some, None, Result, Ok, Err, IsOk, refl, sym, ap, subst, ◌∙◌, arith, append-nil, append_assoc, length-append, All, ne_eqb, append_cancel_left, All-head, All-nil, All-tail, get_or_from_slice_get, slice_get_within, Call, Change, Added, Reply, BeginsWith, key_of, Key, Layout, Rec, a_node, IsLockable, ClearPin, Event, Known, Core, IsLawful, holder_of, IsFact, IsStillLoaded, Knows, opening, AreOthers, EventsLead, knows_all, SeatView, TableView, lead_layout, front_on, Full, TryFault, Busy, FullLeaves, FullNodes, NoChangeFrom, no_change_from_later, runs_begin, IsCause, MayTake, fault_of, AreTriesRefused, HasCause, IsResultOfLast, IsOutcome, IsTried, IsTriedAndCounted, MakesTries, loads_in, change_notes, IsCountTold, IsCountedAfter, as_tried, Refusal, IsNewPass, PassView, All-part, full_fault}
 use Rattle.std.specs.Prelude.{Contains}
 use Rattle.versions.specs.Core.{Fate, Free, Held, Ready, InTree, Unlinked, Marked}
 use Rattle.rowex_core.specs.declared.known.Holding.TheVariants.{Held as HeldRecord, Ready as ReadyRecord, Unlinked as UnlinkedRecord}
@@ -249,7 +249,7 @@ module _ {G : Type 0} (index : TableView) (becomes : G → Event → G → Type 
   once : (call : Call) (result : Result Reply Full) (a b : PassView × G) (tries : MakesTries call result index becomes a b) → RunsAlone index.layout a.0.number a.0.seat b.0.seat → TakesNone call a.0 b.0 → (tries.refusals ≡ []) × IsOk result
   once call result a b tries alone none = of tries.refusals refl tries.refused
     where
-      last_made : (r : Result Reply Full) (o : Result Reply Refusal) → IsOfLast r o → IsTriedAndCounted call o index becomes a b → IsOk r
+      last_made : (r : Result Reply Full) (o : Result Reply Refusal) → IsResultOfLast r o → IsTriedAndCounted call o index becomes a b → IsOk r
       last_made (Ok reply) o is h = refl
       last_made (Err full) o (counts, is) h = absurd (not_refused call (IsFull full counts) a b b alone none (on_same b b refl) (subst (λ (z : Result Reply Refusal). IsTriedAndCounted call z index becomes a b) is h))
 

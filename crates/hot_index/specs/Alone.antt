@@ -15,11 +15,12 @@ use Rattle.hot_index_calls.specs.Answers.{IsCause, MayTake}
 use Rattle.hot_index_calls.specs.Calls.{HasCause, IsOutcome, MakesTries}
 use Rattle.hot_index_calls.specs.Passes.{IsNewPass, PassView}
 
--- Whatever part of its last front the pass had seen by then, the call takes no record (`MayTake`).
+-- No try of a change that waits, from `old` to `new`, may take a record (`MayTake`). `middle` stands for the pass at the end of a try: its
+-- front is a beginning of the front of `new`.
 abbrev pub TakesNone : (call : Call) (old new : PassView) → Type 0
 TakesNone call old new = (middle : PassView) → BeginsWith new.front middle.front → ¬ (MayTake call old middle)
 
--- A call that is alone is refused only for want of a record.
+-- What becomes of a call that is alone: it is refused only for want of a record.
 pub record AloneCallsEnd {G : Type 0} (becomes : G → Event → G → Type 0) : Type 0 where
   -- a call that is alone is never busy
   pub busy : (layout : Layout) (key : Key) (old new : PassView) → RunsAlone layout new.number old.seat new.seat → ¬ (IsCause layout key old new Busy)
@@ -34,4 +35,4 @@ pub record AloneCallsEnd {G : Type 0} (becomes : G → Event → G → Type 0) :
       RunsAlone index.layout before.0.number before.0.seat later.0.seat → TakesNone call before.0 later.0 → (tries.refusals ≡ []) × IsOk result
   -- the first call of a new index is alone, if no other pass makes a step
   pub first : (layout : Layout) (number : ℕ) (pass : PassView) (seat : SeatView) → IsNewPass number pass →
-      All (λ x. x.pass ≡ number) seat.trace → RunsAlone layout number pass.seat seat
+      All (λ event. event.pass ≡ number) seat.trace → RunsAlone layout number pass.seat seat

@@ -5,12 +5,12 @@ use Rattle.key_ranges.specs.Ranges.{IsNextKey, NoKeyAbove}
 use Rattle.packed_pairs.specs.Last.{IsLastKey}
 use Rattle.tries.specs.Keys.{Key}
 
--- what is left for a cursor: the keys from one to another
+-- what is left for a cursor: the keys from `from` to `upto`
 abbrev pub rest_of : (from upto : Key) → Rest
 rest_of from upto = record { from = from; upto = upto }
 
--- A cursor was at the key `from`, and has listed these pairs. It goes on at `next`: the key after the last listed one, or `from` if none
--- was listed.
+-- Where a cursor goes on that was at the key `from` and has listed these pairs. `next` is the key after the last listed one, or `from` if
+-- none was listed.
 abbrev pub GoesOnAt : (from : Key) (pairs : List (Key × ℕ)) (next : Key) → Type 0
 GoesOnAt from pairs next = ((pairs ≡ []) × (next ≡ from)) ⊎ ((last : Key) × IsLastKey pairs last × IsNextKey last next)
 
@@ -18,8 +18,8 @@ GoesOnAt from pairs next = ((pairs ≡ []) × (next ≡ from)) ⊎ ((last : Key)
 abbrev pub IsAtEnd : (pairs : List (Key × ℕ)) → Type 0
 IsAtEnd pairs = (last : Key) × IsLastKey pairs last × NoKeyAbove last
 
--- What is left for a cursor that has listed these pairs. If there is a further key, these are the keys from where the cursor goes on.
--- Nothing is left if there is no further key, or if the last listed key is the greatest of all.
+-- What is left for a cursor that had `rest` and has listed these pairs, where `more` says whether there is a further key. If so, it is the
+-- keys from where the cursor goes on. If not, or if the last listed key is the greatest of all, nothing is left.
 abbrev pub IsLeft : (rest : Rest) (pairs : List (Key × ℕ)) (more : Bool) (left : Option Rest) → Type 0
 IsLeft rest pairs true left =
     ((next : Key) × (left ≡ Some (rest_of next rest.upto)) × GoesOnAt rest.from pairs next) ⊎ ((left ≡ None) × IsAtEnd pairs)

@@ -12,7 +12,7 @@ pub record HandleView : Type 0 where
 abbrev pub handle_at : (index : TableView) (pass : PassView) → HandleView
 handle_at index pass = record { index = index; pass = pass }
 
--- The handle stays at its index. `Became` says what became of its pass.
+-- The handle stays at its index. `Became index old new` says what became of its pass.
 pub record Stays (Became : TableView → PassView → PassView → Type 0) (old new : HandleView) : Type 0 where
   pub index : new.index ≡ old.index
   pub pass : Became old.index old.pass new.pass

@@ -3,15 +3,15 @@ use Rattle.std.specs.Prelude.{◌≡◌, ℕ, ◌+◌, min}
 use Rattle.record_words.specs.declared.layout.Layout.{Layout}
 use Rattle.record_words.specs.declared.layout.Stock.{Stock}
 
--- so many node records and the kept one, but at most 2^32 - 1
+-- the number of node records that a table has for so many asked for: one more, but at most 2^32 - 1
 abbrev pub with_one_kept : (nodes : ℕ) → ℕ
 with_one_kept nodes = min (nodes + 1) 4294967295
 
--- the stock with the kept node record
+-- the stock of the table that is made for this one: with the kept node record
 abbrev pub kept_stock : Stock → Stock
 kept_stock stock = record stock { nodes = with_one_kept stock.nodes }
 
--- the layout is the one asked for, with the kept node record
+-- The table has the layout that was asked for, with the kept node record.
 pub record HasOneKept (asked layout : Layout) : Type 0 where
   pub passes : layout.passes ≡ asked.passes
   pub nodes : layout.nodes ≡ with_one_kept asked.nodes

@@ -23,15 +23,15 @@ use Rattle.rowex_table.specs.Seats.{IsLoaderSeat, TableView}
 use Rattle.publish_laws.specs.Lone.{HasSpare}
 use Rattle.hot_index_calls.specs.Passes.{IsNewPass, PassView}
 
--- the load has taken this pair, behind its earlier ones, for some leaf record
+-- The load has taken this pair, behind its earlier ones. The pair has the leaf record of some number.
 abbrev pub HasTakenPair : (key : Key) (value : ℕ) (old new : LoadView) → Type 0
-HasTakenPair key value old new = (n : ℕ) × (new ≡ with_item old (item n key value))
+HasTakenPair key value old new = (number : ℕ) × (new ≡ with_item old (item number key value))
 
--- no leaf record of this layout, taken or not, has room for the key
+-- no leaf record of a table with this layout, taken or not, has room for the key
 abbrev pub HasNoLeafFor : (layout : Layout) (key : Key) → Type 0
-HasNoLeafFor layout key = (n : ℕ) → n < layout.leaves → leaf_size layout n < words_for (length key)
+HasNoLeafFor layout key = (number : ℕ) → number < layout.leaves → leaf_size layout number < words_for (length key)
 
--- the count is that of a pass that has inserted these pairs
+-- the count of keys is that of a pass that has inserted these pairs
 abbrev pub CountsItems : (items : List Item) (count : KeyCount) → Type 0
 CountsItems items count = (pass : ℕ) → IsCountOf pass (added_notes 0 items) count
 
@@ -39,27 +39,27 @@ CountsItems items count = (pass : ℕ) → IsCountOf pass (added_notes 0 items) 
 abbrev pub inserted_pair : Key × ℕ → Change
 inserted_pair pair = record { pass = 0; key = pair.0; value = pair.1; kind = Added }
 
--- the notes of insertions of these pairs, one after the other, at the places from `place` on
+-- The notes of insertions of these pairs, one after the other. Their places go up from `place` by one each.
 abbrev pub pairs_noted : (place : ℕ) (pairs : List (Key × ℕ)) → List Note
 pairs_noted place [] = []
-pairs_noted place (x ∷ xs) = record { place = place; call = Insert x.0 x.1; reply = Inserted } ∷ pairs_noted (suc place) xs
+pairs_noted place (pair ∷ pairs) = record { place = place; call = Insert pair.0 pair.1; reply = Inserted } ∷ pairs_noted (suc place) pairs
 
 -- Pass 0 of an index that was made of these pairs. It has inserted each pair, in their order, and has seen nothing else. Its calls are
--- legal, and the map has just these pairs. The load is its one step. Some node record stands in no tree, and in an index of one pass stays
--- spare.
-pub record IsLoaderPass (index : TableView) (xs : List (Key × ℕ)) (pass : PassView) : Type 0 where
+-- legal, and the map has just these pairs. The load is its one step (`seat`). Some node record stands in no tree (`out`). In an index of
+-- one pass such a record stays (`spare`).
+pub record IsLoaderPass (index : TableView) (pairs : List (Key × ℕ)) (pass : PassView) : Type 0 where
   pub number : pass.number ≡ 0
-  pub front : pass.front ≡ map inserted_pair xs
-  pub notes : pass.notes ≡ pairs_noted 0 xs
+  pub front : pass.front ≡ map inserted_pair pairs
+  pub notes : pass.notes ≡ pairs_noted 0 pairs
   pub legal : LegalCalls pass.front pass.number pass.notes
-  pub content : map_of pass.front ≡ xs
+  pub content : map_of pass.front ≡ pairs
   pub words : List ℕ
   pub load : IsLoad index.layout words
   pub seat : IsLoaderSeat index words pass.seat
-  pub out : (n : ℕ) × (n < index.layout.nodes) × ¬ IsLinked (loaded_tree index.layout words) (a_node n)
+  pub out : (node : ℕ) × (node < index.layout.nodes) × ¬ IsLinked (loaded_tree index.layout words) (a_node node)
   pub spare : HasSpare index.layout pass.seat
 
--- The pass of this number, in an index that was made of these pairs. Pass 0 has loaded them, and any other is new.
+-- The pass of this number, in an index that was just made of these pairs. Pass 0 has loaded them, and any other is new.
 abbrev pub IsPassOfLoad : (index : TableView) (pairs : List (Key × ℕ)) (number : ℕ) (pass : PassView) → Type 0
 IsPassOfLoad index pairs zero pass = IsLoaderPass index pairs pass
-IsPassOfLoad index pairs (suc q) pass = IsNewPass (suc q) pass
+IsPassOfLoad index pairs (suc lower) pass = IsNewPass (suc lower) pass

@@ -6,7 +6,7 @@ use Rattle.rowex_core.specs.declared.known.Known.{Known}
 use Rattle.rowex_table.specs.Seats.{SeatView}
 use Rattle.hot_index_calls.specs.Passes.{IsSettled}
 
--- The pass that knows this is between two calls, and the count is that of its answered calls.
+-- A pass that knows `known` is between two calls, and `count` is the count of keys of its answered calls.
 pub record IsSettledWith (known : Known) (count : KeyCount) : Type 0 where
   pub settled : IsSettled known
   pub counts : IsCountOf known.pass known.notes count
@@ -15,7 +15,7 @@ pub record IsSettledWith (known : Known) (count : KeyCount) : Type 0 where
 abbrev pub HasNoCall : SeatView → Type 0
 HasNoCall seat = IsSettled seat.known × (seat.known.notes ≡ [])
 
--- The passes of these seats are between two calls. The count is that of the first pass's calls, and no other pass has an answered call.
+-- The passes of these seats are between two calls. `count` is that of the first pass's calls. No other pass has an answered call.
 abbrev pub AreSettled : (count : KeyCount) (seats : List SeatView) → Type 0
 AreSettled count [] = Unit {0}
 AreSettled count (seat ∷ seats) = IsSettledWith seat.known count × All HasNoCall seats

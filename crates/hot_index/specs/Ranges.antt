@@ -7,7 +7,7 @@ use Rattle.key_ranges.specs.Ranges.{last_with}
 use Rattle.record_words.specs.declared.layout.Layout.{Layout}
 use Rattle.tries.specs.Keys.{Key}
 
--- The call asked for the first pair from the key on. A scan with limit 1, from this key to the greatest key of all, has found this pair, or
--- none.
+-- The call asked for the first pair whose key is `from` or above. A scan with limit 1, from this key to the greatest key of all, has found
+-- the pair `found`, or none.
 abbrev pub IsFirstFound : (layout : Layout) (old new : PassView) (from : Key) (found : Option (Key × ℕ)) → Type 0
 IsFirstFound layout old new from found = IsFoundBy IsLawfulScan layout old new from (last_with []) found

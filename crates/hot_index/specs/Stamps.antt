@@ -12,16 +12,16 @@ use Rattle.hot_index_calls.specs.Passes.{PassView, pass_of}
 abbrev pub IsStampFrom : (index : TableView) (stamp : StampView) → Type 0
 IsStampFrom index stamp = stamp.table ≡ index.id
 
--- the pass has made a stamp, which its seat counts, and knows the same otherwise
+-- The pass has made a stamp. Its seat counts the stamp, and what it knows stays the same.
 abbrev pub HasStamped : (old new : PassView) → Type 0
 HasStamped old new = new ≡ record old { seat = record old.seat { asides = suc old.seat.asides } }
 
--- the pass may have seen more changes, and knows the same otherwise
+-- The pass may have seen more changes. All else that it knows stays the same.
 abbrev pub HasSeenMore : (old new : PassView) → Type 0
 HasSeenMore old new = new.seat.known ≡ with_front new.front old.seat.known
 
--- The pass has followed a stamp. It has seen the stamp's changes, beside those that it had seen before, and knows the steps that made them.
--- It has made no step and noted no call. Its seat counts that it followed a stamp, and is the same otherwise.
+-- The pass has followed the stamp, whose changes are `stamp`. It has seen these changes, beside those that it had seen before, and knows
+-- the steps that made them. It has made no step and noted no call. Its seat counts that it followed a stamp, and is the same otherwise.
 pub record HasCaughtUp (layout : Layout) (stamp : List Change) (old new : PassView) : Type 0 where
   pub unnoted : IsUnnoted layout old new
   pub told : BeginsWith new.front stamp

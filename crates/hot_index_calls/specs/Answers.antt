@@ -33,8 +33,8 @@ abbrev pub got : Option ℕ → Reply
 got None = Absent
 got (Some value) = Value value
 
--- A call has loaded the root. The pass's front has only grown, by changes of the index's passes. Its last load of the root was in this
--- call.
+-- A call has loaded the root. The front of its pass has only grown, by changes of the index's passes, and begins with what the last load of
+-- the root showed. That load was made in this call.
 pub record GoesOn (layout : Layout) (old new : PassView) : Type 0 where
   pub number : new.number ≡ old.number
   pub front : BeginsWith new.front old.front
@@ -43,8 +43,8 @@ pub record GoesOn (layout : Layout) (old new : PassView) : Type 0 where
   pub now : (old.steps ≤ new.fresh.step) × (new.fresh.step < new.steps)
   pub makers : AreByPasses layout new.front
 
--- The call was answered with this reply, which one note more says. All calls of the pass are legal. The place of the note is from the
--- length of the front at the last load of the root to its length at the end.
+-- The call was answered with this reply, and is noted last. All calls of the pass are legal. The note's place is at least the length of the
+-- front at the last load of the root, and at most its length now.
 pub record IsNoted (layout : Layout) (old new : PassView) (call : Call) (reply : Reply) : Type 0 where
   pub on : GoesOn layout old new
   pub place : ℕ
@@ -57,16 +57,16 @@ pub record IsNoted (layout : Layout) (old new : PassView) (call : Call) (reply :
 abbrev pub range_from : (from upto : Key) (limit : ℕ) → Range
 range_from from upto limit = record { from = from; upto = upto; limit = limit }
 
--- A scan was answered, and adds no note. It is lawful from the front at the last load of the root to the front at its end. `IsLawful` is
--- the law of scans upwards, or of scans downwards.
+-- A scan was answered, and adds no note. It is lawful while the front grew from the last load of the root to the scan's end. `IsLawful` is
+-- the law of scans upwards, or that of scans downwards.
 pub record IsScannedBy (IsLawful : ScanLaw) (layout : Layout) (old new : PassView) (range : Range) (scan : Scan) : Type 0 where
   pub on : GoesOn layout old new
   pub notes : new.notes ≡ old.notes
   pub lawful : IsLawful new.fresh.front new.front range.from range.upto range.limit scan
   pub legal : LegalCalls new.front new.number new.notes
 
--- A scan into a list was answered with these pairs, and with whether there is a further key. It adds no note. The scan with these pairs is
--- lawful from the front at the last load of the root to the front at its end.
+-- A scan into a list was answered with these pairs, and with `more`, which says whether there is a further key. It adds no note. A scan
+-- with these pairs is lawful while the front grew from the last load of the root to the scan's end.
 pub record IsListedBy (IsLawful : ScanLaw) (layout : Layout) (old new : PassView) (range : Range) (pairs : List (Key × ℕ)) (more : Bool) : Type 0 where
   pub on : GoesOn layout old new
   pub notes : new.notes ≡ old.notes
@@ -74,17 +74,18 @@ pub record IsListedBy (IsLawful : ScanLaw) (layout : Layout) (old new : PassView
       IsLawful new.fresh.front new.front range.from range.upto range.limit scan
   pub legal : LegalCalls new.front new.number new.notes
 
--- A scan into a list was refused memory after these pairs, fewer than its limit. They are as of a scan with their number as its limit.
+-- A scan into a list was refused memory after these pairs, which are fewer than its limit. They are what a scan with their number as its
+-- limit would list.
 abbrev pub IsListedInPartBy : (IsLawful : ScanLaw) (layout : Layout) (old new : PassView) (range : Range) (pairs : List (Key × ℕ)) → Type 0
 IsListedInPartBy IsLawful layout old new range pairs =
     (length pairs < range.limit) × IsListedBy IsLawful layout old new (limited range (length pairs)) pairs true
 
--- a scan with limit 1 found this pair, or none
+-- a scan of the keys from `from` to `upto` with limit 1 found the pair `found`, or none
 abbrev pub IsFoundBy : (IsLawful : ScanLaw) (layout : Layout) (old new : PassView) (from upto : Key) (found : Option (Key × ℕ)) → Type 0
 IsFoundBy IsLawful layout old new from upto found =
     (more : Bool) × IsListedBy IsLawful layout old new (range_from from upto 1) (option_to_list found) more
 
--- A scan upwards was answered, and adds no note. It is lawful from the front at the last load of the root to the front at its end.
+-- A scan upwards was answered, as `IsScannedBy` says.
 abbrev pub IsScanned : (layout : Layout) (old new : PassView) (range : Range) (scan : Scan) → Type 0
 IsScanned = IsScannedBy IsLawfulScan
 
@@ -92,8 +93,8 @@ IsScanned = IsScannedBy IsLawfulScan
 abbrev pub IsListed : (layout : Layout) (old new : PassView) (range : Range) (pairs : List (Key × ℕ)) (more : Bool) → Type 0
 IsListed = IsListedBy IsLawfulScan
 
--- A range was counted, which adds no note. Some scan of the range would be lawful, with as many pairs as the number says. The number is at
--- most the limit.
+-- A range was counted as `number` pairs, which is at most the limit. That adds no note. Some scan of the range with so many pairs would be
+-- lawful.
 pub record IsRangeCounted (layout : Layout) (old new : PassView) (range : Range) (number : ℕ) : Type 0 where
   pub few : number ≤ range.limit
   pub pairs : List (Key × ℕ)
@@ -101,16 +102,16 @@ pub record IsRangeCounted (layout : Layout) (old new : PassView) (range : Range)
   pub more : Bool
   pub listed : IsListed layout old new range pairs more
 
--- The values of a range were listed, with whether there is a further one, which adds no note. Some scan of the range would be lawful, and
--- these are the values of its pairs. They are at most as many as the limit says.
+-- The values of a range were listed, at most as many as the limit, and `more` says whether there is a further one. That adds no note. They
+-- are the values of the pairs of a scan of the range that would be lawful.
 pub record AreValuesListed (layout : Layout) (old new : PassView) (range : Range) (values : List ℕ) (more : Bool) : Type 0 where
   pub few : length values ≤ range.limit
   pub pairs : List (Key × ℕ)
   pub values_are : values ≡ map (λ (pair : Key × ℕ). pair.1) pairs
   pub listed : IsListed layout old new range pairs more
 
--- A list of a range's values was refused memory after these values, fewer than its limit. They are as of a list with their number as its
--- limit.
+-- A list of a range's values was refused memory after these values, which are fewer than its limit. They are what a list with their number
+-- as its limit would have.
 abbrev pub AreValuesListedInPart : (layout : Layout) (old new : PassView) (range : Range) (values : List ℕ) → Type 0
 AreValuesListedInPart layout old new range values =
     (length values < range.limit) × AreValuesListed layout old new (limited range (length values)) values true
@@ -137,8 +138,8 @@ pub record IsUnnoted (layout : Layout) (old new : PassView) : Type 0 where
   pub legal : LegalCalls new.front new.number new.notes
   pub makers : AreByPasses layout new.front
 
--- The pass has seen a change that another pass of the index has made since a pin of this call. It is the pin under which the call loaded
--- the root last.
+-- The pass has seen a change that another pass of the index has made since a pin of this call. It is the pin under which the call last
+-- loaded the root.
 pub record IsOvertaken (layout : Layout) (old new : PassView) : Type 0 where
   pub loaded : old.steps ≤ new.fresh.step
   pub change : Change
@@ -148,23 +149,23 @@ pub record IsOvertaken (layout : Layout) (old new : PassView) : Type 0 where
   pub another : change.pass ≢ new.number
   pub below : change.pass < layout.passes
 
--- Another pass of the index was in the way of the call. When the call locked a record, that pass had locked or retired the record. Or that
--- pass made a change since the pin under which the call loaded the root last. `hindered` says it of the run of the table.
+-- Another pass of the index was in the way of the call (`met`). It had locked or retired a record that the call tried to lock. Or it had
+-- made a change since the pin under which the call last loaded the root. `hindered` says the same by the steps of the table.
 pub record HasConflict (layout : Layout) (old new : PassView) : Type 0 where
   pub pass : new.number < layout.passes
   pub met : HasMetTaken layout new.number old.steps new.failed ⊎ IsOvertaken layout old new
   pub hindered : HasBeenHindered layout new.number old.seat new.seat
 
--- Why a call was refused. If it was busy, another pass was in its way. If it was full, it found no node record free, or no leaf record
--- with room for its key. None of the leaf records was the pass's own. Of the node records, at most two for each node that it had locked
--- were, and one more.
+-- Why a call was refused. If it was busy, another pass was in its way. If it was full, it found no node record free, or no leaf record with
+-- room for its key. None of these leaf records was the pass's own. Of the node records, at most two for each node that it had locked were,
+-- and one more.
 abbrev pub IsCause : (layout : Layout) (key : Key) (old new : PassView) (fault : TryFault) → Type 0
 IsCause layout key old new Busy = HasConflict layout old new
 IsCause layout key old new FullNodes = (own : List Rec) × LacksNodes layout new.number new.failed old.steps own
 IsCause layout key old new FullLeaves = LacksLeaves layout key new.number new.failed old.steps
 
--- The key had this value, or none, after the first `place` of the changes that the pass has seen. Among these are all that it had seen
--- before the call, and all made before the pin of its last load of the root.
+-- After the first `place` changes of the front the key had the value `held`, or was absent. Among these changes are all that the pass had
+-- seen before the call. So are all that were made before the pin of its last load of the root.
 pub record WasFound (key : Key) (held : Option ℕ) (old new : PassView) : Type 0 where
   pub place : ℕ
   pub begun : length old.front ≤ place
@@ -172,8 +173,8 @@ pub record WasFound (key : Key) (held : Option ℕ) (old new : PassView) : Type 
   pub upto : place ≤ length new.front
   pub found : value_at (map_of (take place new.front)) key ≡ held
 
--- The call may take a record, and so may lack one. An insertion or an upsert may, if its search found the key absent. A removal may, if its
--- search found the key with the expected value. No other call takes a record.
+-- The call may take a record, and so may lack one. An insertion or an upsert may if its search found the key absent. A removal may if its
+-- search found the key, with the expected value if it has one. No other call takes a record.
 abbrev pub MayTake : (call : Call) (old new : PassView) → Type 0
 MayTake (Insert key value) old new = WasFound key None old new
 MayTake (Upsert key value) old new = WasFound key None old new
@@ -186,7 +187,7 @@ pub record IsRefused (layout : Layout) (call : Call) (old new : PassView) (fault
   pub unnoted : IsUnnoted layout old new
   pub full : IsFullFault fault → MayTake call old new
 
--- The call was refused, as `IsRefused` says, and the fault has its cause.
+-- The call was refused, as `IsRefused` says, and its fault has a cause, as `IsCause` says.
 pub record IsRefusedFor (layout : Layout) (call : Call) (old new : PassView) (fault : TryFault) : Type 0 where
   pub refused : IsRefused layout call old new fault
   pub cause : IsCause layout (key_of call) old new fault
@@ -196,7 +197,7 @@ abbrev pub fault_of : Full → TryFault
 fault_of Nodes = FullNodes
 fault_of Leaves = FullLeaves
 
--- The call may be refused with this fault. A get is never refused. An exchange and an addition may only be busy. A removal lacks no leaf
+-- Which faults a call may be refused with. A get is never refused. An exchange and an addition may only be busy. A removal lacks no leaf
 -- record.
 abbrev pub MayRefuse : (call : Call) (fault : TryFault) → Type 0
 MayRefuse (Get key) fault = ⊥

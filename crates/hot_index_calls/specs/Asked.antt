@@ -22,7 +22,8 @@ use Rattle.hot_index_calls.specs.Traces.{HasEnded, IsAttempt}
 abbrev pub IsIdle : (table : TableView) (seat : SeatView) → Type 0
 IsIdle table seat = IsSeatOf table seat × IsSettled seat.known
 
--- The call has ended: its pass is between two calls again, and has loaded the root. The call was answered and noted, or refused.
+-- The call has ended: its pass is between two calls again, and has loaded the root in the call. The call was answered and noted, or
+-- refused.
 pub record HasReplied (table : TableView) (call : Call) (result : Result Reply TryFault) (old new : SeatView) : Type 0 where
   pub idle : IsIdle table new
   pub noted : IfOk result (IsNoted table.layout (pass_of old) (pass_of new) call)
@@ -30,19 +31,22 @@ pub record HasReplied (table : TableView) (call : Call) (result : Result Reply T
   pub leafless : LacksNoLeaf FullLeaves call result
   pub loaded : old.known.steps ≤ new.known.fresh.step
 
--- If the call was refused for want of a node record, none was free, beside the node records that the pass had made.
+-- Let the call be refused for want of a node record. It found each node record not free when the record's turn came. The pass's own among
+-- them were the node records of `made`.
 abbrev pub HasLacked : (table : TableView) (made : List Rec) (result : Result Reply TryFault) (old new : SeatView) → Type 0
 HasLacked table made result old new =
     result ≡ Err FullNodes → LacksNodes table.layout new.known.pass new.known.failed old.known.steps (nodes_among made)
 
--- The pass has made a call with this result, by steps of which `Are` holds. With the last step comes the call's note, if it was answered.
+-- The pass has made a call with this result, by steps of which `Are` holds, and then one that clears its pin. With this last step comes the
+-- call's note, if the call was answered.
 pub record HasAsked {G : Type 0} (table : TableView) (becomes : G → Event → G → Type 0) (Are : SeatView × G → SeatView × G → List Act → Type 0)
     (call : Call) (result : Result Reply TryFault) (old new : SeatView × G) : Type 0 where
   pub replied : HasReplied table call result old.0 new.0
   pub ended : HasEnded table becomes (Are old new) (change_notes call result) old new
   pub later : old.0.known.steps ≤ new.0.known.steps
 
--- An attempt that does nothing: the pass sets its pin and clears it. It has made three steps, and knows the same otherwise.
+-- The pass has made an attempt that does nothing: it has set its pin and cleared it. That is three steps. All else that it knows stays the
+-- same.
 pub record HasRested {G : Type 0} (table : TableView) (becomes : G → Event → G → Type 0) (old new : SeatView × G) : Type 0 where
   pub idle : IsIdle table new.0
   pub unnoted : IsUnnoted table.layout (pass_of old.0) (pass_of new.0)

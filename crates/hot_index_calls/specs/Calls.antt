@@ -34,7 +34,7 @@ use Rattle.hot_index_calls.specs.Traces.{HasMadeGetSteps, HasMadeScanSteps, HasM
 abbrev pub IsOutcome : (asked : Call) (result : Result Reply TryFault) (index : TableView) (old new : PassView) → Type 0
 IsOutcome asked result index old new = MatchResult result (IsNoted index.layout old new asked) (IsRefused index.layout asked old new)
 
--- if the call was refused, the fault has its cause
+-- if the call was refused, the fault has a cause, as `IsCause` says
 abbrev pub HasCause : (asked : Call) (result : Result Reply TryFault) (index : TableView) (old new : PassView) → Type 0
 HasCause asked result index old new = IfErr result (IsCause index.layout (key_of asked) old new)
 
@@ -48,13 +48,13 @@ pub record IsTried {G : Type 0} (asked : Call) (result : Result Reply TryFault) 
   pub made : HasMadeChangeSteps index becomes asked result old new
   pub room : LeavesRoom index.layout asked result old.0.seat new.0.seat
 
--- `Gets` holds if the call is a get, and `Changes` if it is any other
+-- `Gets` holds if the call is a get, and else `Changes`
 abbrev pub GetsOr : (asked : Call) (Gets Changes : Type 0) → Type 0
 GetsOr (Get key) Gets Changes = Gets
 GetsOr asked Gets Changes = Changes
 
--- The steps of a call that doesn't wait: those of a get, or of a change's attempts and rounds. Their number is bounded, and the gate was
--- told each.
+-- The steps of a call that doesn't wait. A get makes those of a get, and a change those of its attempts and rounds. Their number is
+-- bounded, and the gate was told each.
 abbrev pub GetsOrMakes : {G : Type 0} → (asked : Call) (result : Result Reply TryFault) (index : TableView)
     (becomes : G → Event → G → Type 0) (old new : PassView × G) → Type 0
 GetsOrMakes asked result index becomes old new =
@@ -67,7 +67,7 @@ pub record IsTriedAndCounted {G : Type 0} (asked : Call) (result : Result Reply 
   pub tried : IsTried asked (as_tried result) index becomes old mid
   pub told : IsCountTold asked result index becomes old mid new
 
--- Tries of a change were refused, one after the other, with these refusals, none of which is final.
+-- Tries of the change were made, one after the other, and were refused as `refusals` says. None of these refusals is final.
 abbrev pub AreTriesRefused : {G : Type 0} → (asked : Call) (refusals : List Refusal) (index : TableView) (becomes : G → Event → G → Type 0)
     (old new : PassView × G) → Type 0
 AreTriesRefused asked [] index becomes old new = new ≡ old
@@ -75,10 +75,10 @@ AreTriesRefused {G = G} asked (refusal ∷ refusals) index becomes old new =
     (middle : PassView × G) × IsTriedAndCounted asked (Err refusal) index becomes old middle × IsPassing refusal ×
     AreTriesRefused asked refusals index becomes middle new
 
--- A change that waits returns what its last try returned: a reply, or a refusal that is final.
-abbrev pub IsOfLast : (result : Result Reply Full) (last : Result Reply Refusal) → Type 0
-IsOfLast (Ok reply) last = last ≡ Ok reply
-IsOfLast (Err full) last = (counts : RecordCounts) × (last ≡ Err (IsFull full counts))
+-- The result of a change that waits is that of its last try: a reply, or a refusal that is final.
+abbrev pub IsResultOfLast : (result : Result Reply Full) (last : Result Reply Refusal) → Type 0
+IsResultOfLast (Ok reply) last = last ≡ Ok reply
+IsResultOfLast (Err full) last = (counts : RecordCounts) × (last ≡ Err (IsFull full counts))
 
 -- A change that waits makes tries, and no other step. After a try that found no record free, all records are counted. A try that is busy or
 -- held back is followed by another, and any other is the last. In an index of one pass there is one try.
@@ -90,7 +90,7 @@ pub record MakesTries {G : Type 0} (asked : Call) (result : Result Reply Full) (
   pub alone : index.layout.passes ≡ 1 → refusals ≡ []
   pub outcome : Result Reply Refusal
   pub tried : IsTriedAndCounted asked outcome index becomes last new
-  pub is_last : IsOfLast result outcome
+  pub is_last : IsResultOfLast result outcome
 
 -- What a change that waits ensures: one clause a field. `call` and `cause` say what the last try came to.
 pub record IsWaitedFor {G : Type 0} (asked : Call) (result : Result Reply Full) (index : TableView) (becomes : G → Event → G → Type 0)
@@ -104,13 +104,13 @@ pub record IsWaitedFor {G : Type 0} (asked : Call) (result : Result Reply Full) 
   pub told : HasMadeCallSteps index becomes old new
   pub room : LeavesRoom index.layout asked (last_try result) old.0.seat new.0.seat
 
--- The steps of a call that waits: those of a get, or of a change's tries.
+-- The steps of a call that waits. A get makes those of a get, and a change those of its tries.
 abbrev pub GetsOrTries : {G : Type 0} → (asked : Call) (result : Result Reply Full) (index : TableView) (becomes : G → Event → G → Type 0)
     (old new : PassView × G) → Type 0
 GetsOrTries asked result index becomes old new = GetsOr asked (HasMadeGetSteps index becomes old new) (MakesTries asked result index becomes old new)
 
--- The steps of a call that doesn't wait, and counts records. They are those of a get, or of one try of a change. If the try found no record
--- free, a count of all records follows.
+-- The steps of a call that doesn't wait, and counts records. A get makes those of a get, and a change those of one try. If the try found no
+-- record free, a count of all records follows.
 abbrev pub GetsOrCounts : {G : Type 0} → (asked : Call) (result : Result Reply Refusal) (index : TableView)
     (becomes : G → Event → G → Type 0) (old new : PassView × G) → Type 0
 GetsOrCounts asked result index becomes old new =
@@ -128,11 +128,11 @@ pub record IsRangeReadWith {A E G : Type 0} (IsAnswer : Layout → PassView → 
   pub steps : new.0.steps ≤ old.0.steps + scan_steps range.limit
   pub read : HasMadeScanSteps index becomes range.limit old new
 
--- where memory was refused, nothing is said of the part that was read
+-- of the part of a range that was read before memory was refused, nothing is said
 abbrev pub no_part : (layout : Layout) (old new : PassView) → Type 0
 no_part layout old new = Unit {0}
 
--- A range was read, with no gate. Where memory was refused, nothing is said of the part that was read.
+-- A range was read, with no gate. Of the part that was read before memory was refused, nothing is said.
 abbrev pub IsRangeRead : {A E : Type 0} → (IsAnswer : Layout → PassView → PassView → A → Type 0) (range : Range) (result : Result A E)
     (index : TableView) (old new : PassView) → Type 0
 IsRangeRead IsAnswer range result index old new = IsRangeReadWith IsAnswer no_part range result index untold (old, tt) (new, tt)
@@ -169,8 +169,8 @@ abbrev pub IsListRead : {E : Type 0} → (range : Range) (pairs : List (Key × �
     (old new : PassView) → Type 0
 IsListRead range pairs result index old new = IsListReadWith range pairs result index untold (old, tt) (new, tt)
 
--- A range was counted, which needs no memory, and a gate was told the steps. They are at most as many as those of a scan with a limit of
--- 16 more than the number, or with the range's limit.
+-- A range was counted as `number` pairs, which needs no memory, and a gate was told the steps. They are at most as many as those of a scan
+-- whose limit is the range's, or 16 more than `number` if that is less.
 abbrev pub IsCountReadWith : {G : Type 0} → (range : Range) (number : ℕ) (index : TableView) (becomes : G → Event → G → Type 0)
     (old new : PassView × G) → Type 0
 IsCountReadWith range number index becomes old new =

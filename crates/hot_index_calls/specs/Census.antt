@@ -18,32 +18,32 @@ use Rattle.hot_index_calls.specs.Passes.{PassView, pass_of}
 use Rattle.hot_index_calls.specs.declared.census.RecordCounts.{RecordCounts}
 use Rattle.hot_index_calls.specs.declared.census.StateCounts.{StateCounts}
 
--- the state is that of a free record
+-- whether the state is that of a free record
 abbrev pub is_free : Tag → Bool
 is_free Free = true
 is_free tag = false
 
--- the state is that of a record that a pass has claimed
+-- whether the state is that of a record that a pass has claimed
 abbrev pub is_held : Tag → Bool
 is_held Held = true
 is_held tag = false
 
--- the state is that of a record in the tree, locked or not
+-- whether the state is that of a record in the tree, locked or not
 abbrev pub is_live : Tag → Bool
 is_live Live = true
 is_live Locked = true
 is_live tag = false
 
--- the state is that of a retired record
+-- whether the state is that of a retired record
 abbrev pub is_obsolete : Tag → Bool
 is_obsolete (Obsolete epoch) = true
 is_obsolete tag = false
 
--- how many of these states there are of each sort
+-- how many of these states are those of free, claimed, live and retired records
 abbrev pub counts_of : List Tag → StateCounts
 counts_of tags = record { free = count_by is_free tags; held = count_by is_held tags; live = count_by is_live tags; obsolete = count_by is_obsolete tags }
 
--- the loads of the states of records of one kind, in turn from the number `first` on, that find these states
+-- the loads by which a count finds these states, of the records of one kind from the number `first` on, in turn
 abbrev pub loads_of : (kind : ℕ → Rec) (first : ℕ) (tags : List Tag) → List Act
 loads_of kind first [] = []
 loads_of kind first (tag ∷ tags) = LoadState (kind first) (state_word tag) ∷ loads_of kind (suc first) tags
@@ -58,7 +58,7 @@ pub record FoundTags : Type 0 where
   pub wide : List Tag
   pub long : List Tag
 
--- the found states are one for each record of the layout
+-- of each kind and class, as many states were found as the layout has records
 pub record OneForEach (layout : Layout) (tags : FoundTags) : Type 0 where
   pub nodes : layout.nodes ≡ length tags.nodes
   pub short : layout.medium_from ≡ length tags.short
@@ -67,13 +67,13 @@ pub record OneForEach (layout : Layout) (tags : FoundTags) : Type 0 where
   pub wide : layout.long_from ≡ layout.wide_from + length tags.wide
   pub long : layout.leaves ≡ layout.long_from + length tags.long
 
--- the loads that find these states, nodes first
+-- the loads by which a count finds these states, first those of nodes
 abbrev pub loads_in : (layout : Layout) (tags : FoundTags) → List Act
 loads_in layout tags =
     loads_of a_node 0 tags.nodes ++ loads_of a_leaf 0 tags.short ++ loads_of a_leaf layout.medium_from tags.medium ++
     loads_of a_leaf layout.large_from tags.large ++ loads_of a_leaf layout.wide_from tags.wide ++ loads_of a_leaf layout.long_from tags.long
 
--- how many of these states there are of each kind and class, and how many bytes the table takes
+-- of each kind and class, how many of these states are of each sort, and how many bytes the table takes
 abbrev pub counts_in : (layout : Layout) (tags : FoundTags) → RecordCounts
 counts_in layout tags = record {
   nodes = counts_of tags.nodes;
@@ -86,7 +86,8 @@ counts_in layout tags = record {
 }
 
 -- All records were counted. The pass loads the state of each record once, nodes first, in the order of their numbers, and makes no other
--- step. The counts are of the states that these loads find, each at its own moment. The gate is told each load. The front stays the same.
+-- step. The counts are of the states that these loads find, each at its own moment. The gate is told each load. The front of the pass stays
+-- the same.
 pub record HasCounted {G : Type 0} (index : TableView) (becomes : G → Event → G → Type 0) (old new : PassView × G) (counts : RecordCounts) : Type 0 where
   pub tags : FoundTags
   pub begins : old.0 ≡ pass_of old.0.seat
@@ -108,13 +109,13 @@ with_tag Live counts = record counts { live = counts.live + 1 }
 with_tag Locked counts = record counts { live = counts.live + 1 }
 with_tag (Obsolete epoch) counts = record counts { obsolete = counts.obsolete + 1 }
 
--- The states of the records of one kind, from number `first` up to before `behind`, were loaded, and these are their counts.
+-- The states of the records of one kind were loaded, from the number `first` up to the one before `behind`. The counts are of these states.
 abbrev pub CountsFrom : {G : Type 0} → (table : TableView) (becomes : G → Event → G → Type 0) (kind : ℕ → Rec) (first behind : ℕ)
     (counts : StateCounts) (old new : SeatView × G) → Type 0
 CountsFrom table becomes kind first behind counts old new =
     (tags : List Tag) × (behind ≡ first + length tags) × (counts ≡ counts_of tags) × Does table becomes collecting (loads_of kind first tags) old new
 
--- the states of all records were loaded, and these are their counts
+-- The states of all records were loaded, and the counts are of these states.
 abbrev pub CountsAll : {G : Type 0} → (table : TableView) (becomes : G → Event → G → Type 0) (counts : RecordCounts) (old new : SeatView × G) → Type 0
 CountsAll table becomes counts old new =
     (tags : FoundTags) × OneForEach table.layout tags × (counts ≡ counts_in table.layout tags) ×

@@ -11,7 +11,7 @@ use Rattle.rowex_writing.specs.plan.Counts.{most_steps_of}
 abbrev pub round_steps : Layout → ℕ
 round_steps layout = 3 + layout.passes + 2 * (layout.nodes + layout.leaves)
 
--- how many steps an attempt at this call makes at most, with two for its pin and one that clears it
+-- how many steps an attempt at this call makes at most: two that set its pin, one that clears it, and the others
 abbrev pub once_steps : (call : Call) (layout : Layout) → ℕ
 once_steps call layout = most_steps_of call layout + 3
 

@@ -21,14 +21,14 @@ IsUsed (Unlinked since last pass) = Unit {0}
 IsUsed (Marked since last epoch) = Unit {0}
 IsUsed fate = ⊥
 
--- After the steps that the table's only pass knows, the record is in the tree or retired.
+-- Let the steps that the table's only pass knows be all steps of the table. After them the record is in the tree or retired.
 abbrev pub IsUsedAt : (layout : Layout) (seat : SeatView) (rec : Rec) → Type 0
 IsUsedAt layout seat rec = (core : Core) → IsLone layout seat core → IsUsed (core.fate rec)
 
--- Let a call be refused as full in an index of one pass. For want of a node record, all node records but `own` are in the tree or retired
--- after it. For want of a leaf record, all leaf records with room for the key are.
+-- Let a call be refused as full in an index of one pass. If it lacked a node record, all node records but those of `own` are in the tree or
+-- retired after it. If it lacked a leaf record, all leaf records with room for the key are so.
 pub record LeavesUsed (layout : Layout) (key : Key) (own : List Rec) (result : Result Reply TryFault) (seat : SeatView) : Type 0 where
-  pub nodes : layout.passes ≡ 1 → result ≡ Err FullNodes → (n : ℕ) → n < layout.nodes → ¬ (Contains own (a_node n)) →
-      IsUsedAt layout seat (a_node n)
-  pub leaves : layout.passes ≡ 1 → result ≡ Err FullLeaves → (n : ℕ) → n < layout.leaves → words_for (length key) ≤ leaf_size layout n →
-      IsUsedAt layout seat (a_leaf n)
+  pub nodes : layout.passes ≡ 1 → result ≡ Err FullNodes → (number : ℕ) → number < layout.nodes → ¬ (Contains own (a_node number)) →
+      IsUsedAt layout seat (a_node number)
+  pub leaves : layout.passes ≡ 1 → result ≡ Err FullLeaves → (number : ℕ) → number < layout.leaves → words_for (length key) ≤ leaf_size layout number →
+      IsUsedAt layout seat (a_leaf number)

@@ -14,36 +14,36 @@ use Rattle.rowex_reading.specs.Seen.{since}
 -- whether two replies are the same
 abbrev pub same_reply : Reply → Reply → Bool
 same_reply Inserted Inserted = true
-same_reply (Exists v) (Exists w) = nat_eq v w
+same_reply (Exists value) (Exists other) = nat_eq value other
 same_reply New New = true
-same_reply (Was v) (Was w) = nat_eq v w
+same_reply (Was value) (Was other) = nat_eq value other
 same_reply Exchanged Exchanged = true
-same_reply (Differs v) (Differs w) = nat_eq v w
-same_reply (Value v) (Value w) = nat_eq v w
+same_reply (Differs value) (Differs other) = nat_eq value other
+same_reply (Value value) (Value other) = nat_eq value other
 same_reply Absent Absent = true
-same_reply (Removed v) (Removed w) = nat_eq v w
+same_reply (Removed value) (Removed other) = nat_eq value other
 same_reply _ _ = false
 
--- the first number from `low` to `low + more` that passes the test, and the last if none before it does
+-- The first number that passes the test, from `low` to `low + more`. If none below the last does, it is the last.
 abbrev pub first_from : (test : ℕ → Bool) (low more : ℕ) → ℕ
 first_from test low zero = low
 first_from test low (suc more) = if test low then low else first_from test (low + 1) more
 
--- whether this is the reply to the call on the map of the first `count` changes
+-- whether the call has this reply on the map of the first `count` changes of the front
 abbrev pub answers_so : (front : List Change) (call : Call) (reply : Reply) (count : ℕ) → Bool
 answers_so front call reply count = same_reply (reply_of (map_of (take count front)) call) reply
 
--- the first place from `low` on at which the map has this reply to the call; the front's end if no earlier place has
+-- The first place from `low` on at which the front's map has this reply to the call. It is the end of the front if no earlier place has.
 unfoldable pub place_of : (front : List Change) (low : ℕ) (call : Call) (reply : Reply) → ℕ
 place_of front low call reply = first_from (answers_so front call reply) low (length front - low)
 
--- The place of an answered call, by what its pass knows at the end. A call that changed the map stands at its own change, the last that the
--- pass has seen. Any other stands at the first place since its load of the root at which the map has the reply.
+-- The place of an answered call, by what its pass knows at the call's end. A call that changed the map stands at its own change, the last
+-- that the pass has seen. Any other stands at the first place at which the map has the reply, from the pass's last load of the root on.
 abbrev pub place_by : (changed : Bool) (call : Call) (reply : Reply) (known : Known) → ℕ
 place_by true call reply known = length known.front - 1
 place_by false call reply known = place_of known.front (since known) call reply
 
--- the note of a call that may change the map; none if the call was refused
+-- the note of a call that may change the map, as a list; an empty one if the call was refused
 abbrev pub change_notes : {F : Type 0} → (call : Call) (result : Result Reply F) (known : Known) → List Note
 change_notes call (Ok reply) known = record { place = place_by (is_some (effect_of call reply)) call reply known; call = call; reply = reply } ∷ []
 change_notes call (Err fault) known = []

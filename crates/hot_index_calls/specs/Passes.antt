@@ -44,9 +44,9 @@ pass_of seat = record {
 abbrev pub Owns : (index : TableView) (pass : PassView) → Type 0
 Owns index pass = pass.table ≡ index.id
 
--- each change was made by a pass of an index with this layout
+-- each of these changes was made by a pass of an index with this layout
 abbrev pub AreByPasses : (layout : Layout) (changes : List Change) → Type 0
-AreByPasses layout changes = All (λ x. x.pass < layout.passes) changes
+AreByPasses layout changes = All (λ change. change.pass < layout.passes) changes
 
 -- The pass is between two calls: it has no record of its own, no lock and no pin. Its front begins with what its last load of
 -- the root showed, which was an earlier step. Its calls are legal in its front.
@@ -59,7 +59,7 @@ pub record IsSettled (known : Known) : Type 0 where
   pub loaded : known.fresh.step < known.steps
   pub legal : LegalCalls known.front known.pass known.notes
 
--- the pass has this number, has made no call or step, and knows no step of any pass
+-- the pass has this number, has made no call and no step, and knows no step of any pass
 abbrev pub IsNewPass : (number : ℕ) (pass : PassView) → Type 0
 IsNewPass number pass =
     (pass.number ≡ number) × (pass.front ≡ []) × (pass.notes ≡ []) × (pass.seat.known ≡ opening_of number) × (pass.seat.trace ≡ []) × (pass.seat.asides ≡ 0)

@@ -23,18 +23,18 @@ use Rattle.hot_index_calls.specs.declared.census.StateCounts.{StateCounts}
 use Rattle.hot_index_calls.specs.declared.refusals.Refusal.{Refusal}
 use Rattle.hot_index_calls.specs.declared.refusals.Refusal.TheVariants.{Busy as IsBusy, HeldBack, Full as IsFull}
 
--- Of one kind and class, fewer than `needs` records are free. None is claimed, and none is retired and not given back.
+-- Of the records of one kind or class, fewer than `needs` are free. None is claimed, and none is retired.
 pub record AreShort (needs : ℕ) (counts : StateCounts) : Type 0 where
   pub free : counts.free < needs
   pub held : counts.held ≡ 0
   pub obsolete : counts.obsolete ≡ 0
 
--- Of one kind and class, no record is claimed, and none is retired and not given back.
+-- Of the records of one kind or class, none is claimed, and none is retired.
 pub record AreAtRest (counts : StateCounts) : Type 0 where
   pub held : counts.held ≡ 0
   pub obsolete : counts.obsolete ≡ 0
 
--- no record is claimed, and none is retired and not given back
+-- No record is claimed, and none is retired.
 pub record AreAllAtRest (counts : RecordCounts) : Type 0 where
   pub nodes : AreAtRest counts.nodes
   pub short : AreAtRest counts.short
@@ -43,7 +43,7 @@ pub record AreAllAtRest (counts : RecordCounts) : Type 0 where
   pub wide : AreAtRest counts.wide
   pub long : AreAtRest counts.long
 
--- the property holds of each class of leaf records with room for a key of this length
+-- `IsSo` holds of the counts of each class of leaf records with room for a key of this length.
 pub record OfLeaves (IsSo : StateCounts → Type 0) (length : ℕ) (counts : RecordCounts) : Type 0 where
   pub short : length ≤ SHORT_BYTES → IsSo counts.short
   pub medium : length ≤ MEDIUM_BYTES → IsSo counts.medium
@@ -51,17 +51,19 @@ pub record OfLeaves (IsSo : StateCounts → Type 0) (length : ℕ) (counts : Rec
   pub wide : length ≤ WIDE_BYTES → IsSo counts.wide
   pub long : IsSo counts.long
 
--- By the count, the index is full for a change that lacks a record of this kind. The change needs so many node records, or one leaf record
--- with room for a key of this length.
+-- By the counts, the index is full for a change that lacks a record of the kind `lacks`. The change needs `needs` node records, or one leaf
+-- record with room for a key of this length.
 abbrev pub IsShortOf : (lacks : Full) (needs length : ℕ) (counts : RecordCounts) → Type 0
 IsShortOf Nodes needs length counts = AreShort needs counts.nodes
 IsShortOf Leaves needs length counts = OfLeaves (AreShort 1) length counts
 
--- A refusal for want of such a record is final. The index is full by the count, or has no other pass that might give a record back.
+-- The refusal of a change that lacks a record of the kind `lacks` is final. The index is full by the counts, or has no other pass that
+-- might give a record back.
 abbrev pub IsFinal : (passes : ℕ) (lacks : Full) (needs length : ℕ) (counts : RecordCounts) → Type 0
 IsFinal passes lacks needs length counts = (passes ≡ 1) ⊎ IsShortOf lacks needs length counts
 
--- The count decides on a refusal for want of a record: the call is held back, or the refusal is final.
+-- The counts decide on the refusal of a change that lacks a record of the kind `lacks`. If the refusal would not be final, the call is held
+-- back.
 abbrev pub Judges : (passes : ℕ) (lacks : Full) (needs length : ℕ) (counts : RecordCounts) (refusal : Refusal) → Type 0
 Judges passes lacks needs length counts IsBusy = ⊥
 Judges passes lacks needs length counts (HeldBack full) = (full ≡ lacks) × ¬ (IsFinal passes lacks needs length counts)
@@ -73,24 +75,25 @@ IsPassing IsBusy = Unit {0}
 IsPassing (HeldBack lacks) = Unit {0}
 IsPassing (IsFull lacks counts) = ⊥
 
--- the fault of a try that ends in this refusal
+-- the fault of a try whose refusal this is
 abbrev pub fault_in : Refusal → TryFault
 fault_in IsBusy = Busy
 fault_in (HeldBack lacks) = fault_of lacks
 fault_in (IsFull lacks counts) = fault_of lacks
 
--- the result of a try, from its result after the count
+-- the result of a try, taken from the result after the count of records
 abbrev pub as_tried : Result Reply Refusal → Result Reply TryFault
 as_tried (Ok reply) = Ok reply
 as_tried (Err refusal) = Err (fault_in refusal)
 
--- How many records of the kind a try that lacks one needs. Of node records, one more than it had claimed. Of leaf records nothing is said.
+-- A try that lacks a record of the kind `lacks` needs `needs` of them. Of node records that is one more than it had claimed. Of leaf
+-- records nothing is said.
 abbrev pub NeedsBeside : (layout : Layout) (old new : PassView) (lacks : Full) (needs : ℕ) → Type 0
 NeedsBeside layout old new Nodes needs = (own : List Rec) × LacksNodes layout new.number new.failed old.steps own × (needs ≡ suc (length own))
 NeedsBeside layout old new Leaves needs = Unit {0}
 
--- After a try, from `old` to `middle`, all records were counted, and the count decides on the refusal. In an index of one pass it finds no
--- record claimed or retired, and fewer free than the try needs. That holds while fewer steps have been made than there are epochs.
+-- After a try, from `old` to `middle`, all records were counted, and the counts decide on the refusal. In an index of one pass no record is
+-- claimed or retired then, and fewer are free than the try needs. That holds while epochs are not used up (`IsEarly`).
 pub record IsCountedAfter {G : Type 0} (call : Call) (lacks : Full) (refusal : Refusal) (index : TableView) (becomes : G → Event → G → Type 0)
     (old middle new : PassView × G) : Type 0 where
   pub needs : ℕ
@@ -101,13 +104,13 @@ pub record IsCountedAfter {G : Type 0} (call : Call) (lacks : Full) (refusal : R
   pub alone : index.layout.passes ≡ 1 → IsEarly new.0.seat → AreAllAtRest counts
   pub short : index.layout.passes ≡ 1 → IsEarly new.0.seat → IsShortOf lacks needs (length (key_of call)) counts
 
--- The call is a removal in an index of several passes. Insertions leave one node record for removals. A removal that finds none free is
+-- The call is a removal in an index of several passes. Insertions leave one node record for removals. So a removal that finds none free is
 -- held back: another call has that record, or keeps a retired one from reuse.
 abbrev pub HasNodeLeft : (passes : ℕ) (call : Call) → Type 0
 HasNodeLeft passes call = (1 < passes) × IsRemoval call
 
--- What follows a refused try, from `old` to `middle`. After a busy one, nothing is counted. Nor is it after a removal that lacked the node
--- record left for removals, which is held back. After any other, all records are counted.
+-- What follows a refused try, from `old` to `middle`. After a busy one nothing is counted. Nor is anything after a removal that is held
+-- back since it found no node record (`HasNodeLeft`). After any other refusal all records are counted.
 abbrev pub IsToldAfter : {G : Type 0} → (call : Call) (index : TableView) (becomes : G → Event → G → Type 0)
     (old middle new : PassView × G) (refusal : Refusal) → Type 0
 IsToldAfter call index becomes old middle new IsBusy = new ≡ middle
@@ -116,7 +119,7 @@ IsToldAfter call index becomes old middle new (HeldBack lacks) =
 IsToldAfter call index becomes old middle new (IsFull lacks counts) =
     ¬ (HasNodeLeft index.layout.passes call) × IsCountedAfter call lacks (IsFull lacks counts) index becomes old middle new
 
--- what follows a try, from `old` to `middle`: nothing if it was answered, and else what follows a refused one
+-- what follows a try, from `old` to `middle`: nothing if it was answered, and else what follows its refusal
 abbrev pub IsCountTold : {G : Type 0} → (call : Call) (result : Result Reply Refusal) (index : TableView)
     (becomes : G → Event → G → Type 0) (old middle new : PassView × G) → Type 0
 IsCountTold call (Ok reply) index becomes old middle new = new ≡ middle

@@ -11,7 +11,7 @@ use Rattle.hot_index_calls.specs.Passes.{PassView}
 abbrev pub IsReverseListed : (layout : Layout) (old new : PassView) (range : Range) (pairs : List (Key × ℕ)) (more : Bool) → Type 0
 IsReverseListed = IsListedBy IsLawfulReverseScan
 
--- The call asked for the last pair up to the key. A scan downwards with limit 1, from this key to the least key of all, has found this
--- pair, or none.
+-- The call asked for the last pair whose key is `upto` or below. A scan downwards with limit 1, from this key to the least key of all, has
+-- found the pair `found`, or none.
 abbrev pub IsLastFound : (layout : Layout) (old new : PassView) (upto : Key) (found : Option (Key × ℕ)) → Type 0
 IsLastFound layout old new upto found = IsFoundBy IsLawfulReverseScan layout old new [] upto found

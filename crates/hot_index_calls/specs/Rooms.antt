@@ -14,15 +14,17 @@ use Rattle.rowex_writing.specs.declared.attempts.TryFault.{TryFault}
 use Rattle.rowex_writing.specs.declared.attempts.TryFault.TheVariants.{FullNodes}
 use Rattle.hot_index_calls.specs.Traces.{is_full}
 
--- the number of steps that the seat knows, and two more, are fewer than there are epochs
+-- The seat knows fewer steps than there are epochs, by more than two. So the epoch, which a step raises by 1 at most, is not used up.
 abbrev pub IsEarly : SeatView → Type 0
 IsEarly seat = length seat.trace + 2 < EPOCHS
 
--- In an index of one pass with a spare node record before the call, a removal is not refused for want of one.
+-- In an index of one pass let a node record be spare before a removal, and let epochs not be used up. The removal is not refused for want
+-- of a node record.
 abbrev pub FindsRoom : (layout : Layout) (call : Call) (result : Result Reply TryFault) (old new : SeatView) → Type 0
 FindsRoom layout call result old new = IsRemoval call → layout.passes ≡ 1 → HasSpare layout old → IsEarly new → result ≢ Err FullNodes
 
--- If a node record stood in no tree before the call, one stands in none after it. In an index of one pass, a removal finds such a record.
+-- If a node record stood in no tree before the call, one stands in none after it (`spares`). In an index of one pass, a removal finds such
+-- a record (`finds`).
 pub record LeavesRoom (layout : Layout) (call : Call) (result : Result Reply TryFault) (old new : SeatView) : Type 0 where
   pub spares : KeepsSpare layout old new
   pub finds : FindsRoom layout call result old new
@@ -33,14 +35,14 @@ IsUnretired (Unlinked since last pass) = ⊥
 IsUnretired (Marked since last epoch) = ⊥
 IsUnretired fate = Unit {0}
 
--- After the steps that the table's only pass knows, the record is not retired.
+-- Let the steps that the table's only pass knows be all steps of the table. After them the record is not retired.
 abbrev pub IsUnretiredAt : (layout : Layout) (seat : SeatView) (rec : Rec) → Type 0
 IsUnretiredAt layout seat rec = (core : Core) → IsLone layout seat core → IsUnretired (core.fate rec)
 
--- After the steps that the table's only pass knows, no record is retired.
+-- Let the steps that the table's only pass knows be all steps of the table. After them no record is retired.
 abbrev pub HasNoneRetired : (layout : Layout) (seat : SeatView) → Type 0
 HasNoneRetired layout seat = (rec : Rec) → HasRecord layout rec → IsUnretiredAt layout seat rec
 
--- In an index of one pass, no record is retired after a call that was refused as full.
+-- In an index of one pass, no record is retired after a call that was refused as full, if epochs are not used up.
 abbrev pub LeavesNoneRetired : (layout : Layout) (result : Result Reply TryFault) (seat : SeatView) → Type 0
 LeavesNoneRetired layout result seat = layout.passes ≡ 1 → is_full result ≡ true → IsEarly seat → HasNoneRetired layout seat

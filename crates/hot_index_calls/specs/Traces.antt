@@ -33,11 +33,12 @@ use Rattle.hot_index_calls.specs.Passes.{PassView, pass_of}
 abbrev pub untold : (before : Unit {0}) (event : Event) (after : Unit {0}) → Type 0
 untold before event after = Unit {0}
 
--- All acts but the last of a call that only reads. It sets the pin, loads the root, and makes these loads of words below the root.
+-- The acts of a call that only reads, but for the last. It loads the epoch, sets its pin, loads the root, and makes these loads of words
+-- below the root.
 abbrev pub reading : (epoch root : ℕ) (loads : List Act) → List Act
 reading epoch root loads = LoadEpoch epoch ∷ SetPin epoch ∷ LoadRef Root root ∷ loads
 
--- The steps of a call that only reads. It sets the pass's pin, loads the root and then words below the root, and clears the pin. The gate
+-- The steps of a call that only reads. It sets its pass's pin, loads the root and then words below the root, and clears the pin. The gate
 -- is told each step, and with the last come the call's notes. The load of the root shows the pass all changes made by then.
 pub record HasRead {G : Type 0} (index : TableView) (becomes : G → Event → G → Type 0) (old new : PassView × G) : Type 0 where
   pub epoch : ℕ
@@ -59,23 +60,23 @@ pub record HasMadeGetSteps {G : Type 0} (index : TableView) (becomes : G → Eve
   pub few : new.0.steps ≤ old.0.steps + 36 + 26 * entries_in read.loads
   pub touched : new.0.touches ≤ old.0.touches + search_touches * entries_in read.loads
 
--- The steps of a scan. It loads one entry for each node that it visits, and one for each leaf. It makes at most 26 steps for each entry, 8
--- for each pair of its limit, and 101 others. It touches at most eleven words for each entry.
+-- The steps of a scan. It loads one entry for each node that it visits, and one for each leaf. It makes at most 26 steps for each such
+-- entry, 8 for each pair of its limit, and 101 others. It touches at most eleven words for each such entry.
 pub record HasMadeScanSteps {G : Type 0} (index : TableView) (becomes : G → Event → G → Type 0) (limit : ℕ) (old new : PassView × G) : Type 0 where
   pub read : HasRead index becomes old new
   pub most : entries_in read.loads ≤ scan_entries limit
   pub few : new.0.steps ≤ old.0.steps + 101 + 26 * entries_in read.loads + 8 * limit
   pub touched : new.0.touches ≤ old.0.touches + entry_touches * entries_in read.loads
 
--- The steps of an attempt at a change, but for the last, which clears the pin. It sets the pin, and tries each lock once at most. The
--- number of steps is bounded by the entries that its search loads, the locks that it tries, and the records of the table.
+-- The acts of an attempt at a change, but for the last, which clears the pin. It sets the pin, and tries each lock once at most. The number
+-- of acts is bounded by the entries that its search loads, the locks that it tries, and the records of the table.
 pub record IsAttempt (layout : Layout) (acts : List Act) : Type 0 where
   pub epoch : ℕ
   pub rest : List Act
   pub acts_are : acts ≡ LoadEpoch epoch ∷ SetPin epoch ∷ rest
   pub steps : AreAttemptSteps layout rest
 
--- The steps of a round of collection. It loads the epoch, raises it, loads it again, and loads each pin. Then it visits each record, nodes
+-- The acts of a round of collection. It loads the epoch, raises it, loads it again, and loads each pin. Then it visits each record, nodes
 -- first.
 pub record AreRoundSteps (layout : Layout) (acts : List Act) : Type 0 where
   pub epoch : ℕ
@@ -87,10 +88,10 @@ pub record AreRoundSteps (layout : Layout) (acts : List Act) : Type 0 where
   pub leaves : List Act
   pub acts_are : acts ≡ LoadEpoch epoch ∷ advance_steps epoch found ++ LoadEpoch next ∷ pins ++ nodes ++ leaves
   pub loads_pins : InTurn LoadsPin layout.passes pins
-  pub visits_nodes : InTurn (λ n. Visits bound (a_node n)) layout.nodes nodes
-  pub visits_leaves : InTurn (λ n. Visits bound (a_leaf n)) layout.leaves leaves
+  pub visits_nodes : InTurn (λ number. Visits bound (a_node number)) layout.nodes nodes
+  pub visits_leaves : InTurn (λ number. Visits bound (a_leaf number)) layout.leaves leaves
 
--- The steps of a small round of collection. It begins as a whole round does, and then visits at most `most` records.
+-- The acts of a small round of collection. It begins as a whole round does, and then visits at most `most` records.
 pub record AreSmallSteps (layout : Layout) (most : ℕ) (acts : List Act) : Type 0 where
   pub epoch : ℕ
   pub found : ℕ
@@ -104,35 +105,35 @@ pub record AreSmallSteps (layout : Layout) (most : ℕ) (acts : List Act) : Type
   pub visits_each : VisitEach bound recs visits
   pub few : length recs ≤ most
 
--- The steps between two attempts at a change: those of a round of collection. With several passes the round may be spared, and visit no
+-- The acts between two attempts at a change: those of a round of collection. With several passes the round may be spared, and visit no
 -- record.
 abbrev pub AreStepsBetween : (layout : Layout) (acts : List Act) → Type 0
 AreStepsBetween layout acts = AreRoundSteps layout acts ⊎ ((1 < layout.passes) × AreSmallSteps layout 0 acts)
 
--- the number for this kind of records: `nodes` or `leaves`
+-- the number of records of this kind: `nodes` or `leaves`
 abbrev pub of_kind : Full → (nodes leaves : ℕ) → ℕ
 of_kind Nodes nodes leaves = nodes
 of_kind Leaves nodes leaves = leaves
 
--- The steps are those between two attempts, and none gives back a record of this kind. A spared round gives none back.
+-- The acts are those between two attempts, and give back no record of this kind. A spared round gives back none at all.
 abbrev pub GiveNoneBetween : (layout : Layout) (kind : Full) (acts : List Act) → Type 0
 GiveNoneBetween layout kind acts =
     ((round : AreRoundSteps layout acts) × (of_kind kind (count_by has_given round.nodes) (count_by has_given round.leaves) ≡ 0)) ⊎
     ((1 < layout.passes) × AreSmallSteps layout 0 acts)
 
--- What a call returned follows from what its pass did from the seat's view `old` to its view `new`. The call was answered, and is noted.
--- Or it was refused, and the fault's cause lies between these views.
+-- The call's result follows from what its pass did from the seat `old` to the seat `new`. If the call was answered, it is noted. If it was
+-- refused, the cause of its fault lies between these seats.
 abbrev pub StandsSince : (layout : Layout) (call : Call) (result : Result Reply TryFault) (old new : SeatView) → Type 0
 StandsSince layout call result old new =
     IfOk result (IsNoted layout (pass_of old) (pass_of new) call) × IfErr result (IsRefusedFor layout call (pass_of old) (pass_of new))
 
--- the steps are those of one attempt
+-- the acts are those of one attempt
 abbrev pub IsOneAttempt : {G : Type 0} → (table : TableView) (old new : SeatView × G) (acts : List Act) → Type 0
 IsOneAttempt table old new acts = IsAttempt table.layout acts
 
--- Two attempts, with a whole or spared round of collection between them. The first was full. The call's note comes with the last step. The
--- call returns what the second attempt came to. But if the round gave back no record of the kind that the first lacked, the cause of a
--- refusal lies in both.
+-- The acts of two attempts, with a whole or spared round of collection between them. The first attempt was full. The call's result is that
+-- of the second, and its note comes with the last step. But if the round gave back no record of the kind that the first attempt lacked, the
+-- cause of a refusal may lie in both.
 pub record AreTwoAttempts {G : Type 0} (table : TableView) (becomes : G → Event → G → Type 0) (call : Call) (result : Result Reply TryFault)
     (old new : SeatView × G) (acts : List Act) : Type 0 where
   pub first : List Act
@@ -158,13 +159,13 @@ is_full (Err Busy) = false
 is_full (Err FullNodes) = true
 is_full (Err FullLeaves) = true
 
--- One attempt, which was not full. Or two, with a round of collection between them, if the first was full.
+-- The acts of one attempt, which was not full. Or those of two, with a round of collection between them, if the first was full.
 abbrev pub AreTries : {G : Type 0} → (table : TableView) (becomes : G → Event → G → Type 0) (call : Call) (result : Result Reply TryFault)
     (old new : SeatView × G) (acts : List Act) → Type 0
 AreTries table becomes call result old new acts =
     (IsAttempt table.layout acts × (is_full result ≡ false)) ⊎ AreTwoAttempts table becomes call result old new acts
 
--- The steps of a change but for its last: a small round or none, and then its attempts.
+-- The acts of a change but for the last: a small round or none, and then its attempts.
 pub record AreAttempts {G : Type 0} (table : TableView) (becomes : G → Event → G → Type 0) (call : Call) (result : Result Reply TryFault)
     (old new : SeatView × G) (acts : List Act) : Type 0 where
   pub before : List Act
@@ -211,13 +212,13 @@ pub record HasMadeChangeSteps {G : Type 0} (index : TableView) (becomes : G → 
   pub few : new.0.steps ≤ old.0.steps + try_steps call index.layout
   pub touched : new.0.touches ≤ old.0.touches + entry_touches * entries_in acts
 
--- the call makes some steps, one after the other, and with the last come the notes that `said` gives
+-- the call makes steps, one after the other, and with the last come the notes that `said` gives
 abbrev pub HasStepped : {G : Type 0} → (table : TableView) (becomes : G → Event → G → Type 0) (said : Known → List Note)
     (old new : SeatView × G) → Type 0
 HasStepped table becomes said old new = (acts : List Act) × (last : Act) × Ends table becomes acts last said old new
 
--- A call that loads the root makes these steps and no other, and its notes come with the last. The gate is told each step, in order, and
--- nothing else. The last load of the root shows the pass all changes made by then.
+-- A call that loads the root makes the steps `acts` and then `last`, and no other. Its notes come with the last. The gate is told each
+-- step, in order, and nothing else. The last load of the root shows the pass all changes made by then.
 pub record HasMadeCallSteps {G : Type 0} (index : TableView) (becomes : G → Event → G → Type 0) (old new : PassView × G) : Type 0 where
   pub acts : List Act
   pub last : Act
@@ -228,8 +229,8 @@ pub record HasMadeCallSteps {G : Type 0} (index : TableView) (becomes : G → Ev
   pub sees : SeesAllOfRun index.layout old.0.seat new.0.seat
   pub told : IsTold becomes (events_of old.0.number (acts ++ last ∷ [])) old.1 new.1
 
--- The pass makes one round of collection, which gives back so many node and leaf records. The front stays the same. The gate is told each
--- step, and their number is bounded.
+-- The pass makes one round of collection, which gives back `nodes` node records and `leaves` leaf records. The front stays the same. The
+-- gate is told each step, and their number is bounded.
 pub record HasCollected {G : Type 0} (index : TableView) (becomes : G → Event → G → Type 0) (old new : PassView × G) (nodes leaves : ℕ) : Type 0 where
   pub begins : old.0 ≡ pass_of old.0.seat
   pub ends : new.0 ≡ pass_of new.0.seat

@@ -12,15 +12,17 @@ use Rattle.hot_scripts.specs.Options.{DoParse, IsAsked}
 use Rattle.script_runs.specs.Runs.{IsAnsweredScript, MayEndBy}
 use Rattle.script_runs.specs.Scripts.{LawfulScripts, MayEndScriptsBy}
 
--- The text has the answers to the script, and before them, if files are named, those to the scripts in the files. `bytes` gives the bytes
--- of a name's file, if they are known.
+-- The text has the answers to the script. If files are named, it has before them the answers to the scripts in these files. `bytes` gives
+-- the bytes of a name's file, if they are known.
 abbrev pub AnswersAll : (bytes : List ℕ → Option (List ℕ)) (names : List (List ℕ)) (nodes leaves : ℕ) (script text : List ℕ) → Type 0
 AnswersAll bytes [] nodes leaves script text = IsAnsweredScript nodes leaves script text
 AnswersAll bytes (name ∷ names) nodes leaves script text =
-    (files : List (List ℕ)) × AreFileStarts bytes (name ∷ names) files × LawfulScripts nodes leaves untold (map (λ f. (tt, tt)) files) files script text
+    (files : List (List ℕ)) × AreFileStarts bytes (name ∷ names) files ×
+    LawfulScripts nodes leaves untold (map (λ file. (tt, tt)) files) files script text
 
--- The program has answered what the words ask for. The script is all that the reader had left, and the text of the answers was written. If
--- known, `old` and `new` are what the reader has left before and after, `before` and `after` what was written by then.
+-- The program has answered what the words of the command line ask for. The script is all that the reader had left, and the text of the
+-- answers was written. `old` and `new` are what the reader has left before and after, and `before` and `after` what was written by then, if
+-- these are known.
 pub record IsAnsweredAsAsked (bytes : List ℕ → Option (List ℕ)) (words : List (List ℕ)) (old new before after : Option (List ℕ)) : Type 0 where
   pub nodes : ℕ
   pub leaves : ℕ
@@ -32,12 +34,12 @@ pub record IsAnsweredAsAsked (bytes : List ℕ → Option (List ℕ)) (words : L
   pub answered : AnswersAll bytes names nodes leaves script text
   pub written : Appends before after text
 
--- by which fault a run of the script, and of the scripts in the named files, may end
+-- A run of the script, and of the scripts in the named files, may end by this fault.
 abbrev pub MayEndAllBy : (bytes : List ℕ → Option (List ℕ)) (names : List (List ℕ)) (old new : Option (List ℕ)) (fault : RunFault) → Type 0
 MayEndAllBy bytes [] old new fault = MayEndBy old new fault
 MayEndAllBy bytes (name ∷ names) old new fault = (files : List (List ℕ)) × AreFileStarts bytes (name ∷ names) files × MayEndScriptsBy files old new fault
 
--- the run that the words ask for may end by this fault
+-- The run that the words of the command line ask for may end by this fault.
 pub record HasFaultAsAsked (bytes : List ℕ → Option (List ℕ)) (words : List (List ℕ)) (old new : Option (List ℕ)) (fault : RunFault) : Type 0 where
   pub nodes : ℕ
   pub leaves : ℕ
@@ -45,8 +47,8 @@ pub record HasFaultAsAsked (bytes : List ℕ → Option (List ℕ)) (words : Lis
   pub asked : IsAsked words nodes leaves names
   pub ended : MayEndAllBy bytes names old new fault
 
--- How the program may end without answers. It may end as wrong usage only if the words don't parse, and by a failed read only if they parse.
--- It may end by another fault only if the run that they ask for may. It may always end for want of memory.
+-- The program may end so without answers. It ends as wrong usage only if the words of the command line don't parse, and by a failed read
+-- only if they parse. By another fault it ends only if the run that they ask for may. It may always end for want of memory.
 abbrev pub MayEndAsAsked : (bytes : List ℕ → Option (List ℕ)) (words : List (List ℕ)) (old new : Option (List ℕ)) (ending : Ending) → Type 0
 MayEndAsAsked bytes words old new Usage = DoParse words → ⊥
 MayEndAsAsked bytes words old new (Fault Read) = DoParse words

@@ -7,12 +7,12 @@ use Rattle.hot_scripts.specs.Faults.{run_fault_text}
 use Rattle.hot_scripts.specs.declared.ending.Ending.{Ending}
 use Rattle.hot_scripts.specs.declared.ending.Ending.TheVariants.{Usage, Fault}
 
--- the line that the program writes to standard error for this ending
+-- the line, without its end, that the program writes to standard error for this ending
 abbrev pub ending_text : Ending → List ℕ
 ending_text Usage = codes "usage: hot-run [--nodes N] [--leaves L] [FILE]..."
 ending_text (Fault fault) = run_fault_text fault
 
--- the ending for a fault that the command line's parser finds
+-- the ending for an error that the parser of the command line finds
 abbrev pub ending_of : ErrorKind → Ending
 ending_of OutOfMemory = Fault Memory
 ending_of _ = Usage

@@ -17,10 +17,10 @@ use Rattle.hot_scripts.specs.declared.fault.Reason.{Reason}
 use Rattle.hot_scripts.specs.declared.fault.Reason.TheVariants as bad
 
 infixl 10 ◌>>=◌
--- the fault of the first step, or the result of the second step for the first one's value
+-- the result of a second step for the value of the first one; the reason of the first step, if it failed
 abbrev pub ◌>>=◌ : {A B : Type 0} → Result A Reason → (A → Result B Reason) → Result B Reason
-Ok x >>= f = f x
-Err e >>= f = Err e
+Ok value >>= step = step value
+Err reason >>= step = Err reason
 
 -- the most bytes that a script may have
 abbrev pub most_bytes : ℕ
@@ -28,65 +28,66 @@ most_bytes = 1048576
 
 -- The lines of a script, each up to a line end. What follows the last line end is a line too, even if it is empty.
 abbrev pub lines_of : List ℕ → List (List ℕ)
-lines_of script = slice_split (λ b. b == 10) script
+lines_of script = slice_split (λ byte. byte == 10) script
 
 -- the words of a line, each up to a space; a word may be empty
 abbrev pub line_words : List ℕ → List (List ℕ)
-line_words line = slice_split (λ b. b == 32) line
+line_words line = slice_split (λ byte. byte == 32) line
 
--- the bytes that were decoded from hexadecimal digits, or a bad key if they are no such digits
+-- the bytes that were decoded from hexadecimal digits, or the reason that the key is bad
 abbrev pub decoded : Result (List ℕ) FromHexError → Result (List ℕ) Reason
 decoded (Ok bytes) = Ok bytes
-decoded (Err e) = Err bad.Key
+decoded (Err error) = Err bad.Key
 
--- how many digits a key may have
+-- how many hexadecimal digits a key may have in a script of this version
 abbrev pub most_digits : Version → ℕ
 most_digits First = 128
 most_digits Second = 480
 
--- the key that a word spells: a dash for the empty key, or two hexadecimal digits for each byte
+-- the key for which a word stands: a dash for the empty key, or two hexadecimal digits for each byte
 abbrev pub parsed_key : (version : Version) (word : List ℕ) → Result (List ℕ) Reason
 parsed_key version word =
     if bytes_eq word (codes "-") then Ok []
     else if nat_le 2 (length word) && nat_le (length word) (most_digits version) then decoded (decode_of word)
     else Err bad.Key
 
--- the word has 1 to 20 decimal digits
+-- whether the word has 1 to 20 decimal digits and nothing else
 abbrev pub is_number : List ℕ → Bool
 is_number word = nat_lt 0 (length word) && nat_le (length word) 20 && list_all is_ascii_digit word
 
--- the number for which a word's digits stand, if it is below 2^64
+-- the number for which the digits of a word stand; none if the word is no number below 2^64
 abbrev pub number_of : List ℕ → Option ℕ
 number_of word = if is_number word && nat_lt (digits_value 10 word) (2 ^ 64) then Some (digits_value 10 word) else None
 
--- the number as a result; this reason as its fault, if there is no number
+-- the number as a result, or this reason if there is no number
 abbrev pub ok_or_reason : (reason : Reason) (number : Option ℕ) → Result ℕ Reason
 ok_or_reason reason (Some number) = Ok number
 ok_or_reason reason None = Err reason
 
--- the value that a word spells: any number below 2^64
+-- the value for which a word stands: any number below 2^64
 abbrev pub parsed_value : List ℕ → Result ℕ Reason
 parsed_value word = ok_or_reason bad.Value (number_of word)
 
--- the limit that a word spells: a number from 1 to 1,000,000
+-- the limit for which a word stands: a number from 1 to 1,000,000
 abbrev pub limit_of : List ℕ → Result ℕ Reason
-limit_of word = ok_or_reason bad.Limit (number_of word) >>= λ n. if nat_le 1 n && nat_le n 1000000 then Ok n else Err bad.Limit
+limit_of word = ok_or_reason bad.Limit (number_of word) >>= λ limit. if nat_le 1 limit && nat_le limit 1000000 then Ok limit else Err bad.Limit
 
--- the command that asks this call of the key that a word spells
+-- the command that makes this call of the key for which a word stands
 abbrev pub with_key : (version : Version) (call : List ℕ → Call) (key : List ℕ) → Result Command Reason
-with_key version call key = parsed_key version key >>= λ k. Ok (Asks (call k))
+with_key version call key = parsed_key version key >>= λ bytes. Ok (Asks (call bytes))
 
--- the command that asks this call of the key and the value that two words spell
+-- the command that makes this call of the key and the value for which two words stand
 abbrev pub parsed_change : (version : Version) (call : List ℕ → ℕ → Call) (key value : List ℕ) → Result Command Reason
-parsed_change version call key value = parsed_key version key >>= λ k. parsed_value value >>= λ v. Ok (Asks (call k v))
+parsed_change version call key value = parsed_key version key >>= λ bytes. parsed_value value >>= λ number. Ok (Asks (call bytes number))
 
--- the command for a scan of the range and the limit that three words spell
+-- the command that scans the range, up to the limit, for which three words stand
 abbrev pub with_range : (version : Version) (from upto limit : List ℕ) → Result Command Reason
 with_range version from upto limit =
-    parsed_key version from >>= λ f. parsed_key version upto >>= λ u. limit_of limit >>= λ n. Ok (Scan (record { from = f; upto = u; limit = n }))
+    parsed_key version from >>= λ first. parsed_key version upto >>= λ last. limit_of limit >>= λ most.
+    Ok (Scan (record { from = first; upto = last; limit = most }))
 
--- The command that the words of a line spell: a name, and as many words as the name takes. An unknown name or a wrong number of words is
--- the first fault of the line. After that, the first bad word is.
+-- The command for which the words of a line stand: a name, and as many words as the name takes. An unknown name or a wrong number of words
+-- is the first fault of the line. After that, the first bad word is.
 abbrev pub command_of : (version : Version) (words : List (List ℕ)) → Result Command Reason
 command_of version (name ∷ key ∷ []) =
     if bytes_eq name (codes "get") then with_key version Get key
@@ -101,48 +102,48 @@ command_of version (name ∷ from ∷ upto ∷ limit ∷ []) =
     else Err bad.Command
 command_of version _ = Err bad.Command
 
--- the command that a line asks for: none if the line is empty or begins with #
+-- the command that a line asks for; none if the line is empty or begins with #
 abbrev pub reading_of : (version : Version) (line : List ℕ) → Result (Option Command) Reason
 reading_of version [] = Ok None
-reading_of version (b ∷ bs) = if b == 35 then Ok None else command_of version (line_words (b ∷ bs)) >>= λ c. Ok (Some c)
+reading_of version (byte ∷ bytes) =
+    if byte == 35 then Ok None else command_of version (line_words (byte ∷ bytes)) >>= λ command. Ok (Some command)
 
--- The commands that the lines ask for, one result for each line. A first line `hot 2` asks for none, and says that the script is of the
--- second version.
+-- What each line of a script asks for. A first line `hot 2` asks for nothing, and says that the script is of the second version.
 abbrev pub readings_of : (lines : List (List ℕ)) → List (Result (Option Command) Reason)
 readings_of [] = []
 readings_of (first ∷ rest) =
     if bytes_eq first (codes "hot 2") then Ok None ∷ map (reading_of Second) rest
     else map (reading_of First) (first ∷ rest)
 
--- the command that a good line asks for, if any
+-- the command that a line asks for; none if it asks for none or is bad
 abbrev pub asked : Result (Option Command) Reason → Option Command
-asked (Ok c) = c
+asked (Ok command) = command
 asked (Err reason) = None
 
--- the number of the first bad line, and its reason; the first line has the number `first`
+-- The number of the first bad line, and the reason; none if no line is bad. The lines are numbered from `first` on.
 abbrev pub first_bad : (first : ℕ) (readings : List (Result (Option Command) Reason)) → Option (ℕ × Reason)
 first_bad first [] = None
 first_bad first (Ok command ∷ readings) = first_bad (first + 1) readings
 first_bad first (Err reason ∷ readings) = Some (first, reason)
 
--- the value as a result, unless there is a fault
+-- the value as a result, or the fault if there is one
 abbrev pub ok_unless_fault : {A : Type 0} → (fault : Option (ℕ × Reason)) (value : A) → Result A (ℕ × Reason)
 ok_unless_fault (Some fault) value = Err fault
 ok_unless_fault None value = Ok value
 
--- the commands of lines, or else the number and the reason of the first bad line; the first line has the number `first`
+-- The commands that lines ask for, or the number of the first bad line and the reason. The lines are numbered from `first` on.
 abbrev pub commands_from : (first : ℕ) (readings : List (Result (Option Command) Reason)) → Result (List Command) (ℕ × Reason)
 commands_from first readings = ok_unless_fault (first_bad first readings) (filter_map asked readings)
 
--- the commands of a script, or else the number of its first bad line, counted from 1, and the reason
+-- the commands of a script, or the number of its first bad line, counted from 1, and the reason
 abbrev pub commands_of : (script : List ℕ) → Result (List Command) (ℕ × Reason)
 commands_of script = commands_from 1 (readings_of (lines_of script))
 
--- the key of a command that asks a call; the empty key for a scan
+-- the key of the call that a command makes; the empty key for a scan
 abbrev pub called_key : Command → List ℕ
 called_key (Asks call) = key_of call
 called_key (Scan range) = []
 
--- the key of the command has at most `most` bytes
+-- the key of the call that the command makes has at most `most` bytes
 abbrev pub HasKeyUpTo : (most : ℕ) (command : Command) → Type 0
 HasKeyUpTo most command = length (called_key command) ≤ most

@@ -6,28 +6,28 @@ use Rattle.hot_scripts.specs.declared.fault.RunFault.{RunFault}
 use Rattle.hot_scripts.specs.declared.fault.RunFault.TheVariants.{Memory, FileScript, Large}
 use Rattle.hot_scripts.specs.Grammar.{commands_of, most_bytes}
 
--- the commands of the file of this number, or its first bad line as the run's fault
+-- the commands of the file of this number; if a line is bad, the run's fault
 abbrev pub in_file : (file : ℕ) (parsed : Result (List Command) (ℕ × Reason)) → Result (List Command) RunFault
 in_file file (Ok commands) = Ok commands
 in_file file (Err (number, reason)) = Err (FileScript file number reason)
 
--- the commands of a file of this number and these bytes, or its fault: it is too long, or has a bad line
+-- The commands of the file that has this number and these bytes. If the file is too long or has a bad line, it is the run's fault.
 abbrev pub commands_of_file : (file : ℕ) (script : List ℕ) → Result (List Command) RunFault
 commands_of_file file script = if nat_lt most_bytes (length script) then Err Large else in_file file (commands_of script)
 
--- the commands of one file and then those of others, or the first fault
+-- the commands of one file before those of others, or the first fault
 abbrev pub both_or_fault : (one : Result (List Command) RunFault) (others : Result (List (List Command)) RunFault) →
     Result (List (List Command)) RunFault
 both_or_fault (Err fault) others = Err fault
 both_or_fault (Ok commands) (Err fault) = Err fault
 both_or_fault (Ok commands) (Ok others) = Ok (commands ∷ others)
 
--- the commands of each file, or the fault of the first file that has one; the first file has the number `first`
+-- The commands of each file, or the fault of the first file that has one. The files are numbered from `first` on.
 abbrev pub commands_of_files : (first : ℕ) (files : List (List ℕ)) → Result (List (List Command)) RunFault
 commands_of_files first [] = Ok []
 commands_of_files first (file ∷ files) = both_or_fault (commands_of_file first file) (commands_of_files (first + 1) files)
 
--- The parse is right: `view` of it is the script's own meaning, or its fault is the script's. If memory was refused, nothing is said.
+-- What was parsed is right: `view` of it is what the script means, or its fault is the script's. If memory was refused, nothing is said.
 abbrev pub IsParsed : {A B : Type 0} → (view : A → B) (parsed : Result A RunFault) (script : Result B RunFault) → Type 0
 IsParsed view (Ok parsed) script = script ≡ Ok (view parsed)
 IsParsed view (Err Memory) script = Unit {0}

@@ -8,47 +8,47 @@ use Rattle.clap.specs.declared.builder.value_parser.ValueParser.TheVariants.{Sig
 use Rattle.hot_scripts.specs.declared.script.TheConstants.{MAX_FILES}
 use Rattle.record_words.specs.declared.TheConstants.{MAX_LEAVES, MAX_NODES}
 
--- the parser's rule of an option of this name, which takes a number from 1 to `most`
+-- the rule by which the parser of the command line takes an option of this name, with a number from 1 to `most`
 abbrev pub count_rule : (name : List ℕ) (most : ℕ) → Rule
 count_rule name most = record (new_rule name) { long = Some name; action = Some Set; parser = Some (Signed (pos 1) (pos most)) }
 
--- the parser's rule of words that are no options, any number of them
+-- the rule by which the parser of the command line takes words that are no options, any number of them
 abbrev pub names_rule : (name : List ℕ) → Rule
 names_rule name = record (new_rule name) { action = Some Append }
 
--- the argument has this name and this rule, and excludes no other
+-- The argument of the command line has this name and this rule, and excludes no other.
 pub record IsArgument (name : List ℕ) (rule : Rule) (arg : Arg) : Type 0 where
   pub id : arg.id.now ≡ name
   pub plain : IsPlainArg arg
   pub local : arg.global ≡ false
   pub rule_is : rule_of arg ≡ rule
 
--- the argument is an option of this name, which takes a number from 1 to `most`
+-- The argument of the command line is an option of this name, which takes a number from 1 to `most`.
 pub record IsCountOption (name : List ℕ) (most : ℕ) (option : Arg) : Type 0 where
   pub argument : IsArgument name (count_rule name most) option
   pub parser : option.value_parser ≡ Some (Signed (pos 1) (pos most))
 
--- the program's command line, as the parser has it
+-- the program's command line as its parser has it: the options for nodes and leaves, and the names of files
 abbrev pub command_line : App
 command_line = with_rule (with_rule (with_rule (new_app (codes "hot-run")) (count_rule (codes "nodes") MAX_NODES))
     (count_rule (codes "leaves") MAX_LEAVES)) (names_rule (codes "FILE"))
 
--- The number of this option is the one that the words give it. If they give none, it is the default.
+-- The number of the option is the one that the words of the command line give, or the default if they give none.
 pub record IsOptionNumber (rows : List Row) (option : List ℕ) (default number : ℕ) : Type 0 where
   pub left_out : one_of option rows ≡ None → number ≡ default
   pub given : (text : List ℕ) → one_of option rows ≡ Some text →
       IsNumeral 10 (without_leading_plus text) → digits_value 10 (without_leading_plus text) < 2 ^ 32 → number ≡ digits_value 10 (without_leading_plus text)
 
--- the names of files among these words, of which the first is the program's name
+-- the names of files among the words of the command line, of which the first is the program's name
 abbrev pub names_in : List (List ℕ) → List (List ℕ)
 names_in words = unwrap_or (all_of (codes "FILE") (matches_of command_line words)) []
 
--- The words parse: the parser of the command line finds no fault in them. They name at most `MAX_FILES` files.
+-- The words of the command line parse: the parser finds no fault in them, and they name at most `MAX_FILES` files.
 pub record DoParse (words : List (List ℕ)) : Type 0 where
   pub faultless : fault_of command_line words ≡ []
   pub few : length (names_in words) ≤ MAX_FILES
 
--- The words parse. They ask for so many nodes and leaves, and for the files of these names.
+-- The words of the command line parse. They ask for so many node and leaf records, and for the files of these names.
 pub record IsAsked (words : List (List ℕ)) (nodes leaves : ℕ) (names : List (List ℕ)) : Type 0 where
   pub parse : DoParse words
   pub nodes_are : IsOptionNumber (matches_of command_line words) (codes "nodes") 4096 nodes

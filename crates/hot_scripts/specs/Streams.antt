@@ -5,11 +5,11 @@ use Rattle.hot_scripts.specs.declared.fault.RunFault.{RunFault}
 use Rattle.hot_scripts.specs.declared.fault.RunFault.TheVariants.{Read, Memory, Large}
 use Rattle.hot_scripts.specs.Grammar.{most_bytes}
 
--- the script is all that the reader had left, and nothing is left after it
+-- the script is all that the reader had left, and nothing is left now
 abbrev pub TakesAll : (old new : Option (List ℕ)) (script : List ℕ) → Type 0
 TakesAll old new script = Consumes old new script × IsAtEnd new
 
--- the fault of a read: it failed, memory was refused, or more was read than a script may have
+-- The fault of a read of a script: the read failed, memory was refused, or more bytes were read than a script may have.
 abbrev pub IsReadFault : (old new : Option (List ℕ)) (fault : RunFault) → Type 0
 IsReadFault old new Read = Unit {0}
 IsReadFault old new Memory = Unit {0}

@@ -3,7 +3,7 @@
 ghost use Rattle.std.specs.Prelude.{◌≡◌, ◌≤◌, ◌==◌, [], ◌∷◌, None, length, position};
 ghost use Rattle.std.specs.List.{slice_split};
 ghost use Rattle.hot_scripts.specs.Grammar.{line_words, command_of, reading_of};
-ghost use Rattle.hot_scripts.specs.Words.{parts_left, text_len, AreWords};
+ghost use Rattle.hot_scripts.specs.Words.{parts_left, bytes_left, AreWords};
 
 use crate::command::{Command, KeyRange, Version};
 use crate::fault::Reason;
@@ -22,7 +22,7 @@ fn first_index(separator: u8, text: &[u8]) -> Option<usize>
 pub fn split_once(separator: u8, text: &[u8]) -> (&[u8], Option<&[u8]>)
     ensures parts { slice_split (λ b. b == separator) text.now ≡ result.0.now ∷ parts_left separator result.1 }
     ensures whole { result.1 ≡ None → result.0.now ≡ text.now }
-    ensures left { text_len result.1 ≤ length text.now }
+    ensures left { bytes_left result.1 ≤ length text.now }
 {
     match first_index(separator, text) {
         Some(at) => (&text[..at], Some(&text[at + 1..])),

@@ -3,7 +3,7 @@
 ghost use Rattle.std.specs.Prelude.{◌≡◌, ◌+◌, ◌^◌, ◌<◌, ◌≤◌, All, IfErr, IfOk, MatchOption, None, Some, filter_map, length, vec_len};
 ghost use Rattle.key_bits.specs.declared.TheConstants.{MAX_BYTES};
 ghost use Rattle.hot_scripts.specs.Grammar.{HasKeyUpTo, asked, called_key, commands_of, first_bad, lines_of, readings_of};
-ghost use Rattle.hot_scripts.specs.Words.{text_len};
+ghost use Rattle.hot_scripts.specs.Words.{bytes_left};
 
 use crate::command::{Command, Version};
 use crate::fault::{Reason, RunFault};
@@ -68,11 +68,11 @@ impl Script {
 }
 
 impl<'a> Commands<'a> {
-    ghost use Rattle.hot_scripts.specs.Parses.{Gives, IsOpening, commands_left, readings_left};
+    ghost use Rattle.hot_scripts.specs.Parses.{GivesFirst, IsOpening, commands_left, readings_left};
 
     /// Takes out the first of the commands and returns it; `None` if none is left.
     pub fn next_command(&mut self) -> Option<Command>
-        ensures { Gives (commands_left self.old) result (commands_left self.new) }
+        ensures { GivesFirst (commands_left self.old) result (commands_left self.new) }
     {
         while let Some(text) = self.left {
             let (line, rest) = split_once(b'\n', text);
@@ -109,7 +109,7 @@ impl<'a> Commands<'a> {
     /// Returns a number of bytes that no key of a call in these lines exceeds, `MAX_BYTES` at most. If a line is bad, the error is the
     /// number and the reason of the first such line. The first line has the number `first`.
     fn longest_key_length(self, first: u32) -> Result<usize, (u32, Reason)>
-        requires { first + text_len self.left < 2 ^ 32 }
+        requires { first + bytes_left self.left < 2 ^ 32 }
         ensures good { IfOk result (λ longest. first_bad first (readings_left self.entry) ≡ None) }
         ensures keys { IfOk result (λ longest. All (HasKeyUpTo longest) (commands_left self.entry)) }
         ensures few { IfOk result (λ longest. longest ≤ MAX_BYTES) }

@@ -39,20 +39,20 @@ lived {j = j} (new is) = record {
   same = ap asked_in is.2;
   legal = subst (λ f. LegalCalls f j.number j.notes) (sym is.1) (subst (LegalCalls [] j.number) (sym is.2) (legal_at_first j.number));
 }
-lived (loaded {layout = layout} {words = words} {s = s} load is) = record {
+lived (loaded {layout = layout} {words = words} {seat = s} load is) = record {
   same = ap (λ (k : Known). asked_in k.notes) is ∙ asked-added 0 (items_of (loaded_tree layout words));
   legal = subst (λ (k : Known). LegalCalls k.front k.pass k.notes) (sym is) (loader_legal layout words load);
 }
-lived (called {calls = calls} {k = k} {j = j} {call = call} {reply = reply} h noted) = record {
+lived (called {calls = calls} {before = k} {after = j} {call = call} {reply = reply} h noted) = record {
   same = ap asked_in noted.notes ∙ asked-append k.notes (record { place = noted.place; call = call; reply = reply } ∷ []) ∙ ap (λ (z : List (Call × Reply)). z ++ (call, reply) ∷ []) (lived h).same;
   legal = noted.legal;
 }
-lived (looked_up {calls = calls} {asked = asked} {k = k} {j = j} h noted) = record {
+lived (looked_up {calls = calls} {asked = asked} {before = k} {after = j} h noted) = record {
   same = ap asked_in noted.notes ∙ asked-append k.notes noted.added ∙ ap₂ (λ (y z : List (Call × Reply)). y ++ z) (lived h).same (sym (asked-map noted.added));
   legal = noted.legal;
 }
-lived (went_on {calls = calls} {k = k} {j = j} h unnoted) = stays calls k j (lived h) unnoted.notes unnoted.legal
-lived (scanned {calls = calls} {k = k} {j = j} h on same legal) = stays calls k j (lived h) same legal
+lived (went_on {calls = calls} {before = k} {after = j} h unnoted) = stays calls k j (lived h) unnoted.notes unnoted.legal
+lived (scanned {calls = calls} {before = k} {after = j} h on same legal) = stays calls k j (lived h) same legal
 
 abbrev pass_in : PassLife → ℕ × List Note
 pass_in life = (life.1.number, life.1.notes)

@@ -17,15 +17,16 @@ use Rattle.hot_index_calls.specs.Many.{AreNoted}
 use Rattle.hot_index_calls.specs.Passes.{PassView, pass_of}
 use Rattle.linearizability.specs.Configurations.{Continues, Happening, IsCallTurn, IsNewIndex, Configuration, Pending, invokes, refuses, responds, shows, steps}
 
--- Pass q's call is pending at time t. Seat s knows what the pass knew when it invoked the call, and seat e what the pass knows at time t.
-pub record IsReturning (at : ℕ → Configuration) (q t : ℕ) (call : Pending) (s e : SeatView) : Type 0 where
-  pub pending : (at t).pending q ≡ Some call
-  pub before : s.known ≡ (at call.since).known q
-  pub now : e.known ≡ (at t).known q
-  pub pass : e.known.pass ≡ q
-  pub later : call.since ≤ t
+-- The call of the pass of this number is pending at this time. The seat `start` knows what the pass knew when it invoked the call, and the
+-- seat `end` what the pass knows at this time.
+pub record IsReturning (at : ℕ → Configuration) (number time : ℕ) (call : Pending) (start end : SeatView) : Type 0 where
+  pub pending : (at time).pending number ≡ Some call
+  pub before : start.known ≡ (at call.since).known number
+  pub now : end.known ≡ (at time).known number
+  pub pass : end.known.pass ≡ number
+  pub later : call.since ≤ time
 
--- The call asked one call of the map, which was answered. `notes` is the one note of it.
+-- The pending call asked one call of the map, which was answered. `notes` is the one note of that call.
 pub record IsAnswered (layout : Layout) (call : Pending) (old new : PassView) (notes : List Note) : Type 0 where
   pub asked : Call
   pub reply : Reply
@@ -33,30 +34,31 @@ pub record IsAnswered (layout : Layout) (call : Pending) (old new : PassView) (n
   pub noted : IsNoted layout old new asked reply
   pub notes_are : notes ≡ record { place = noted.place; call = asked; reply = reply } ∷ []
 
--- The call asked look-ups of the map, which were answered. `notes` has a note of each, in some order.
+-- The pending call asked look-ups of the map, which were answered. `notes` has a note of each, in some order.
 pub record HasAnsweredMany (layout : Layout) (call : Pending) (old new : PassView) (notes : List Note) : Type 0 where
   pub asked : List (Call × Reply)
-  pub calls : map (λ x. x.0) asked ≡ call.calls
+  pub calls : map (λ pair. pair.0) asked ≡ call.calls
   pub noted : AreNoted layout old new asked
   pub notes_are : notes ≡ noted.added
 
--- The call asked nothing of the map, and added no note. Of scans `IsScannedBy` and `IsListedBy` say so, and of collections and counts
--- `IsUnnoted`.
+-- The pending call asked nothing of the map, and added no note. The contracts of scans say so (`IsScannedBy`, `IsListedBy`), and those of
+-- collections and counts (`IsUnnoted`).
 pub record IsQuiet (call : Pending) (old new : PassView) (notes : List Note) : Type 0 where
   pub calls : call.calls ≡ []
   pub same : new.notes ≡ old.notes
   pub legal : LegalCalls new.front new.number new.notes
   pub notes_are : notes ≡ []
 
--- the insertions of the pairs of a loaded table with these words, in the order of their keys
+-- the insertions of the pairs that a table with these words was loaded with, in the order of their keys
 abbrev pub insertions : (layout : Layout) (words : List ℕ) → List Call
-insertions layout words = map (λ x. Insert x.key x.value) (items_of (loaded_tree layout words))
+insertions layout words = map (λ item. Insert item.key item.value) (items_of (loaded_tree layout words))
 
--- the notes of the insertions of the pairs of a loaded table with these words
+-- the notes of the insertions of the pairs that a table with these words was loaded with
 abbrev pub insertion_notes : (layout : Layout) (words : List ℕ) → List Note
 insertion_notes layout words = added_notes 0 (items_of (loaded_tree layout words))
 
--- The call was the bulk load with which the table was made (`IsLoaderSeat`). Pass 0 was new before, and asked for the insertions `calls`.
+-- The call was the bulk load with which the table was made (`IsLoaderSeat`). Its pass is pass 0, which was new before. It asked for the
+-- insertions `calls`.
 pub record HasBulkLoaded (layout : Layout) (calls : List Call) (before later : Known) (notes : List Note) : Type 0 where
   pub words : List ℕ
   pub load : IsLoad layout words
@@ -65,31 +67,35 @@ pub record HasBulkLoaded (layout : Layout) (calls : List Call) (before later : K
   pub calls_are : calls ≡ insertions layout words
   pub notes_are : notes ≡ insertion_notes layout words
 
--- The pass's call returns at time t with these notes: answered as one call or as look-ups, or with none, or as the bulk load.
-abbrev pub HasReturned : (layout : Layout) (at : ℕ → Configuration) (pass t : ℕ) (call : Pending) (notes : List Note) → Type 0
-HasReturned layout at pass t call notes =
-    (start : SeatView) × (end : SeatView) × IsReturning at pass t call start end ×
+-- The pass's call returns at this time with these notes, as its contract says. It was answered as one call or as look-ups, asked nothing,
+-- or was the bulk load.
+abbrev pub HasReturned : (layout : Layout) (at : ℕ → Configuration) (pass time : ℕ) (call : Pending) (notes : List Note) → Type 0
+HasReturned layout at pass time call notes =
+    (start : SeatView) × (end : SeatView) × IsReturning at pass time call start end ×
     (IsAnswered layout call (pass_of start) (pass_of end) notes ⊎
     (HasAnsweredMany layout call (pass_of start) (pass_of end) notes ⊎
     (IsQuiet call (pass_of start) (pass_of end) notes ⊎ HasBulkLoaded layout call.calls start.known end.known notes)))
 
--- The pass's call, which asked one call of the map, is refused at time t, as its contract says.
-abbrev pub HasBeenRefused : (layout : Layout) (at : ℕ → Configuration) (pass t : ℕ) (call : Pending) → Type 0
-HasBeenRefused layout at pass t call =
+-- The pass's call, which asked one call of the map, is refused at this time, as its contract says.
+abbrev pub HasBeenRefused : (layout : Layout) (at : ℕ → Configuration) (pass time : ℕ) (call : Pending) → Type 0
+HasBeenRefused layout at pass time call =
     (start : SeatView) × (end : SeatView) × (asked : Call) × (fault : TryFault) ×
-    IsReturning at pass t call start end × (call.calls ≡ asked ∷ []) ×
+    IsReturning at pass time call start end × (call.calls ≡ asked ∷ []) ×
     IsRefusedFor layout asked (pass_of start) (pass_of end) fault × MayRefuse asked fault
 
--- What happens at time t of an execution leads to the next time as in a run (`Continues`). A call that ends then ends as its contract says.
-abbrev pub LeadsOn : (layout : Layout) (at : ℕ → Configuration) (t : ℕ) (happening : Happening) → Type 0
-LeadsOn layout at t (steps pass act notes) = Continues layout at t (steps pass act notes)
-LeadsOn layout at t (shows pass front) = Continues layout at t (shows pass front)
-LeadsOn layout at t (invokes pass calls) = Continues layout at t (invokes pass calls)
-LeadsOn layout at t (responds pass notes) =
-    (call : Pending) × HasReturned layout at pass t call notes × IsCallTurn layout (at t) (at (suc t)) pass None
-LeadsOn layout at t (refuses pass) = (call : Pending) × HasBeenRefused layout at pass t call × IsCallTurn layout (at t) (at (suc t)) pass None
+-- What happens at this time of an execution leads to the next time as in a run (`Continues`). But a call that ends then ends as its
+-- contract says.
+abbrev pub LeadsOn : (layout : Layout) (at : ℕ → Configuration) (time : ℕ) (happening : Happening) → Type 0
+LeadsOn layout at time (steps pass act notes) = Continues layout at time (steps pass act notes)
+LeadsOn layout at time (shows pass front) = Continues layout at time (shows pass front)
+LeadsOn layout at time (invokes pass calls) = Continues layout at time (invokes pass calls)
+LeadsOn layout at time (responds pass notes) =
+    (call : Pending) × HasReturned layout at pass time call notes × IsCallTurn layout (at time) (at (suc time)) pass None
+LeadsOn layout at time (refuses pass) =
+    (call : Pending) × HasBeenRefused layout at pass time call × IsCallTurn layout (at time) (at (suc time)) pass None
 
--- An execution: the index is new at first, and what happens at each time before the last leads to the next one.
+-- An execution: the index is new at time 0, and what happens at each time before `last` leads to the next time. Each call ends as its
+-- contract says.
 pub record IsExecution (layout : Layout) (last : ℕ) (at : ℕ → Configuration) (happens : ℕ → Happening) : Type 0 where
   pub new : IsNewIndex layout (at 0)
-  pub next : (t : ℕ) → t < last → LeadsOn layout at t (happens t)
+  pub next : (time : ℕ) → time < last → LeadsOn layout at time (happens time)

@@ -5,8 +5,8 @@
 -- - that the code runs, and that a call returns at all;
 -- - what a call does that never returns, but for its steps on the table;
 -- - when a call begins and ends, by the clock. The kit says of its table that each atomic step is one step of it, and that it has one
--- state   between any two of them. By its rule all steps are one list, of which each pass knows a part, and contracts of steps say how
--- they follow one   another in it: so what they tell is an execution (`traced`).
+-- state between any two of them. By its rule all steps are one list, of which each pass knows a part. Contracts of steps say how they follow
+-- one another in the list. So what they tell is an execution (`traced`).
 use Rattle.std.specs.Prelude.{◌≡◌, ◌≢◌, ◌⊎◌, ℕ, ◌+◌, ◌*◌, ◌<◌, ◌≤◌, All, List, [], ◌∷◌, ◌++◌, Result, Some, map}
 use Rattle.key_bits.specs.declared.TheConstants.{MAX_BYTES}
 use Rattle.finite_map.specs.declared.Call.{Call}
@@ -76,40 +76,40 @@ LoadedHistory =
     (table : TableView) (words : List ℕ) (seat : SeatView) → IsLoad table.layout words → IsLoaderSeat table words seat →
     LegalHistory (weave (pass_of seat).front (pass_of seat).notes) ×
     (calls_in (weave (pass_of seat).front (pass_of seat).notes) ≡
-    map (λ x. answered (Insert x.key x.value) Inserted) (items_of (loaded_tree table.layout words))) ×
+    map (λ item. answered (Insert item.key item.value) Inserted) (items_of (loaded_tree table.layout words))) ×
     IsRising (content (loaded_tree table.layout words))
 
--- In a run, let a call be answered by time t. Its reply is the map's at some time from its invocation to t. So it misses no change made
--- before its invocation.
+-- In a run, let a call be answered by some time. Its reply is the map's at a moment from its invocation to this time. So it misses no
+-- change made before its invocation.
 abbrev pub Freshness : Type 0
 Freshness =
     (layout : Layout) (last : ℕ) (at : ℕ → Configuration) (happens : ℕ → Happening) → IsWholeRun layout last at happens →
-    (pass t : ℕ) → pass < layout.passes → t ≤ last → (call : Pending) (start end : SeatView) → IsReturning at pass t call start end →
+    (pass time : ℕ) → pass < layout.passes → time ≤ last → (call : Pending) (start end : SeatView) → IsReturning at pass time call start end →
     (asked : Call) (reply : Reply) → IsNoted layout (pass_of start) (pass_of end) asked reply →
-    (m : ℕ) × (call.since ≤ m) × (m ≤ t) × (reply ≡ reply_of (map_at at m) asked)
+    (moment : ℕ) × (call.since ≤ moment) × (moment ≤ time) × (reply ≡ reply_of (map_at at moment) asked)
 
--- In a run, let a call that looks up many keys be answered by time t. Each reply is the map's at some time from the call's invocation to t,
--- which may be another for each. So none misses a change made before the invocation.
+-- In a run, let a call that looks up many keys be answered by some time. Each reply is the map's at a moment from the call's invocation to
+-- this time, which may be another for each reply. So none misses a change made before the invocation.
 abbrev pub FreshnessOfMany : Type 0
 FreshnessOfMany =
     (layout : Layout) (last : ℕ) (at : ℕ → Configuration) (happens : ℕ → Happening) → IsWholeRun layout last at happens →
-    (pass t : ℕ) → pass < layout.passes → t ≤ last → (call : Pending) (start end : SeatView) → IsReturning at pass t call start end →
+    (pass time : ℕ) → pass < layout.passes → time ≤ last → (call : Pending) (start end : SeatView) → IsReturning at pass time call start end →
     (notes : List Note) → HasAnsweredMany layout call (pass_of start) (pass_of end) notes →
-    All (λ n. (m : ℕ) × (call.since ≤ m) × (m ≤ t) × (n.reply ≡ reply_of (map_at at m) n.call)) notes
+    All (λ note. (moment : ℕ) × (call.since ≤ moment) × (moment ≤ time) × (note.reply ≡ reply_of (map_at at moment) note.call)) notes
 
--- A scan of a run is lawful from its last load of the root to what its pass has seen by its end. Each pair was in the map at a time of the
--- scan. No key of its range is missing that was in the map all the while; if there are more, none up to the last pair. So it is with scans
--- into a list (`IsListedBy`), also with one that was refused memory.
+-- In a run, let a scan be answered by some time. It is lawful while the front of its pass grew from its last load of the root to its end.
+-- Each pair was in the map at a time of the scan. No key of the range is missing that was in the map all the while. If the scan has more,
+-- that is said only of keys no further than its last pair. So it is with scans into a list, also with one that was refused memory.
 abbrev pub ScansShow : (IsLawful : ScanLaw) (IsReached : Map → List ℕ → Type 0) → Type 0
 ScansShow IsLawful IsReached =
     (layout : Layout) (last : ℕ) (at : ℕ → Configuration) (happens : ℕ → Happening) → IsWholeRun layout last at happens →
-    (pass t : ℕ) → pass < layout.passes → t ≤ last → (call : Pending) (start end : SeatView) → IsReturning at pass t call start end →
+    (pass time : ℕ) → pass < layout.passes → time ≤ last → (call : Pending) (start end : SeatView) → IsReturning at pass time call start end →
     (from upto : List ℕ) (limit : ℕ) (scan : Scan) → IsScannedBy IsLawful layout (pass_of start) (pass_of end) (range_from from upto limit) scan ⊎
     IsListedBy IsLawful layout (pass_of start) (pass_of end) (range_from from upto limit) scan.pairs.items scan.more →
-    IsLawful (pass_of end).fresh.front (pass_of end).front from upto limit scan × IsScanInTime IsReached at call.since t from upto scan
+    IsLawful (pass_of end).fresh.front (pass_of end).front from upto limit scan × IsScanInTime IsReached at call.since time from upto scan
 
--- A refused call has changed nothing. The cause of its fault is as `IsCause` says: another pass was in its way, or no record that would
--- have served was free. In an index of one pass no call is busy.
+-- A refused call has changed nothing, and its fault has a cause (`IsCause`). Another pass was in its way, or no record that would have
+-- served was free. In an index of one pass no call is busy.
 abbrev pub Refusals : Type 0
 Refusals =
     (layout : Layout) (call : Call) (old new : PassView) (fault : TryFault) → IsRefusedFor layout call old new fault →
@@ -117,8 +117,9 @@ Refusals =
     (new.notes ≡ old.notes) × (own_changes new.number new.front ≡ own_changes old.number old.front) × IsCause layout (key_of call) old new fault ×
     (layout.passes ≡ 1 → fault ≢ Busy)
 
--- When calls are never full. A call that gives its key a value is not, if the key was in the map all the while (`held`). A removal is not,
--- if its key was absent all the while (`absent`). In an index of one pass, a new value of a key in the map is never refused (`alone`).
+-- When calls are never full. A call that gives its key a value is not, if the map had the key all the while (`held`). A removal is not, if
+-- its key was absent all the while (`absent`). In an index of one pass, a call that gives a value to a key of the map is never refused
+-- (`alone`).
 pub record NeverFull : Type 0 where
   pub held : HeldIsNeverFull
   pub absent : AbsentIsNeverFull
@@ -162,13 +163,15 @@ pub record BoundedTouches : Type 0 where
   pub scan : (index : TableView) (limit : ℕ) (old new : PassView) → HasMadeScanSteps index untold limit (old, tt) (new, tt) →
       new.touches ≤ old.touches + 11 * scan_entries limit
 
--- Let a leaf have stood in a version m since a pass's pin. Its value is the one that it had when it last stood in a version, which is m or
--- a later one.
+-- Let a leaf have stood in the tree in a version `since`, which is no older than a pass's pin. Let `last` be the last version in which it
+-- stood. The value in its record now is the one that it had in `last`.
 abbrev pub ValuesInReach : Type 0
 ValuesInReach =
-    (core : Core) → IsLawful core → (pass : ℕ) (pin : Pin) → core.pins pass ≡ Some pin → (m l : ℕ) (u : Tree) → pin.version ≤ m → m ≤ core.past.now →
-    Stands core.past m (a_leaf l) u →
-    (o : ℕ) × (v : Tree) × (m ≤ o) × StoodLast core.past o (a_leaf l) v × (head_value v ≡ Some (record_word core (a_leaf l) VALUE_OFFSET))
+    (core : Core) → IsLawful core → (pass : ℕ) (pin : Pin) → core.pins pass ≡ Some pin → (since number : ℕ) (tree : Tree) → pin.version ≤ since →
+    since ≤ core.past.now →
+    Stands core.past since (a_leaf number) tree →
+    (last : ℕ) × (last_tree : Tree) × (since ≤ last) × StoodLast core.past last (a_leaf number) last_tree ×
+    (head_value last_tree ≡ Some (record_word core (a_leaf number) VALUE_OFFSET))
 
 -- The promises of an index, each as a field.
 pub record Headline : Type 0 where
@@ -195,8 +198,8 @@ pub record Headline : Type 0 where
   pub scans : ScansShow IsLawfulScan IsUpToLast
   pub reverse_scans : ScansShow IsLawfulReverseScan IsDownToLast
   pub refusals : Refusals
-  -- With one pass, each leaf record that a full call lacked was in the tree or retired. At least a third of the node records but one were so,
-  -- and all but at most 4,321.
+  -- With one pass, each leaf record that a full call lacked was in the tree or retired. At least a third of the node records but one were
+  -- so, and all but at most 4,321.
   pub full_alone : OnePassFullMeansTaken
   pub never_refused : FaultsByCall
   pub never_full : NeverFull

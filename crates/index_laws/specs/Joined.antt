@@ -32,64 +32,66 @@ use Rattle.index_laws.specs.Traced.{Instant, IsTracedExecution, configuration_of
 
 -- What one pass has done
 
--- How a pass's call ended that asks these calls of the map: with this happening. The pass's seat was s when the call began, and is e at its
--- end. The call was answered as one call, or as look-ups. Or it asked nothing of the map, was the load of the table, or was refused.
-pub data HasEndedAs (layout : Layout) (pass : ℕ) (calls : List Call) (s e : SeatView) : Happening → Type 0 where
-  answered : (asked : Call) (reply : Reply) → calls ≡ asked ∷ [] → (noted : IsNoted layout (pass_of s) (pass_of e) asked reply) →
-      HasEndedAs layout pass calls s e (responds pass (record { place = noted.place; call = asked; reply = reply } ∷ []))
-  looked_up : (asked : List (Call × Reply)) → map (λ x. x.0) asked ≡ calls → (noted : AreNoted layout (pass_of s) (pass_of e) asked) →
-      HasEndedAs layout pass calls s e (responds pass noted.added)
-  quiet : calls ≡ [] → e.known.notes ≡ s.known.notes → LegalCalls e.known.front e.known.pass e.known.notes →
-      HasEndedAs layout pass calls s e (responds pass [])
-  loaded : {notes : List Note} → HasBulkLoaded layout calls s.known e.known notes → HasEndedAs layout pass calls s e (responds pass notes)
+-- How a call of the pass ended that asks these calls of the map: with the happening of the type. The seat of the pass was `start` when the
+-- call began, and is `end` when it ends. The call was answered as one call, or as look-ups. Or it asked nothing of the map, was the load of
+-- the table, or was refused.
+pub data HasEndedAs (layout : Layout) (pass : ℕ) (calls : List Call) (start end : SeatView) : Happening → Type 0 where
+  answered : (asked : Call) (reply : Reply) → calls ≡ asked ∷ [] → (noted : IsNoted layout (pass_of start) (pass_of end) asked reply) →
+      HasEndedAs layout pass calls start end (responds pass (record { place = noted.place; call = asked; reply = reply } ∷ []))
+  looked_up : (asked : List (Call × Reply)) → map (λ pair. pair.0) asked ≡ calls → (noted : AreNoted layout (pass_of start) (pass_of end) asked) →
+      HasEndedAs layout pass calls start end (responds pass noted.added)
+  quiet : calls ≡ [] → end.known.notes ≡ start.known.notes → LegalCalls end.known.front end.known.pass end.known.notes →
+      HasEndedAs layout pass calls start end (responds pass [])
+  loaded : {notes : List Note} → HasBulkLoaded layout calls start.known end.known notes → HasEndedAs layout pass calls start end (responds pass notes)
   refused : (asked : Call) (fault : TryFault) → calls ≡ asked ∷ [] →
-      IsRefusedFor layout asked (pass_of s) (pass_of e) fault → MayRefuse asked fault → HasEndedAs layout pass calls s e (refuses pass)
+      IsRefusedFor layout asked (pass_of start) (pass_of end) fault → MayRefuse asked fault → HasEndedAs layout pass calls start end (refuses pass)
 
--- the acts of the pass as happenings: steps with no notes
+-- these acts of the pass as happenings: steps with no notes
 abbrev pub steps_of : (pass : ℕ) (acts : List Act) → List Happening
 steps_of pass acts = map (λ act. steps pass act []) acts
 
--- the notes that come with the last step of a call
+-- the notes that come with the last step of a call, whose steps `Ends` tells
 abbrev pub notes_of_end : (table : TableView) (acts : List Act) (last : Act) (said : Known → List Note) (start end : SeatView) →
     Ends table untold acts last said (start, tt) (end, tt) → List Note
 notes_of_end table acts last said start end ends = said (learned ends.2.event.core last ends.0.0.known)
 
--- a whole call of the pass as happenings: it is invoked, makes these steps, of which the last comes with these notes, and ends
+-- A whole call of the pass as happenings. It is invoked, makes the steps `acts`, and then the step `last` with these notes. It ends as
+-- `ended` says.
 abbrev pub call_of : (pass : ℕ) (calls : List Call) (acts : List Act) (last : Act) (notes : List Note) (ended : Happening) → List Happening
 call_of pass calls acts last notes ended = invokes pass calls ∷ (steps_of pass acts ++ steps pass last notes ∷ ended ∷ [])
 
--- the bulk load that makes a table of these words, as happenings: a call of the pass, of many insertions and one step
+-- The bulk load that makes a table of these words, as happenings: a call of the pass, which asks many insertions and makes one step.
 abbrev pub load_call : (layout : Layout) (pass : ℕ) (words : List ℕ) → List Happening
 load_call layout pass words =
     let notes = insertion_notes layout words in invokes pass (insertions layout words) ∷ steps pass (load_of words) notes ∷ responds pass notes ∷ []
 
--- What pass q of the table has done since it was new, up to this seat. If the table was loaded, pass 0 has made the load first. Calls of
--- the pass made the steps that contracts name (`HasRead`, `HasMadeChangeSteps`, `HasMadeCallSteps`), and ended as these say. The pass may
--- have met another (`IsShownAll`, `HasSeenMore`), followed a stamp (`HasCaughtUp`), or made one (`HasStamped`).
-pub data HasGoneThrough (table : TableView) (q : ℕ) : List Happening → SeatView → Type 0 where
-  new : {s : SeatView} → IsNewSeatOf table q s → HasGoneThrough table q [] s
-  loader : {s : SeatView} → q ≡ 0 → (words : List ℕ) → IsLoad table.layout words → IsLoaderSeat table words s →
-      HasGoneThrough table q (load_call table.layout q words) s
-  called : {done : List Happening} {s e : SeatView} → HasGoneThrough table q done s →
+-- What the pass of the table has done since it was new, up to the seat of the type, as happenings. If the table was loaded, pass 0 has made
+-- the load first. Calls made the steps that contracts name (`HasRead`, `HasMadeChangeSteps`, `HasMadeCallSteps`), and ended as these say.
+-- The pass may have met another (`IsShownAll`, `HasSeenMore`), followed a stamp (`HasCaughtUp`), or made one (`HasStamped`).
+pub data HasGoneThrough (table : TableView) (pass : ℕ) : List Happening → SeatView → Type 0 where
+  new : {start : SeatView} → IsNewSeatOf table pass start → HasGoneThrough table pass [] start
+  loader : {start : SeatView} → pass ≡ 0 → (words : List ℕ) → IsLoad table.layout words → IsLoaderSeat table words start →
+      HasGoneThrough table pass (load_call table.layout pass words) start
+  called : {done : List Happening} {start end : SeatView} → HasGoneThrough table pass done start →
       (calls : List Call) (acts : List Act) (last : Act) (said : Known → List Note) →
-      (ends : Ends table untold acts last said (s, tt) (e, tt)) → {ended : Happening} → HasEndedAs table.layout q calls s e ended →
-      HasGoneThrough table q (done ++ call_of q calls acts last (notes_of_end table acts last said s e ends) ended) e
-  shown : {done : List Happening} {s e : SeatView} → HasGoneThrough table q done s →
-      IsShownAll table.layout s e → BeginsWith e.known.front s.known.front →
-      e.known ≡ with_front e.known.front s.known → HasGoneThrough table q (done ++ shows q e.known.front ∷ []) e
-  stamped : {done : List Happening} {s e : SeatView} → HasGoneThrough table q done s → e ≡ record s { asides = suc s.asides } →
-      HasGoneThrough table q (done ++ shows q s.known.front ∷ []) e
+      (ends : Ends table untold acts last said (start, tt) (end, tt)) → {ended : Happening} → HasEndedAs table.layout pass calls start end ended →
+      HasGoneThrough table pass (done ++ call_of pass calls acts last (notes_of_end table acts last said start end ends) ended) end
+  shown : {done : List Happening} {start end : SeatView} → HasGoneThrough table pass done start →
+      IsShownAll table.layout start end → BeginsWith end.known.front start.known.front →
+      end.known ≡ with_front end.known.front start.known → HasGoneThrough table pass (done ++ shows pass end.known.front ∷ []) end
+  stamped : {done : List Happening} {start end : SeatView} → HasGoneThrough table pass done start → end ≡ record start { asides = suc start.asides } →
+      HasGoneThrough table pass (done ++ shows pass start.known.front ∷ []) end
 
 -- What all passes have done
 
--- Each pass of the table has done `done`, up to the seat `seat`. The run is one of the table. For each pass, the run is what its seat
--- knows, and then steps of other passes. So all steps of all passes stand in the run.
+-- Each pass of the table has done what `done` says, up to its seat of `seat`. The run is one of the table. For each pass it is the steps
+-- that the seat knows, and then steps of other passes. So all steps of all passes stand in the run.
 pub record HaveEndedInOneRun (table : TableView) (run : List Event) (done : ℕ → List Happening) (seat : ℕ → SeatView) : Type 0 where
   pub led : IsTableRun table.layout run
   pub each : (pass : ℕ) → pass < table.layout.passes → HasGoneThrough table pass (done pass) (seat pass)
   pub others : (pass : ℕ) → pass < table.layout.passes → OthersStepOn pass (seat pass).trace run
 
--- the pass whose happening it is
+-- the pass that makes the happening
 abbrev pub pass_in : Happening → ℕ
 pass_in (steps pass act notes) = pass
 pass_in (shows pass front) = pass
@@ -97,27 +99,27 @@ pass_in (invokes pass calls) = pass
 pass_in (responds pass notes) = pass
 pass_in (refuses pass) = pass
 
--- the happenings of the pass before time t, in their order
-abbrev pub happenings_of : (pass : ℕ) (happens : ℕ → Happening) (t : ℕ) → List Happening
+-- the happenings of the pass before this time, in their order
+abbrev pub happenings_of : (pass : ℕ) (happens : ℕ → Happening) (time : ℕ) → List Happening
 happenings_of pass happens zero = []
-happenings_of pass happens (suc t) =
-    if nat_eq (pass_in (happens t)) pass then happenings_of pass happens t ++ happens t ∷ [] else happenings_of pass happens t
+happenings_of pass happens (suc time) =
+    if nat_eq (pass_in (happens time)) pass then happenings_of pass happens time ++ happens time ∷ [] else happenings_of pass happens time
 
 -- the happening is a step of this pass
 abbrev pub IsStepOf : (pass : ℕ) (happening : Happening) → Type 0
-IsStepOf pass (steps p act notes) = p ≡ pass
+IsStepOf pass (steps maker act notes) = maker ≡ pass
 IsStepOf pass _ = ⊥
 
--- Two happenings, one after the other, keep calls whole. If the first invokes a call, the next is a step of its pass. If the next ends a
--- call, the first is a step of its pass.
+-- Two happenings, of which the second follows the first, keep calls whole. If the first invokes a call, the second is a step of its pass.
+-- If the second ends a call, the first is a step of its pass.
 abbrev pub KeepCallsWhole : (happening next : Happening) → Type 0
 KeepCallsWhole (invokes pass calls) next = IsStepOf pass next
 KeepCallsWhole happening (responds pass notes) = IsStepOf pass happening
 KeepCallsWhole happening (refuses pass) = IsStepOf pass happening
 KeepCallsWhole happening next = Unit {0}
 
--- An execution of this run, in which each pass does just what `done` says, up to the seat `seat`. No call is pending at the last time. Each
--- call is invoked right before its first step, and ends right after its last. So calls stand in the order of their steps.
+-- An execution of the run, in which each pass does just what `done` says, up to its seat of `seat`. No call is pending at the last time.
+-- Each call is invoked right before its first step, and ends right after its last. So calls stand in the order of their steps.
 pub record IsExecutionOf (table : TableView) (run : List Event) (done : ℕ → List Happening) (seat : ℕ → SeatView)
     (last : ℕ) (at : ℕ → Instant) (happens : ℕ → Happening) : Type 0 where
   pub traced : IsTracedExecution table last at happens
@@ -125,20 +127,20 @@ pub record IsExecutionOf (table : TableView) (run : List Event) (done : ℕ → 
   pub does : (pass : ℕ) → pass < table.layout.passes → happenings_of pass happens last ≡ done pass
   pub seats : (pass : ℕ) → pass < table.layout.passes → (at last).seat pass ≡ seat pass
   pub idle : (pass : ℕ) → pass < table.layout.passes → (at last).pending pass ≡ None
-  pub next_to : (t : ℕ) → suc t < last → KeepCallsWhole (happens t) (happens (suc t))
+  pub next_to : (time : ℕ) → suc time < last → KeepCallsWhole (happens time) (happens (suc time))
 
--- If the traces of all passes have ended in one run, their calls are an execution, and this is linearizable.
+-- If the traces of all passes have ended in one run, what the passes have done is an execution. It is linearizable.
 abbrev pub OneRunIsAnExecution : Type 0
 OneRunIsAnExecution =
     (table : TableView) (run : List Event) (done : ℕ → List Happening) (seat : ℕ → SeatView) → HaveEndedInOneRun table run done seat →
     (last : ℕ) × (at : ℕ → Instant) × (happens : ℕ → Happening) ×
     IsExecutionOf table run done seat last at happens ×
-    IsLinearizable table.layout last (λ t. configuration_of table.layout (at t)) happens
+    IsLinearizable table.layout last (λ time. configuration_of table.layout (at time)) happens
 
 -- Where passes have ended in one run
 
--- Let a run of the table begin with the steps that each pass knows at its seat. Let each pass then be shown steps that begin with the run.
--- The passes have ended in this run at their seats. Two rounds of stamps do it. In the first, each pass follows a stamp of the pass before
+-- Let a run of the table begin with the steps that each pass knows at its seat. Let each pass then be shown steps that begin with this run.
+-- The passes have ended in the run at their seats. Two rounds of stamps do it. In the first, each pass follows a stamp of the pass before
 -- it. In the second, each follows a stamp of the last pass.
 abbrev pub ShownHaveEnded : Type 0
 ShownHaveEnded =
@@ -151,31 +153,31 @@ ShownHaveEnded =
 
 -- Handles of one index
 
--- The handle is at this index, and its pass, of this number, has done `done`.
+-- The handle is at this index. Its pass has this number, and has done what `done` says.
 abbrev pub HandleHasDone : (index : TableView) (pass : ℕ) (done : List Happening) (handle : HandleView) → Type 0
 HandleHasDone index pass done handle =
     (handle.index ≡ index) × (handle.pass ≡ pass_of handle.pass.seat) × HasGoneThrough index pass done handle.pass.seat
 
--- A handle has seen what its leader had seen, as `hot_see` of C says, or `stamp` with `follow`. The leader has made a stamp, and the handle
--- has followed this stamp.
+-- A handle has seen what its leader had seen, as `hot_see` of C says, or `stamp` with `follow`. The handle was `was` and is `now`, and has
+-- followed a stamp of the leader. The leader was `leader` and is `led`, and has made this stamp.
 pub record HasSeenLeader (was now leader led : HandleView) : Type 0 where
   pub follows : Stays (λ index before later. HasCaughtUp index.layout leader.pass.front before later) was now
   pub traced : RunBeginsWith now.pass.seat.trace leader.pass.seat.trace
   pub stamped : Stays (λ index before later. HasStamped before later) leader led
 
--- Let a handle with pass p see what its leader, with pass q, has seen. The passes of both have then done one thing more: they were shown
--- changes. The steps that the handle then knows are a run of the table, and begin with those that the leader knew.
+-- Let a handle see what its leader has seen. The passes of both have then done one thing more: they were shown changes. The steps that the
+-- handle then knows are a run of the table, and begin with those that the leader knew.
 abbrev pub SeeingIsDone : Type 0
 SeeingIsDone =
-    (index : TableView) (p q : ℕ) (ours theirs : List Happening) (was now leader led : HandleView) → HandleHasDone index p ours was →
-    HandleHasDone index q theirs leader → HasSeenLeader was now leader led →
-    HandleHasDone index p (ours ++ shows p now.pass.seat.known.front ∷ []) now ×
-    HandleHasDone index q (theirs ++ shows q leader.pass.seat.known.front ∷ []) led ×
+    (index : TableView) (pass leading_pass : ℕ) (ours theirs : List Happening) (was now leader led : HandleView) → HandleHasDone index pass ours was →
+    HandleHasDone index leading_pass theirs leader → HasSeenLeader was now leader led →
+    HandleHasDone index pass (ours ++ shows pass now.pass.seat.known.front ∷ []) now ×
+    HandleHasDone index leading_pass (theirs ++ shows leading_pass leader.pass.seat.known.front ∷ []) led ×
     IsTableRun index.layout now.pass.seat.trace × RunBeginsWith now.pass.seat.trace leader.pass.seat.trace
 
--- Let each pass of an index have a handle, and let a run of the table begin with the steps that each handle knows. Let each handle then
--- see what a leader has seen, whose steps begin with this run. The calls of all handles are one execution, and linearizable: they have one
--- order that a map could have run. Of two calls that don't overlap, the earlier stands first.
+-- Let each pass of an index have a handle, and let a run of the table begin with the steps that each handle knows. Let each handle then see
+-- a leader whose steps begin with this run. The calls of all handles are one execution, which is linearizable: they have one order in which
+-- a map could have made them. Of two calls that don't overlap, the earlier stands first.
 abbrev pub HandlesAreLinearizable : Type 0
 HandlesAreLinearizable =
     (index : TableView) (run : List Event) (done : ℕ → List Happening) (was now leader led : ℕ → HandleView) → IsTableRun index.layout run →
@@ -185,14 +187,14 @@ HandlesAreLinearizable =
     ((pass : ℕ) → pass < index.layout.passes → RunBeginsWith (leader pass).pass.seat.trace run) →
     (last : ℕ) × (at : ℕ → Instant) × (happens : ℕ → Happening) ×
     IsExecutionOf index run done (λ pass. (was pass).pass.seat) last at happens ×
-    IsLinearizable index.layout last (λ t. configuration_of index.layout (at t)) happens
+    IsLinearizable index.layout last (λ time. configuration_of index.layout (at time)) happens
 
--- the first value for pass 0, and the other for each other pass
+-- `first` for pass 0, and `others` for each other pass
 abbrev pub of_two : {A : Type 0} → (first others : A) (pass : ℕ) → A
 of_two first others pass = if nat_eq pass 0 then first else others
 
--- Let the only two passes of a table meet, as the clauses `shown` and `traces` of a meeting say. They have ended in the run that both know
--- after the meeting.
+-- Let the only two passes of a table meet, as the clauses `shown` and `traces` of a meeting say. They have ended in one run, at the seats
+-- before the meeting. It is the run that both know after the meeting.
 abbrev pub TwoThatMeetHaveEnded : Type 0
 TwoThatMeetHaveEnded =
     (table : TableView) (ours theirs : List Happening) (our their our_new their_new : SeatView) → table.layout.passes ≡ 2 →
@@ -200,8 +202,8 @@ TwoThatMeetHaveEnded =
     IsShownAll table.layout our our_new → IsShownAll table.layout their their_new → our_new.trace ≡ their_new.trace →
     HaveEndedInOneRun table our_new.trace (of_two ours theirs) (of_two our their)
 
--- Let a bulk load just have made a table: pass 0 has the seat that has loaded, and all other passes are new. They have ended in one run,
--- whose one step is the load.
+-- Let a bulk load just have made a table: pass 0 has the seat that has loaded, and all other passes are new. The passes have ended in one
+-- run, whose one step is the load.
 abbrev pub LoadedHaveEnded : Type 0
 LoadedHaveEnded =
     (table : TableView) (words : List ℕ) (seat : ℕ → SeatView) → 0 < table.layout.passes →
@@ -209,7 +211,8 @@ LoadedHaveEnded =
     ((pass : ℕ) → 1 ≤ pass → pass < table.layout.passes → IsNewSeatOf table pass (seat pass)) →
     HaveEndedInOneRun table (load_trace words).events (of_two (load_call table.layout 0 words) []) seat
 
--- Steps with no notes, as of a round of collection or a count, are those of a call that ends with the last of them.
+-- Steps without notes, as of a round of collection or a count, are steps of a call that ends with the last of them (`Ends`). So such calls
+-- meet what `HasGoneThrough` asks.
 abbrev pub SilentStepsEnd : Type 0
 SilentStepsEnd =
     (table : TableView) (act : Act) (acts : List Act) (start end : SeatView) → Runs table untold (act ∷ acts) (start, tt) (end, tt) →
@@ -223,7 +226,7 @@ AnInsertIsFound =
     ((seat 0).known.notes ≡ record { place = 0; call = Insert [] value; reply = Inserted } ∷ []) ×
     ((seat 1).known.notes ≡ record { place = 1; call = Get []; reply = Value value } ∷ [])
 
--- Steps of which a gate is told are steps without a gate, too. So calls with a gate meet what `HasGoneThrough` asks.
+-- Steps that a gate was told are steps without a gate, too. So calls with a gate meet what `HasGoneThrough` asks.
 abbrev pub StepsNeedNoGate : {G : Type 0} → (becomes : G → Event → G → Type 0) → Type 0
 StepsNeedNoGate {G = G} becomes =
     (table : TableView) (acts : List Act) (before later : SeatView × G) →

@@ -22,31 +22,35 @@ use Rattle.versions.specs.Told.{items_of}
 -- table's pairs. An answered call adds itself, and a call of many look-ups adds each, in the order of their notes. A refused call, a round
 -- of collection, a meeting, a stamp (`IsUnnoted`) and a scan (`IsScannedBy`, `IsListedBy`) add none.
 pub data HasLived : Layout → List (Call × Reply) → PassView → Type 0 where
-  new : {layout : Layout} {q : ℕ} {j : PassView} → IsNewPass q j → HasLived layout [] j
-  loaded : {layout : Layout} {words : List ℕ} {s : SeatView} → IsLoad layout words → s.known ≡ loader_of layout words →
-      HasLived layout (map (λ x. (Insert x.key x.value, Inserted)) (items_of (loaded_tree layout words))) (pass_of s)
-  called : {layout : Layout} {calls : List (Call × Reply)} {k j : PassView} {call : Call} {reply : Reply} →
-      HasLived layout calls k → IsNoted layout k j call reply → HasLived layout (calls ++ (call, reply) ∷ []) j
-  looked_up : {layout : Layout} {calls asked : List (Call × Reply)} {k j : PassView} →
-      HasLived layout calls k → (noted : AreNoted layout k j asked) → HasLived layout (calls ++ map (λ n. (n.call, n.reply)) noted.added) j
-  went_on : {layout : Layout} {calls : List (Call × Reply)} {k j : PassView} → HasLived layout calls k → IsUnnoted layout k j → HasLived layout calls j
-  scanned : {layout : Layout} {calls : List (Call × Reply)} {k j : PassView} → HasLived layout calls k → GoesOn layout k j → j.notes ≡ k.notes →
-      LegalCalls j.front j.number j.notes → HasLived layout calls j
+  new : {layout : Layout} {number : ℕ} {pass : PassView} → IsNewPass number pass → HasLived layout [] pass
+  loaded : {layout : Layout} {words : List ℕ} {seat : SeatView} → IsLoad layout words → seat.known ≡ loader_of layout words →
+      HasLived layout (map (λ item. (Insert item.key item.value, Inserted)) (items_of (loaded_tree layout words))) (pass_of seat)
+  called : {layout : Layout} {calls : List (Call × Reply)} {before after : PassView} {call : Call} {reply : Reply} →
+      HasLived layout calls before → IsNoted layout before after call reply → HasLived layout (calls ++ (call, reply) ∷ []) after
+  looked_up : {layout : Layout} {calls asked : List (Call × Reply)} {before after : PassView} →
+      HasLived layout calls before → (noted : AreNoted layout before after asked) →
+      HasLived layout (calls ++ map (λ note. (note.call, note.reply)) noted.added) after
+  went_on : {layout : Layout} {calls : List (Call × Reply)} {before after : PassView} →
+      HasLived layout calls before → IsUnnoted layout before after → HasLived layout calls after
+  scanned : {layout : Layout} {calls : List (Call × Reply)} {before after : PassView} →
+      HasLived layout calls before → GoesOn layout before after → after.notes ≡ before.notes →
+      LegalCalls after.front after.number after.notes → HasLived layout calls after
 
 -- the life of a pass: the calls that it has lived through, with their replies, and the pass now
 abbrev pub PassLife : Type 0
 PassLife = List (Call × Reply) × PassView
 
--- The lives are of passes with different numbers, which have lived through these calls, and have all seen this front.
+-- These lives are of passes with different numbers. Each pass has lived through its calls, and all have seen this front.
 abbrev pub AreLives : (layout : Layout) (front : List Change) (lives : List PassLife) → Type 0
 AreLives layout front [] = Unit {0}
 AreLives layout front (life ∷ lives) =
     HasLived layout life.0 life.1 × (life.1.front ≡ front) × All (λ other. other.1.number ≢ life.1.number) lives × AreLives layout front lives
 
--- The list has the calls of all these lives, each once, and those of each life in their order.
+-- The list `events` has the calls of all these lives, each once, and those of each life in their order.
 abbrev pub LivesAreWoven : (lives : List PassLife) (events : List Event) → Type 0
-LivesAreWoven [] es = es ≡ []
-LivesAreWoven (life ∷ lives) es = (others : List Event) × LivesAreWoven lives others × AreWoven (map (λ x. answered x.0 x.1) life.0) others es
+LivesAreWoven [] events = events ≡ []
+LivesAreWoven (life ∷ lives) events =
+    (others : List Event) × LivesAreWoven lives others × AreWoven (map (λ pair. answered pair.0 pair.1) life.0) others events
 
 -- the notes of the passes of these lives, one pass after the other
 abbrev pub notes_of_lives : List PassLife → List Note

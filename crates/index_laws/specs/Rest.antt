@@ -30,32 +30,32 @@ pub record AreAllIdle (table : TableView) (run : List Event) (seat : ℕ → Sea
   pub ended : HaveEndedInOneRun table run done seat
   pub settled : (pass : ℕ) → pass < table.layout.passes → IsSettled (seat pass).known
 
--- In this core no pass holds a record, claimed or unlinked and not retired yet, and no pass is pinned.
+-- In this core no pass holds a record that it has claimed, or has unlinked and not retired yet. No pass is pinned.
 pub record HasNoneAtWork (core : Core) : Type 0 where
   pub unowned : (rec : Rec) → holder_of (core.fate rec) ≡ None
   pub unpinned : (pass : ℕ) → core.pins pass ≡ None
 
--- The later steps are the earlier ones, and then steps of this pass alone.
+-- The later steps are the earlier ones, and then steps of the pass alone.
 abbrev pub StepsAlone : (pass : ℕ) (earlier later : List Event) → Type 0
-StepsAlone pass earlier later = (more : List Event) × (later ≡ earlier ++ more) × All (λ x. x.pass ≡ pass) more
+StepsAlone pass earlier later = (more : List Event) × (later ≡ earlier ++ more) × All (λ event. event.pass ≡ pass) more
 
 -- What becomes of the records
 
--- a record of this fate is free
+-- whether a record of this fate is free
 abbrev pub is_free_fate : Fate → Bool
 is_free_fate Free = true
 is_free_fate fate = false
 
 -- how many of the first `count` records of one kind are free
 abbrev pub free_below : (core : Core) (kind : ℕ → Rec) (count : ℕ) → ℕ
-free_below core kind count = count_by (λ i. is_free_fate (core.fate (kind i))) (range_with_len 0 count)
+free_below core kind count = count_by (λ number. is_free_fate (core.fate (kind number))) (range_with_len 0 count)
 
 -- how many keys the core's map has
 abbrev pub number_of_keys : Core → ℕ
 number_of_keys core = length (map_of core.changes)
 
--- Each record is free, or stands in the tree of the newest version. All leaf records are free but one for each key. All node records are
--- free but fewer than there are keys.
+-- No record of the core is lost: each is free, or stands in the tree of the newest version. All leaf records are free but one for each key.
+-- All node records are free but fewer than there are keys.
 pub record NoneIsLost (core : Core) : Type 0 where
   pub each : (rec : Rec) → HasRecord core.layout rec → (core.fate rec ≡ Free) ⊎ IsLinked (core.past.version core.past.now) rec
   pub leaves : free_below core a_leaf core.layout.leaves + number_of_keys core ≡ core.layout.leaves
@@ -63,23 +63,23 @@ pub record NoneIsLost (core : Core) : Type 0 where
 
 -- What a count finds
 
--- the sum of one of the counts over all classes of leaf records
+-- the sum, over all classes of leaf records, of one of the counts of states, which `many` names
 abbrev pub of_leaves : (many : StateCounts → ℕ) (counts : RecordCounts) → ℕ
 of_leaves many counts = many counts.short + many counts.medium + many counts.large + many counts.wide + many counts.long
 
--- By the count, there are as many live leaf records as keys, and fewer live node records. No record is claimed.
+-- By the counts, there are as many live leaf records as keys, and fewer live node records. No record is claimed.
 pub record CountsKeys (keys : ℕ) (counts : RecordCounts) : Type 0 where
-  pub leaves : of_leaves (λ s. s.live) counts ≡ keys
+  pub leaves : of_leaves (λ states. states.live) counts ≡ keys
   pub nodes : counts.nodes.live ≤ keys - 1
-  pub leaves_held : of_leaves (λ s. s.held) counts ≡ 0
+  pub leaves_held : of_leaves (λ states. states.held) counts ≡ 0
   pub nodes_held : counts.nodes.held ≡ 0
 
--- By the count, the live records are those that the keys need, and all others are free.
+-- By the counts, the live records are those that the keys need, and all others are free.
 pub record CountsNoneLost (layout : Layout) (keys : ℕ) (counts : RecordCounts) : Type 0 where
   pub live : CountsKeys keys counts
-  pub leaves_retired : of_leaves (λ s. s.obsolete) counts ≡ 0
+  pub leaves_retired : of_leaves (λ states. states.obsolete) counts ≡ 0
   pub nodes_retired : counts.nodes.obsolete ≡ 0
-  pub leaves : of_leaves (λ s. s.free) counts + keys ≡ layout.leaves
+  pub leaves : of_leaves (λ states. states.free) counts + keys ≡ layout.leaves
   pub nodes : layout.nodes ≤ counts.nodes.free + (keys - 1)
 
 -- The laws
@@ -92,12 +92,12 @@ pub record GoesOnAlone (index : TableView) (run : List Event) (start end : SeatV
   pub seat_is : seat start.known.pass ≡ start
   pub alone : StepsAlone start.known.pass run end.trace
 
--- the seats of all passes, with this view as that of its pass
+-- the seats of all passes, where the pass of `view` has this seat
 abbrev pub with_seat : (seat : ℕ → SeatView) (view : SeatView) (pass : ℕ) → SeatView
 with_seat seat view pass = if nat_eq pass view.known.pass then view else seat pass
 
--- The property holds of the core to which the run leads from the new index. If a pass knows the run and has made a step, there is such a
--- core (`IsInOneRun`).
+-- `Holds` is true of the core to which the run leads from a new index. If a pass knows the run and has made a step, there is such a core
+-- (`IsInOneRun`).
 abbrev pub LeadsTo : (index : TableView) (run : List Event) (Holds : Core → Type 0) → Type 0
 LeadsTo index run Holds = (core : Core) → EventsLead (opening index.layout) run core → Holds core
 
@@ -115,14 +115,14 @@ pub record NoRecordIsLost {G : Type 0} (becomes : G → Event → G → Type 0) 
       length run + 2 < EPOCHS → HasCollected index becomes old new nodes leaves → LeadsTo index new.0.seat.trace NoneIsLost
   -- a count finds as many live records as the keys need
   pub count : (index : TableView) (run : List Event) (old new : PassView × G) (counts : RecordCounts) → GoesOnAlone index run old.0.seat new.0.seat →
-      HasCounted index becomes old new counts → LeadsTo index new.0.seat.trace (λ c. CountsKeys (number_of_keys c) counts)
+      HasCounted index becomes old new counts → LeadsTo index new.0.seat.trace (λ core. CountsKeys (number_of_keys core) counts)
   -- a count after a round finds that all other records are free
   pub both : (index : TableView) (run : List Event) (old middle new : PassView × G) (nodes leaves : ℕ) (counts : RecordCounts) →
       GoesOnAlone index run old.0.seat middle.0.seat → length run + 2 < EPOCHS → HasCollected index becomes old middle nodes leaves →
       StepsAlone middle.0.seat.known.pass middle.0.seat.trace new.0.seat.trace → HasCounted index becomes middle new counts →
-      LeadsTo index new.0.seat.trace (λ c. CountsNoneLost index.layout (number_of_keys c) counts)
+      LeadsTo index new.0.seat.trace (λ core. CountsNoneLost index.layout (number_of_keys core) counts)
 
--- An index of one pass loses no record. Its pass has made all changes itself, so the map of its front has the keys.
+-- An index of one pass loses no record. Its pass has made all changes itself, so the keys are those of the map of its front.
 pub record OnePassLosesNone {G : Type 0} (becomes : G → Event → G → Type 0) : Type 0 where
   -- after a round of collection between two calls no record is lost, if fewer steps have been made than there are epochs
   pub round : (index : TableView) (old new : PassView × G) (nodes leaves : ℕ) → index.layout.passes ≡ 1 → IsSettled old.0.seat.known →

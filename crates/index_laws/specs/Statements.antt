@@ -15,21 +15,22 @@ use Rattle.linearizability.specs.Configurations.{Happening, IsNewIndex, IsRefusa
 use Rattle.linearizability.specs.Statements.{IsLinearizable}
 use Rattle.index_laws.specs.Executions.{HasBeenRefused, HasReturned, IsExecution}
 
--- A run may begin at a table that was just made, in which no pass has made a step or a call.
+-- A run may begin at a table that was just made. In its configuration no pass has made a step or a call.
 abbrev pub OpeningIsNew : Type 0
 OpeningIsNew = (layout : Layout) → IsNewIndex layout (record { core = opening layout; known = opening_of; pending = λ _. None })
 
 -- In a run, a call that has returned as its contract says responds (`IsResponse`), with the same notes.
 abbrev pub ReturnedResponds : Type 0
 ReturnedResponds =
-    (layout : Layout) (last : ℕ) (at : ℕ → Configuration) (happens : ℕ → Happening) → IsWholeRun layout last at happens → (pass t : ℕ) →
-    pass < layout.passes → t ≤ last →
-    (call : Pending) (notes : List Note) → HasReturned layout at pass t call notes → IsResponse at t pass call notes
+    (layout : Layout) (last : ℕ) (at : ℕ → Configuration) (happens : ℕ → Happening) → IsWholeRun layout last at happens → (pass time : ℕ) →
+    pass < layout.passes → time ≤ last →
+    (call : Pending) (notes : List Note) → HasReturned layout at pass time call notes → IsResponse at time pass call notes
 
 -- A call that was refused as its contract says is refused in the sense of runs (`IsRefusal`).
 abbrev pub RefusedIsRefused : Type 0
 RefusedIsRefused =
-    (layout : Layout) (at : ℕ → Configuration) (pass t : ℕ) (call : Pending) → HasBeenRefused layout at pass t call → IsRefusal at t pass call
+    (layout : Layout) (at : ℕ → Configuration) (pass time : ℕ) (call : Pending) → HasBeenRefused layout at pass time call →
+    IsRefusal at time pass call
 
 -- If a call may find no record of a kind free, it may be refused with the fault of this kind.
 abbrev pub LackMayRefuse : Type 0
@@ -48,7 +49,7 @@ ExecutionsAreLinearizable =
     (layout : Layout) (last later : ℕ) (at : ℕ → Configuration) (happens : ℕ → Happening) → last ≤ later →
     IsExecution layout later at happens → PendingEndOrChangeAsAsked layout last later at → IsLinearizable layout last at happens
 
--- How contracts of calls fit runs, each law a field.
+-- How the contracts of calls fit runs. Each law is a field.
 pub record Responses : Type 0 where
   -- a run may begin at a new table
   pub opening : OpeningIsNew

@@ -19,39 +19,40 @@ use Rattle.rowex_table.specs.declared.traces.TracedView.TheVariants.{Pass}
 use Rattle.rowex_table.specs.Rule.{MayStep, Ruled, found_by}
 use Rattle.linearizability.specs.Configurations.{IsConfigurationStep, Configuration, Pending}
 
--- the act with the word that the pass finds if it makes the act at this core
+-- the act as the pass makes it at this core: with the word that it finds there
 abbrev pub made_at : (core : Core) (known : Known) (act : Act) → Act
 made_at core known act = found_by act (word_at core (location_of known.pass act))
 
--- what the pass knows after it has made this act at this core, with these notes
+-- what the pass knows after it has made the act at this core, with these notes
 abbrev pub known_after : (core : Core) (known : Known) (act : Act) (notes : List Note) → Known
 known_after core known act notes = record (learned core (made_at core known act) known) { notes = known.notes ++ notes }
 
--- the run with one step more: the pass makes this act at this core
+-- the run with one step more: the act as the pass makes it at this core
 abbrev pub run_after : (run : List Event) (core : Core) (known : Known) (act : Act) → List Event
 run_after run core known act = run ++ record { pass = known.pass; act = made_at core known act } ∷ []
 
--- the state of the table after the act of the seat's pass: one word is written, and the seat has this view
+-- The state of the table after the pass of the seat has made the act. One word is written, and the seat, which is view number `id`, has
+-- this view.
 abbrev pub state_after : (layout : Layout) (state : State (Unit {0}) TracedView) (id : ℕ) (known : Known) (act : Act) (view : TracedView) →
     State (Unit {0}) TracedView
 state_after layout state id known act view =
     let word = address layout (location_of known.pass act) in stepped state word (writes act (get_or state.words word 0)) id [] view keeps
 
--- the view that the seat has after its pass has made this act at this core, with these notes
+-- the view that the seat has after its pass has made the act at this core, with these notes
 abbrev pub view_after : (run : List Event) (core : Core) (known : Known) (trace : Trace) (act : Act) (notes : List Note) → TracedView
 view_after run core known trace act notes =
     Pass (known_after core known act notes) (record { events = run_after run core known act; asides = trace.asides; touches = trace.touches })
 
--- By the rule of the table its run leads to a core that shows its state. Let a pass make an atomic step that it may make by what it knows.
--- The step is legal in this very core. The core after the step shows the state after it, and what the pass then knows. The table's run has
--- one step more.
+-- Steps of the table are steps of the core that its rule names. Let a pass make an atomic step that it may make by what it knows. The step
+-- is legal in this core. The state after the step keeps the rule. It has the core after the step, what the pass then knows, and one step
+-- more in the run.
 abbrev pub StepsFollow : Type 0
 StepsFollow =
-    (layout : Layout) (s : State (Unit {0}) TracedView) (ruled : Ruled layout s) (id : ℕ) (known : Known) (trace : Trace) →
-    get_elem? s.views id ≡ some (Pass known trace) →
+    (layout : Layout) (state : State (Unit {0}) TracedView) (ruled : Ruled layout state) (id : ℕ) (known : Known) (trace : Trace) →
+    get_elem? state.views id ≡ some (Pass known trace) →
     (act : Act) (notes : List Note) → IsAtomic act → MayStep layout (found_by act) known →
     Legal ruled.core known.pass (made_at ruled.core known act) ×
-    (next : Ruled layout (state_after layout s id known act (view_after ruled.run ruled.core known trace act notes))) ×
+    (next : Ruled layout (state_after layout state id known act (view_after ruled.run ruled.core known trace act notes))) ×
     (next.core ≡ after ruled.core known.pass (made_at ruled.core known act)) ×
     (next.run ≡ run_after ruled.run ruled.core known act)
 
@@ -60,10 +61,10 @@ StepsFollow =
 -- knows.
 abbrev pub StepsAreMoments : Type 0
 StepsAreMoments =
-    (layout : Layout) (s : State (Unit {0}) TracedView) (ruled : Ruled layout s) (id : ℕ) (known : Known) (trace : Trace) →
-    get_elem? s.views id ≡ some (Pass known trace) →
+    (layout : Layout) (state : State (Unit {0}) TracedView) (ruled : Ruled layout state) (id : ℕ) (known : Known) (trace : Trace) →
+    get_elem? state.views id ≡ some (Pass known trace) →
     (act : Act) (notes : List Note) → IsAtomic act → MayStep layout (found_by act) known →
     (old : Configuration) → old.core ≡ ruled.core → old.known known.pass ≡ known → (call : Pending) → old.pending known.pass ≡ Some call →
-    (next : Ruled layout (state_after layout s id known act (view_after ruled.run ruled.core known trace act notes))) × (new : Configuration) ×
+    (next : Ruled layout (state_after layout state id known act (view_after ruled.run ruled.core known trace act notes))) × (new : Configuration) ×
     (new.core ≡ next.core) × (new.known known.pass ≡ known_after ruled.core known act notes) ×
     IsConfigurationStep old new known.pass (made_at ruled.core known act) notes

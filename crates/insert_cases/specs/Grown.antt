@@ -1,4 +1,4 @@
--- What a grown node shows.
+-- What a node shows after it has got a new leaf: as one node, or cut into two halves.
 use Rattle.std.specs.Prelude.{◌≡◌, Bool, true, false, ◌||◌}
 use Rattle.compound_node.specs.Halves.{HalfShows}
 use Rattle.compound_node.specs.Nodes.{NodeView, piece, IsEntry, IsBuiltFrom}
@@ -12,17 +12,18 @@ use Rattle.node_tries.specs.Changes.{AtRootFork}
 use Rattle.insert_cases.specs.declared.growth.Grown.{Grown}
 use Rattle.insert_cases.specs.declared.growth.Grown.TheVariants.{One as Whole, Two}
 
--- The two sides of a cut show the pieces `zero` and `one`. They are halves made anew, or the old node as it stands beside one entry.
+-- The halves of a cut show the pieces `zero` and `one`, those of its two sides. Either half may be the old node as it stands, beside one
+-- entry. Otherwise both are made anew.
 abbrev pub SidesShow : (old : NodeView) → (first second : Half) → (zero one : Piece Entry) → Type 0
 SidesShow old Same (One entry) zero one = (zero ≡ piece old) × (one ≡ Place entry) × IsEntry entry
 SidesShow old (One entry) Same zero one = (zero ≡ Place entry) × (one ≡ piece old) × IsEntry entry
 SidesShow old first second zero one = HalfShows first zero × HalfShows second one
 
--- the cut's position is that of the piece's root fork, and its halves show the two sides
+-- the piece is cut at its root fork: the cut has that fork's position, and its halves show the fork's two sides
 abbrev pub IsCutOf : (old : NodeView) → (cut : Cut) → (shown : Piece Entry) → Type 0
-IsCutOf old cut shown = AtRootFork (λ p zero one. (cut.position ≡ p) × SidesShow old cut.zero cut.one zero one) shown
+IsCutOf old cut shown = AtRootFork (λ position zero one. (cut.position ≡ position) × SidesShow old cut.zero cut.one zero one) shown
 
--- what a node has grown to shows this piece: one node built for it, or the two halves of a cut
+-- what a node has grown to shows this piece: it is one node built for the piece, or a cut with two halves
 abbrev pub GrownShows : (old : NodeView) → (grown : Grown) → (shown : Piece Entry) → Type 0
 GrownShows old (Whole node) shown = IsBuiltFrom node shown
 GrownShows old (Two cut) shown = IsCutOf old cut shown

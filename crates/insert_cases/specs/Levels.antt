@@ -1,16 +1,17 @@
--- The choice of the affected node, in terms of the steps of a way.
+-- Which node of a path gets a new leaf, and how far up the change goes.
 use Rattle.std.specs.Prelude.{◌≡◌, ℕ, ◌+◌, ◌-◌, ◌<◌, ◌≤◌, List, length, slice_get, Some, false, true}
 use Rattle.insert_cases.specs.declared.choice.Choice.{Choice}
 use Rattle.insert_cases.specs.declared.choice.PathNode.{PathNode}
 use Rattle.insert_cases.specs.Ways.{case_of}
 
--- the level is that of the last step whose first position is below p, or of the first step
-pub record IsLevel (way : List PathNode) (p level : ℕ) : Type 0 where
+-- the level on the path of the last node whose first position is before this one, or of the first node if there is none
+pub record IsLevel (way : List PathNode) (position level : ℕ) : Type 0 where
   pub within : level < length way
-  pub low : 0 < level → (node : PathNode) → slice_get way level ≡ Some node → node.first_position < p
-  pub rest : (k : ℕ) (node : PathNode) → level < k → slice_get way k ≡ Some node → p ≤ node.first_position
+  pub low : 0 < level → (node : PathNode) → slice_get way level ≡ Some node → node.first_position < position
+  pub rest : (lower : ℕ) (node : PathNode) → level < lower → slice_get way lower ≡ Some node → position ≤ node.first_position
 
--- the choice is the node at the level with several affected entries, or the next one with all of its entries
+-- The choice of the node that gets the new leaf. If several entries are affected at the level, it is the node there. If one is, and it is a
+-- node, it is that next node, with all of its entries. If that one is a leaf, it is the node at the level.
 pub record IsChosen (way : List PathNode) (level first last : ℕ) (choice : Choice) : Type 0 where
   pub several : first < last → (node : PathNode) → slice_get way level ≡ Some node →
       choice ≡ record { level = level; first = first; last = last; case = case_of node.height node.count false }
@@ -19,15 +20,15 @@ pub record IsChosen (way : List PathNode) (level first last : ℕ) (choice : Cho
   pub leaf : last ≤ first → length way ≤ level + 1 → (node : PathNode) → slice_get way level ≡ Some node →
       choice ≡ record { level = level; first = first; last = last; case = case_of node.height node.count true }
 
--- What rises from a node of height `child` is pulled up into its parent of height `parent`. The parent is just one higher.
+-- What rises from a node of height `child` is pulled up into its parent of height `parent`, since the parent is just one higher.
 abbrev pub IsPullUp : (child parent : ℕ) → Type 0
 IsPullUp child parent = parent ≡ child + 1
 
--- The chain of pull ups from the node at `level` ends at `end`; both are indices on the path, the topmost node first. Each node of the
--- chain below the end is full, and its parent is one higher. The end is topmost, or has room, or its parent is higher still.
+-- The chain of pull ups from the node at index `level` of the path ends at index `end`, where index 0 is the topmost node. Each node of the
+-- chain below the end is full, and its parent is one higher. The node at the end is topmost, or has room, or its parent is higher still.
 pub record IsChainEnd (way : List PathNode) (level end : ℕ) : Type 0 where
   pub upto : end ≤ level
-  pub pulls : (l : ℕ) (s u : PathNode) → end ≤ l → l < level → slice_get way (l + 1) ≡ Some s → slice_get way l ≡ Some u →
-      (s.count ≡ 32) × IsPullUp s.height u.height
-  pub stops : (l : ℕ) (s u : PathNode) → l + 1 ≡ end → slice_get way end ≡ Some s → slice_get way l ≡ Some u →
-      s.count ≡ 32 → IsPullUp s.height u.height → ⊥
+  pub pulls : (index : ℕ) (lower upper : PathNode) → end ≤ index → index < level → slice_get way (index + 1) ≡ Some lower → slice_get way index ≡ Some upper →
+      (lower.count ≡ 32) × IsPullUp lower.height upper.height
+  pub stops : (index : ℕ) (lower upper : PathNode) → index + 1 ≡ end → slice_get way end ≡ Some lower → slice_get way index ≡ Some upper →
+      lower.count ≡ 32 → IsPullUp lower.height upper.height → ⊥

@@ -2,19 +2,20 @@
 use Rattle.std.specs.Prelude.{ℕ, ◌-◌, ◌/◌, ◌%◌, ◌<◌, ◌≡◌, ◌≢◌, Bool, ◌&&◌, ◌||◌, nat_lt, List, length, slice_index, eqb}
 use Rattle.std.specs.Int.{bit_at}
 
--- The key's bit at this position. Byte i gives nine bits, at 9i to 9i+8: a 1, and then the bits of the byte, the highest first. All other
--- bits are 0.
+-- The bit of the key at this position. Byte i has nine positions, from 9i to 9i + 8: for a 1, and then for the bits of the byte, the
+-- highest first. Past the key's end all bits are 0.
 abbrev pub bit_of : (key : List ℕ) → (position : ℕ) → Bool
-bit_of key p = nat_lt (p / 9) (length key) && (eqb (p % 9) 0 || eqb (bit_at (slice_index key (p / 9)) (8 - p % 9)) 1)
+bit_of key position =
+    nat_lt (position / 9) (length key) && (eqb (position % 9) 0 || eqb (bit_at (slice_index key (position / 9)) (8 - position % 9)) 1)
 
--- the keys differ at p and agree at each position before
-pub record IsFirstDifference (a b : List ℕ) (p : ℕ) : Type 0 where
-  pub differ : bit_of a p ≢ bit_of b p
-  pub agree : (q : ℕ) → q < p → bit_of a q ≡ bit_of b q
+-- The two keys differ at this position, and agree at each position before it.
+pub record IsFirstDifference (key other : List ℕ) (position : ℕ) : Type 0 where
+  pub differ : bit_of key position ≢ bit_of other position
+  pub agree : (before : ℕ) → before < position → bit_of key before ≡ bit_of other before
 
--- bytes differ first after n bits, from the highest on, and the smaller byte has 0 there
-pub record BytesDifferAt (x y n : ℕ) : Type 0 where
-  pub differ : bit_at x (7 - n) ≢ bit_at y (7 - n)
-  pub agree : (j : ℕ) → j < n → bit_at x (7 - j) ≡ bit_at y (7 - j)
-  pub less : x < y → bit_at x (7 - n) ≡ 0
-  pub more : y < x → bit_at x (7 - n) ≡ 1
+-- The two bytes agree in their highest `bits` bits, and differ in the next one. The smaller byte has 0 there.
+pub record BytesDifferAt (byte other bits : ℕ) : Type 0 where
+  pub differ : bit_at byte (7 - bits) ≢ bit_at other (7 - bits)
+  pub agree : (bit : ℕ) → bit < bits → bit_at byte (7 - bit) ≡ bit_at other (7 - bit)
+  pub less : byte < other → bit_at byte (7 - bits) ≡ 0
+  pub more : other < byte → bit_at byte (7 - bits) ≡ 1

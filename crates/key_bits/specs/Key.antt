@@ -2,16 +2,16 @@
 use Rattle.std.specs.Prelude.{ℕ, ◌≡◌, ◌-◌, ◌<◌, ◌≤◌, ◌++◌, List, length, take, replicate, All}
 use Rattle.key_bits.specs.declared.TheConstants.{MAX_BYTES}
 
--- a key: at most MAX_BYTES bytes
+-- The list is a key: at most MAX_BYTES bytes.
 pub record IsKey (key : List ℕ) : Type 0 where
   pub short : length key ≤ MAX_BYTES
   pub are_bytes : All (λ byte. byte < 256) key
 
--- the key's bytes, followed by zeros up to MAX_BYTES bytes
+-- the bytes of the key, and behind them zeros up to MAX_BYTES bytes
 abbrev pub with_zeros : List ℕ → List ℕ
 with_zeros key = key ++ replicate (MAX_BYTES - length key) 0
 
--- the first `count` bytes of an array are a key, and the others are 0
+-- The first `count` bytes of the array are a key, and the others are 0.
 pub record HoldsKey (places : List ℕ) (count : ℕ) : Type 0 where
   pub key : IsKey (take count places)
   pub counted : length (take count places) ≡ count

@@ -5,7 +5,7 @@ use Rattle.key_bits.specs.Key.{IsKey}
 use Rattle.key_bits.specs.declared.TheConstants.{MAX_BYTES}
 use Rattle.finite_map.specs.Maps.{key_order}
 
--- `next` is the least of the keys above `key`
+-- `next` is the least of the keys above `key`.
 pub record IsNextKey (key next : List ℕ) : Type 0 where
   pub is_key : IsKey next
   pub above : key_order key next ≡ Less
@@ -15,7 +15,7 @@ pub record IsNextKey (key next : List ℕ) : Type 0 where
 abbrev pub NoKeyAbove : List ℕ → Type 0
 NoKeyAbove key = (other : List ℕ) → IsKey other → key_order key other ≢ Less
 
--- `previous` is the greatest of the keys below `key`
+-- `previous` is the greatest of the keys below `key`.
 pub record IsPreviousKey (key previous : List ℕ) : Type 0 where
   pub is_key : IsKey previous
   pub below : key_order previous key ≡ Less
@@ -25,6 +25,6 @@ pub record IsPreviousKey (key previous : List ℕ) : Type 0 where
 abbrev pub HasPrefix : (prefix key : List ℕ) → Type 0
 HasPrefix prefix key = (rest : List ℕ) × (key ≡ prefix ++ rest)
 
--- the last key with the prefix
+-- the last of the keys that begin with the prefix
 abbrev pub last_with : List ℕ → List ℕ
 last_with prefix = prefix ++ replicate (MAX_BYTES - length prefix) 255

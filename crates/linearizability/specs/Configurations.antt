@@ -12,8 +12,8 @@ use Rattle.rowex_core.specs.Cores.{Core, IsLawful}
 use Rattle.rowex_core.specs.Events.{Legal, after}
 use Rattle.rowex_core.specs.Knowing.{Knows, learned}
 
--- A pending call: it was invoked at time `since`, and has not responded. `calls` are the calls of the map that it asks: one, or several
--- look-ups at once, or none, as for a scan.
+-- A pending call: it was invoked at time `since`, and has not responded. `calls` are the calls of the map that it asks. That is one,
+-- several look-ups at once, or none, as for a scan.
 pub record Pending : Type 0 where
   pub since : ℕ
   pub calls : List Call
@@ -33,64 +33,67 @@ pub data Happening : Type 0 where
   responds : (pass : ℕ) (notes : List Note) → Happening
   refuses : (pass : ℕ) → Happening
 
--- Pass q, which has a call pending, makes the step and learns what it teaches. No other pass learns anything.
-pub record IsConfigurationStep (old new : Configuration) (q : ℕ) (act : Act) (notes : List Note) : Type 0 where
-  pub legal : Legal old.core q act
-  pub core : new.core ≡ after old.core q act
-  pub own : new.known q ≡ record (learned old.core act (old.known q)) { notes = (old.known q).notes ++ notes }
-  pub others : (other : ℕ) → other ≢ q → new.known other ≡ old.known other
+-- The pass, which has a call pending, makes the step and learns what it teaches. It adds these notes. No other pass learns anything.
+pub record IsConfigurationStep (old new : Configuration) (pass : ℕ) (act : Act) (notes : List Note) : Type 0 where
+  pub legal : Legal old.core pass act
+  pub core : new.core ≡ after old.core pass act
+  pub own : new.known pass ≡ record (learned old.core act (old.known pass)) { notes = (old.known pass).notes ++ notes }
+  pub others : (other : ℕ) → other ≢ pass → new.known other ≡ old.known other
   pub call : Pending
-  pub called : old.pending q ≡ Some call
+  pub called : old.pending pass ≡ Some call
   pub pending : new.pending ≡ old.pending
 
--- Pass q is shown changes that passes have made, and makes no step.
-pub record IsShowing (old new : Configuration) (q : ℕ) (front : List Change) : Type 0 where
+-- The pass is shown changes that passes have made, and makes no step. It has seen the changes of `front` then, which begin with those that
+-- it had seen before.
+pub record IsShowing (old new : Configuration) (pass : ℕ) (front : List Change) : Type 0 where
   pub core : new.core ≡ old.core
-  pub more : BeginsWith front (old.known q).front
+  pub more : BeginsWith front (old.known pass).front
   pub made : BeginsWith old.core.changes front
-  pub own : new.known q ≡ record (old.known q) { front = front }
-  pub others : (other : ℕ) → other ≢ q → new.known other ≡ old.known other
+  pub own : new.known pass ≡ record (old.known pass) { front = front }
+  pub others : (other : ℕ) → other ≢ pass → new.known other ≡ old.known other
   pub pending : new.pending ≡ old.pending
 
--- Pass q's pending call becomes this one, or none. The core, what passes know and all other pending calls stay the same.
-pub record IsCallTurn (layout : Layout) (old new : Configuration) (q : ℕ) (call : Option Pending) : Type 0 where
-  pub pass : q < layout.passes
+-- The pending call of the pass of this number becomes `call`, which may be none. The core, what passes know, and the pending calls of
+-- others stay.
+pub record IsCallTurn (layout : Layout) (old new : Configuration) (number : ℕ) (call : Option Pending) : Type 0 where
+  pub pass : number < layout.passes
   pub core : new.core ≡ old.core
   pub known : new.known ≡ old.known
-  pub own : new.pending q ≡ call
-  pub others : (other : ℕ) → other ≢ q → new.pending other ≡ old.pending other
+  pub own : new.pending number ≡ call
+  pub others : (other : ℕ) → other ≢ number → new.pending other ≡ old.pending other
 
--- The note's place fits a call of pass q from time `since` to `until`. At a time of the call the pass had loaded the root in it. The place
--- is no lower than the number of changes that this load showed.
-pub record IsNotedBetween (at : ℕ → Configuration) (q since until : ℕ) (note : Note) : Type 0 where
+-- The note's place fits a call that the pass made from time `since` to time `until`. Within the call, by time `shown`, the pass had loaded
+-- the root. The place is at least the number of changes that this load showed.
+pub record IsNotedBetween (at : ℕ → Configuration) (pass since until : ℕ) (note : Note) : Type 0 where
   pub shown : ℕ
   pub from : since ≤ shown
   pub upto : shown ≤ until
-  pub loaded : ((at since).known q).steps ≤ ((at shown).known q).fresh.step
-  pub low : length ((at shown).known q).fresh.front ≤ note.place
+  pub loaded : ((at since).known pass).steps ≤ ((at shown).known pass).fresh.step
+  pub low : length ((at shown).known pass).fresh.front ≤ note.place
 
--- The pass's pending call responds at time t with these notes. There is one note for each call of the map that it asks, in some order.
-pub record IsResponse (at : ℕ → Configuration) (t pass : ℕ) (call : Pending) (notes : List Note) : Type 0 where
-  pub called : (at t).pending pass ≡ Some call
-  pub calls : IsPermutation call.calls (map (λ n. n.call) notes)
-  pub noted : ((at t).known pass).notes ≡ ((at call.since).known pass).notes ++ notes
-  pub placed : All (IsNotedBetween at pass call.since t) notes
-  pub legal : LegalCalls ((at t).known pass).front pass ((at t).known pass).notes
+-- The pass's pending call responds at this time with these notes: one for each call of the map that it asks, in some order.
+pub record IsResponse (at : ℕ → Configuration) (time pass : ℕ) (call : Pending) (notes : List Note) : Type 0 where
+  pub called : (at time).pending pass ≡ Some call
+  pub calls : IsPermutation call.calls (map (λ note. note.call) notes)
+  pub noted : ((at time).known pass).notes ≡ ((at call.since).known pass).notes ++ notes
+  pub placed : All (IsNotedBetween at pass call.since time) notes
+  pub legal : LegalCalls ((at time).known pass).front pass ((at time).known pass).notes
 
--- The pass's pending call is refused at time t, and adds no note.
-pub record IsRefusal (at : ℕ → Configuration) (t pass : ℕ) (call : Pending) : Type 0 where
-  pub called : (at t).pending pass ≡ Some call
-  pub noted : ((at t).known pass).notes ≡ ((at call.since).known pass).notes
-  pub legal : LegalCalls ((at t).known pass).front pass ((at t).known pass).notes
+-- The pass's pending call is refused at this time, and adds no note.
+pub record IsRefusal (at : ℕ → Configuration) (time pass : ℕ) (call : Pending) : Type 0 where
+  pub called : (at time).pending pass ≡ Some call
+  pub noted : ((at time).known pass).notes ≡ ((at call.since).known pass).notes
+  pub legal : LegalCalls ((at time).known pass).front pass ((at time).known pass).notes
 
--- what happens at time t leads from the configuration at t to the next one
-abbrev pub Continues : (layout : Layout) (at : ℕ → Configuration) (t : ℕ) (happening : Happening) → Type 0
-Continues layout at t (steps pass act notes) = IsConfigurationStep (at t) (at (suc t)) pass act notes
-Continues layout at t (shows pass front) = IsShowing (at t) (at (suc t)) pass front
-Continues layout at t (invokes pass calls) =
-    ((at t).pending pass ≡ None) × IsCallTurn layout (at t) (at (suc t)) pass (Some (record { since = t; calls = calls }))
-Continues layout at t (responds pass notes) = (call : Pending) × IsResponse at t pass call notes × IsCallTurn layout (at t) (at (suc t)) pass None
-Continues layout at t (refuses pass) = (call : Pending) × IsRefusal at t pass call × IsCallTurn layout (at t) (at (suc t)) pass None
+-- what happens at this time leads from its configuration to the next one
+abbrev pub Continues : (layout : Layout) (at : ℕ → Configuration) (time : ℕ) (happening : Happening) → Type 0
+Continues layout at time (steps pass act notes) = IsConfigurationStep (at time) (at (suc time)) pass act notes
+Continues layout at time (shows pass front) = IsShowing (at time) (at (suc time)) pass front
+Continues layout at time (invokes pass calls) =
+    ((at time).pending pass ≡ None) × IsCallTurn layout (at time) (at (suc time)) pass (Some (record { since = time; calls = calls }))
+Continues layout at time (responds pass notes) =
+    (call : Pending) × IsResponse at time pass call notes × IsCallTurn layout (at time) (at (suc time)) pass None
+Continues layout at time (refuses pass) = (call : Pending) × IsRefusal at time pass call × IsCallTurn layout (at time) (at (suc time)) pass None
 
 -- The core of the configuration is lawful, and what each pass knows is true of this core.
 pub record IsSoundConfiguration (layout : Layout) (configuration : Configuration) : Type 0 where
@@ -106,7 +109,7 @@ pub record IsNewIndex (layout : Layout) (configuration : Configuration) : Type 0
   pub notes : (pass : ℕ) → (configuration.known pass).notes ≡ []
   pub pending : (pass : ℕ) → configuration.pending pass ≡ None
 
--- A run: the index is new at first, and what happens at each time before the last leads to the next one.
+-- A run: the index is new at time 0, and what happens at each time before `last` leads to the configuration of the next time.
 pub record IsWholeRun (layout : Layout) (last : ℕ) (at : ℕ → Configuration) (happens : ℕ → Happening) : Type 0 where
   pub new : IsNewIndex layout (at 0)
-  pub next : (t : ℕ) → t < last → Continues layout at t (happens t)
+  pub next : (time : ℕ) → time < last → Continues layout at time (happens time)

@@ -19,26 +19,27 @@ same_kind Replaced Replaced = true
 same_kind Removed Removed = true
 same_kind _ _ = false
 
--- whether the found change is there, and is the same change
+-- whether `found` is a change, and the same one as `change`
 abbrev pub is_same_change : (change : Change) (found : Option Change) → Bool
 is_same_change change None = false
 is_same_change change (Some found) = same_kind found.kind change.kind && (nat_eq found.value change.value && is_at (key_order found.key) change.key)
 
--- The note of the call by which the pass made the change behind the front. It is the first of these calls that makes this very change on
--- the map there. If none does, it is the upsert or the removal that does.
+-- The note of the call by which the pass made this change behind the front. It is the first of `calls` that makes just this change of the
+-- front's map. If none does, it is an upsert or a removal that does.
 abbrev pub maker_note : (pass : ℕ) (calls : List Call) (front : List Change) (change : Change) → Note
 maker_note pass [] front change = replied front (call_of_change change)
-maker_note pass (call ∷ calls) front change = if is_same_change change (change_of pass (replied front call)) then replied front call else maker_note pass calls front change
+maker_note pass (call ∷ calls) front change =
+    if is_same_change change (change_of pass (replied front call)) then replied front call else maker_note pass calls front change
 
--- the notes of the calls by which the pass made its own among the changes behind the front
+-- the notes of the calls by which the pass made its own among these changes, the first of which stands right behind the front
 abbrev pub maker_notes : (pass : ℕ) (calls : List Call) (front changes : List Change) → List Note
 maker_notes pass calls front [] = []
 maker_notes pass calls front (change ∷ changes) =
     if nat_eq change.pass pass then maker_note pass calls front change ∷ maker_notes pass calls (front ++ change ∷ []) changes
     else maker_notes pass calls (front ++ change ∷ []) changes
 
--- The notes that complete the pending call of a pass, after these changes. For each change that the call has made there is one, with the
--- reply of the map there.
+-- The notes that complete the pending call of a pass, where `changes` are all changes by then. For each change that the call has made there
+-- is one note, with the reply of the map there.
 abbrev pub completion_of : (at : ℕ → Configuration) (changes : List Change) (pass : ℕ) (call : Option Pending) → List Note
 completion_of at changes pass None = []
 completion_of at changes pass (Some call) = let seen = (at call.since).core.changes in maker_notes pass call.calls seen (drop (length seen) changes)

@@ -8,20 +8,20 @@ use Rattle.finite_map.specs.Scans.{is_within}
 use Rattle.linearizability.specs.Configurations.{Configuration}
 
 -- the map at a time of the run
-abbrev pub map_at : (at : ℕ → Configuration) (t : ℕ) → Map
-map_at at t = map_of (at t).core.changes
+abbrev pub map_at : (at : ℕ → Configuration) (time : ℕ) → Map
+map_at at time = map_of (at time).core.changes
 
 -- at some time from `since` to `until` the key has the value
 abbrev pub WasHeld : (at : ℕ → Configuration) (since until : ℕ) (key : List ℕ) (value : ℕ) → Type 0
-WasHeld at since until key value = (t : ℕ) × (since ≤ t) × (t ≤ until) × (value_at (map_at at t) key ≡ Some value)
+WasHeld at since until key value = (time : ℕ) × (since ≤ time) × (time ≤ until) × (value_at (map_at at time) key ≡ Some value)
 
 -- at all times from `since` to `until` the key is in the map
 abbrev pub WasThere : (at : ℕ → Configuration) (since until : ℕ) (key : List ℕ) → Type 0
-WasThere at since until key = (t : ℕ) → since ≤ t → t ≤ until → IsSome (value_at (map_at at t) key)
+WasThere at since until key = (time : ℕ) → since ≤ time → time ≤ until → IsSome (value_at (map_at at time) key)
 
--- What a scan from time `since` to `until` shows. Each of its pairs was in the map at one of these times. No key of the range is missing
--- that was in the map at all of them. If the scan has more, this is said only of keys up to where it has come (`IsReached`).
+-- What a scan from time `since` to time `until` shows. Each of its pairs was in the map at one of these times. No key of the range is
+-- missing that was in the map at all of them. If the scan has more, this is said only of keys no further than its last pair (`IsReached`).
 pub record IsScanInTime (IsReached : Map → List ℕ → Type 0) (at : ℕ → Configuration) (since until : ℕ) (from upto : List ℕ) (scan : Scan) : Type 0 where
-  pub held : All (λ e. WasHeld at since until e.0 e.1) scan.pairs.items
+  pub held : All (λ pair. WasHeld at since until pair.0 pair.1) scan.pairs.items
   pub whole : (key : List ℕ) → IsTrue (is_within from upto key) → (scan.more ≡ true → IsReached scan.pairs.items key) → WasThere at since until key →
       Contains (keys_of scan.pairs.items) key

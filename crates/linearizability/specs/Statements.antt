@@ -22,16 +22,16 @@ use Rattle.linearizability.specs.Scanning.{IsScanInTime, map_at}
 abbrev pub RunsStaySound : Type 0
 RunsStaySound =
     (layout : Layout) (last : ℕ) (at : ℕ → Configuration) (happens : ℕ → Happening) → IsWholeRun layout last at happens →
-    (t : ℕ) → t ≤ last → IsSoundConfiguration layout (at t)
+    (time : ℕ) → time ≤ last → IsSoundConfiguration layout (at time)
 
 -- the steps of a run are legal events that lead from its first core to the core at each time
 abbrev pub RunsAreEvents : Type 0
 RunsAreEvents =
     (layout : Layout) (last : ℕ) (at : ℕ → Configuration) (happens : ℕ → Happening) → IsWholeRun layout last at happens →
-    (t : ℕ) → t ≤ last → (events : List Event) × EventsLead (at 0).core events (at t).core
+    (time : ℕ) → time ≤ last → (events : List Event) × EventsLead (at 0).core events (at time).core
 
--- With these responses appended, the answered calls of a run have one order, in which each stands once. In this order each reply is that
--- of a finite map, empty at first. No call stands before one that had responded when it was invoked.
+-- With these responses appended, the answered calls of a run have one order, in which each stands once. In this order each reply is that of
+-- a finite map, which is empty at first. Where one call had responded before another was invoked, it stands first.
 abbrev pub HaveOneOrder : (layout : Layout) (last : ℕ) (at : ℕ → Configuration) (happens : ℕ → Happening) (added : ℕ → List Note) → Type 0
 HaveOneOrder layout last at happens added =
     (order : List (ℕ × Note)) × IsPermutation (complete_calls (completed last happens added) (last + layout.passes)) order ×
@@ -49,21 +49,21 @@ Linearizable =
     (layout : Layout) (last later : ℕ) (at : ℕ → Configuration) (happens : ℕ → Happening) → last ≤ later → IsWholeRun layout later at happens →
     PendingEndOrChangeAsAsked layout last later at → IsLinearizable layout last at happens
 
--- Let a call respond that asks one call of the map, or whose notes tell of no change. At each time of the call it has changed nothing, or
--- has changed the map as it asks.
+-- Let a call respond that asks one call of the map, or whose notes tell of no change. At each time from its invocation to its response it
+-- has changed nothing, or has changed the map as it asks.
 abbrev pub RespondersChangeAsAsked : Type 0
 RespondersChangeAsAsked =
     (layout : Layout) (last : ℕ) (at : ℕ → Configuration) (happens : ℕ → Happening) → IsWholeRun layout last at happens →
-    (pass t : ℕ) (call : Pending) (notes : List Note) → pass < layout.passes → t ≤ last → IsResponse at t pass call notes →
+    (pass time : ℕ) (call : Pending) (notes : List Note) → pass < layout.passes → time ≤ last → IsResponse at time pass call notes →
     ((asked : Call) × (call.calls ≡ asked ∷ [])) ⊎ (changes_of pass notes ≡ []) →
-    (m : ℕ) → call.since ≤ m → m ≤ t → ChangesAsAsked pass call.calls (at call.since).core.changes (at m).core.changes
+    (middle : ℕ) → call.since ≤ middle → middle ≤ time → ChangesAsAsked pass call.calls (at call.since).core.changes (at middle).core.changes
 
 -- A call that is refused has changed nothing, from its invocation to its refusal.
 abbrev pub RefusedChangeNothing : Type 0
 RefusedChangeNothing =
     (layout : Layout) (last : ℕ) (at : ℕ → Configuration) (happens : ℕ → Happening) → IsWholeRun layout last at happens →
-    (pass t : ℕ) (call : Pending) → pass < layout.passes → t ≤ last → IsRefusal at t pass call →
-    (m : ℕ) → call.since ≤ m → m ≤ t → OthersGoOn pass (at call.since).core.changes (at m).core.changes
+    (pass time : ℕ) (call : Pending) → pass < layout.passes → time ≤ last → IsRefusal at time pass call →
+    (middle : ℕ) → call.since ≤ middle → middle ≤ time → OthersGoOn pass (at call.since).core.changes (at middle).core.changes
 
 -- Whatever pending calls do, the answered calls have one order, together with one call for each change that a pending call has made.
 abbrev pub OrderedByEffect : Type 0
@@ -71,8 +71,8 @@ OrderedByEffect =
     (layout : Layout) (last : ℕ) (at : ℕ → Configuration) (happens : ℕ → Happening) → IsWholeRun layout last at happens →
     HaveOneOrder layout last at happens (completions last at)
 
--- Let a scan, upwards or downwards, be lawful from the front at its load of the root to the front at its end.
--- The scan shows the maps of times from its beginning to its end, as `IsScanInTime` says.
+-- Let a scan, upwards or downwards, be lawful while the front grew from its load of the root to its end. The scan shows the maps of times
+-- from its beginning to its end, as `IsScanInTime` says.
 abbrev pub ScansInTime : Type 0
 ScansInTime =
     (layout : Layout) (last : ℕ) (at : ℕ → Configuration) (happens : ℕ → Happening) → IsWholeRun layout last at happens →
@@ -88,5 +88,5 @@ ScansInTime =
 abbrev pub RepliesInTime : Type 0
 RepliesInTime =
     (layout : Layout) (last : ℕ) (at : ℕ → Configuration) (happens : ℕ → Happening) → IsWholeRun layout last at happens →
-    (pass t : ℕ) (call : Pending) (notes : List Note) → pass < layout.passes → t ≤ last → IsResponse at t pass call notes →
-    All (λ n. (m : ℕ) × (call.since ≤ m) × (m ≤ t) × (n.reply ≡ reply_of (map_at at m) n.call)) notes
+    (pass time : ℕ) (call : Pending) (notes : List Note) → pass < layout.passes → time ≤ last → IsResponse at time pass call notes →
+    All (λ note. (middle : ℕ) × (call.since ≤ middle) × (middle ≤ time) × (note.reply ≡ reply_of (map_at at middle) note.call)) notes

@@ -2,49 +2,54 @@
 use Rattle.std.specs.Prelude.{Bool, Option, None, Some, cond, false, nat_lt, true, ℕ, ◌+◌, ◌-◌}
 use Rattle.node_tries.specs.Piece.{Piece, Place, Fork, size}
 
--- a place and a fork's position, where the place is moved `more` places on
+-- the place that was found, moved `more` places on, with the fork's position that was found with it
 abbrev pub moved_by : (more : ℕ) → (found : Option (ℕ × ℕ)) → Option (ℕ × ℕ)
-moved_by n None = None
-moved_by n (Some place) = Some (n + place.0, place.1)
+moved_by more None = None
+moved_by more (Some place) = Some (more + place.0, place.1)
 
 module _ {A : Type 0} where
-  -- the piece with this element at this place
+  -- the piece with this element in place of what stands at this place
   abbrev pub replaced : (place : ℕ) → (element : A) → (piece : Piece A) → Piece A
-  replaced i x (Place y) = Place x
-  replaced i x (Fork p a b) = cond (nat_lt i (size a)) (Fork p (replaced i x a) b) (Fork p a (replaced (i - size a) x b))
+  replaced place element (Place old) = Place element
+  replaced place element (Fork fork left right) =
+      cond (nat_lt place (size left)) (Fork fork (replaced place element left) right) (Fork fork left (replaced (place - size left) element right))
 
-  -- whether the piece is one place
+  -- whether the piece is one place, without a fork
   abbrev pub is_place : Piece A → Bool
-  is_place (Place x) = true
-  is_place (Fork p a b) = false
+  is_place (Place element) = true
+  is_place (Fork fork left right) = false
 
-  -- The piece without this place. The last fork on its path goes with it, and that fork's other side stays. A place alone stays.
+  -- The piece without this place. The last fork on the place's path goes with the place, and that fork's other side stays. A piece of one
+  -- place stays as it is.
   abbrev pub without : (place : ℕ) → (piece : Piece A) → Piece A
-  without i (Place x) = Place x
-  without i (Fork p a b) =
-      cond (nat_lt i (size a)) (cond (is_place a) b (Fork p (without i a) b)) (cond (is_place b) a (Fork p a (without (i - size a) b)))
+  without place (Place element) = Place element
+  without place (Fork fork left right) =
+      cond (nat_lt place (size left)) (cond (is_place left) right (Fork fork (without place left) right))
+      (cond (is_place right) left (Fork fork left (without (place - size left) right)))
 
-  -- The last fork on the path to this place: its position, and its other side. A place alone has none.
+  -- The position and the other side of the last fork on the path to this place. There is none in a piece of one place.
   abbrev pub sibling : (place : ℕ) → (piece : Piece A) → Option (ℕ × Piece A)
-  sibling i (Place x) = None
-  sibling i (Fork p a b) =
-      cond (nat_lt i (size a)) (cond (is_place a) (Some (p, b)) (sibling i a)) (cond (is_place b) (Some (p, a)) (sibling (i - size a) b))
+  sibling place (Place element) = None
+  sibling place (Fork fork left right) =
+      cond (nat_lt place (size left)) (cond (is_place left) (Some (fork, right)) (sibling place left))
+      (cond (is_place right) (Some (fork, left)) (sibling (place - size left) right))
 
-  -- The piece with this element in place of the last fork on the path to a place, and of all below that fork. A place alone stays.
+  -- The piece with this element in place of the last fork on the path to a place, and of all below that fork. A piece of one place stays.
   abbrev pub collapsed : (place : ℕ) → (element : A) → (piece : Piece A) → Piece A
-  collapsed i x (Place y) = Place y
-  collapsed i x (Fork p a b) =
-      cond (nat_lt i (size a)) (cond (is_place a) (Place x) (Fork p (collapsed i x a) b)) (cond (is_place b) (Place x) (Fork p a (collapsed (i - size a) x b)))
+  collapsed place element (Place old) = Place old
+  collapsed place element (Fork fork left right) =
+      cond (nat_lt place (size left)) (cond (is_place left) (Place element) (Fork fork (collapsed place element left) right))
+      (cond (is_place right) (Place element) (Fork fork left (collapsed (place - size left) element right)))
 
-  -- The place beside this one, and the position of the last fork on its path. There is none if that fork's other side has several places, or
-  -- no fork is there.
+  -- The place beside this one, and the position of the last fork on the path to this one. There is none if the fork's other side has
+  -- several places, or the piece has no fork.
   abbrev pub beside : (place : ℕ) → (piece : Piece A) → Option (ℕ × ℕ)
-  beside i (Place x) = None
-  beside i (Fork p a b) =
-      cond (nat_lt i (size a)) (cond (is_place a) (cond (is_place b) (Some (1, p)) None) (beside i a))
-      (cond (is_place b) (cond (is_place a) (Some (0, p)) None) (moved_by (size a) (beside (i - size a) b)))
+  beside place (Place element) = None
+  beside place (Fork fork left right) =
+      cond (nat_lt place (size left)) (cond (is_place left) (cond (is_place right) (Some (1, fork)) None) (beside place left))
+      (cond (is_place right) (cond (is_place left) (Some (0, fork)) None) (moved_by (size left) (beside (place - size left) right)))
 
-  -- F holds of the piece's root fork: of its position and its two sides. A place has none.
+  -- F holds of the piece's root fork: of its position and its two sides. A piece of one place has no root fork.
   abbrev pub AtRootFork : (ℕ → Piece A → Piece A → Type 0) → Piece A → Type 0
-  AtRootFork F (Place x) = ⊥
-  AtRootFork F (Fork p a b) = F p a b
+  AtRootFork F (Place element) = ⊥
+  AtRootFork F (Fork fork left right) = F fork left right

@@ -4,12 +4,14 @@ use Rattle.std.specs.Prelude.{cond, nat_lt, ℕ, ◌-◌, ◌<◌}
 use Rattle.node_tries.specs.Piece.{Piece, Place, Fork, size}
 
 module _ {A : Type 0} where
-  -- the piece with the piece `part` at this place
+  -- the piece with the piece `part` in place of what stands at this place
   abbrev pub grafted : (place : ℕ) → (part piece : Piece A) → Piece A
-  grafted i part (Place x) = part
-  grafted i part (Fork p a b) = cond (nat_lt i (size a)) (Fork p (grafted i part a) b) (Fork p a (grafted (i - size a) part b))
+  grafted place part (Place element) = part
+  grafted place part (Fork fork left right) =
+      cond (nat_lt place (size left)) (Fork fork (grafted place part left) right) (Fork fork left (grafted (place - size left) part right))
 
-  -- each fork on the path to the place is at a lower position than this one
+  -- each fork on the path to the place has a lower position than this one
   abbrev pub IsAbovePath : (position place : ℕ) → (piece : Piece A) → Type 0
-  IsAbovePath position i (Place x) = Unit {0}
-  IsAbovePath position i (Fork p a b) = (p < position) × MatchBool (nat_lt i (size a)) (IsAbovePath position i a) (IsAbovePath position (i - size a) b)
+  IsAbovePath position place (Place element) = Unit {0}
+  IsAbovePath position place (Fork fork left right) = (fork < position) ×
+      MatchBool (nat_lt place (size left)) (IsAbovePath position place left) (IsAbovePath position (place - size left) right)

@@ -2,7 +2,7 @@
 use Rattle.std.specs.Prelude.{Bool, List, [], cond, suc, ℕ, ◌∷◌}
 use Rattle.node_tries.specs.Positions.{any}
 
--- the highest index at which the test passes; 0 where none does
+-- the highest index of an element that passes the test; 0 if none does
 abbrev pub highest : {X : Type 0} → (X → Bool) → List X → ℕ
-highest t [] = 0
-highest t (x ∷ xs) = cond (any t xs) (suc (highest t xs)) 0
+highest test [] = 0
+highest test (element ∷ elements) = cond (any test elements) (suc (highest test elements)) 0

@@ -1,8 +1,8 @@
 -- What flags keep of a list.
 use Rattle.std.specs.Prelude.{Bool, List, [], cond, ◌∷◌}
 
--- the elements whose flags are true
+-- the elements of the list whose flags are true, in order
 abbrev pub kept : {X : Type 0} → List Bool → List X → List X
-kept [] xs = []
-kept (b ∷ bs) [] = []
-kept (b ∷ bs) (x ∷ xs) = cond b (x ∷ kept bs xs) (kept bs xs)
+kept [] elements = []
+kept (flag ∷ flags) [] = []
+kept (flag ∷ flags) (element ∷ elements) = cond flag (element ∷ kept flags elements) (kept flags elements)

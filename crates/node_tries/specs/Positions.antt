@@ -1,37 +1,39 @@
 -- Lists of positions: tests on them, their order, and where one stands or is put.
 use Rattle.std.specs.Prelude.{Bool, List, [], cond, eqb, false, nat_lt, suc, true, ℕ, ◌&&◌, ◌+◌, ◌<◌, ◌||◌, ◌∷◌}
 
--- whether the position is among the positions
+-- whether the position is one of the list
 abbrev pub has : (positions : List ℕ) → (position : ℕ) → Bool
-has [] q = false
-has (p ∷ ps) q = eqb p q || has ps q
+has [] position = false
+has (first ∷ others) position = eqb first position || has others position
 
--- each element of the list passes the test
+-- whether each element of the list passes the test
 abbrev pub all : {X : Type 0} → (X → Bool) → List X → Bool
-all t [] = true
-all t (x ∷ xs) = t x && all t xs
+all test [] = true
+all test (element ∷ elements) = test element && all test elements
 
--- an element of the list passes the test
+-- whether some element of the list passes the test
 abbrev pub any : {X : Type 0} → (X → Bool) → List X → Bool
-any t [] = false
-any t (x ∷ xs) = t x || any t xs
+any test [] = false
+any test (element ∷ elements) = test element || any test elements
 
--- the positions rise strictly, from `low` on
+-- the positions rise strictly, and the first is at least `low`
 abbrev pub Ascends : (low : ℕ) → (positions : List ℕ) → Type 0
 Ascends low [] = Unit {0}
-Ascends low (p ∷ ps) = (low < p + 1) × Ascends (p + 1) ps
+Ascends low (position ∷ positions) = (low < position + 1) × Ascends (position + 1) positions
 
 -- each position is below the bound
 abbrev pub AllBelow : (bound : ℕ) → (positions : List ℕ) → Type 0
 AllBelow bound [] = Unit {0}
-AllBelow bound (p ∷ ps) = (p < bound) × AllBelow bound ps
+AllBelow bound (position ∷ positions) = (position < bound) × AllBelow bound positions
 
--- how many numbers stand before the first that reaches the bound
+-- How many numbers stand at the front of the list before one that is not below the bound. In a node's columns it is the number of the first
+-- column that is not before a position.
 abbrev pub front_below : (bound : ℕ) → (numbers : List ℕ) → ℕ
-front_below m [] = 0
-front_below m (n ∷ ns) = cond (nat_lt n m) (suc (front_below m ns)) 0
+front_below bound [] = 0
+front_below bound (number ∷ numbers) = cond (nat_lt number bound) (suc (front_below bound numbers)) 0
 
--- a rising list of positions with one more, in order
+-- a rising list of positions with one position more, in order
 abbrev pub with_position : (position : ℕ) → (positions : List ℕ) → List ℕ
-with_position p [] = p ∷ []
-with_position p (q ∷ qs) = cond (nat_lt q p) (q ∷ with_position p qs) (p ∷ q ∷ qs)
+with_position position [] = position ∷ []
+with_position position (first ∷ others) =
+    cond (nat_lt first position) (first ∷ with_position position others) (position ∷ first ∷ others)

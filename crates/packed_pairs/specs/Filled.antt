@@ -1,7 +1,7 @@
 -- A list that is filled.
 use Rattle.std.specs.Prelude.{ℕ, List}
 
--- the pairs of a list, and how many more it has room for
+-- What contracts see of a list that is filled: its pairs, and for how many more it has room.
 pub record Filled : Type 0 where
   pub pairs : List (List ℕ × ℕ)
   pub room : ℕ

@@ -4,12 +4,12 @@ use denote.Ref.{Bor}
 use Rattle.key_bits.specs.Key.{IsKey}
 use Rattle.packed_pairs.specs.declared.head.PairHead.{PairHead}
 
--- the pairs of these heads, whose keys stand in the bytes one after another
+-- the pairs that these heads and bytes stand for; the keys stand in the bytes one after another, and the heads tell their lengths
 abbrev pub unpacked : List PairHead → List ℕ → List (List ℕ × ℕ)
 unpacked [] bytes = []
 unpacked (head ∷ heads) bytes = (take head.count bytes, head.value) ∷ unpacked heads (drop head.count bytes)
 
--- the bytes are just those of the heads' keys, one after another
+-- the bytes are just those of the keys whose lengths these heads tell, one after another
 abbrev pub ArePacked : List PairHead → List ℕ → Type 0
 ArePacked [] bytes = bytes ≡ []
 ArePacked (head ∷ heads) bytes = (head.count ≤ length bytes) × IsKey (take head.count bytes) × ArePacked heads (drop head.count bytes)

@@ -11,7 +11,7 @@ abbrev pub keys_in : List (List ℕ × ℕ) → List ℕ
 keys_in [] = []
 keys_in (pair ∷ pairs) = pair.0 ++ keys_in pairs
 
--- the longest front of the pairs whose keys have at most `room` bytes together
+-- the first pairs, as many as have keys of at most `room` bytes together
 abbrev pub fitting : ℕ → List (List ℕ × ℕ) → List (List ℕ × ℕ)
 fitting room [] = []
 fitting room (pair ∷ pairs) = if nat_le (length pair.0) room then pair ∷ fitting (room - length pair.0) pairs else []

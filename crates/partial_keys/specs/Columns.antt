@@ -2,24 +2,24 @@
 use Rattle.std.specs.Prelude.{List, length, replicate, take, ℕ, ◌++◌, ◌-◌, ◌<◌, ◌≡◌, ◌≤◌}
 use Rattle.node_tries.specs.Positions.{Ascends, AllBelow}
 
--- 1 to 31 positions that rise strictly, each below 65,535
+-- The positions are the columns of a node: 1 to 31 of them, which rise strictly and are below 65,535.
 pub record IsColumns (positions : List ℕ) : Type 0 where
   pub some : 0 < length positions
   pub few : length positions ≤ 31
   pub rise : Ascends 0 positions
   pub below : AllBelow 65535 positions
 
--- the positions, filled up to 31 by 65,535
+-- the positions, filled up to 31 numbers by 65,535, which is no position
 abbrev pub with_free : List ℕ → List ℕ
 with_free positions = positions ++ replicate (31 - length positions) 65535
 
--- the first `count` of 31 positions are columns, and the others are unused
+-- The first `count` of these 31 numbers are the columns of a node, and the others are unused.
 pub record HoldsColumns (places : List ℕ) (count : ℕ) : Type 0 where
   pub columns : IsColumns (take count places)
   pub counted : length (take count places) ≡ count
   pub filled : with_free (take count places) ≡ places
 
--- the first `count` of 32 lanes are columns, and the others are unused
+-- The first `count` of these 32 lanes are the columns of a node, and the others are unused.
 pub record AreColumnLanes (lanes : List ℕ) (count : ℕ) : Type 0 where
   pub columns : IsColumns (take count lanes)
   pub counted : length (take count lanes) ≡ count

@@ -5,21 +5,22 @@ use Rattle.partial_keys.specs.Shows.{ShowsPiece}
 use Rattle.node_tries.specs.Highest.{highest}
 use Rattle.node_tries.specs.Piece.{Piece, leads_to}
 
--- The forks lead to this slot by the dense key, in each piece that has these rows, filled up by unused ones.
+-- In each piece that has these rows, filled up by unused ones, the forks lead to this slot by the bits of the dense key.
 abbrev pub IsPlaceForDense : (padded_rows : List ℕ) → (dense slot : ℕ) → Type 0
-IsPlaceForDense padded_rows dense i =
+IsPlaceForDense padded_rows dense slot =
     (columns rows entries : List ℕ) (piece : Piece ℕ) → ShowsPiece columns rows entries piece → padded_rows ≡ with_unused rows →
-    i ≡ leads_to (dense_bit columns dense) piece
+    slot ≡ leads_to (dense_bit columns dense) piece
 
--- The forks lead to this slot by a key's bits, in each piece that has these rows. The dense key was gathered from these bits.
+-- In each piece that has these rows, filled up by unused ones, the forks lead to this slot by a key's bits. The dense key was gathered from
+-- these bits.
 abbrev pub IsPlaceForKey : (padded_rows : List ℕ) → (dense slot : ℕ) → Type 0
-IsPlaceForKey padded_rows dense i =
+IsPlaceForKey padded_rows dense slot =
     (columns rows entries : List ℕ) (piece : Piece ℕ) (bit : ℕ → Bool) → ShowsPiece columns rows entries piece → padded_rows ≡ with_unused rows →
-    dense ≡ dense_of columns bit → i ≡ leads_to bit piece
+    dense ≡ dense_of columns bit → slot ≡ leads_to bit piece
 
--- i is the highest index at which a sparse partial key complies with the dense key, so it is where the forks lead
-pub record IsFound (padded_rows : List ℕ) (dense i : ℕ) : Type 0 where
-  pub value : i ≡ highest (complies dense) padded_rows
-  pub highest : IsHighest padded_rows dense i
-  pub leads : dense % 2 ≡ 0 → IsPlaceForDense padded_rows dense i
-  pub leads_key : IsPlaceForKey padded_rows dense i
+-- The slot is the highest whose row complies with the dense key. So it is where the forks lead.
+pub record IsFound (padded_rows : List ℕ) (dense slot : ℕ) : Type 0 where
+  pub value : slot ≡ highest (complies dense) padded_rows
+  pub highest : IsHighest padded_rows dense slot
+  pub leads : dense % 2 ≡ 0 → IsPlaceForDense padded_rows dense slot
+  pub leads_key : IsPlaceForKey padded_rows dense slot

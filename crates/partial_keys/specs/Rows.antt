@@ -5,32 +5,32 @@ use Rattle.key_bits.specs.Gather.{gathered}
 use Rattle.node_tries.specs.Piece.{Piece, paths}
 use Rattle.node_tries.specs.Positions.{has, front_below}
 
--- the key's bits at the columns, column j as bit 31-j
+-- the dense key: the bits of a key at all columns, where column j is bit 31 - j
 abbrev pub dense_of : List ℕ → (ℕ → Bool) → ℕ
 dense_of columns bit = gathered bit columns
 
--- the row of a path: a 1 exactly in the columns at which the path takes the 1 side
+-- the row of an entry, by its path, which tells the positions where it takes the 1 side: a 1 exactly at these columns
 abbrev pub row_of : (columns path : List ℕ) → ℕ
 row_of columns path = gathered (has path) columns
 
--- the rows of a piece, one for each path, in order
+-- the rows of the entries of a piece, in order
 abbrev pub rows_of : {A : Type 0} → List ℕ → Piece A → List ℕ
 rows_of columns piece = map (row_of columns) (paths piece)
 
--- the row has a 1 only where the dense key has one
+-- whether the row has a 1 only where the dense key has one
 abbrev pub complies : (dense row : ℕ) → Bool
 complies dense row = eqb (bit_and dense row) row
 
--- row i is the highest that complies with the dense key
-pub record IsHighest (rows : List ℕ) (dense i : ℕ) : Type 0 where
-  pub in_range : i < length rows
-  pub complying : bit_and dense (slice_index rows i) ≡ slice_index rows i
-  pub none_above : (k : ℕ) → i < k → k < length rows → complies dense (slice_index rows k) ≡ false
+-- The row of this number is the highest that complies with the dense key.
+pub record IsHighest (rows : List ℕ) (dense row : ℕ) : Type 0 where
+  pub in_range : row < length rows
+  pub complying : bit_and dense (slice_index rows row) ≡ slice_index rows row
+  pub none_above : (higher : ℕ) → row < higher → higher < length rows → complies dense (slice_index rows higher) ≡ false
 
 -- the rows, filled up to 32 by words of all ones
 abbrev pub with_unused : List ℕ → List ℕ
 with_unused rows = rows ++ replicate (32 - length rows) 4294967295
 
--- the bit that a dense key has for a position: for column j that is bit 31-j
+-- the bit of the dense key at a position: for column j it is bit 31 - j
 abbrev pub dense_bit : (columns : List ℕ) → (dense position : ℕ) → Bool
-dense_bit columns dense p = eqb (bit_at dense (31 - front_below p columns)) 1
+dense_bit columns dense position = eqb (bit_at dense (31 - front_below position columns)) 1

@@ -3,16 +3,18 @@ use Rattle.std.specs.Prelude.{List, [], cond, drop, length, map, nat_eq, slice_i
 use Rattle.node_tries.specs.Piece.{Piece, Place, Fork}
 use Rattle.node_tries.specs.Positions.{front_below}
 
--- The piece that rows and entries show, where the first of the remaining columns is bit `width` - 1 of each row. If no row has a 1 in that
--- column, it is what the other columns show. If some row has, it is a fork: the rows with 0 show its first side, the others its second.
+-- The piece that rows and entries show, where the first of the remaining columns is bit `width` - 1 of each row. If no row has a 1 there,
+-- it is what the other columns show. If some row has, it is a fork: the rows with 0 show its 0 side, and the others its 1 side. Without
+-- entries it is the entry `alone`.
 abbrev pub shown : {A : Type 0} → (alone : A) → (width : ℕ) → (columns rows : List ℕ) → (entries : List A) → Piece A
-shown x w [] rows entries = Place (slice_index_or entries 0 x)
-shown x zero (c ∷ cs) rows entries = Place (slice_index_or entries 0 x)
-shown x (suc w) (c ∷ cs) rows entries =
-    let k = front_below (2 ^ w) rows in
-    cond (nat_eq k (length rows)) (shown x w cs rows entries)
-    (Fork c (shown x w cs (take k rows) (take k entries)) (shown x w cs (map (λ row. row - 2 ^ w) (drop k rows)) (drop k entries)))
+shown alone width [] rows entries = Place (slice_index_or entries 0 alone)
+shown alone zero (column ∷ columns) rows entries = Place (slice_index_or entries 0 alone)
+shown alone (suc width) (column ∷ columns) rows entries =
+    let zeros = front_below (2 ^ width) rows in
+    cond (nat_eq zeros (length rows)) (shown alone width columns rows entries)
+    (Fork column (shown alone width columns (take zeros rows) (take zeros entries))
+    (shown alone width columns (map (λ row. row - 2 ^ width) (drop zeros rows)) (drop zeros entries)))
 
--- the piece that rows and entries show; where there are no entries, the entry `alone`
+-- the piece that rows over these columns and entries show; the entry `alone` if there are no entries
 abbrev pub piece_of : {A : Type 0} → (alone : A) → (columns rows : List ℕ) → (entries : List A) → Piece A
-piece_of x columns rows entries = shown x 32 columns rows entries
+piece_of alone columns rows entries = shown alone 32 columns rows entries

@@ -4,7 +4,7 @@ use Rattle.partial_keys.specs.Rows.{rows_of}
 use Rattle.node_tries.specs.Piece.{Piece, places, RisesFrom, UsesOnly, uses}
 use Rattle.node_tries.specs.Positions.{all, Ascends}
 
--- the rows over these columns show the piece, and the entries stand at its places, in order
+-- The rows over these columns show the piece. Each column is that of a fork. The entries stand at the piece's places, in order.
 pub record ShowsPiece {A : Type 0} (columns rows : List ℕ) (entries : List A) (piece : Piece A) : Type 0 where
   pub few : length columns ≤ 31
   pub columns_rise : Ascends 0 columns
@@ -14,7 +14,7 @@ pub record ShowsPiece {A : Type 0} (columns rows : List ℕ) (entries : List A) 
   pub rows_are : rows ≡ rows_of columns piece
   pub entries_are : entries ≡ places piece
 
--- the rows show the piece as in `ShowsPiece`, but there may be columns that no fork uses
+-- The rows show the piece, as `ShowsPiece` says, but there may be columns that no fork of the piece has.
 pub record Covers {A : Type 0} (columns rows : List ℕ) (entries : List A) (piece : Piece A) : Type 0 where
   pub few : length columns ≤ 31
   pub columns_rise : Ascends 0 columns

@@ -3,19 +3,19 @@ use Rattle.std.specs.Prelude.{ℕ, List, Bool, min, bit_and, bit_or, nat_le, nat
 use Rattle.key_bits.specs.Bits.{bit_of}
 use Rattle.partial_keys.specs.declared.gathering.TheConstants.{MASKS}
 
--- the index of the byte that has a position, if it is a key's, and else a greater number
+-- the index of the byte that has the position, if it is a position of a key; else a greater number
 abbrev pub byte_lane : ℕ → ℕ
-byte_lane p = min (p * 7282 / 65536) 255
+byte_lane position = min (position * 7282 / 65536) 255
 
--- the mask of a position in its byte, and 0 for the first of its nine bits
+-- the mask of the position in its byte; 0 for the first of the nine positions of a byte
 abbrev pub mask_lane : ℕ → ℕ
-mask_lane p = slice_index MASKS (p * 7282 % 65536 / 4096)
+mask_lane position = slice_index MASKS (position * 7282 % 65536 / 4096)
 
--- what a lane misses: its mask where the key's bit is 0, and some bits where its byte is past the window
+-- what a lane misses: its mask if the key's bit is 0, and some bits if its byte is past the window
 abbrev pub missed_lane : (window : List ℕ) → (first last lane byte mask : ℕ) → ℕ
-missed_lane window first last i byte mask =
-    bit_or (bit_and mask (255 - slice_index window (16 * (i / 16) + (byte + 256 - first) % 16))) (byte - last)
+missed_lane window first last lane byte mask =
+    bit_or (bit_and mask (255 - slice_index window (16 * (lane / 16) + (byte + 256 - first) % 16))) (byte - last)
 
--- the key's bit at a position, if its byte is one of the sixteen from `first` on; else 0
+-- the key's bit at the position, if its byte is one of the sixteen from byte `first` on; else 0
 abbrev pub bit_within : (first : ℕ) → List ℕ → (position : ℕ) → Bool
 bit_within first key position = bit_of key position && (nat_le first (position / 9) && nat_lt (position / 9) (first + 16))

@@ -17,16 +17,17 @@ LegalCallsStayLegal =
     (front later : List Change) (pass : ℕ) (notes : List Note) → LegalCalls front pass notes → OthersGoOn pass front later → LegalFront later →
     LegalCalls later pass notes
 
--- Where the calls of each pass are legal in one front, all are answered as by a finite map in one sequential history. It is the weave of
--- all their notes into the front.
+-- Let the calls of each pass be legal in one front. Then all are answered as by a finite map in one sequential history: the weave of all
+-- their notes into the front.
 abbrev pub WeaveIsLegal : Type 0
 WeaveIsLegal = (front : List Change) (passes : List (ℕ × List Note)) → AllLegal front passes → LegalHistory (weave front (notes_of passes))
 
--- Where the calls of two passes are legal in one front, the weave of the notes of both into it is a legal history.
+-- Let the calls of two passes be legal in one front. The weave of the notes of both into the front is a legal history.
 abbrev pub WeaveOfTwoIsLegal : Type 0
 WeaveOfTwoIsLegal =
-    (front : List Change) (p q : ℕ) (notes_p notes_q : List Note) → p ≢ q → LegalCalls front p notes_p → LegalCalls front q notes_q →
-    LegalHistory (weave front (notes_p ++ notes_q))
+    (front : List Change) (pass other : ℕ) (notes other_notes : List Note) → pass ≢ other → LegalCalls front pass notes →
+    LegalCalls front other other_notes →
+    LegalHistory (weave front (notes ++ other_notes))
 
 -- The weave of the calls of several passes has each call once. Those of each pass stand in the order in which it made them.
 abbrev pub WeaveOfPassesKeepsCalls : Type 0
@@ -36,10 +37,10 @@ WeaveOfPassesKeepsCalls =
 -- The weave of the calls of two passes has each call once. Those of each pass stand in the order in which it made them.
 abbrev pub WeaveOfTwoKeepsCalls : Type 0
 WeaveOfTwoKeepsCalls =
-    (front : List Change) (p q : ℕ) (notes_p notes_q : List Note) → LegalCalls front p notes_p → LegalCalls front q notes_q →
-    AreWoven (calls_of notes_p) (calls_of notes_q) (calls_in (weave front (notes_p ++ notes_q)))
+    (front : List Change) (pass other : ℕ) (notes other_notes : List Note) → LegalCalls front pass notes → LegalCalls front other other_notes →
+    AreWoven (calls_of notes) (calls_of other_notes) (calls_in (weave front (notes ++ other_notes)))
 
--- Calls of passes, each legal in one front, are listed in an order that breaks no known order in time, and their places fit it. Then the
+-- Let calls of passes, each legal in one front, be listed in an order that breaks no known order in time. Let their places fit it. The
 -- weave of the list is a legal history in which each call stands once. None stands before one that is known to have returned when it began.
 abbrev pub WeavePutsReturnedFirst : Type 0
 WeavePutsReturnedFirst =
@@ -48,7 +49,7 @@ WeavePutsReturnedFirst =
     LegalHistory (weave front (noted listed)) ×
     ((history : List (ℕ × Note)) × IsPermutation listed history × IsInTime before history × (calls_in (weave front (noted listed)) ≡ calls_of (noted history)))
 
--- A scan of the map of a front is lawful where the front stays as it is.
+-- A scan of the map of a front is lawful while the front stays as it is.
 abbrev pub FirstPairsAreAStillScan : Type 0
 FirstPairsAreAStillScan =
     (front : List Change) (from upto : List ℕ) (limit : ℕ) (scan : Scan) → IsScanOf (map_of front) from upto limit scan →
@@ -58,23 +59,22 @@ FirstPairsAreAStillScan =
 abbrev pub WeaveKeepsCalls : Type 0
 WeaveKeepsCalls = (front : List Change) (pass : ℕ) (notes : List Note) → LegalCalls front pass notes → calls_in (weave front notes) ≡ calls_of notes
 
--- A scan of a front that stays as it is gives the first pairs of its map's range. It says whether there is a further one.
+-- Let a scan be lawful while the front stays as it is. It gives the first pairs of the map in its range, and says whether there are more.
 abbrev pub StillScanGivesFirstPairs : Type 0
 StillScanGivesFirstPairs =
     (front : List Change) (from upto : List ℕ) (limit : ℕ) (scan : Scan) → IsLawfulScan front front from upto limit scan →
     IsScanOf (map_of front) from upto limit scan
 
--- If a pass made all changes of the front, its legal calls are a run of the finite map, from the empty one on.
+-- If a pass made all changes of the front, its legal calls are a run of the finite map, from the empty map on.
 abbrev pub LoneCallsAreARun : Type 0
 LoneCallsAreARun =
-    (front : List Change) (pass : ℕ) (notes : List Note) → LegalCalls front pass notes → All (λ c. c.pass ≡ pass) front →
+    (front : List Change) (pass : ℕ) (notes : List Note) → LegalCalls front pass notes → All (λ change. change.pass ≡ pass) front →
     IsRun [] notes (map_of front)
 
 -- A lawful scan is a get of each key of its range, each at a moment of its own. At some moment between the scan's fronts the map has the
--- value of the key's pair, or lacks the key if it has no pair. Where the scan ended at its limit, that is said of the keys up to the last
--- pair's.
+-- value of the key's pair, or lacks the key if it has no pair. If the scan has more, that is said only of keys up to the last pair's.
 abbrev pub ScanIsGets : Type 0
 ScanIsGets =
     (before after : List Change) (from upto : List ℕ) (limit : ℕ) (scan : Scan) → IsLawfulScan before after from upto limit scan →
     (key : List ℕ) → IsTrue (is_within from upto key) → (scan.more ≡ true → IsUpToLast scan.pairs.items key) →
-    (n : ℕ) × (length before ≤ n) × (n ≤ length after) × (value_at (map_of (take n after)) key ≡ value_at scan.pairs.items key)
+    (count : ℕ) × (length before ≤ count) × (count ≤ length after) × (value_at (map_of (take count after)) key ≡ value_at scan.pairs.items key)

@@ -3,15 +3,16 @@ use Rattle.std.specs.Prelude.{◌≡◌, ℕ, ◌≤◌, AllPairs, Bool, Contain
 use Rattle.finite_map.specs.declared.Note.{Note}
 use Rattle.finite_map.specs.Calls.{place_after}
 
--- the notes of calls that have labels, by which calls that look alike are told apart
+-- the notes of these calls, without the labels by which calls that look alike are told apart
 abbrev pub noted : List (ℕ × Note) → List Note
-noted calls = map (λ x. x.1) calls
+noted calls = map (λ labelled. labelled.1) calls
 
--- Let `before` say of two labels that the call of the first had returned when that of the second began. Then the second call's place is no
--- earlier, and is behind the change that the first made.
+-- Let one call have returned when another began, as `before` tells by their labels. The place of the second is no lower than that of the
+-- first, and is behind the change that the first made.
 abbrev pub FitsPlaces : (ℕ → ℕ → Bool) → List (ℕ × Note) → Type 0
-FitsPlaces before calls = (x y : ℕ × Note) → Contains calls x → Contains calls y → before x.0 y.0 ≡ true → place_after x.1 ≤ y.1.place
+FitsPlaces before calls =
+    (first second : ℕ × Note) → Contains calls first → Contains calls second → before first.0 second.0 ≡ true → place_after first.1 ≤ second.1.place
 
--- no call stands before one that is known to have returned when it begins
+-- No call of the list stands before another that had returned when the call began, as `before` tells by their labels.
 abbrev pub IsInTime : (ℕ → ℕ → Bool) → List (ℕ × Note) → Type 0
-IsInTime before calls = AllPairs (λ x y. before y.0 x.0 ≡ false) calls
+IsInTime before calls = AllPairs (λ first second. before second.0 first.0 ≡ false) calls

@@ -7,14 +7,14 @@ use Rattle.tries.specs.Tree.{Tree}
 use Rattle.plain_trie_records.specs.Cases.{AddsByCase, IsNewNode}
 use Rattle.plain_trie.specs.Views.{PlainView, shown_tree}
 
--- where a fork rises from the root, the new root is a new node
+-- if a fork rises from the root, the new root is a new node
 abbrev pub MakesRoot : (old new : PlainView) → (up : Bool) → Type 0
 MakesRoot old new up = up ≡ true → MatchOption new.top ⊥ (IsNewNode (length old.nodes))
 
--- An absent key was added, and has the next leaf record. The nodes were changed up to the root, as the case of the node that the key
--- affects says.
+-- An absent key was added, in the next leaf record. The nodes up to the root were changed as the case of the node says that the key
+-- affects.
 abbrev pub TakesCase : (old new : PlainView) → (key : Key) → Type 0
 TakesCase old new key =
     (tree : Tree) → shown_tree old ≡ Some tree →
-    (p : ℕ) × IsFirstDifference key (found key tree).key p ×
-    ((up : Bool) × AddsByCase old.nodes new.nodes key p (length old.leaves) tree up × MakesRoot old new up)
+    (position : ℕ) × IsFirstDifference key (found key tree).key position ×
+    ((up : Bool) × AddsByCase old.nodes new.nodes key position (length old.leaves) tree up × MakesRoot old new up)

@@ -7,35 +7,35 @@ use Rattle.finite_map.specs.declared.Call.{Call}
 use Rattle.finite_map.specs.declared.Reply.{Reply}
 use Rattle.plain_trie.specs.Views.{PlainView, trie_map}
 
--- the most nodes that one insertion adds: one for each level, and one above the root; the first key adds none
+-- The most nodes that one insertion adds: one for each level of the trie, and one above the root. The first key adds none.
 abbrev pub most_new_nodes : Option Entry → ℕ
 most_new_nodes None = 0
 most_new_nodes (Some root) = height_of root + 1
 
--- The trie is at its limit. No number of 32 bits is left for one leaf more, or too few are left for the most nodes that can come.
+-- The trie is at its limit. No number of 32 bits is left for one leaf more, or too few are left for the most nodes that an insertion adds.
 abbrev pub IsAtLimit : PlainView → Type 0
 IsAtLimit plain = (2 ^ 32 ≤ length plain.leaves) ⊎ (2 ^ 32 < length plain.nodes + most_new_nodes plain.top)
 
--- the vector of the leaves is full, or that of the nodes has no room for the most nodes that can come
+-- The vector of leaves is full, or that of nodes has no room for the most nodes that an insertion adds.
 abbrev pub MustGrow : PlainView → Type 0
 MustGrow plain = (plain.leaf_capacity ≤ length plain.leaves) ⊎ (plain.node_capacity < length plain.nodes + most_new_nodes plain.top)
 
--- a new key finds no room: the trie is at its limit, or its vectors must grow
+-- The trie has no room for a new key: it is at its limit, or its vectors must grow.
 abbrev pub LacksRoom : PlainView → Type 0
 LacksRoom plain = IsAtLimit plain ⊎ MustGrow plain
 
--- no vector has less room than before
+-- no vector of the trie has less room than before
 abbrev pub KeepsRoom : (old new : PlainView) → Type 0
 KeepsRoom old new = (old.node_capacity ≤ new.node_capacity) × (old.leaf_capacity ≤ new.leaf_capacity)
 
--- nothing has changed but that the vector of the leaves may have got more room
+-- nothing of the trie has changed but that its vector of leaves may have more room
 abbrev pub IsUnchanged : (old new : PlainView) → Type 0
 IsUnchanged old new = new ≡ record old { leaf_capacity = new.leaf_capacity }
 
--- the call was answered as on the finite map, and the trie is the map after it
+-- The call has the reply that it has on the finite map of the trie, and the trie is the map after it.
 abbrev pub IsTrieAnswer : (call : Call) → (old new : PlainView) → (reply : Reply) → Type 0
 IsTrieAnswer call old new reply = (reply ≡ reply_of (trie_map old) call) × (trie_map new ≡ map_after (trie_map old) call)
 
--- the call would have added its key, for which there was no room, and the trie is unchanged
+-- The call would have added its key, for which there was no room. The trie is unchanged.
 abbrev pub IsOutOfMemory : (call : Call) → (old new : PlainView) → Type 0
 IsOutOfMemory call old new = AddsKey (trie_map old) call × LacksRoom old × IsUnchanged old new

@@ -19,43 +19,43 @@ pub record PlainView : Type 0 where
   pub node_capacity : ℕ
   pub leaf_capacity : ℕ
 
--- the tree that the trie's records show from the root's entry on
+-- the tree that the records of the trie show from the root's entry on; none if it is empty
 abbrev pub shown_tree : PlainView → Option Tree
-shown_tree plain = option_and_then (λ e. entry_tree plain.nodes plain.leaves (height_of e) e) plain.top
+shown_tree plain = option_and_then (λ entry. entry_tree plain.nodes plain.leaves (height_of entry) entry) plain.top
 
--- the map of a tree that was read; empty where there is none
+-- the map of a tree that was read; empty if there is no tree
 abbrev pub map_read : Option Tree → Map
 map_read None = []
 map_read (Some tree) = pairs (items tree)
 
--- the map that the trie is
+-- the map that the trie stands for
 abbrev pub trie_map : PlainView → Map
 trie_map plain = map_read (shown_tree plain)
 
--- the trie's records show a sound tree from the root's entry on, if there is one
+-- the records of the trie show a sound tree from the root's entry on, if it has one
 abbrev pub ShowsSoundTree : PlainView → Type 0
-ShowsSoundTree plain = MatchOption plain.top (Unit {0}) (λ e. IsSomeAnd (shown_tree plain) IsSound)
+ShowsSoundTree plain = MatchOption plain.top (Unit {0}) (λ entry. IsSomeAnd (shown_tree plain) IsSound)
 
--- the trie's records show a bit trie of its keys from the root's entry on
+-- The records of the trie show a bit trie of its keys from the root's entry on, if it has one. Else its map is empty.
 abbrev pub ShowsTrie : PlainView → Type 0
-ShowsTrie plain = MatchOption plain.top (trie_map plain ≡ []) (λ e.
-    (tree : Tree) × (subtrie tree ≡ Place e) × IsSound tree × ShowsTree plain.nodes plain.leaves tree × (trie_map plain ≡ pairs (items tree)))
+ShowsTrie plain = MatchOption plain.top (trie_map plain ≡ []) (λ entry.
+    (tree : Tree) × (subtrie tree ≡ Place entry) × IsSound tree × ShowsTree plain.nodes plain.leaves tree × (trie_map plain ≡ pairs (items tree)))
 
--- the tree that a trie with this root's entry shows
+-- the trie, which has this root's entry, shows this tree, which is sound
 pub record IsTree (plain : PlainView) (entry : Entry) (tree : Tree) : Type 0 where
   pub is : shown_tree plain ≡ Some tree
   pub head : subtrie tree ≡ Place entry
   pub sound : IsSound tree
   pub shown : ShowsTree plain.nodes plain.leaves tree
 
--- the key's search, from the root's entry on, ends at the leaf that is the record of this number
-pub record EndsAt (plain : PlainView) (entry : Entry) (key : Key) (n : ℕ) : Type 0 where
+-- The search for the key, from the root's entry on, ends at the leaf in the record of this number.
+pub record EndsAt (plain : PlainView) (entry : Entry) (key : Key) (leaf_number : ℕ) : Type 0 where
   pub top : plain.top ≡ Some entry
   pub tree : Tree
   pub stands : IsTree plain entry tree
-  pub number : (found key tree).number ≡ n
-  pub at : slice_get plain.leaves n ≡ Some (item_record (found key tree))
+  pub number : (found key tree).number ≡ leaf_number
+  pub at : slice_get plain.leaves leaf_number ≡ Some (item_record (found key tree))
 
--- the key's search ends at the leaf record of this number, which has the key
+-- The search for the key ends at the leaf in the record of this number, and this leaf has the key.
 abbrev pub IsHeldInLeaf : (plain : PlainView) → (key : Key) → (number : ℕ) → Type 0
-IsHeldInLeaf plain key n = (entry : Entry) × (end : EndsAt plain entry key n) × ((found key end.tree).key ≡ key)
+IsHeldInLeaf plain key number = (entry : Entry) × (end : EndsAt plain entry key number) × ((found key end.tree).key ≡ key)

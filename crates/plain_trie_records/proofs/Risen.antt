@@ -1,7 +1,7 @@
 -- Records that are written or added.
 use Rattle.plain_trie_records.proofs.Common.{◌≡◌, ◌≢◌, ◌⊎◌, inl, inr, ℕ, ◌+◌, ◌<◌, List, [], ◌∷◌, ◌++◌, length, refl, ap, sym, ◌∙◌, arith, Some, set, length-append, length-set, eqb, get_or, cases_Bool, eqb-true, eqb-false, slice_get, get_or-set_same, get_or-set_other, get_or_append_left, get_or-append_seam, slice_get-get_or, get_or_from_slice_get, slice_get_within, Piece, Place, Fork, places, size, HalfShows, NodeView, piece, IsLawfulNode, IsBuiltFrom, greatest_height, Entry, Node, Half, One, Many, Same, GrownShows, Two, Split, some_injective}
 use Rattle.plain_trie_records.specs.Cases.{IsOneSide}
-use Rattle.plain_trie_records.specs.Risen.{IsNamed, IsFor, RisenShows, OthersStay, AllStay, pushed_nodes, pushed_entry, kept_nodes, kept_entry}
+use Rattle.plain_trie_records.specs.Risen.{IsNamed, StandsForSubtrie, RisenShows, OthersStay, AllStay, pushed_nodes, pushed_entry, kept_nodes, kept_entry}
 
 module _ {A : Type 0} where
   pub set_same : (xs : List A) (n : ℕ) (v : A) → n < length xs → slice_get (set xs n v) n ≡ Some v
@@ -62,7 +62,7 @@ module _ (old : NodeView) where
     -- two halves, of which the second gets a new record
     both_for : (first second : Half) (P Q : Piece Entry) → HalfShows first P → HalfShows second Q →
         let ys = pushed_nodes xs second in
-        IsFor (kept_nodes ys n first) old (kept_entry n (Node n h) first) P × IsFor (kept_nodes ys n first) old (pushed_entry (length xs) (Node n h) second) Q
+        StandsForSubtrie (kept_nodes ys n first) old (kept_entry n (Node n h) first) P × StandsForSubtrie (kept_nodes ys n first) old (pushed_entry (length xs) (Node n h) second) Q
     both_for (One e) (One f) P Q x y = (inl x.0, inl y.0)
     both_for (One e) (Many v) P Q x y = (inl x.0, inr (named_built (xs ++ v ∷ []) (length xs) v Q (push_new xs v) y))
     both_for (One e) Same P Q x y = elim y [ ]

@@ -7,32 +7,33 @@ use Rattle.compound_node.specs.declared.halves.Half.TheVariants.{One, Many, Same
 use Rattle.insert_cases.specs.declared.growth.Grown.{Grown}
 use Rattle.insert_cases.specs.declared.growth.Grown.TheVariants.{One as Whole, Two}
 
--- the node is as it was, or has another entry in one slot; its stored height is the same
+-- The node is as it was, or has another entry in one slot. Its stored height stays the same.
 abbrev pub Remains : (old new : NodeView) → Type 0
 Remains old new = (new ≡ old) ⊎ ((place : ℕ) × (entry : Entry) × (new ≡ record old { entries = slice_set old.entries place entry }))
 
--- the stored height of a node at the time when it is built: one above the greatest of its entries, a leaf counting 0
+-- the node has the stored height that it got when it was built: one above the greatest of its entries, where a leaf counts 0
 abbrev pub HasHeightAnew : NodeView → Type 0
 HasHeightAnew node = node.height ≡ 1 + greatest_height node.entries
 
--- a node with the same forks has the same stored height
+-- if the node has the same forks as before, it has the same stored height
 abbrev pub KeepsHeight : (old new : NodeView) → Type 0
 KeepsHeight old new = new.columns ≡ old.columns → new.rows ≡ old.rows → new.height ≡ old.height
 
--- No record goes away. Each has a node that remains, or one that was built. Where its forks are as before, so is its stored height.
+-- No node record goes away. Each has a node that remains, or one that was built. Where a node's forks are as before, so is its stored
+-- height.
 pub record KeepsHeights (old new : List NodeView) : Type 0 where
   pub longer : length old ≤ length new
-  pub each : (n : ℕ) (node : NodeView) → slice_get new n ≡ Some node →
-      ((was : NodeView) × (slice_get old n ≡ Some was) × Remains was node) ⊎ HasHeightAnew node
-  pub steady : (n : ℕ) (was node : NodeView) → slice_get old n ≡ Some was → slice_get new n ≡ Some node → KeepsHeight was node
+  pub each : (number : ℕ) (node : NodeView) → slice_get new number ≡ Some node →
+      ((was : NodeView) × (slice_get old number ≡ Some was) × Remains was node) ⊎ HasHeightAnew node
+  pub steady : (number : ℕ) (was node : NodeView) → slice_get old number ≡ Some was → slice_get new number ≡ Some node → KeepsHeight was node
 
--- the half has the old node's height if it has its forks
+-- if the half of a cut node has the forks of the old node, it has its height
 abbrev pub IsHalfSteady : NodeView → Half → Type 0
 IsHalfSteady old (One entry) = Unit {0}
 IsHalfSteady old (Many node) = KeepsHeight old node
 IsHalfSteady old Same = Unit {0}
 
--- what a node has grown to has its old height wherever it has its old forks
+-- wherever what a node has grown to has its old forks, it has its old height
 abbrev pub IsGrownSteady : NodeView → Grown → Type 0
 IsGrownSteady old (Whole node) = KeepsHeight old node
 IsGrownSteady old (Two cut) = IsHalfSteady old cut.zero × IsHalfSteady old cut.one

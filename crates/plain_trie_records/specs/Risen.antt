@@ -11,7 +11,8 @@ use Rattle.tries.specs.Tree.{Subtrie, first_position}
 use Rattle.insert_cases.specs.declared.raising.Risen.{Risen}
 use Rattle.insert_cases.specs.declared.raising.Risen.TheVariants.{Whole, Split}
 
--- The entry names a node that shows the subtrie. Its height was built anew, or it has the old node's height and first position.
+-- The entry names a node that shows the subtrie. The node's height was built anew. Or it is that of the old node, and so is its first
+-- position.
 pub record IsNamed (nodes : List NodeView) (old : NodeView) (entry : Entry) (shown : Subtrie) : Type 0 where
   pub number : ℕ
   pub view : NodeView
@@ -22,42 +23,43 @@ pub record IsNamed (nodes : List NodeView) (old : NodeView) (entry : Entry) (sho
   pub height : (view.height ≡ 1 + greatest_height (places shown)) ⊎
       ((view.height ≡ old.height) × (first_position (piece view) ≡ first_position (piece old)))
 
--- the entry stands for the subtrie: it is the subtrie itself, or names a node that shows it
-abbrev pub IsFor : (nodes : List NodeView) → (old : NodeView) → (entry : Entry) → (shown : Subtrie) → Type 0
-IsFor nodes old entry shown = (shown ≡ Place entry) ⊎ IsNamed nodes old entry shown
+-- the entry stands for the subtrie: it is all of the subtrie, or names a node that shows it
+abbrev pub StandsForSubtrie : (nodes : List NodeView) → (old : NodeView) → (entry : Entry) → (shown : Subtrie) → Type 0
+StandsForSubtrie nodes old entry shown = (shown ≡ Place entry) ⊎ IsNamed nodes old entry shown
 
--- what has risen shows this subtrie: one entry, or two sides of a fork
+-- what has risen shows this subtrie: it is one entry, or the two sides of a fork
 abbrev pub RisenShows : (nodes : List NodeView) → (old : NodeView) → (risen : Risen) → (shown : Subtrie) → Type 0
 RisenShows nodes old (Whole entry) shown = IsNamed nodes old entry shown
-RisenShows nodes old (Split position zero one) shown = AtRootFork (λ p a b. (position ≡ p) × IsFor nodes old zero a × IsFor nodes old one b) shown
+RisenShows nodes old (Split position zero one) shown =
+    AtRootFork (λ at left right. (position ≡ at) × StandsForSubtrie nodes old zero left × StandsForSubtrie nodes old one right) shown
 
--- all nodes but that of this number stay, and new ones may come
+-- all node records but that of this number stay, and new ones may come
 abbrev pub OthersStay : (old new : List NodeView) → (number : ℕ) → Type 0
-OthersStay old new n = (m : ℕ) (view : NodeView) → n ≢ m → slice_get old m ≡ Some view → slice_get new m ≡ Some view
+OthersStay old new number = (other : ℕ) (view : NodeView) → number ≢ other → slice_get old other ≡ Some view → slice_get new other ≡ Some view
 
--- all nodes stay, and new ones may come
+-- all node records stay, and new ones may come
 abbrev pub AllStay : (old new : List NodeView) → Type 0
-AllStay old new = (m : ℕ) (view : NodeView) → slice_get old m ≡ Some view → slice_get new m ≡ Some view
+AllStay old new = (number : ℕ) (view : NodeView) → slice_get old number ≡ Some view → slice_get new number ≡ Some view
 
--- the nodes with a half behind them; none is added for an entry alone
+-- the node records, with the node of the half behind them; without one if the half is an entry alone
 abbrev pub pushed_nodes : List NodeView → Half → List NodeView
 pushed_nodes nodes (One entry) = nodes
 pushed_nodes nodes (Many node) = nodes ++ node ∷ []
 pushed_nodes nodes Same = nodes
 
--- the entry of a half that was added as the node of this number
+-- the entry of the half, if its node was added as the record of this number
 abbrev pub pushed_entry : (number : ℕ) → (old : Entry) → (half : Half) → Entry
 pushed_entry number old (One entry) = entry
 pushed_entry number old (Many node) = Node number node.height
 pushed_entry number old Same = old
 
--- the nodes with a half in place of node `number`
+-- the node records, with the node of the half in place of node record `number`
 abbrev pub kept_nodes : (nodes : List NodeView) → (number : ℕ) → (half : Half) → List NodeView
 kept_nodes nodes number (One entry) = nodes
 kept_nodes nodes number (Many node) = slice_set nodes number node
 kept_nodes nodes number Same = nodes
 
--- the entry of a half that took the place of the node of this number
+-- the entry of the half, if its node took the place of the record of this number
 abbrev pub kept_entry : (number : ℕ) → (old : Entry) → (half : Half) → Entry
 kept_entry number old (One entry) = entry
 kept_entry number old (Many node) = Node number node.height

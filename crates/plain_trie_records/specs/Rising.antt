@@ -17,36 +17,37 @@ use Rattle.insert_cases.specs.Ways.{WayBelow}
 
 -- no node of the tree has this number
 abbrev pub NoNode : (number : ℕ) → (tree : Tree) → Type 0
-NoNode n (leaf number key value) = Unit {0}
-NoNode n (node number fixed body) = (n ≢ number) × NoNode n body
-NoNode n (fork position left right) = NoNode n left × NoNode n right
+NoNode sought (leaf number key value) = Unit {0}
+NoNode sought (node number fixed body) = (sought ≢ number) × NoNode sought body
+NoNode sought (fork position left right) = NoNode sought left × NoNode sought right
 
--- each node whose number doesn't stand in the tree stays as it was
+-- each node record stays as it was whose number no node of the tree has
 abbrev pub StaysStored : (old new : List NodeView) → (tree : Tree) → Type 0
-StaysStored old new tree = (n : ℕ) (view : NodeView) → NoNode n tree → slice_get old n ≡ Some view → slice_get new n ≡ Some view
+StaysStored old new tree = (number : ℕ) (view : NodeView) → NoNode number tree → slice_get old number ≡ Some view → slice_get new number ≡ Some view
 
--- In place of s the new nodes show a tree with one leaf more. It begins with this subtrie, and its entries are lower than h. All nodes but
--- those of s are as they were.
-pub record IsRaised (old new : List NodeView) (leaves : List LeafRecord) (item : Item) (p : ℕ) (s : Tree) (h : ℕ) (head : Subtrie) : Type 0 where
+-- In place of the tree `below` the new records show a tree with one leaf more, behind a fork at this position. It begins with the subtrie
+-- `head`, and its entries are lower than `bound`. All node records but those of `below` are as they were.
+pub record IsRaised (old new : List NodeView) (leaves : List LeafRecord) (item : Item) (position : ℕ) (below : Tree) (bound : ℕ) (head : Subtrie) : Type 0 where
   pub tree : Tree
   pub begins : subtrie tree ≡ head
-  pub adds : IsAdded item p s tree
+  pub adds : IsAdded item position below tree
   pub built : IsBuilt tree
-  pub lower : IsLower h tree
+  pub lower : IsLower bound tree
   pub shown : ShowsTree new leaves tree
-  pub kept : StaysStored old new s
+  pub kept : StaysStored old new below
 
--- The records show a tree at an entry, and a new leaf besides. Its key differs first at p from that of the leaf where its search ends.
-pub record IsAddable (nodes : List NodeView) (leaves : List LeafRecord) (item : Item) (p : ℕ) (entry : Entry) (tree : Tree) : Type 0 where
+-- The records show the tree at an entry, and a new leaf besides. The new key differs first, at this position, from the key of the leaf
+-- where its search ends.
+pub record IsAddable (nodes : List NodeView) (leaves : List LeafRecord) (item : Item) (position : ℕ) (entry : Entry) (tree : Tree) : Type 0 where
   pub head : subtrie tree ≡ Place entry
   pub trie : IsTrie tree
   pub built : IsBuilt tree
   pub shown : ShowsTree nodes leaves tree
   pub key : IsKey item.key
-  pub differ : IsFirstDifference item.key (found item.key tree).key p
+  pub differ : IsFirstDifference item.key (found item.key tree).key position
   pub new : slice_get leaves item.number ≡ Some (item_record item)
 
--- the nodes and the leaves of a trie
+-- the records of a trie: its nodes and its leaves
 pub record Records : Type 0 where
   pub nodes : List NodeView
   pub leaves : List LeafRecord
@@ -55,30 +56,31 @@ pub record Records : Type 0 where
 abbrev pub records : List NodeView → List LeafRecord → Records
 records nodes leaves = record { nodes = nodes; leaves = leaves }
 
--- one node of a path: its number and height, the slot that the search takes, and the height of the child there
+-- One node of a path: its number and height, the slot that the search takes (`at`), and the height of the child there (`low`).
 pub record Level : Type 0 where
   pub number : ℕ
   pub height : ℕ
   pub at : ℕ
   pub low : ℕ
 
--- the level of these numbers
+-- a node of a path with this number, this height, this slot and this height of the child
 abbrev pub level : (number height at low : ℕ) → Level
 level number height at low = record { number = number; height = height; at = at; low = low }
 
--- A new leaf was added below a node of the old records, as far up as the child on the key's path. This subtrie takes the child's place.
-pub record IsLifting (old : Records) (new : List NodeView) (item : Item) (p : ℕ) (l : Level)
+-- A new leaf was added below a node of the old records, as far up as the child on the key's path. The subtrie `head` takes the child's
+-- place. `here` is the node's level on the path.
+pub record IsLifting (old : Records) (new : List NodeView) (item : Item) (position : ℕ) (here : Level)
     (fixed : Fixed) (tree : Tree) (head : Subtrie) : Type 0 where
   pub trie : IsTrie tree
-  pub built : IsBuilt (node l.number fixed tree)
-  pub shown : ShowsTree old.nodes old.leaves (node l.number fixed tree)
-  pub below : WayBelow p item.key tree
-  pub high_is : fixed.height ≡ l.height
-  pub at_is : l.at ≡ spot item.key (subtrie tree)
-  pub lower : l.low < l.height
-  pub up : IsRaised old.nodes new old.leaves item p (child item.key tree) (suc l.low) head
+  pub built : IsBuilt (node here.number fixed tree)
+  pub shown : ShowsTree old.nodes old.leaves (node here.number fixed tree)
+  pub below : WayBelow position item.key tree
+  pub high_is : fixed.height ≡ here.height
+  pub at_is : here.at ≡ spot item.key (subtrie tree)
+  pub lower : here.low < here.height
+  pub up : IsRaised old.nodes new old.leaves item position (child item.key tree) (suc here.low) head
 
--- one node more stands behind the others, built for this subtrie, and the entry names it
+-- One node record more stands behind the others. It has a node that was built to show this subtrie, and the entry names it.
 pub record IsNew (old new : List NodeView) (entry : Entry) (shown : Subtrie) : Type 0 where
   pub view : NodeView
   pub added : new ≡ old ++ view ∷ []

@@ -8,31 +8,33 @@ use Rattle.tries.specs.Read.{join_node, read_subtrie}
 use Rattle.tries.specs.Tree.{Subtrie, Fixed, Tree, leaf, node, fork, subtrie, IsTrie, IsBuilt}
 use Rattle.plain_trie_records.specs.declared.leaf.LeafRecord.{LeafRecord}
 
--- record n has a node with this head, which shows this subtrie
-pub record IsNodeStored (nodes : List NodeView) (n : ℕ) (x : Fixed) (trie : Subtrie) : Type 0 where
+-- The node record of this number has a node with this head, which shows this subtrie.
+pub record IsNodeStored (nodes : List NodeView) (number : ℕ) (head : Fixed) (trie : Subtrie) : Type 0 where
   pub view : NodeView
-  pub at : slice_get nodes n ≡ Some view
-  pub fixed : head_of view ≡ x
+  pub at : slice_get nodes number ≡ Some view
+  pub fixed : head_of view ≡ head
   pub shows : piece view ≡ trie
 
--- the records show the tree
+-- the records show the tree: each of its nodes and leaves stands in the record of its number
 abbrev pub ShowsTree : (nodes : List NodeView) → (leaves : List LeafRecord) → (tree : Tree) → Type 0
 ShowsTree nodes leaves (leaf number key value) = slice_get leaves number ≡ Some (record { key = key; value = value })
 ShowsTree nodes leaves (node number fixed body) = IsNodeStored nodes number fixed (subtrie body) × ShowsTree nodes leaves body
 ShowsTree nodes leaves (fork position left right) = ShowsTree nodes leaves left × ShowsTree nodes leaves right
 
--- the tree of the node of this number, by what its entries show; none, if it has another height
+-- The tree of the node of this number, where `entry_shows` gives the tree of each of its entries. There is none if the node is missing or
+-- has another height.
 abbrev pub read_node : (entry_shows : Entry → Option Tree) → (number height : ℕ) → (view : Option NodeView) → Option Tree
-read_node f n h (Some view) = if nat_eq view.height h then join_node n (head_of view) (read_subtrie f (piece view)) else None
-read_node f n h None = None
+read_node entry_shows number height (Some view) =
+    if nat_eq view.height height then join_node number (head_of view) (read_subtrie entry_shows (piece view)) else None
+read_node entry_shows number height None = None
 
--- the tree that an entry shows in these records; none, if one of its paths has more than `depth` nodes
+-- the tree that an entry shows in these records; none if a record is missing, or a path has more than `depth` nodes
 abbrev pub entry_tree : (nodes : List NodeView) → (leaves : List LeafRecord) → (depth : ℕ) → (entry : Entry) → Option Tree
-entry_tree nodes leaves f (Leaf number) = option_map (λ (l : LeafRecord). leaf number l.key l.value) (slice_get leaves number)
+entry_tree nodes leaves depth (Leaf number) = option_map (λ (stored : LeafRecord). leaf number stored.key stored.value) (slice_get leaves number)
 entry_tree nodes leaves zero (Node number height) = None
-entry_tree nodes leaves (suc f) (Node number height) = read_node (entry_tree nodes leaves f) number height (slice_get nodes number)
+entry_tree nodes leaves (suc depth) (Node number height) = read_node (entry_tree nodes leaves depth) number height (slice_get nodes number)
 
--- the tree is a bit trie, in which each node has two entries or more and a height above theirs
+-- The tree is a bit trie. Each of its nodes has two entries or more, and a height above theirs.
 pub record IsSound (tree : Tree) : Type 0 where
   pub trie : IsTrie tree
   pub built : IsBuilt tree

@@ -13,8 +13,8 @@ use Rattle.rowex_table.specs.Rule.{MayStep}
 use Rattle.rowex_table.specs.Publishes.{HasPublished}
 use Rattle.rowex_table.specs.Runs.{silent}
 
--- The end of an attempt, once the epoch was loaded. Just these records are the pass's own, each unlinked before that load. Just these nodes
--- are locked by it, and its round has this epoch.
+-- The pass is at the end of an attempt, and has loaded this epoch. Its own records are just `recs`, each unlinked before that load, and
+-- each still to be marked. It has locked just the nodes `nodes`.
 pub record IsEnding (known : Known) (epoch : ℕ) (recs : List Rec) (nodes : List ℕ) : Type 0 where
   pub own : OwnsJust known.own (IsUnlinkedBefore known.round.version) recs
   pub locks : LocksJust known.locks nodes
@@ -22,7 +22,7 @@ pub record IsEnding (known : Known) (epoch : ℕ) (recs : List Rec) (nodes : Lis
   pub nodes_apart : AreApart nodes
   pub epoch_is : epoch ≡ known.round.epoch
 
--- the pass has seen the same changes as before, and the same of the anchor's lock
+-- the pass has seen the same changes as before, and knows the same of the anchor's lock
 abbrev pub KeepsFrontAndAnchor : (old new : Known) → Type 0
 KeepsFrontAndAnchor old new = (new.front ≡ old.front) × (new.anchor ≡ old.anchor)
 
@@ -32,7 +32,7 @@ pub record IsAtRest (known : Known) : Type 0 where
   pub locks : known.locks ≡ []
   pub anchor : known.anchor ≡ None
 
--- Of locked nodes, each listed once, just those that are not unlinked are kept, each listed once.
+-- Of the locked nodes `held`, each listed once, `kept_locks` lists just those that are not among the unlinked records `gone`, each once.
 abbrev pub KeptAreNotGone : Type 0
 KeptAreNotGone = (held : List ℕ) (gone : List Rec) → AreApart held → AreKept held gone (kept_locks held gone) × AreApart (kept_locks held gone)
 
@@ -53,28 +53,28 @@ EndsAtOnce =
     (old new : Known) (change : Change) (was : Option ℕ) (kept : List ℕ) → HasPublished old new change was [] kept → AreApart kept →
     IsEnding new new.round.epoch [] kept
 
--- A pass that ends an attempt may mark the first of its records. It is still to mark the others then.
+-- A pass that ends an attempt may mark the first of its records. Then it has the others still to mark.
 abbrev pub EndMarks : Type 0
 EndMarks =
     (layout : Layout) (old : Known) (epoch : ℕ) (rec : Rec) (recs : List Rec) (nodes : List ℕ) → IsEnding old epoch (rec ∷ recs) nodes →
     MayStep layout (λ found. Mark rec epoch) old ×
     ((new : Known) → IsEvent layout (Mark rec epoch) silent old new → IsEnding new epoch recs nodes × KeepsFrontAndAnchor old new)
 
--- A pass that ends an attempt may unlock the first of its nodes. The others are still locked then.
+-- A pass that ends an attempt may unlock the first of its nodes. Then it has the others still locked.
 abbrev pub EndUnlocks : Type 0
 EndUnlocks =
     (layout : Layout) (old : Known) (epoch : ℕ) (recs : List Rec) (node : ℕ) (nodes : List ℕ) → IsEnding old epoch recs (node ∷ nodes) →
     MayStep layout (λ found. Unlock (NodeTarget node)) old ×
     ((new : Known) → IsEvent layout (Unlock (NodeTarget node)) silent old new → IsEnding new epoch recs nodes × KeepsFrontAndAnchor old new)
 
--- A pass that ends an attempt may unlock the anchor, if it has locked it. Its records and nodes are as before.
+-- A pass that ends an attempt may unlock the anchor, if it has locked it. Its records to mark and its locked nodes stay the same.
 abbrev pub EndUnlocksAnchor : Type 0
 EndUnlocksAnchor =
     (layout : Layout) (old : Known) (epoch : ℕ) (recs : List Rec) (nodes : List ℕ) → IsEnding old epoch recs nodes → IsSome old.anchor →
     MayStep layout (λ found. Unlock Anchor) old ×
     ((new : Known) → IsEvent layout (Unlock Anchor) silent old new → IsEnding new epoch recs nodes × (new.front ≡ old.front) × (new.anchor ≡ None))
 
--- A pass that ends an attempt may take its records and nodes in any order.
+-- A pass that ends an attempt may mark its records and unlock its nodes in any order.
 abbrev pub EndInAnyOrder : Type 0
 EndInAnyOrder =
     (known : Known) (epoch : ℕ) (recs other_recs : List Rec) (nodes other_nodes : List ℕ) → IsEnding known epoch recs nodes →
@@ -82,28 +82,29 @@ EndInAnyOrder =
     AreApart other_recs → AreApart other_nodes →
     IsEnding known epoch other_recs other_nodes
 
--- A pass that ends an attempt is at rest once no record is left to mark and nothing is locked.
+-- A pass that ends an attempt is at rest once it has no record to mark, no locked node, and no lock of the anchor.
 abbrev pub EndRests : Type 0
 EndRests = (known : Known) (epoch : ℕ) → IsEnding known epoch [] [] → known.anchor ≡ None → IsAtRest known
 
 -- The loops
 
--- the pass marks these records in turn, with one epoch
+-- the pass marks these records with this epoch, one step for each, in the order of the list
 abbrev pub MarksEach : (layout : Layout) → (epoch : ℕ) → (recs : List Rec) → (old new : Known) → Type 0
 MarksEach layout epoch [] old new = new ≡ old
 MarksEach layout epoch (rec ∷ recs) old new = (middle : Known) × IsEvent layout (Mark rec epoch) silent old middle × MarksEach layout epoch recs middle new
 
--- the pass unlocks these nodes in turn
+-- the pass unlocks these nodes, one step for each, in the order of the list
 abbrev pub UnlocksEach : (layout : Layout) → (nodes : List ℕ) → (old new : Known) → Type 0
 UnlocksEach layout [] old new = new ≡ old
 UnlocksEach layout (node ∷ nodes) old new =
     (middle : Known) × IsEvent layout (Unlock (NodeTarget node)) silent old middle × UnlocksEach layout nodes middle new
 
--- Let a pass publish, load the epoch, mark all that it has unlinked, and unlock all that it keeps. Then it has no records of its own and no
--- locked node. It has seen its own change last.
+-- Let a pass publish, load the epoch, mark each record that it has unlinked, and unlock each node that it keeps. Then it has no record and
+-- no locked node. Its front, which ends with its own change, and its lock of the anchor are as after the publish.
 abbrev pub Settles : Type 0
 Settles =
     (layout : Layout) (before published ending marked rested : Known) (change : Change) (was : Option ℕ) (gone : List Rec) (kept : List ℕ) (epoch : ℕ) →
+    -- from one moment to the next: the publish, the load of the epoch, the marks, the unlocks
     HasPublished before published change was gone kept →
     AreApart kept → IsEvent layout (LoadEpoch epoch) silent published ending → MarksEach layout epoch gone ending marked →
     UnlocksEach layout kept marked rested →

@@ -1,4 +1,4 @@
--- Each case of an insertion below a node, with just the records that it makes, and just those that go.
+-- Each case of an insertion below a node: which records it makes, what it may publish, and which nodes are unlinked.
 use Rattle.std.specs.Prelude.{◌≡◌, ℕ, List, [], ◌∷◌, ◌++◌, None}
 use Rattle.compound_node.specs.Nodes.{NodeView, piece}
 use Rattle.compound_node.specs.declared.entries.Entry.{Entry}
@@ -25,79 +25,109 @@ use Rattle.publish_laws.specs.Spots.{IsSpotOf}
 use Rattle.publish_laws.specs.Rises.{made_of_node, made_of_leaf, IsBuiltAnew, IsSide, HasFoundBelow}
 use Rattle.publish_laws.specs.Cases.{IsWord}
 
--- An insertion may store the one entry that has risen from a locked node at that node's spot.
+-- An insertion may store the one entry that has risen from a locked node, at the spot where that node's own entry stands.
 abbrev pub Insertion : Type 0
 Insertion =
     (layout : Layout) (known : Known) (held : List Locked) (news : List Made) (gone : List Rec) → HasReady known held news → (newcomer : Newcomer) →
-    (node word : ℕ) (e : Entry) (at : Spot) → HasRisen layout known held news newcomer (entry node) (Place e) gone → HasLeaf news newcomer.item →
-    IsSpotOf known held newcomer.item.key newcomer.mismatch node e at → IsWord e word →
+    (node word : ℕ) (risen : Entry) (at : Spot) →
+    -- the entry has risen from the node, and the new leaf is among the new records
+    HasRisen layout known held news newcomer (entry node) (Place risen) gone → HasLeaf news newcomer.item →
+    -- the node stands at the spot, where the entry may stand in its place, and this is the entry's word
+    IsSpotOf known held newcomer.item.key newcomer.mismatch node risen at → IsWord risen word →
     Publishes layout known at word (added_change known.pass newcomer.item) None gone
 
--- A normal insert may store a copy of the node with the new leaf. The node is unlinked.
+-- A normal insert may store a copy of the node with the new leaf in it. The old node is unlinked.
 abbrev pub NormalInsert : Type 0
 NormalInsert =
     (layout : Layout) (known : Known) (held : List Locked) (newcomer : Newcomer) (fresh : List ℕ) →
-    (node number word : ℕ) (words : List ℕ) (view : NodeView) (at : Spot) →
-    HasReady known held (made_of_node number view ∷ made_of_leaf newcomer.item fresh ∷ []) → SpellsLeaf newcomer.item fresh →
+    (node new_node word : ℕ) (words : List ℕ) (view : NodeView) (at : Spot) →
+    -- just two records are made and ready: the new node and the new leaf
+    HasReady known held (made_of_node new_node view ∷ made_of_leaf newcomer.item fresh ∷ []) → SpellsLeaf newcomer.item fresh →
+    -- the search went through the old node, and the part affected in it is a leaf, or has two entries or more
     HasFoundBelow known held newcomer node words →
     IsPartSubtrie (subtrie_affected newcomer.mismatch newcomer.item.key (node_words_of words).subtrie) →
+    -- the new node shows the old one with the new leaf in it
     IsBuiltAnew view → piece view ≡ subtrie_grown newcomer.mismatch newcomer.item.key (Leaf newcomer.item.number) (node_words_of words).subtrie →
-    IsSpotOf known held newcomer.item.key newcomer.mismatch node (Node number view.height) at → IsWord (Node number view.height) word →
+    -- the old node stands at the spot, where the new one may take its place; this is the word of the new one's entry
+    IsSpotOf known held newcomer.item.key newcomer.mismatch node (Node new_node view.height) at → IsWord (Node new_node view.height) word →
     Publishes layout known at word (added_change known.pass newcomer.item) None (a_node node ∷ [])
 
--- An overflow may cut the node with the new leaf at its first fork, and store a node of the two halves. It is an intermediate node or, at
--- the root, a new root. The old node is unlinked.
+-- An overflow may cut a full node, with the new leaf in it, at its first fork. It stores a new node of the two halves: an intermediate node
+-- or, at the root, a new root. The old node is unlinked.
 abbrev pub Overflow : Type 0
 Overflow =
     (layout : Layout) (known : Known) (held : List Locked) (newcomer : Newcomer) (fresh : List ℕ) →
-    (node number word position : ℕ) (words : List ℕ) (view : NodeView) (at : Spot) →
+    (node new_node word position : ℕ) (words : List ℕ) (view : NodeView) (at : Spot) →
     (left right : Subtrie) (left_entry right_entry : Entry) (left_news right_news : List Made) →
-    HasReady known held (made_of_node number view ∷ (left_news ++ (right_news ++ made_of_leaf newcomer.item fresh ∷ []))) →
-    SpellsLeaf newcomer.item fresh → HasFoundBelow known held newcomer node words →
+    -- just these records are made and ready: the new node, those of the two halves, and the new leaf
+    HasReady known held (made_of_node new_node view ∷ (left_news ++ (right_news ++ made_of_leaf newcomer.item fresh ∷ []))) →
+    SpellsLeaf newcomer.item fresh →
+    -- the search went through the old node, and the part affected in it is a leaf, or has two entries or more
+    HasFoundBelow known held newcomer node words →
     IsPartSubtrie (subtrie_affected newcomer.mismatch newcomer.item.key (node_words_of words).subtrie) →
+    -- with the new leaf in it, the old node has these two halves, each with its entry
     subtrie_grown newcomer.mismatch newcomer.item.key (Leaf newcomer.item.number) (node_words_of words).subtrie ≡ Fork position left right →
     IsSide left left_entry left_news →
     IsSide right right_entry right_news →
+    -- the new node shows the fork of those two entries
     IsBuiltAnew view → piece view ≡ Fork position (Place left_entry) (Place right_entry) →
-    IsSpotOf known held newcomer.item.key newcomer.mismatch node (Node number view.height) at → IsWord (Node number view.height) word →
+    -- the old node stands at the spot, where the new one may take its place; this is the word of the new one's entry
+    IsSpotOf known held newcomer.item.key newcomer.mismatch node (Node new_node view.height) at → IsWord (Node new_node view.height) word →
     Publishes layout known at word (added_change known.pass newcomer.item) None (a_node node ∷ [])
 
--- Let a new key part from those below a node before the node's first fork. Then a new node of that one and the new leaf may be stored
--- in its place. No node is unlinked.
+-- Let a new key differ from the keys below a node at a position before the node's first fork. Then a new node of the old node and the new
+-- leaf may be stored in the old one's place. No node is unlinked.
 abbrev pub MayKeepNodeWhole : Type 0
 MayKeepNodeWhole =
     (layout : Layout) (known : Known) (held : List Locked) (newcomer : Newcomer) (fresh : List ℕ) →
-    (node number word : ℕ) (words : List ℕ) (view : NodeView) (at : Spot) →
-    HasReady known held (made_of_node number view ∷ made_of_leaf newcomer.item fresh ∷ []) → SpellsLeaf newcomer.item fresh →
+    (node new_node word : ℕ) (words : List ℕ) (view : NodeView) (at : Spot) →
+    -- just two records are made and ready: the new node and the new leaf
+    HasReady known held (made_of_node new_node view ∷ made_of_leaf newcomer.item fresh ∷ []) → SpellsLeaf newcomer.item fresh →
+    -- the search went through the old node, whose first fork isn't before the newcomer's position
     HasFoundBelow known held newcomer node words →
     FirstForkIsFrom newcomer.mismatch (node_words_of words).subtrie →
+    -- the new node shows a fork of the new leaf and the old node
     IsBuiltAnew view →
     piece view ≡ subtrie_forked (bit newcomer.item.key newcomer.mismatch) newcomer.mismatch (Leaf newcomer.item.number)
     (Place (Node node (node_words_of words).fixed.height)) →
-    IsSpotOf known held newcomer.item.key newcomer.mismatch node (Node number view.height) at → IsWord (Node number view.height) word →
+    -- the old node stands at the spot, where the new one may take its place; this is the word of the new one's entry
+    IsSpotOf known held newcomer.item.key newcomer.mismatch node (Node new_node view.height) at → IsWord (Node new_node view.height) word →
     Publishes layout known at word (added_change known.pass newcomer.item) None []
 
--- What has risen from below, over any number of levels, may be pulled up into a copy of the node above. That node is unlinked, too.
+-- A pull up may store a copy of the node above, with what has risen from below in it. The node above is unlinked, with the nodes `gone`,
+-- which are unlinked further down. What has risen may come from any number of levels below.
 abbrev pub PullUp : Type 0
 PullUp =
-    (layout : Layout) (known : Known) (held : List Locked) (news : List Made) (gone : List Rec) (newcomer : Newcomer) (above node number word : ℕ) →
-    (trie : Subtrie) (view : NodeView) (at : Spot) → HasReady known held (made_of_node number view ∷ news) →
-    HasRisen layout known held news newcomer (entry node) trie gone → HasLeaf news newcomer.item →
+    (layout : Layout) (known : Known) (held : List Locked) (news : List Made) (gone : List Rec) (newcomer : Newcomer) (above node new_node word : ℕ) →
+    (risen : Subtrie) (view : NodeView) (at : Spot) →
+    -- just these records are made and ready: the new node, and those of what has risen
+    HasReady known held (made_of_node new_node view ∷ news) →
+    -- the subtrie `risen` has risen from the lower node, and the new leaf is among the new records
+    HasRisen layout known held news newcomer (entry node) risen gone → HasLeaf news newcomer.item →
+    -- node `above` is locked and names the lower node; the new node shows node `above` with what has risen in it
     (up : IsLockedAbove held newcomer.item.key newcomer.mismatch above node) → IsBuiltAnew view →
-    piece view ≡ with_subtrie newcomer.item.key trie (node_words_of up.upper).subtrie →
-    IsSpotOf known held newcomer.item.key newcomer.mismatch above (Node number view.height) at → IsWord (Node number view.height) word →
+    piece view ≡ with_subtrie newcomer.item.key risen (node_words_of up.upper).subtrie →
+    -- node `above` stands at the spot, where the new node may take its place; this is the word of the new one's entry
+    IsSpotOf known held newcomer.item.key newcomer.mismatch above (Node new_node view.height) at → IsWord (Node new_node view.height) word →
     Publishes layout known at word (added_change known.pass newcomer.item) None (a_node above ∷ gone)
 
--- A pull up may end in a node that is full. That node is cut, and a new node of its two halves takes its place.
+-- A pull up may end in a node that is full. That node is cut at its first fork, and a new node of its two halves takes its place.
 abbrev pub PullUpOverflow : Type 0
 PullUpOverflow =
-    (layout : Layout) (known : Known) (held : List Locked) (news : List Made) (gone : List Rec) (newcomer : Newcomer) (above node number word position : ℕ) →
+    (layout : Layout) (known : Known) (held : List Locked) (news : List Made) (gone : List Rec) (newcomer : Newcomer)
+    (above node new_node word position : ℕ) →
     (risen left right : Subtrie) (left_entry right_entry : Entry) (left_news right_news : List Made) (view : NodeView) (at : Spot) →
-    HasReady known held (made_of_node number view ∷ (left_news ++ (right_news ++ news))) →
+    -- just these records are made and ready: the new node, those of the two halves, and those of what has risen
+    HasReady known held (made_of_node new_node view ∷ (left_news ++ (right_news ++ news))) →
+    -- the subtrie `risen` has risen from the lower node, and the new leaf is among the new records
     HasRisen layout known held news newcomer (entry node) risen gone → HasLeaf news newcomer.item →
+    -- node `above` is locked and names the lower node; with what has risen in it, it has these two halves, each with its entry
     (up : IsLockedAbove held newcomer.item.key newcomer.mismatch above node) →
     with_subtrie newcomer.item.key risen (node_words_of up.upper).subtrie ≡ Fork position left right → IsSide left left_entry left_news →
-    IsSide right right_entry right_news → IsBuiltAnew view →
+    IsSide right right_entry right_news →
+    -- the new node shows the fork of those two entries
+    IsBuiltAnew view →
     piece view ≡ Fork position (Place left_entry) (Place right_entry) →
-    IsSpotOf known held newcomer.item.key newcomer.mismatch above (Node number view.height) at → IsWord (Node number view.height) word →
+    -- node `above` stands at the spot, where the new node may take its place; this is the word of the new one's entry
+    IsSpotOf known held newcomer.item.key newcomer.mismatch above (Node new_node view.height) at → IsWord (Node new_node view.height) word →
     Publishes layout known at word (added_change known.pass newcomer.item) None (a_node above ∷ gone)

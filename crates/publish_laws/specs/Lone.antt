@@ -12,36 +12,36 @@ use Rattle.rowex_core.specs.Runs.{EventsLead}
 use Rattle.rowex_table.specs.Runs.{Runs}
 use Rattle.rowex_table.specs.Seats.{TableView, SeatView}
 
--- The table has one pass, and the steps that the seat's pass knows lead from a new table to this core.
+-- The table has one pass, and this pass's trace leads from a new table to this core.
 pub record IsLone (layout : Layout) (seat : SeatView) (core : Core) : Type 0 where
   pub passes : layout.passes ≡ 1
   pub led : EventsLead (opening layout) seat.trace core
 
--- a record of this fate stands in no tree
+-- a record of this fate is not in the tree
 abbrev pub IsOut : Fate → Type 0
 IsOut (InTree since) = ⊥
 IsOut fate = Unit {0}
 
--- A record of this fate is free, or some pass has claimed and not linked it.
+-- A record of this fate is free, or a pass has claimed it and not yet linked it.
 abbrev pub IsUnused : Fate → Type 0
 IsUnused Free = Unit {0}
 IsUnused (Held pass) = Unit {0}
 IsUnused (Ready pass) = Unit {0}
 IsUnused fate = ⊥
 
--- This node record stands in no tree after the steps that the table's only pass knows.
+-- The node record `number` is not in the tree after the trace of the table's only pass.
 abbrev pub IsOutAt : (layout : Layout) → (seat : SeatView) → (number : ℕ) → Type 0
 IsOutAt layout seat number = (core : Core) → IsLone layout seat core → IsOut (core.fate (a_node number))
 
--- This node record is free after the steps that the table's only pass knows.
+-- The node record `number` is free after the trace of the table's only pass.
 abbrev pub IsFreeAt : (layout : Layout) → (seat : SeatView) → (number : ℕ) → Type 0
 IsFreeAt layout seat number = (core : Core) → IsLone layout seat core → core.fate (a_node number) ≡ Free
 
--- Some node record stands in no tree after the steps that the table's only pass knows, so it is spare.
+-- Some node record is not in the tree after the trace of the table's only pass. It is spare: it is free, or a round can free it.
 abbrev pub HasSpare : Layout → SeatView → Type 0
 HasSpare layout seat = (core : Core) → IsLone layout seat core → (number : ℕ) × (number < layout.nodes) × IsOut (core.fate (a_node number))
 
--- Some node record is free after the steps that the table's only pass knows.
+-- Some node record is free after the trace of the table's only pass.
 abbrev pub HasFree : Layout → SeatView → Type 0
 HasFree layout seat = (number : ℕ) × (number < layout.nodes) × IsFreeAt layout seat number
 
@@ -55,17 +55,18 @@ KeepsSpare layout old new = HasSpare layout old → HasSpare layout new
 
 -- the step is no publish, and no bulk load
 abbrev pub LeavesTree : Act → Type 0
-LeavesTree (Publish spot w) = ⊥
+LeavesTree (Publish spot word) = ⊥
 LeavesTree (Load words) = ⊥
 LeavesTree act = Unit {0}
 
--- steps that are no publishes leave a node record spare
+-- In a table with one pass, let a node record be outside the tree. After any steps that neither publish nor load in bulk, one still is.
 abbrev pub SpareStays : {G : Type 0} → (G → Event → G → Type 0) → Type 0
 SpareStays {G = G} becomes =
     (table : TableView) (acts : List Act) (old new : SeatView × G) → All LeavesTree acts → Runs table becomes acts old new →
     KeepsSpare table.layout old.0 new.0
 
--- steps that are no publishes leave a free node record free, if the pass then has no record
+-- In a table with one pass, let the pass make steps that neither publish nor load in bulk, and have no record after them. Then each node
+-- record that was free before is free again.
 abbrev pub FreeStays : {G : Type 0} → (G → Event → G → Type 0) → Type 0
 FreeStays {G = G} becomes =
     (table : TableView) (acts : List Act) (old new : SeatView × G) → All LeavesTree acts → Runs table becomes acts old new → new.0.known.own ≡ [] →

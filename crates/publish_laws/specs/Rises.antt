@@ -1,4 +1,4 @@
--- Of what an insertion rises, from the lowest locked node upwards.
+-- An insertion below a locked node: its new records, what is known of the lowest node, and of the nodes above.
 use Rattle.std.specs.Prelude.{◌≡◌, ◌≢◌, ℕ, ◌+◌, List, [], ◌∷◌}
 use Rattle.compound_node.specs.Nodes.{NodeView, piece, greatest_height}
 use Rattle.compound_node.specs.declared.entries.Entry.{Entry}
@@ -24,27 +24,28 @@ use Rattle.rowex_core.specs.Knowing.{IsPinnedSince}
 
 -- New records
 
--- a new node record with this node's words
+-- a new record of this number, with the words of this node
 abbrev pub made_of_node : (number : ℕ) → (view : NodeView) → Made
 made_of_node number view = record { rec = a_node number; words = node_words view }
 
--- a new leaf record with these words
+-- a new leaf record of the item's number, with these words
 abbrev pub made_of_leaf : (item : Item) → (words : List ℕ) → Made
 made_of_leaf item words = record { rec = a_leaf item.number; words = words }
 
--- The node was built anew: it has words, and its height is one above the greatest of its entries.
+-- The node's parts fit into words, and its height is one above the greatest of its entries.
 abbrev pub IsBuiltAnew : NodeView → Type 0
 IsBuiltAnew view = HasNodeWords view × (view.height ≡ 1 + greatest_height view.entries)
 
--- The entry for a subtrie, and the records made for it. It is the subtrie itself if that is one entry, or else a new node.
+-- The entry that stands for the subtrie, and the records made for it. For a subtrie of one entry it is that entry, and no record is made.
+-- For any other it is the entry of a new node that shows the subtrie.
 pub data IsSide (trie : Subtrie) : Entry → List Made → Type 0 where
   one : (entry : Entry) → trie ≡ Place entry → IsSide trie entry []
   anew : (number : ℕ) (view : NodeView) → IsBuiltAnew view → piece view ≡ trie → IsSide trie (Node number view.height) (made_of_node number view ∷ [])
 
 -- The lowest node
 
--- Below a locked node with these words, the search for the newcomer's key has led to a leaf with the key `newcomer.like`. The two keys
--- first differ at the newcomer's position. The pass's pin goes back to the newcomer's version.
+-- The search for the newcomer's key went through this locked node, with these words, and ended at a leaf with the key `newcomer.like`. The
+-- two keys first differ at the newcomer's position. The pass's pin is no later than the newcomer's version.
 pub record HasFoundBelow (known : Known) (held : List Locked) (newcomer : Newcomer) (node : ℕ) (words : List ℕ) : Type 0 where
   pub leaf : HasLeafWords (newcomer.item.key, newcomer.item.value)
   pub pinned : IsPinnedSince known newcomer.since
@@ -55,8 +56,8 @@ pub record HasFoundBelow (known : Known) (held : List Locked) (newcomer : Newcom
 
 -- Further up
 
--- Let an insertion affect no more of a locked node than its entry for the node below. Then that node's own first fork is before the
--- insertion's position. So a node above need only be checked to name it.
+-- Let an insertion affect no more of node `above`, which is locked, than its entry for the node below. Then the first fork of node `above`
+-- is before the insertion's position. So of a node above that one, only its entry need be checked.
 abbrev pub AboveGoesOn : Type 0
 AboveGoesOn =
     (layout : Layout) (known : Known) (held : List Locked) (news : List Made) (core : Core) → IsStage layout known held news core →

@@ -15,7 +15,7 @@ use Rattle.record_words.specs.declared.TheConstants.{FIRST_KEY_WORD, FIRST_MIDDL
 
 -- ---- an entry word
 
--- the entry that a word spells
+-- the entry that a word encodes; none for the word of no entry
 unfoldable pub entry_of : ℕ → Option Entry
 entry_of word =
     if nat_eq word (entry_word None) then None else
@@ -23,7 +23,7 @@ entry_of word =
 
 -- ---- the words of a head
 
--- the number of entries that the first word tells
+-- the number of entries that the first word of a head tells
 abbrev pub count_in : ℕ → ℕ
 count_in word = word % 256
 
@@ -35,7 +35,7 @@ column_count_in word = word / 256 % 256
 abbrev pub height_in : ℕ → ℕ
 height_in word = word / 65536 % 65536
 
--- the index of the byte from which a near head counts, told by its first word
+-- the index of the byte from which a narrow or middle head counts, as its first word tells
 abbrev pub first_byte_in : ℕ → ℕ
 first_byte_in word = word / 2 ^ 32 % 2 ^ 8
 
@@ -43,47 +43,49 @@ first_byte_in word = word / 2 ^ 32 % 2 ^ 8
 abbrev pub numbers_in : List ℕ → ℕ
 numbers_in head = get_or head NUMBERS_INDEX 0
 
--- the byte for this column in a word of a near head
+-- the byte for the column of this number in a word of a narrow or middle head
 abbrev pub column_byte : (column word : ℕ) → ℕ
-column_byte j word = word / 2 ^ (8 * (7 - j % 8)) % 2 ^ 8
+column_byte column word = word / 2 ^ (8 * (7 - column % 8)) % 2 ^ 8
 
--- the position of this column in a near head, from the index of its byte and the mask of its bit
+-- The position of the column of this number in a narrow or middle head. It follows from the index of the column's byte and the mask of its
+-- bit.
 abbrev pub near_column_in : (kind : HeadKind) → (head : List ℕ) → (column : ℕ) → ℕ
-near_column_in kind head j =
-    9 * (first_byte_in (numbers_in head) + column_byte j (get_or head (position_index kind j) 0)) +
-    1 + count_leading_zeros 8 (column_byte j (get_or head (mask_index kind j) 0))
+near_column_in kind head column =
+    9 * (first_byte_in (numbers_in head) + column_byte column (get_or head (position_index kind column) 0)) +
+    1 + count_leading_zeros 8 (column_byte column (get_or head (mask_index kind column) 0))
 
--- the position of this column in the words of a head of this kind; a wide head has it in 16 bits
+-- the position of the column of this number in the words of a head of this kind; a wide head has it in 16 bits
 abbrev pub column_in : (kind : HeadKind) → (head : List ℕ) → (column : ℕ) → ℕ
-column_in Wide head j = get_or head (FIRST_POSITIONS + j / 4) 0 / 2 ^ (16 * (j % 4)) % 2 ^ 16
-column_in Narrow head j = near_column_in Narrow head j
-column_in Middle head j = near_column_in Middle head j
+column_in Wide head column = get_or head (FIRST_POSITIONS + column / 4) 0 / 2 ^ (16 * (column % 4)) % 2 ^ 16
+column_in Narrow head column = near_column_in Narrow head column
+column_in Middle head column = near_column_in Middle head column
 
--- The row of this number in the words of a head of this kind. A narrow or middle head has its highest 8 or 16 bits, a wide one all 32.
+-- The row of this number in the words of a head of this kind. A wide head has all its 32 bits, a narrow one the highest 8, and a middle one
+-- the highest 16.
 abbrev pub row_in : (kind : HeadKind) → (head : List ℕ) → (row : ℕ) → ℕ
-row_in Wide head i = get_or head (FIRST_ROWS + i / 2) 0 / 2 ^ (32 * (i % 2)) % 2 ^ 32
-row_in Narrow head i = get_or head (FIRST_NARROW_ROWS + i / 8) 0 / 2 ^ (8 * (i % 8)) % 2 ^ 8 * 2 ^ 24
-row_in Middle head i = get_or head (FIRST_MIDDLE_ROWS + i / 4) 0 / 2 ^ (16 * (i % 4)) % 2 ^ 16 * 2 ^ 16
+row_in Wide head row = get_or head (FIRST_ROWS + row / 2) 0 / 2 ^ (32 * (row % 2)) % 2 ^ 32
+row_in Narrow head row = get_or head (FIRST_NARROW_ROWS + row / 8) 0 / 2 ^ (8 * (row % 8)) % 2 ^ 8 * 2 ^ 24
+row_in Middle head row = get_or head (FIRST_MIDDLE_ROWS + row / 4) 0 / 2 ^ (16 * (row % 4)) % 2 ^ 16 * 2 ^ 16
 
 -- the positions of all columns in the words of a head
 abbrev pub columns_in : List ℕ → List ℕ
 columns_in head = map (column_in (kind_in (numbers_in head)) head) (range_with_len 0 (column_count_in (numbers_in head)))
 
--- the sparse partial keys of all entries in the words of a head
+-- the rows of all entries in the words of a head
 abbrev pub rows_in : List ℕ → List ℕ
 rows_in head = map (row_in (kind_in (numbers_in head)) head) (range_with_len 0 (count_in (numbers_in head)))
 
 -- ---- the words of entries
 
--- the first `count` entries in the words of a node's entries
+-- the first `count` entries that the words of a node's entries encode
 abbrev pub entries_of : (count : ℕ) → (tail : List ℕ) → List Entry
-entries_of count tail = take count (map (λ w. unwrap_or (entry_of w) (Leaf 0)) tail)
+entries_of count tail = take count (map (λ word. unwrap_or (entry_of word) (Leaf 0)) tail)
 
 -- ---- the words of a leaf
 
--- the bytes in the words of a key: eight in each, the first in its highest bits
+-- the bytes in the words of a key: eight in each word, the first in its highest bits
 abbrev pub bytes_in : List ℕ → List ℕ
-bytes_in words = map (λ i. get_or (to_be_bytes w64 (get_or words (i / 8) 0)) (i % 8) 0) (range_with_len 0 MAX_BYTES)
+bytes_in words = map (λ index. get_or (to_be_bytes w64 (get_or words (index / 8) 0)) (index % 8) 0) (range_with_len 0 MAX_BYTES)
 
 -- the value in the words of a leaf
 abbrev pub leaf_value_in : List ℕ → ℕ

@@ -9,14 +9,15 @@ use Rattle.node_tries.specs.Kept.{kept}
 use Rattle.record_words.specs.Node.{HasHead, head_words}
 use Rattle.record_words.specs.declared.TheConstants.{HEAD_WORDS}
 
--- The words begin with the head of this node. It has an entry in this slot, and two others at least.
+-- The words begin with the head of this node, which is to lose the row of slot `at`. The node has an entry there, and two others at least.
 pub record CanDropAt (words : List ℕ) (node : NodeView) (at : ℕ) : Type 0 where
   pub lawful : IsLawfulNode node
   pub begins : head_words (head_of node) ≡ take HEAD_WORDS words
   pub in_range : at < length node.entries
   pub several : 2 < length node.entries
 
--- The words begin with the head of this node. The rows are over its columns, and the bits of `used` are of some of them.
+-- The words begin with the head of this node, which is to keep only those columns that have a bit in `used`. The rows, and `used`, are over
+-- the node's columns.
 pub record CanDropColumns (words : List ℕ) (node : NodeView) (rows : List ℕ) (used : ℕ) : Type 0 where
   pub lawful : IsLawfulNode node
   pub begins : head_words (head_of node) ≡ take HEAD_WORDS words
@@ -24,8 +25,8 @@ pub record CanDropColumns (words : List ℕ) (node : NodeView) (rows : List ℕ)
   pub used_over : IsRowOver (length node.columns) used
   pub left : IsColumns (kept (used_bits used) node.columns)
 
--- The new words begin with a head, and are behind it as before. If the height is one above the greatest of the entries left, it is that of
--- a node built anew without slot `at`.
+-- The new words begin with a head, and behind it are the old ones. If `height` is one above the greatest height of the entries left, the
+-- head is that of a node built anew without slot `at`.
 pub record HasHeadWithout (old new : List ℕ) (at height : ℕ) (node : NodeView) : Type 0 where
   pub head : HeadView
   pub has : HasHead old new head

@@ -4,7 +4,7 @@ use Rattle.compound_node.specs.declared.entries.Entry.{Entry}
 use Rattle.compound_node.specs.declared.entries.Entry.TheVariants.{Leaf, Node}
 use Rattle.record_words.specs.declared.TheConstants.{HEIGHT_BIT}
 
--- the entry has a word: its record number has 32 bits, and a node's height is from 1 to 65,535
+-- The entry can be encoded: its record's number has 32 bits, and the height of a node is from 1 to 65,535. No entry can be encoded, too.
 abbrev pub HasEntryWord : Option Entry → Type 0
 HasEntryWord None = Unit {0}
 HasEntryWord (Some (Leaf number)) = number < 2 ^ 32

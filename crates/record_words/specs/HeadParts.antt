@@ -8,31 +8,31 @@ use Rattle.record_words.specs.declared.kind.HeadKind.TheVariants.{Wide}
 use Rattle.record_words.specs.declared.numbers.HeadNumbers.{HeadNumbers}
 use Rattle.record_words.specs.declared.TheConstants.{FIRST_ROWS, MIDDLE_HEAD_WORDS, NARROW_HEAD_WORDS}
 
--- some node has the head, and it is of this kind
+-- the head is that of some node, and is of this kind
 abbrev pub HasHeadOf : HeadKind → HeadView → Type 0
 HasHeadOf kind head = HasHeadWords head × (kind_of head.columns ≡ kind)
 
--- each node whose head is of this kind, and has these words in this part, has the property
+-- `IsSo` holds of each node whose head is of this kind and has these words in this part
 abbrev pub InNodesOfKind : (kind : HeadKind) → (part : HeadView → List ℕ) → (words : List ℕ) → (IsSo : NodeView → Type 0) → Type 0
 InNodesOfKind kind part words IsSo = (node : NodeView) → IsLawfulNode node → kind_of node.columns ≡ kind → part (head_of node) ≡ words → IsSo node
 
--- the words of a wide head with the numbers and the positions
+-- the words of a wide head that have its numbers and positions
 abbrev pub front_words : HeadView → List ℕ
 front_words head = take FIRST_ROWS (head_words head)
 
--- the words of a wide head with the sparse partial keys
+-- the words of a wide head that have its rows
 abbrev pub back_words : HeadView → List ℕ
 back_words head = drop FIRST_ROWS (head_words head)
 
--- the words of a narrow or middle head without the unused ones
+-- the words of a narrow head without the unused ones
 abbrev pub narrow_words : HeadView → List ℕ
 narrow_words head = take NARROW_HEAD_WORDS (head_words head)
 
--- the words that a search loads of a middle head
+-- the words of a middle head without the unused ones
 abbrev pub middle_words : HeadView → List ℕ
 middle_words head = take MIDDLE_HEAD_WORDS (head_words head)
 
--- the numbers are those in the first word of a node's head, where a wide head doesn't tell its first byte
+-- The numbers are those in the first word of the node's head. Only a narrow or middle head tells its first byte.
 pub record AreNumbersOf (numbers : HeadNumbers) (node : NodeView) : Type 0 where
   pub count_is : numbers.count ≡ length node.entries
   pub columns_are : numbers.columns ≡ length node.columns
@@ -40,7 +40,7 @@ pub record AreNumbersOf (numbers : HeadNumbers) (node : NodeView) : Type 0 where
   pub kind_is : numbers.kind ≡ kind_of node.columns
   pub first_is : numbers.kind ≢ Wide → numbers.first_byte ≡ first_byte node.columns
 
--- each node whose head has these numbers, and this word at this index, has the property
+-- `IsSo` holds of each node whose head has these numbers, and this word at this index
 abbrev pub InNodesWith : HeadNumbers → (index word : ℕ) → (NodeView → Type 0) → Type 0
 InNodesWith numbers index word IsSo =
     (node : NodeView) → IsLawfulNode node → AreNumbersOf numbers node → slice_index (head_words (head_of node)) index ≡ word → IsSo node

@@ -15,50 +15,51 @@ use Rattle.record_words.specs.declared.TheConstants.{HEAD_WORDS}
 abbrev pub head_words : HeadView → List ℕ
 head_words head = fixed_words (length head.rows) head.height head.columns head.rows
 
--- the head is that of some node, so it has words
+-- the head is that of some lawful node, so it can be encoded
 abbrev pub HasHeadWords : HeadView → Type 0
 HasHeadWords head = (node : NodeView) × IsLawfulNode node × (head_of node ≡ head)
 
--- each node whose head has these words has the property
+-- `IsSo` holds of each lawful node whose head has these words
 abbrev pub InNodesOf : List ℕ → (NodeView → Type 0) → Type 0
 InNodesOf words IsSo = (node : NodeView) → IsLawfulNode node → head_words (head_of node) ≡ words → IsSo node
 
--- the words of a node's entries, from offset FIRST_ENTRY on: one for each slot, with 0 past the last entry
+-- The words of a node's entries, from offset FIRST_ENTRY of its record on. There is one for each slot, and 0 for a slot without an entry.
 unfoldable pub entry_words : List Entry → List ℕ
-entry_words entries = map (λ i. entry_word (slice_get entries i)) (range_with_len 0 MAX_ENTRIES)
+entry_words entries = map (λ slot. entry_word (slice_get entries slot)) (range_with_len 0 MAX_ENTRIES)
 
--- the entries have words, and are at most MAX_ENTRIES
+-- The entries can be encoded, and are at most MAX_ENTRIES.
 pub record HaveEntryWords (entries : List Entry) : Type 0 where
   pub room : length entries ≤ MAX_ENTRIES
-  pub each : (i : ℕ) → HasEntryWord (slice_get entries i)
+  pub each : (slot : ℕ) → HasEntryWord (slice_get entries slot)
 
 -- the words of a node record behind its state, at offsets 1 to NODE_FIELDS
 abbrev pub node_words : NodeView → List ℕ
 node_words node = head_words (head_of node) ++ entry_words node.entries
 
--- the node has words: it is a lawful one, and its entries have words
+-- The node can be encoded: it is lawful, and so can each of its entries.
 pub record HasNodeWords (node : NodeView) : Type 0 where
   pub lawful : IsLawfulNode node
   pub entries : HaveEntryWords node.entries
 
 -- ---- words that get a new leaf
 
--- the node has leaves alone, and room for one more
+-- the node has leaves alone, and room for one more entry
 abbrev pub CanTakeLeaf : NodeView → Type 0
 CanTakeLeaf node = (node.height ≡ 1) × (length node.entries < MAX_ENTRIES)
 
--- The words are those of this node, which can take a leaf. A fork at the position parts the leaf from the entries from `first` to `last`.
+-- The words encode the node, which can take one leaf more. A fork at `position` will part this leaf from the entries in slots `first` to
+-- `last`.
 pub record CanGrowAt (words : List ℕ) (node : NodeView) (position first last : ℕ) : Type 0 where
   pub has : HasNodeWords node
   pub spells : node_words node ≡ words
   pub takes : CanTakeLeaf node
   pub range : IsAffected (piece node) position first last
 
--- the new words begin with those of this head, and are behind it as before
+-- The new words begin with those of this head. Behind the head they are the old ones.
 abbrev pub HasHead : (old new : List ℕ) → HeadView → Type 0
 HasHead old new head = new ≡ head_words head ++ drop HEAD_WORDS old
 
--- the words spell a node that was built anew to show this piece
+-- The words encode a node that was built anew to show this piece.
 pub record SpellBuilt (words : List ℕ) (shown : Piece Entry) : Type 0 where
   pub node : NodeView
   pub has : HasNodeWords node
@@ -67,13 +68,14 @@ pub record SpellBuilt (words : List ℕ) (shown : Piece Entry) : Type 0 where
 
 -- ---- words that lose an entry
 
--- the words spell these entries, all of which can stand in a node of this height
+-- The words encode these entries, all of which can stand in a node of this height.
 pub record SpellEntries (height : ℕ) (words : List ℕ) (entries : List Entry) : Type 0 where
   pub spells : map (λ entry. entry_word (Some entry)) entries ≡ words
   pub each : All (λ entry. HasEntryWord (Some entry)) entries
   pub stand : All (StandsBelow height) entries
 
--- The words are those of this node. The sibling is the slot beside `at`, and the entry can stand there.
+-- The words encode the node, which is to lose the entry in slot `at`. The slot `sibling` is the one beside it, and `entry` can stand in the
+-- node.
 pub record CanCloseAt (words : List ℕ) (node : NodeView) (at sibling : ℕ) (entry : Entry) : Type 0 where
   pub has : HasNodeWords node
   pub spells : node_words node ≡ words
@@ -82,7 +84,7 @@ pub record CanCloseAt (words : List ℕ) (node : NodeView) (at sibling : ℕ) (e
   pub is_beside : beside at (piece node) ≡ Some (sibling, position)
   pub stands : StandsBelow node.height entry
 
--- What is left of a node shows this piece. It is one entry, `left`, or a node built anew, which the words spell.
+-- What is left of a node shows this piece. It is the one entry `left`, or a node that was built anew, which the words encode.
 abbrev pub SpellLeft : (words : List ℕ) → (left : Option Entry) → (shown : Piece Entry) → Type 0
 SpellLeft words (Some entry) shown = (shown ≡ Place entry) × IsEntry entry
 SpellLeft words None shown = SpellBuilt words shown

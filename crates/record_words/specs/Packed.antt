@@ -7,37 +7,37 @@ use Rattle.record_words.specs.declared.kind.HeadKind.TheVariants.{Wide, Narrow, 
 use Rattle.partial_keys.specs.declared.TheConstants.{MAX_ENTRIES}
 use Rattle.record_words.specs.declared.TheConstants.{HEAD_WORDS}
 
--- the number of entries, the number of columns and the stored height, as parts of one word
+-- The numbers of a head in one word: of entries, of columns, and the stored height.
 abbrev pub meta_word : (count columns height : ℕ) → ℕ
 meta_word count columns height = count + 256 * columns + 65536 * height
 
--- the position of this column, and 65,535 past the last one
+-- the position of the column of this number; 65,535, which is no position, past the last column
 abbrev pub position_at : (columns : List ℕ) → (column : ℕ) → ℕ
-position_at columns i = slice_index_or columns i 65535
+position_at columns column = slice_index_or columns column 65535
 
--- word j of the positions: four of them, from the lowest bits up
+-- The word of this index among the words of positions in a wide head. It has four of them, from the lowest bits up.
 unfoldable pub position_word : List ℕ → ℕ → ℕ
-position_word columns j =
-    position_at columns (4 * j) + 2 ^ 16 * position_at columns (4 * j + 1) +
-    2 ^ 32 * position_at columns (4 * j + 2) + 2 ^ 48 * position_at columns (4 * j + 3)
+position_word columns index =
+    position_at columns (4 * index) + 2 ^ 16 * position_at columns (4 * index + 1) +
+    2 ^ 32 * position_at columns (4 * index + 2) + 2 ^ 48 * position_at columns (4 * index + 3)
 
--- the row of this number, and 4,294,967,295 past the last one
+-- the row of this number; 4,294,967,295 past the last row
 abbrev pub row_at : (rows : List ℕ) → (row : ℕ) → ℕ
-row_at rows i = slice_index_or rows i 4294967295
+row_at rows row = slice_index_or rows row 4294967295
 
--- word j of the rows in a wide head: two of them, the first in the low half
+-- The word of this index among the words of rows in a wide head. It has two of them, the first in the low half.
 unfoldable pub row_word : List ℕ → ℕ → ℕ
-row_word rows j = row_at rows (2 * j) + 2 ^ 32 * row_at rows (2 * j + 1)
+row_word rows index = row_at rows (2 * index) + 2 ^ 32 * row_at rows (2 * index + 1)
 
--- The words of a head's columns, by its kind. The first eight lanes of a narrow one are 0, and have no word.
+-- The words of a head's columns, by its kind. The first eight lanes of a narrow head are 0, and have no words.
 abbrev pub column_words : HeadKind → List ℕ → List ℕ
 column_words Wide columns = map (position_word columns) (range_with_len 0 8)
 column_words Narrow columns = lane_words 8 1 (drop 8 (index_lanes columns)) ++ lane_words 8 1 (drop 8 (mask_lanes columns))
 column_words Middle columns = lane_words 8 2 (index_lanes columns) ++ lane_words 8 2 (mask_lanes columns)
 
--- the bits of each row above the lowest `low`, as lanes
+-- the rows as lanes of words, each without its lowest `low` bits
 abbrev pub row_lanes : (low : ℕ) → (rows : List ℕ) → List ℕ
-row_lanes low rows = map (λ i. row_at rows i / 2 ^ low) (range_with_len 0 MAX_ENTRIES)
+row_lanes low rows = map (λ row. row_at rows row / 2 ^ low) (range_with_len 0 MAX_ENTRIES)
 
 -- the words of a head's rows, by its kind
 abbrev pub row_words : HeadKind → List ℕ → List ℕ
@@ -45,7 +45,7 @@ row_words Wide rows = map (row_word rows) (range_with_len 0 16)
 row_words Narrow rows = lane_words 8 4 (row_lanes 24 rows)
 row_words Middle rows = lane_words 16 8 (row_lanes 16 rows)
 
--- the first word of a head: its numbers, and its kind
+-- the first word of a head of this kind: its numbers, and what tells its kind
 abbrev pub numbers_word : HeadKind → (count height : ℕ) → List ℕ → ℕ
 numbers_word kind count height columns = meta_word count (length columns) height + kind_part kind columns
 
@@ -58,6 +58,6 @@ abbrev pub kind_words : (kind : HeadKind) → (count height : ℕ) → (columns 
 kind_words kind count height columns rows =
     numbers_word kind count height columns ∷ (column_words kind columns ++ (row_words kind rows ++ unused_words kind))
 
--- the words of the head with these fields, in the kind that its columns ask for
+-- The words of the head with these numbers, columns and rows, in the kind that its columns ask for.
 unfoldable pub fixed_words : (count height : ℕ) → (columns rows : List ℕ) → List ℕ
 fixed_words count height columns rows = kind_words (kind_of columns) count height columns rows

@@ -4,7 +4,7 @@ use Rattle.record_words.specs.declared.state.Tag.{Tag}
 use Rattle.record_words.specs.declared.state.Tag.TheVariants.{Free, Held, Live, Locked, Obsolete}
 use Rattle.record_words.specs.declared.TheConstants.{EPOCHS}
 
--- the state has a word: an epoch is from 1 to EPOCHS - 1
+-- the state can be encoded: an epoch is from 1 to EPOCHS - 1
 abbrev pub HasStateWord : Tag → Type 0
 HasStateWord Free = Unit {0}
 HasStateWord Held = Unit {0}

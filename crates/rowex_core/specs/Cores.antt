@@ -16,63 +16,65 @@ use Rattle.record_words.specs.Leaf.{words_for}
 use Rattle.versions.specs.Core.{BareCore as Versions, Shared, Fate, Free, Held, Ready, InTree, Unlinked, Marked}
 use Rattle.rowex_core.specs.Reading.{node_words_of, leaf_of, IsPacked}
 
--- All that passes share: the layout, the words of each record but its state, and the rest (`Shared`).
+-- All that passes share: the layout, the words of each record behind its state, and the rest (`Shared`).
 pub record Core : Type 0 where
   pub layout : Layout
   pub words : Rec → List ℕ
   pub shared : Shared
   pub open shared use *
 
--- what the words of the records say
+-- what the words of all node and leaf records say
 abbrev pub heap_of : (Rec → List ℕ) → Heap
-heap_of words = record { nodes = λ n. node_words_of (words (a_node n)); leaves = λ n. leaf_of (words (a_leaf n)) }
+heap_of words = record { nodes = λ number. node_words_of (words (a_node number)); leaves = λ number. leaf_of (words (a_leaf number)) }
 
--- the core as versions see it, with what the words say in place of the words
+-- the core as laws of versions see it: with what the words of records say in place of these words
 abbrev pub bare : Core → Versions
 bare core = record { heap = heap_of core.words; shared = core.shared }
 
--- the table has this record
+-- a table with this layout has the record
 abbrev pub HasRecord : Layout → Rec → Type 0
-HasRecord layout (a_node n) = n < layout.nodes
-HasRecord layout (a_leaf n) = n < layout.leaves
+HasRecord layout (a_node number) = number < layout.nodes
+HasRecord layout (a_leaf number) = number < layout.leaves
 
--- how many words the table has for a record, with its state
+-- how many words a table with this layout has for the record, its state among them
 abbrev pub size_of : Layout → Rec → ℕ
-size_of layout (a_node n) = NODE_WORDS
-size_of layout (a_leaf n) = leaf_size layout n
+size_of layout (a_node number) = NODE_WORDS
+size_of layout (a_leaf number) = leaf_size layout number
 
--- the record in the table has a word at this offset
+-- a table with this layout has a word of the record at this offset
 abbrev pub HasWord : (layout : Layout) → (rec : Rec) → (offset : ℕ) → Type 0
 HasWord layout rec offset = offset < size_of layout rec
 
--- The table has room for the record. For a leaf these are all words up to the end of the key that `words` tell.
+-- A table with this layout has room for what these words of the record say. A node always has room. A leaf needs all words up to the end of
+-- its key, whose length the words tell.
 abbrev pub FitsIn : (layout : Layout) → (rec : Rec) → (words : List ℕ) → Type 0
-FitsIn layout (a_node n) words = Unit {0}
-FitsIn layout (a_leaf n) words = words_for (key_length_in words) ≤ leaf_size layout n
+FitsIn layout (a_node number) words = Unit {0}
+FitsIn layout (a_leaf number) words = words_for (key_length_in words) ≤ leaf_size layout number
 
--- How many words a record has in the core, behind its state. A leaf has the same number, whatever its class.
+-- How many words the core has of a record, without its state. Each leaf has the same number there, whatever its class.
 abbrev pub word_count_of : Rec → ℕ
-word_count_of (a_node n) = NODE_FIELDS
-word_count_of (a_leaf n) = LEAF_FIELDS
+word_count_of (a_node number) = NODE_FIELDS
+word_count_of (a_leaf number) = LEAF_FIELDS
 
--- The words of a record behind its state, taken from the words of a table. A leaf has 0 for those past its record.
+-- The words of a record without its state, taken from the words of a table. A leaf has 0 in place of those behind the end of its record.
 unfoldable pub fields_in : (layout : Layout) → (table : List ℕ) → (rec : Rec) → List ℕ
-fields_in layout table (a_node n) = map (λ i. get_or table (node_start layout n + (FIELDS_OFFSET + i)) 0) (range_with_len 0 NODE_FIELDS)
-fields_in layout table (a_leaf n) =
-    map (λ i. if nat_lt (FIELDS_OFFSET + i) (leaf_size layout n) then get_or table (leaf_start layout n + (FIELDS_OFFSET + i)) 0 else 0)
+fields_in layout table (a_node number) =
+    map (λ place. get_or table (node_start layout number + (FIELDS_OFFSET + place)) 0) (range_with_len 0 NODE_FIELDS)
+fields_in layout table (a_leaf number) =
+    map (λ place. if nat_lt (FIELDS_OFFSET + place) (leaf_size layout number) then get_or table (leaf_start layout number + (FIELDS_OFFSET + place)) 0 else 0)
     (range_with_len 0 LEAF_FIELDS)
 
--- the record has its number of words, of 64 bits each
+-- the core has the right number of words of the record, of 64 bits each
 abbrev pub IsSized : Rec → List ℕ → Type 0
-IsSized rec words = (length words ≡ word_count_of rec) × All (λ w. w < 2 ^ 64) words
+IsSized rec words = (length words ≡ word_count_of rec) × All (λ word. word < 2 ^ 64) words
 
--- a record of this fate is neither free nor held, so its words spell a value
+-- A record of this fate is neither free nor held. So its words must encode a node or a leaf, as `IsPacked` says.
 abbrev pub MustSpellValue : Fate → Type 0
 MustSpellValue Free = ⊥
 MustSpellValue (Held pass) = ⊥
 MustSpellValue _ = Unit {0}
 
--- The pass to which a record of this fate belongs. In the tree or retired, it belongs to none.
+-- The pass to which a record of this fate belongs. A free record, one in the tree and a marked one belong to none.
 abbrev pub holder_of : Fate → Option ℕ
 holder_of Free = None
 holder_of (Held pass) = Some pass
@@ -81,40 +83,40 @@ holder_of (InTree since) = None
 holder_of (Unlinked since last pass) = Some pass
 holder_of (Marked since last epoch) = None
 
--- What holds of the records of a lawful core, by their words, fates and locks.
+-- What holds of the records of a lawful core. `words`, `fate` and `lock` are the words, the fate and the lock of each.
 pub record AreRecords (layout : Layout) (words : Rec → List ℕ) (fate : Rec → Fate) (lock : ℕ → Option ℕ) : Type 0 where
-  -- each has its number of words, and those of one that is neither free nor held spell a value
+  -- each has its number of words; those of one that is neither free nor held encode a node or a leaf
   pub sized : (rec : Rec) → IsSized rec (words rec)
   pub packed : (rec : Rec) → MustSpellValue (fate rec) → IsPacked rec (words rec)
-  -- a leaf's words up to the end of its key are no more than the table has for it
+  -- the table has room for each leaf up to the end of its key
   pub fits : (rec : Rec) → MustSpellValue (fate rec) → FitsIn layout rec (words rec)
   -- an unlinked node stays locked until it is marked
-  pub retired : (n since last pass : ℕ) → fate (a_node n) ≡ Unlinked since last pass → lock n ≡ Some pass
+  pub retired : (number since last pass : ℕ) → fate (a_node number) ≡ Unlinked since last pass → lock number ≡ Some pass
   -- only records of the table are used
   pub used : (rec : Rec) → (fate rec ≡ Free) ⊎ HasRecord layout rec
   -- only passes of the index have records of their own
   pub holders : (rec : Rec) (pass : ℕ) → holder_of (fate rec) ≡ Some pass → pass < layout.passes
 
--- What holds of the epochs of a lawful core. The epoch and each mark are from 1 to EPOCHS - 1, and each pin is from 1 on. Only passes of
--- the index are pinned.
+-- What holds of the epochs of a lawful core. The epoch and the mark of each retired record are from 1 to EPOCHS - 1. The word of each pin,
+-- and each epoch that a round has loaded, is at least 1. Only passes of the index are pinned.
 pub record AreEpochs (layout : Layout) (epoch : ℕ) (pins : ℕ → Option Pin) (rounds : ℕ → Round) (fate : Rec → Fate) : Type 0 where
   pub now : (1 ≤ epoch) × (epoch < EPOCHS)
   pub loads : (pass : ℕ) → ((rounds pass).version ≡ 0) ⊎ (1 ≤ (rounds pass).epoch)
   pub pinned : (pass : ℕ) (pin : Pin) → pins pass ≡ Some pin → (pass < layout.passes) × (1 ≤ pin.word)
   pub marked : (rec : Rec) (since last epoch : ℕ) → fate rec ≡ Marked since last epoch → (1 ≤ epoch) × (epoch < EPOCHS)
 
--- Only passes of the index hold locks.
+-- Only passes of the index hold locks: `anchor` says who holds the root's, and `lock` who holds each node's.
 pub record AreLockers (layout : Layout) (anchor : Option ℕ) (lock : ℕ → Option ℕ) : Type 0 where
   pub root : (pass : ℕ) → anchor ≡ Some pass → pass < layout.passes
-  pub nodes : (n pass : ℕ) → lock n ≡ Some pass → pass < layout.passes
+  pub nodes : (node pass : ℕ) → lock node ≡ Some pass → pass < layout.passes
 
--- The core is lawful in all its parts: versions, records, epochs, root, locks, and who made the changes.
-pub record IsLawful (c : Core) : Type 0 where
+-- The core `whole` is lawful in all its parts. Each core to which legal steps lead from that of a new table is so.
+pub record IsLawful (whole : Core) : Type 0 where
   -- versions, lives, paces and locks; the content of each version is the map of the changes before it
-  pub core : IsLawfulCore (bare c)
-  pub records : AreRecords c.layout c.words c.fate c.lock
-  pub epochs : AreEpochs c.layout c.epoch c.pins c.rounds c.fate
-  pub root : HasEntryWord c.root
-  pub lockers : AreLockers c.layout c.anchor c.lock
+  pub core : IsLawfulCore (bare whole)
+  pub records : AreRecords whole.layout whole.words whole.fate whole.lock
+  pub epochs : AreEpochs whole.layout whole.epoch whole.pins whole.rounds whole.fate
+  pub root : HasEntryWord whole.root
+  pub lockers : AreLockers whole.layout whole.anchor whole.lock
   -- each change was made by a pass of the index
-  pub makers : All (λ x. x.pass < c.layout.passes) c.changes
+  pub makers : All (λ change. change.pass < whole.layout.passes) whole.changes

@@ -1,4 +1,4 @@
--- When an atomic step of a pass is legal, or the bulk load with which a table was made, and what it makes of the core.
+-- When a step of a pass is legal, and what it makes of the core. A step is atomic, or the bulk load that makes a table.
 use Rattle.std.specs.Prelude.{◌≡◌, ℕ, suc, ◌+◌, ◌-◌, ◌^◌, ◌<◌, ◌≤◌, List, [], ◌∷◌, set, get_or, All, true, nat_eq, if◌then◌else◌, Option, Some, None, IsSome}
 use Rattle.std.specs.declared.cmp.Ordering.{Ordering}
 use Rattle.std.specs.declared.cmp.Ordering.TheVariants.{Less, Equal, Greater}
@@ -40,63 +40,64 @@ use Rattle.rowex_core.specs.Words.{lock_tag, state_at, pin_word, record_word}
 
 -- What a step changes
 
--- the words of the record `rec_read`, after a store of a word at an offset of the record `rec`
+-- the words of the record `rec_read`, after a store of `word` at an offset of the record `rec`
 abbrev pub with_word : (words : Rec → List ℕ) → (rec : Rec) → (offset word : ℕ) → (rec_read : Rec) → List ℕ
-with_word words r offset word i = if same_rec i r then set (words r) (offset - FIELDS_OFFSET) word else words i
+with_word words rec offset word rec_read = if same_rec rec_read rec then set (words rec) (offset - FIELDS_OFFSET) word else words rec_read
 
 -- Publishing: what a word stored at a spot makes
 
--- The records' words after a store to a spot. An entry and a value are words of a record, the root is none.
+-- The words of records after a store to a spot. A slot's entry and a value are words of a record. The root's entry is none.
 abbrev pub stored_words : (core : Core) → (spot : Spot) → (word : ℕ) → (rec : Rec) → List ℕ
 stored_words core Root word = core.words
-stored_words core (Slot n j) word = with_word core.words (a_node n) (FIRST_ENTRY + j) word
-stored_words core (Value l) word = with_word core.words (a_leaf l) VALUE_OFFSET word
+stored_words core (Slot node slot) word = with_word core.words (a_node node) (FIRST_ENTRY + slot) word
+stored_words core (Value leaf) word = with_word core.words (a_leaf leaf) VALUE_OFFSET word
 
 -- the root after a store to a spot
 abbrev pub stored_root : (core : Core) → (spot : Spot) → (word : ℕ) → Option Entry
 stored_root core Root word = entry_of word
-stored_root core (Slot n j) word = core.root
-stored_root core (Value l) word = core.root
+stored_root core (Slot node slot) word = core.root
+stored_root core (Value leaf) word = core.root
 
--- the tree that the words show from this root, if they show one
+-- the tree that the words of records show below this root; none if they show none
 abbrev pub tree_of : Heap → Option Entry → Option Tree
 tree_of heap None = None
 tree_of heap (Some entry) = read heap (height_of entry) entry
 
--- The change from one list of leaves to another, by the first leaves in which they differ: `item` before, and `other` after. `order` is
--- that of the two keys.
+-- The change that makes one list of leaves another. `item` of the one list and `other` of the other are the first leaves that differ.
+-- `order` is that of their keys.
 abbrev pub change_at : (pass : ℕ) → (order : Ordering) → (item other : Item) → Change
 change_at pass Less item other = removed_change pass item
 change_at pass Equal item other = replaced_change pass other
 change_at pass Greater item other = added_change pass other
 
--- the change by which the pass has made the leaves `before` the leaves `after`
+-- The change by which the pass has made the leaves `before` the leaves `after`. Leaves are told apart by the numbers of their records.
 abbrev pub change_between : (pass : ℕ) → (before after : List Item) → Change
-change_between q [] [] = record { pass = q; key = []; value = 0; kind = Removed }
-change_between q [] (y ∷ ys) = added_change q y
-change_between q (x ∷ xs) [] = removed_change q x
-change_between q (x ∷ xs) (y ∷ ys) = if nat_eq x.number y.number then change_between q xs ys else change_at q (key_order x.key y.key) x y
+change_between pass [] [] = record { pass = pass; key = []; value = 0; kind = Removed }
+change_between pass [] (other ∷ others) = added_change pass other
+change_between pass (item ∷ items) [] = removed_change pass item
+change_between pass (item ∷ items) (other ∷ others) =
+    if nat_eq item.number other.number then change_between pass items others else change_at pass (key_order item.key other.key) item other
 
--- the spot is that of an entry, not of a value
+-- at the spot stands an entry, and no value
 abbrev pub IsOfEntry : Spot → Type 0
-IsOfEntry (Value l) = ⊥
+IsOfEntry (Value leaf) = ⊥
 IsOfEntry spot = Unit {0}
 
--- leaves of the two lists that have one number are equal
+-- leaves of the two lists with one number have one key and one value
 abbrev pub AreSame : (items others : List Item) → Type 0
-AreSame xs ys = (item other : Item) → IsIn item xs → IsIn other ys → item.number ≡ other.number → item ≡ other
+AreSame items others = (item other : Item) → IsIn item items → IsIn other others → item.number ≡ other.number → item ≡ other
 
--- the tree after a store to a spot
+-- the tree that words show after a store to a spot
 abbrev pub next_tree : (core : Core) → (spot : Spot) → (word : ℕ) → Option Tree
 next_tree core spot word = tree_of (heap_of (stored_words core spot word)) (stored_root core spot word)
 
 -- the change by which the pass gives the key of a leaf another value
 abbrev pub value_change : (core : Core) → (pass leaf value : ℕ) → Change
-value_change core q l word = record { pass = q; key = (leaf_of (core.words (a_leaf l))).key; value = word; kind = Replaced }
+value_change core pass leaf value = record { pass = pass; key = (leaf_of (core.words (a_leaf leaf))).key; value = value; kind = Replaced }
 
 -- the change that a store to a spot makes to the map
 abbrev pub next_change : Core → (pass : ℕ) → Spot → (word : ℕ) → Change
-next_change core pass (Value l) word = value_change core pass l word
+next_change core pass (Value leaf) word = value_change core pass leaf word
 next_change core pass spot word = change_between pass (items_of (core.past.version core.past.now)) (items_of (next_tree core spot word))
 
 -- A bulk load: what the words of a table show that is made of sorted pairs
@@ -109,51 +110,52 @@ loaded_root words = entry_of (get_or words ROOT_WORD 0)
 abbrev pub loaded_tree : Layout → List ℕ → Option Tree
 loaded_tree layout words = tree_of (heap_of (fields_in layout words)) (loaded_root words)
 
--- The words show a lawful tree from the root on. Its records stand in the table, and their words spell values for which it has room.
+-- The words of a table, made from sorted pairs, show a lawful tree or none. Each word has 64 bits. The table has the tree's records, and
+-- room for each. Their words encode nodes and leaves.
 pub record IsLoad (layout : Layout) (words : List ℕ) : Type 0 where
-  pub small : All (λ w. w < 2 ^ 64) words
+  pub small : All (λ word. word < 2 ^ 64) words
   pub root : HasEntryWord (loaded_root words) × (entry_word (loaded_root words) ≡ get_or words ROOT_WORD 0)
   pub top : IsTop (heap_of (fields_in layout words)) (loaded_root words) (loaded_tree layout words)
-  pub tree : (u : Tree) → loaded_tree layout words ≡ Some u → IsTrie u × IsBuilt u
+  pub tree : (shown : Tree) → loaded_tree layout words ≡ Some shown → IsTrie shown × IsBuilt shown
   pub records : (rec : Rec) → IsLinked (loaded_tree layout words) rec →
       HasRecord layout rec × IsPacked rec (fields_in layout words rec) × FitsIn layout rec (fields_in layout words rec)
 
 -- Legality
 
--- the offset is one of the record's words behind its state
+-- the word of the record at this offset is not its state
 abbrev pub IsOffset : (rec : Rec) → (offset : ℕ) → Type 0
-IsOffset (a_node n) offset = (FIELDS_OFFSET ≤ offset) × (offset < NODE_WORDS)
-IsOffset (a_leaf n) offset = (FIELDS_OFFSET ≤ offset) × (offset < LEAF_WORDS)
+IsOffset (a_node number) offset = (FIELDS_OFFSET ≤ offset) × (offset < NODE_WORDS)
+IsOffset (a_leaf number) offset = (FIELDS_OFFSET ≤ offset) × (offset < LEAF_WORDS)
 
--- the offset is one of the record's words that stay while it lives: no state, entry or value
+-- The word of the record at this offset stays the same while the record lives. It is neither its state nor an entry or a value.
 abbrev pub IsFixedOffset : (rec : Rec) → (offset : ℕ) → Type 0
-IsFixedOffset (a_node n) offset = (FIELDS_OFFSET ≤ offset) × (offset < FIRST_ENTRY)
-IsFixedOffset (a_leaf n) offset = (VALUE_OFFSET < offset) × (offset < LEAF_WORDS)
+IsFixedOffset (a_node number) offset = (FIELDS_OFFSET ≤ offset) × (offset < FIRST_ENTRY)
+IsFixedOffset (a_leaf number) offset = (VALUE_OFFSET < offset) × (offset < LEAF_WORDS)
 
--- the node is in the tree
+-- the node of this number is in the tree
 abbrev pub IsInTree : (core : Core) → (node : ℕ) → Type 0
-IsInTree core n = (since : ℕ) × (core.fate (a_node n) ≡ InTree since)
+IsInTree core node = (since : ℕ) × (core.fate (a_node node) ≡ InTree since)
 
--- The pass has the lock under which the spot's word is stored. For the root it is the anchor's, for a slot the node's, and for a value that
--- of what names the leaf.
+-- The pass holds the lock under which the word of the spot is stored. For the root it is the anchor. For a slot it is the lock of its node.
+-- For a value it is the lock of what names the leaf: the root, or the node with its entry.
 abbrev pub IsLockedAt : (core : Core) → (pass : ℕ) → (spot : Spot) → Type 0
-IsLockedAt core q Root = core.anchor ≡ Some q
-IsLockedAt core q (Slot n j) = (n < core.layout.nodes) × (j < MAX_ENTRIES) × (core.lock n ≡ Some q)
-IsLockedAt core q (Value l) = (l < core.layout.leaves) × HasLockedNamer (bare core) q l
+IsLockedAt core pass Root = core.anchor ≡ Some pass
+IsLockedAt core pass (Slot node slot) = (node < core.layout.nodes) × (slot < MAX_ENTRIES) × (core.lock node ≡ Some pass)
+IsLockedAt core pass (Value leaf) = (leaf < core.layout.leaves) × HasLockedNamer (bare core) pass leaf
 
--- the word may stand at the spot: it spells an entry, or is a value
+-- the word may stand at the spot: it encodes an entry, or is a value
 abbrev pub IsWordFor : (spot : Spot) → (word : ℕ) → Type 0
-IsWordFor (Value l) word = word < 2 ^ 64
+IsWordFor (Value leaf) word = word < 2 ^ 64
 IsWordFor spot word = HasEntryWord (entry_of word) × (entry_word (entry_of word) ≡ word)
 
--- after the store, the words of the node that has the spot still spell a value
+-- after a store of the word at the spot, the words of the node that has the spot still encode a node
 abbrev pub IsPackedAt : (core : Core) → (spot : Spot) → (word : ℕ) → Type 0
 IsPackedAt core Root word = Unit {0}
-IsPackedAt core (Value l) word = Unit {0}
-IsPackedAt core (Slot n j) word = IsPacked (a_node n) (stored_words core (Slot n j) word (a_node n))
+IsPackedAt core (Value leaf) word = Unit {0}
+IsPackedAt core (Slot node slot) word = IsPacked (a_node node) (stored_words core (Slot node slot) word (a_node node))
 
--- The publish is legal. The pass has the lock, and the word may stand at the spot. The node's words still spell a value, and the words show
--- the next version.
+-- The publish of the word at the spot is legal. The pass holds the lock (`locked`), the word may stand there (`entry`), and a node there
+-- stays one (`packed`). The words then show the next version, with one change (`next`).
 pub record IsLegalPublish (core : Core) (pass : ℕ) (spot : Spot) (word : ℕ) : Type 0 where
   pub locked : IsLockedAt core pass spot
   pub entry : IsWordFor spot word
@@ -162,106 +164,115 @@ pub record IsLegalPublish (core : Core) (pass : ℕ) (spot : Spot) (word : ℕ) 
       (next_tree core spot word) (next_change core pass spot word)
   pub open next use *
 
--- The pass may store the word at the spot. For an entry the store is a legal publish. For a value the pass has locked what names the leaf.
+-- The pass may store the word at the spot. A store of an entry must be a legal publish. For a store of a value the pass must have locked
+-- what names the leaf.
 abbrev pub MayStoreAt : (core : Core) → (pass : ℕ) → (spot : Spot) → (word : ℕ) → Type 0
-MayStoreAt core q (Value l) word = IsLockedAt core q (Value l) × (word < 2 ^ 64)
-MayStoreAt core q spot word = IsLegalPublish core q spot word
+MayStoreAt core pass (Value leaf) word = IsLockedAt core pass (Value leaf) × (word < 2 ^ 64)
+MayStoreAt core pass spot word = IsLegalPublish core pass spot word
 
--- The pass may make the act in this core. What a load or an exchange finds is what stands there.
+-- The pass may make the act in this core. What a load or an exchange finds is what stands there. A store needs what protects its word: a
+-- record of the pass's own, a lock, or a bound of its round.
 abbrev pub LegalAct : (core : Core) → (pass : ℕ) → (act : Act) → Type 0
-LegalAct core pass (Claim r found) = HasRecord core.layout r × (found ≡ state_at core r)
-LegalAct core pass (Fill r offset w) =
-    HasRecord core.layout r × (core.fate r ≡ Held pass) × IsOffset r offset × (w < 2 ^ 64) × HasWord core.layout r offset
-LegalAct core pass (Ready r) = HasRecord core.layout r × (core.fate r ≡ Held pass) × IsPacked r (core.words r) × FitsIn core.layout r (core.words r)
-LegalAct core pass (Release r) = HasRecord core.layout r × (core.fate r ≡ Held pass)
-LegalAct core pass (LoadRef Root w) = w ≡ entry_word core.root
-LegalAct core pass (LoadRef (Slot n j) w) = (n < core.layout.nodes) × (j < MAX_ENTRIES) × (w ≡ record_word core (a_node n) (FIRST_ENTRY + j))
-LegalAct core pass (LoadRef (Value l) w) = (l < core.layout.leaves) × (w ≡ record_word core (a_leaf l) VALUE_OFFSET)
-LegalAct core pass (LoadFixed r offset w) =
-    HasRecord core.layout r × IsFixedOffset r offset × (w ≡ record_word core r offset) × HasWord core.layout r offset
+LegalAct core pass (Claim rec found) = HasRecord core.layout rec × (found ≡ state_at core rec)
+LegalAct core pass (Fill rec offset word) =
+    HasRecord core.layout rec × (core.fate rec ≡ Held pass) × IsOffset rec offset × (word < 2 ^ 64) × HasWord core.layout rec offset
+LegalAct core pass (Ready rec) =
+    HasRecord core.layout rec × (core.fate rec ≡ Held pass) × IsPacked rec (core.words rec) × FitsIn core.layout rec (core.words rec)
+LegalAct core pass (Release rec) = HasRecord core.layout rec × (core.fate rec ≡ Held pass)
+LegalAct core pass (LoadRef Root word) = word ≡ entry_word core.root
+LegalAct core pass (LoadRef (Slot node slot) word) =
+    (node < core.layout.nodes) × (slot < MAX_ENTRIES) × (word ≡ record_word core (a_node node) (FIRST_ENTRY + slot))
+LegalAct core pass (LoadRef (Value leaf) word) = (leaf < core.layout.leaves) × (word ≡ record_word core (a_leaf leaf) VALUE_OFFSET)
+LegalAct core pass (LoadFixed rec offset word) =
+    HasRecord core.layout rec × IsFixedOffset rec offset × (word ≡ record_word core rec offset) × HasWord core.layout rec offset
 LegalAct core pass (Lock Anchor found) = found ≡ state_word (lock_tag core.anchor)
-LegalAct core pass (Lock (NodeTarget n) found) =
-    (n < core.layout.nodes) × (found ≡ state_at core (a_node n)) × (found ≡ state_word Live → IsInTree core n)
+LegalAct core pass (Lock (NodeTarget node) found) =
+    (node < core.layout.nodes) × (found ≡ state_at core (a_node node)) × (found ≡ state_word Live → IsInTree core node)
 LegalAct core pass (Unlock Anchor) = core.anchor ≡ Some pass
-LegalAct core pass (Unlock (NodeTarget n)) = (n < core.layout.nodes) × (core.lock n ≡ Some pass) × IsInTree core n
-LegalAct core pass (Publish spot w) = MayStoreAt core pass spot w
-LegalAct core pass (Mark r epoch) =
-    HasRecord core.layout r × (epoch ≡ (core.rounds pass).epoch) ×
-    ((since : ℕ) × (last : ℕ) × (core.fate r ≡ Unlinked since last pass) × (last < (core.rounds pass).version))
-LegalAct core pass (LoadEpoch w) = w ≡ core.epoch
+LegalAct core pass (Unlock (NodeTarget node)) = (node < core.layout.nodes) × (core.lock node ≡ Some pass) × IsInTree core node
+LegalAct core pass (Publish spot word) = MayStoreAt core pass spot word
+LegalAct core pass (Mark rec epoch) =
+    HasRecord core.layout rec × (epoch ≡ (core.rounds pass).epoch) ×
+    ((since : ℕ) × (last : ℕ) × (core.fate rec ≡ Unlinked since last pass) × (last < (core.rounds pass).version))
+LegalAct core pass (LoadEpoch word) = word ≡ core.epoch
 LegalAct core pass (Advance expected found) = (1 ≤ expected) × (expected + 1 < EPOCHS) × (found ≡ core.epoch)
-LegalAct core pass (SetPin w) = (core.pins pass ≡ None) × (w ≡ (core.rounds pass).epoch) × (1 ≤ w)
+LegalAct core pass (SetPin word) = (core.pins pass ≡ None) × (word ≡ (core.rounds pass).epoch) × (1 ≤ word)
 LegalAct core pass ClearPin = IsSome (core.pins pass)
-LegalAct core pass (LoadPin o w) = (o < core.layout.passes) × (w ≡ pin_word (core.pins o))
-LegalAct core pass (LoadState r w) = HasRecord core.layout r × (w ≡ state_at core r)
-LegalAct core pass (GiveBack r epoch found) =
-    HasRecord core.layout r × (found ≡ state_at core r) × (1 ≤ epoch) × (epoch < (core.rounds pass).bound) ×
-    ((o : ℕ) → o < core.layout.passes → has_seen (core.rounds pass).seen o ≡ true)
+LegalAct core pass (LoadPin other word) = (other < core.layout.passes) × (word ≡ pin_word (core.pins other))
+LegalAct core pass (LoadState rec word) = HasRecord core.layout rec × (word ≡ state_at core rec)
+LegalAct core pass (GiveBack rec epoch found) =
+    HasRecord core.layout rec × (found ≡ state_at core rec) × (1 ≤ epoch) × (epoch < (core.rounds pass).bound) ×
+    ((other : ℕ) → other < core.layout.passes → has_seen (core.rounds pass).seen other ≡ true)
 LegalAct core pass (Load words) = (core ≡ opening core.layout) × IsLoad core.layout words.now
 
--- the pass's step is legal: the index has the pass, and the act is legal
+-- the act is a legal step of the pass: the index has the pass, and the pass may make the act
 abbrev pub Legal : (core : Core) → (pass : ℕ) → (act : Act) → Type 0
-Legal core q act = (q < core.layout.passes) × LegalAct core q act
+Legal core pass act = (pass < core.layout.passes) × LegalAct core pass act
 
 -- Effect
 
--- What passes share after the pass tried to claim a record of this fate. If the record was free, the pass holds it.
+-- What passes share after the pass has tried to claim a record of this fate. If the record was free, the pass holds it. Else nothing has
+-- changed.
 abbrev pub claimed : (shared : Shared) → (pass : ℕ) → (rec : Rec) → (fate : Fate) → Shared
-claimed shared q rec Free = with_fate shared rec (Held q)
-claimed shared q rec fate = shared
+claimed shared pass rec Free = with_fate shared rec (Held pass)
+claimed shared pass rec fate = shared
 
--- What passes share after a record of this fate was marked with an epoch. Only an unlinked record changes.
+-- What passes share after a record of this fate was marked with an epoch. If the record was unlinked, it is retired. Else nothing has
+-- changed.
 abbrev pub marked : (shared : Shared) → (rec : Rec) → (epoch : ℕ) → (fate : Fate) → Shared
 marked shared rec epoch (Unlinked since last pass) = after_mark shared rec since last epoch
 marked shared rec epoch fate = shared
 
--- What passes share after a try to give back a record of this fate. If it was marked with this epoch, it is free.
+-- What passes share after a try to give back a record of this fate, which expected a mark with this epoch. If the record had that mark, it
+-- is free. Else nothing has changed.
 abbrev pub given_back : (shared : Shared) → (rec : Rec) → (epoch : ℕ) → (fate : Fate) → Shared
-given_back shared rec epoch (Marked since last m) = if nat_eq m epoch then with_fate shared rec Free else shared
+given_back shared rec epoch (Marked since last mark) = if nat_eq mark epoch then with_fate shared rec Free else shared
 given_back shared rec epoch fate = shared
 
--- What passes share after the pass tried to lock the anchor, which `holder` had locked. If no pass had, the pass has the lock.
+-- What passes share after the pass has tried to lock the anchor, whose lock `holder` had. If nobody had it, the pass has it.
 abbrev pub anchored : (shared : Shared) → (pass : ℕ) → (holder : Option ℕ) → Shared
-anchored shared q None = with_anchor shared (Some q)
-anchored shared q (Some p) = shared
+anchored shared pass None = with_anchor shared (Some pass)
+anchored shared pass (Some holder) = shared
 
--- What passes share after the pass tried to lock a node and found this state. If the node was live, the pass has the lock.
+-- What passes share after the pass has tried to lock a node, and found its state word to be `found`. If that says live, the pass has the
+-- lock.
 abbrev pub locked_where : (shared : Shared) → (node pass found : ℕ) → Shared
-locked_where shared n q found = if nat_eq found (state_word Live) then with_lock shared n (Some q) else shared
+locked_where shared node pass found = if nat_eq found (state_word Live) then with_lock shared node (Some pass) else shared
 
--- what passes share after a try to advance the epoch from the expected one
+-- what passes share after a try to raise the epoch by 1, which does so only if the epoch is `expected`
 abbrev pub advanced : (shared : Shared) → (expected : ℕ) → Shared
 advanced shared expected = if nat_eq shared.epoch expected then with_epoch shared (suc shared.epoch) else shared
 
--- the words of the records after a step
+-- the words of the records after an act
 abbrev pub words_after : (core : Core) → (act : Act) → (rec : Rec) → List ℕ
-words_after core (Fill r offset w) = with_word core.words r offset w
-words_after core (Publish spot w) = stored_words core spot w
+words_after core (Fill rec offset word) = with_word core.words rec offset word
+words_after core (Publish spot word) = stored_words core spot word
 words_after core (Load words) = fields_in core.layout words.now
 words_after core _ = core.words
 
--- what passes share after an act of the pass, but the words
+-- what passes share after an act of the pass, without the words of records
 abbrev pub shared_after : (core : Core) → (pass : ℕ) → (act : Act) → Shared
-shared_after core q (Claim r found) = claimed core.shared q r (core.fate r)
-shared_after core q (Fill r offset w) = core.shared
-shared_after core q (Ready r) = with_fate core.shared r (ReadyBy q)
-shared_after core q (Release r) = with_fate core.shared r Free
-shared_after core q (LoadRef spot w) = core.shared
-shared_after core q (LoadFixed r offset w) = core.shared
-shared_after core q (Lock Anchor found) = anchored core.shared q core.anchor
-shared_after core q (Lock (NodeTarget n) found) = locked_where core.shared n q found
-shared_after core q (Unlock Anchor) = with_anchor core.shared None
-shared_after core q (Unlock (NodeTarget n)) = with_lock core.shared n None
-shared_after core q (Publish spot w) = published_by core.shared q (stored_root core spot w) (next_tree core spot w) (next_change core q spot w)
-shared_after core q (Mark r epoch) = marked core.shared r epoch (core.fate r)
-shared_after core q (LoadEpoch w) = after_load_epoch core.shared q
-shared_after core q (Advance expected found) = advanced core.shared expected
-shared_after core q (SetPin w) = after_set_pin core.shared q w
-shared_after core q ClearPin = with_pin core.shared q None
-shared_after core q (LoadPin o w) = after_load_pin core.shared q o
-shared_after core q (LoadState r w) = core.shared
-shared_after core q (GiveBack r epoch found) = given_back core.shared r epoch (core.fate r)
-shared_after core q (Load words) = loaded_by core.shared q (loaded_root words.now) (loaded_tree core.layout words.now)
+shared_after core pass (Claim rec found) = claimed core.shared pass rec (core.fate rec)
+shared_after core pass (Fill rec offset word) = core.shared
+shared_after core pass (Ready rec) = with_fate core.shared rec (ReadyBy pass)
+shared_after core pass (Release rec) = with_fate core.shared rec Free
+shared_after core pass (LoadRef spot word) = core.shared
+shared_after core pass (LoadFixed rec offset word) = core.shared
+shared_after core pass (Lock Anchor found) = anchored core.shared pass core.anchor
+shared_after core pass (Lock (NodeTarget node) found) = locked_where core.shared node pass found
+shared_after core pass (Unlock Anchor) = with_anchor core.shared None
+shared_after core pass (Unlock (NodeTarget node)) = with_lock core.shared node None
+shared_after core pass (Publish spot word) =
+    published_by core.shared pass (stored_root core spot word) (next_tree core spot word) (next_change core pass spot word)
+shared_after core pass (Mark rec epoch) = marked core.shared rec epoch (core.fate rec)
+shared_after core pass (LoadEpoch word) = after_load_epoch core.shared pass
+shared_after core pass (Advance expected found) = advanced core.shared expected
+shared_after core pass (SetPin word) = after_set_pin core.shared pass word
+shared_after core pass ClearPin = with_pin core.shared pass None
+shared_after core pass (LoadPin other word) = after_load_pin core.shared pass other
+shared_after core pass (LoadState rec word) = core.shared
+shared_after core pass (GiveBack rec epoch found) = given_back core.shared rec epoch (core.fate rec)
+shared_after core pass (Load words) = loaded_by core.shared pass (loaded_root words.now) (loaded_tree core.layout words.now)
 
 -- the core after an act of a pass
 abbrev pub after : (core : Core) → (pass : ℕ) → (act : Act) → Core
@@ -276,66 +287,66 @@ IsAtomic act = Unit {0}
 
 -- the location of a record's word at an offset
 abbrev pub word_of : (rec : Rec) → (offset : ℕ) → Location
-word_of (a_node n) offset = NodeWord n offset
-word_of (a_leaf n) offset = LeafWord n offset
+word_of (a_node number) offset = NodeWord number offset
+word_of (a_leaf number) offset = LeafWord number offset
 
 -- the location of a record's state
 abbrev pub state_of : Rec → Location
 state_of rec = word_of rec 0
 
--- the location of a spot
+-- the location of the word at a spot
 abbrev pub spot_word : Spot → Location
 spot_word Root = RootWord
-spot_word (Slot n j) = NodeWord n (FIRST_ENTRY + j)
-spot_word (Value l) = LeafWord l VALUE_OFFSET
+spot_word (Slot node slot) = NodeWord node (FIRST_ENTRY + slot)
+spot_word (Value leaf) = LeafWord leaf VALUE_OFFSET
 
--- the location of the state word of what is locked
+-- the location of the state word of what a writer locks
 abbrev pub target_word : Target → Location
 target_word Anchor = AnchorWord
-target_word (NodeTarget n) = state_of (a_node n)
+target_word (NodeTarget node) = state_of (a_node node)
 
 -- the location that an act loads, stores or exchanges
 abbrev pub location_of : (pass : ℕ) → (act : Act) → Location
-location_of pass (Claim r found) = state_of r
-location_of pass (Fill r offset w) = word_of r offset
-location_of pass (Ready r) = state_of r
-location_of pass (Release r) = state_of r
-location_of pass (LoadRef spot w) = spot_word spot
-location_of pass (LoadFixed r offset w) = word_of r offset
+location_of pass (Claim rec found) = state_of rec
+location_of pass (Fill rec offset word) = word_of rec offset
+location_of pass (Ready rec) = state_of rec
+location_of pass (Release rec) = state_of rec
+location_of pass (LoadRef spot word) = spot_word spot
+location_of pass (LoadFixed rec offset word) = word_of rec offset
 location_of pass (Lock target found) = target_word target
 location_of pass (Unlock target) = target_word target
-location_of pass (Publish spot w) = spot_word spot
-location_of pass (Mark r epoch) = state_of r
-location_of pass (LoadEpoch w) = Epoch
+location_of pass (Publish spot word) = spot_word spot
+location_of pass (Mark rec epoch) = state_of rec
+location_of pass (LoadEpoch word) = Epoch
 location_of pass (Advance expected found) = Epoch
-location_of pass (SetPin w) = PinOf pass
+location_of pass (SetPin word) = PinOf pass
 location_of pass ClearPin = PinOf pass
-location_of pass (LoadPin o w) = PinOf o
-location_of pass (LoadState r w) = state_of r
-location_of pass (GiveBack r epoch found) = state_of r
+location_of pass (LoadPin other word) = PinOf other
+location_of pass (LoadState rec word) = state_of rec
+location_of pass (GiveBack rec epoch found) = state_of rec
 location_of pass (Load words) = RootWord
 
--- what an exchange of `old` for `new` leaves where `word` stood: another word than `old` stays
+-- what a compare-and-exchange of `old` for `new` leaves where `word` stood: `new` if that was `old`, and else `word`
 abbrev pub exchanged : (word old new : ℕ) → ℕ
-exchanged w old new = if nat_eq w old then new else w
+exchanged word old new = if nat_eq word old then new else word
 
--- what an act leaves at its location, where `stood` is the word that stood there
+-- what an act leaves at its location, where the word `stood` stood
 abbrev pub writes : (act : Act) → (stood : ℕ) → ℕ
-writes (Claim r found) w = exchanged w (state_word FreeTag) (state_word HeldTag)
-writes (Fill r offset word) w = word
-writes (Ready r) w = state_word Live
-writes (Release r) w = state_word FreeTag
-writes (LoadRef spot word) w = w
-writes (LoadFixed r offset word) w = w
-writes (Lock target found) w = exchanged w (state_word Live) (state_word Locked)
-writes (Unlock target) w = state_word Live
-writes (Publish spot word) w = word
-writes (Mark r epoch) w = state_word (Obsolete epoch)
-writes (LoadEpoch word) w = w
-writes (Advance expected found) w = exchanged w expected (expected + 1)
-writes (SetPin word) w = word
-writes ClearPin w = pin_word None
-writes (LoadPin o word) w = w
-writes (LoadState r word) w = w
-writes (GiveBack r epoch found) w = exchanged w (state_word (Obsolete epoch)) (state_word FreeTag)
-writes (Load words) w = get_or words.now ROOT_WORD 0
+writes (Claim rec found) stood = exchanged stood (state_word FreeTag) (state_word HeldTag)
+writes (Fill rec offset word) stood = word
+writes (Ready rec) stood = state_word Live
+writes (Release rec) stood = state_word FreeTag
+writes (LoadRef spot word) stood = stood
+writes (LoadFixed rec offset word) stood = stood
+writes (Lock target found) stood = exchanged stood (state_word Live) (state_word Locked)
+writes (Unlock target) stood = state_word Live
+writes (Publish spot word) stood = word
+writes (Mark rec epoch) stood = state_word (Obsolete epoch)
+writes (LoadEpoch word) stood = stood
+writes (Advance expected found) stood = exchanged stood expected (expected + 1)
+writes (SetPin word) stood = word
+writes ClearPin stood = pin_word None
+writes (LoadPin other word) stood = stood
+writes (LoadState rec word) stood = stood
+writes (GiveBack rec epoch found) stood = exchanged stood (state_word (Obsolete epoch)) (state_word FreeTag)
+writes (Load words) stood = get_or words.now ROOT_WORD 0

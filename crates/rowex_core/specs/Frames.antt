@@ -10,11 +10,12 @@ use Rattle.rowex_core.specs.Words.{record_word}
 use Rattle.rowex_core.specs.Events.{IsLockedAt}
 use Rattle.rowex_core.specs.Sharing.{share}
 
--- The versions and changes have grown by changes of others alone. What pass q has is as it was.
-pub record IsFrame (q : ℕ) (old new : Core) : Type 0 where
+-- What the steps of other passes leave to the pass. The versions and changes have grown by changes of others alone. What the pass has is as
+-- it was.
+pub record IsFrame (pass : ℕ) (old new : Core) : Type 0 where
   pub layout : new.layout ≡ old.layout
   pub past : IsGrown old.past new.past
-  pub changes : OthersGoOn q old.changes new.changes
-  pub own : share q new ≡ share q old
-  -- the values of leaves are as they were if pass q has locked what names them
-  pub values : (l : ℕ) → IsLockedAt old q (Value l) → record_word new (a_leaf l) VALUE_OFFSET ≡ record_word old (a_leaf l) VALUE_OFFSET
+  pub changes : OthersGoOn pass old.changes new.changes
+  pub own : share pass new ≡ share pass old
+  -- the value of a leaf is as it was if the pass has locked what names the leaf
+  pub values : (leaf : ℕ) → IsLockedAt old pass (Value leaf) → record_word new (a_leaf leaf) VALUE_OFFSET ≡ record_word old (a_leaf leaf) VALUE_OFFSET

@@ -8,7 +8,7 @@ use Rattle.rowex_core.specs.declared.known.Owned.{Owned}
 use Rattle.versions.specs.Steps.{same_rec}
 use Rattle.versions.specs.Trades.{IsOneOf}
 
--- The pass's own records are exactly the records `recs`. Each is held in a way that has the property P.
+-- The records of a pass's own, `own`, are exactly the records `recs`. Each is held in a way that has the property P.
 pub record OwnsJust (own : List Owned) (P : Owned → Type 0) (recs : List Rec) : Type 0 where
   pub only : (owned : Owned) → IsOneOf owned own → IsOneOf owned.rec recs × P owned
   pub each : (rec : Rec) → IsOneOf rec recs → (owned : Owned) × IsOneOf owned own × (owned.rec ≡ rec)
@@ -21,25 +21,25 @@ InAnyWay owned = Unit {0}
 abbrev pub IsUnlinked : Owned → Type 0
 IsUnlinked owned = (since : ℕ) × (last : ℕ) × (owned.holding ≡ Unlinked since last)
 
--- the pass has unlinked the record, and the last version that links it is before this one
+-- the pass has unlinked the record, and the last version that links the record is below `version`
 abbrev pub IsUnlinkedBefore : (version : ℕ) → (owned : Owned) → Type 0
-IsUnlinkedBefore m owned = (since : ℕ) × (last : ℕ) × (owned.holding ≡ Unlinked since last) × (last < m)
+IsUnlinkedBefore version owned = (since : ℕ) × (last : ℕ) × (owned.holding ≡ Unlinked since last) × (last < version)
 
--- The nodes that the pass has locked are exactly the nodes `nodes`.
+-- The nodes that a pass has locked, by its locks, are exactly those of the numbers `nodes`.
 pub record LocksJust (locks : List Locked) (nodes : List ℕ) : Type 0 where
   pub only : (lock : Locked) → IsOneOf lock locks → IsOneOf lock.node nodes
-  pub each : (n : ℕ) → IsOneOf n nodes → (lock : Locked) × IsOneOf lock locks × (lock.node ≡ n)
+  pub each : (number : ℕ) → IsOneOf number nodes → (lock : Locked) × IsOneOf lock locks × (lock.node ≡ number)
 
--- The nodes `kept` are exactly those of `held` that are not among the records `gone`.
+-- The nodes `kept` are exactly those of `held` whose records are not among the records `gone`.
 pub record AreKept (held : List ℕ) (gone : List Rec) (kept : List ℕ) : Type 0 where
-  pub only : (n : ℕ) → IsOneOf n held → IsOneOf n kept ⊎ IsOneOf (a_node n) gone
-  pub each : (n : ℕ) → IsOneOf n kept → IsOneOf n held × (IsOneOf (a_node n) gone → ⊥)
+  pub only : (number : ℕ) → IsOneOf number held → IsOneOf number kept ⊎ IsOneOf (a_node number) gone
+  pub each : (number : ℕ) → IsOneOf number kept → IsOneOf number held × (IsOneOf (a_node number) gone → ⊥)
 
 -- whether the record is in the list
 abbrev pub is_among : Rec → List Rec → Bool
 is_among rec [] = false
-is_among rec (x ∷ xs) = if same_rec rec x then true else is_among rec xs
+is_among rec (other ∷ others) = if same_rec rec other then true else is_among rec others
 
--- the nodes of `held` that are not among the records `gone`
+-- the nodes of `held` whose records are not among the records `gone`
 abbrev pub kept_locks : List ℕ → List Rec → List ℕ
-kept_locks held gone = filter (λ n. not (is_among (a_node n) gone)) held
+kept_locks held gone = filter (λ number. not (is_among (a_node number) gone)) held

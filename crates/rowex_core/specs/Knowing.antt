@@ -45,42 +45,45 @@ use Rattle.rowex_core.specs.Events.{loaded_tree, Legal, IsLockedAt, stored_words
 
 -- Facts of past versions
 
--- the record stood in the tree in some version from `since` to `at`
+-- the record stood in the tree of some version from `since` to `at`
 abbrev pub StoodBetween : Past → (since at : ℕ) → Rec → Type 0
-StoodBetween past since at rec = (n : ℕ) × (tree : Tree) × (since ≤ n) × (n ≤ at) × Stands past n rec tree
+StoodBetween past since at rec = (version : ℕ) × (tree : Tree) × (since ≤ version) × (version ≤ at) × Stands past version rec tree
 
--- the record stood in the tree in some version from `since` to `at`, with a tree that has the property P
+-- In some version from `since` to `at` the record stood in the tree. The tree that began with the record there has the property P.
 abbrev pub StoodAs : (past : Past) → (since at : ℕ) → (rec : Rec) → (P : Tree → Type 0) → Type 0
-StoodAs past since at rec P = (n : ℕ) × (tree : Tree) × (since ≤ n) × (n ≤ at) × Stands past n rec tree × P tree
+StoodAs past since at rec P = (version : ℕ) × (tree : Tree) × (since ≤ version) × (version ≤ at) × Stands past version rec tree × P tree
 
--- Let m be `since` or later. If the record stood in a version from m to `at`, it stood in one of these with a tree that has the property P.
+-- Let the record have stood in the tree of a version from `from` to `at`, where `from` is `since` or later. In one of these versions it
+-- stood with a tree that has the property P.
 abbrev pub HoldsIfStood : (past : Past) → (since at : ℕ) → (rec : Rec) → (P : Tree → Type 0) → Type 0
-HoldsIfStood past since at rec P = (m : ℕ) → since ≤ m → StoodBetween past m at rec → StoodAs past m at rec P
+HoldsIfStood past since at rec P = (from : ℕ) → since ≤ from → StoodBetween past from at rec → StoodAs past from at rec P
 
--- what a fact says of the past
+-- What a fact says of the past. `Rooted`: in version `at` the root had this entry. The others tell what a load found in a record: an entry,
+-- a word that stays, or a value. The record had that in a version from `since` to `at`, if it stood in one (`HoldsIfStood`).
 abbrev pub IsFact : Past → Fact → Type 0
-IsFact past (Rooted since at e) = (since ≤ at) × (at ≤ past.now) × (root_of (past.version at) ≡ e)
-IsFact past (Placed since at n j e) = (at ≤ past.now) × HoldsIfStood past since at (a_node n) (λ u. entry_in u j ≡ e)
-IsFact past (Fixed since at r offset w) = (at ≤ past.now) × HoldsIfStood past since at r (λ u. HasWordAt u offset w)
-IsFact past (Valued since at l v) = (at ≤ past.now) × HoldsIfStood past since at (a_leaf l) (λ u. head_value u ≡ Some v)
+IsFact past (Rooted since at entry) = (since ≤ at) × (at ≤ past.now) × (root_of (past.version at) ≡ entry)
+IsFact past (Placed since at number slot entry) = (at ≤ past.now) × HoldsIfStood past since at (a_node number) (λ tree. entry_in tree slot ≡ entry)
+IsFact past (Fixed since at rec offset word) = (at ≤ past.now) × HoldsIfStood past since at rec (λ tree. HasWordAt tree offset word)
+IsFact past (Valued since at number value) = (at ≤ past.now) × HoldsIfStood past since at (a_leaf number) (λ tree. head_value tree ≡ Some value)
 
--- The leaf still has the value that the pass loaded, if the pass has locked what names the leaf.
+-- If the pass has locked what names the leaf, the leaf still has the value that the pass loaded.
 abbrev pub IsStillLoaded : (pass : ℕ) → (core : Core) → (loaded : Loaded) → Type 0
 IsStillLoaded pass core loaded = IsLockedAt core pass (Value loaded.leaf) → record_word core (a_leaf loaded.leaf) VALUE_OFFSET ≡ loaded.value
 
--- What a pass has seen is true. Behind the changes `seen` other passes alone have changed the map. At the pass's last load of the root the
--- changes were `last`, with which `seen` begins. Its facts are true of the past.
+-- What a pass has seen is true. `seen` are the changes that it has seen, behind which other passes alone have changed the map. `last` are
+-- those that its last load of the root showed, and `seen` begins with them. The facts of `known` are true of the past.
 pub record HasSeen (pass : ℕ) (past : Past) (changes : List Change) (seen last : List Change) (known : List Fact) : Type 0 where
   pub front : OthersGoOn pass seen changes
   pub fresh : BeginsWith seen last
   pub facts : All (IsFact past) known
 
--- The steps that a pass remembers have numbers below `next`: its last load of the root, and each act that failed.
+-- Each step that a pass remembers has a number below `next`, which its next step will have. It remembers its last load of the root, of
+-- number `last`, and each act that failed.
 pub record AreCounted (next last : ℕ) (failures : List Failed) : Type 0 where
   pub loaded : last < next
-  pub failed : All (λ f. f.step < next) failures
+  pub failed : All (λ failure. failure.step < next) failures
 
--- What the pass knows is true of the core. It knows all that it has, and its steps are counted.
+-- What the pass knows is true of the core, and it knows all that it has. No step of another pass makes that untrue.
 pub record Knows (core : Core) (known : Known) : Type 0 where
   pub pass : known.pass < core.layout.passes
   pub counted : AreCounted known.steps known.fresh.step known.failed
@@ -88,76 +91,80 @@ pub record Knows (core : Core) (known : Known) : Type 0 where
   pub own : share known.pass core ≡ known_share known
   pub values : All (IsStillLoaded known.pass core) known.values
 
--- The part of a pass's knowledge that only its own publish, pin or unpin makes untrue. It is the changes that it has seen, its facts of the
--- past, and its pin.
+-- The part of what a pass knows that stays true until it publishes, sets its pin or clears it. It is the changes that the pass has seen,
+-- its facts of the past, and its pin.
 pub record Recalls (core : Core) (known : Known) : Type 0 where
   pub front : OthersGoOn known.pass known.front core.changes
   pub facts : All (IsFact core.past) known.facts
   pub pin : core.pins known.pass ≡ known.pin
 
--- the pass has been pinned since this version, or since an earlier one
+-- the pass has been pinned since the version `since`, or since an earlier one
 abbrev pub IsPinnedSince : (known : Known) → (since : ℕ) → Type 0
-IsPinnedSince known m = (pin : Pin) × (known.pin ≡ Some pin) × (pin.version ≤ m)
+IsPinnedSince known since = (pin : Pin) × (known.pin ≡ Some pin) × (pin.version ≤ since)
 
 -- none of the changes is by the pass
 abbrev pub NoChangeBy : (pass : ℕ) → (changes : List Change) → Type 0
-NoChangeBy q changes = All (λ x. x.pass ≢ q) changes
+NoChangeBy pass changes = All (λ change. change.pass ≢ pass) changes
 
--- the pass has made no change and has nothing, as a new one
+-- The pass has made no change and has nothing, as a new one.
 pub record IsUntouched (core : Core) (pass : ℕ) : Type 0 where
   pub changes : NoChangeBy pass core.changes
   pub own : share pass core ≡ nothing
 
--- What a view says of a core. A pass's says what the pass knows, and a dealer's that the passes to come have done nothing.
+-- What a view says of a core. The view of a pass says what the pass knows, and that of a pair what two passes know. A dealer's says that
+-- the passes from `next` on, which are still to be dealt, have done nothing. A founder is a pass with a dealer. A witness tells a front
+-- that was seen. A follower is a pass with a witness.
 abbrev pub Knowing : Core → View → Type 0
 Knowing core Spent = Unit {0}
-Knowing core (Dealer m) = (pass : ℕ) → m ≤ pass → IsUntouched core pass
-Knowing core (Founder known m) = Knows core known × ((pass : ℕ) → m ≤ pass → IsUntouched core pass)
+Knowing core (Dealer next) = (pass : ℕ) → next ≤ pass → IsUntouched core pass
+Knowing core (Founder known next) = Knows core known × ((pass : ℕ) → next ≤ pass → IsUntouched core pass)
 Knowing core (Pass known) = Knows core known
-Knowing core (Pair j k) = Knows core j × Knows core k × (j.pass ≢ k.pass)
+Knowing core (Pair one other) = Knows core one × Knows core other × (one.pass ≢ other.pass)
 Knowing core (Witness front) = BeginsWith core.changes front
 Knowing core (Follower known front) = Knows core known × BeginsWith core.changes front
 
--- the view is that of the pass, or of a dealer that still has it
+-- the view tells of this pass: as the pass's own, or as that of a dealer who has yet to give the pass out
 abbrev pub IsViewOf : (view : View) → (pass : ℕ) → Type 0
-IsViewOf Spent q = ⊥
-IsViewOf (Dealer m) q = m ≤ q
-IsViewOf (Founder known m) q = (known.pass ≡ q) ⊎ (m ≤ q)
-IsViewOf (Pass known) q = known.pass ≡ q
-IsViewOf (Pair j k) q = (j.pass ≡ q) ⊎ (k.pass ≡ q)
-IsViewOf (Witness front) q = ⊥
-IsViewOf (Follower known front) q = known.pass ≡ q
+IsViewOf Spent pass = ⊥
+IsViewOf (Dealer next) pass = next ≤ pass
+IsViewOf (Founder known next) pass = (known.pass ≡ pass) ⊎ (next ≤ pass)
+IsViewOf (Pass known) pass = known.pass ≡ pass
+IsViewOf (Pair one other) pass = (one.pass ≡ pass) ⊎ (other.pass ≡ pass)
+IsViewOf (Witness front) pass = ⊥
+IsViewOf (Follower known front) pass = known.pass ≡ pass
 
--- What a step teaches its pass, where c is the core before it
+-- What a step teaches its pass, where `core` is the core before the step
 
--- The facts of a pass after a load. If the pass is pinned, the load teaches the fact for the versions since its pin, and else none.
+-- The facts of a pass after a load. If the pass is pinned, they are more by one: what was loaded, as a fact since the version of the pin.
+-- Else the load teaches none.
 abbrev pub facts_with : (pin : Option Pin) → (fact_of : ℕ → Fact) → (facts : List Fact) → List Fact
 facts_with None fact_of facts = facts
 facts_with (Some pin) fact_of facts = fact_of pin.version ∷ facts
 
--- a pass that remembers one more failed act, of its latest step
+-- What a pass knows, with one failed act more: that of the step which it is making.
 abbrev pub failed_with : (known : Known) → (act : FailedAct) → (location : Location) → (word : ℕ) → Known
 failed_with known act location word =
     record known { failed = record { act = act; location = location; word = word; step = known.steps } ∷ known.failed }
 
--- an own record of a pass; if it is the record `rec`, it is now held as `holding` says
+-- a record of a pass's own, which is now held as `holding` says if it is the record `rec`
 abbrev pub with_holding : (rec : Rec) → (holding : Holding) → (owned : Owned) → Owned
-with_holding r holding owned = if same_rec owned.rec r then record owned { holding = holding } else owned
+with_holding rec holding owned = if same_rec owned.rec rec then record owned { holding = holding } else owned
 
--- an own record of a pass; if it is the record to fill, it has this word at this offset now
+-- a record of a pass's own, which has this word at this offset now if it is the record `rec`
 abbrev pub with_filled_word : Rec → (offset word : ℕ) → Owned → Owned
-with_filled_word r offset word owned = if same_rec owned.rec r then record owned { words = set owned.words (offset - FIELDS_OFFSET) word } else owned
+with_filled_word rec offset word owned =
+    if same_rec owned.rec rec then record owned { words = set owned.words (offset - FIELDS_OFFSET) word } else owned
 
--- a pass's own records without this record
+-- the records of a pass's own without the record `rec`
 abbrev pub without_record : Rec → List Owned → List Owned
-without_record r own = filter (λ o. not (same_rec o.rec r)) own
+without_record rec own = filter (λ owned. not (same_rec owned.rec rec)) own
 
--- a pass's locks without that of this node
+-- the locks of a pass without that of the node of this number
 abbrev pub without_lock : (node : ℕ) → (locks : List Locked) → List Locked
-without_lock n locks = filter (λ l. not (nat_eq l.node n)) locks
+without_lock number locks = filter (λ lock. not (nat_eq lock.node number)) locks
 
--- What a pass knows after it tried to claim a record of this fate. If the record was free, it is the pass's own. Else the claim has failed,
--- and the pass knows whose the record is.
+-- What a pass knows after it has tried to claim a record of this fate, and found the state word to be `found`. If the record was free, it
+-- is the pass's own. Else the claim has failed, and the pass knows whose the record is.
 abbrev pub claim_learned : (core : Core) → (rec : Rec) → (found : ℕ) → (fate : Fate) → (known : Known) → Known
 claim_learned core rec found Free known = record known { own = record { rec = rec; holding = Held; words = core.words rec } ∷ known.own }
 claim_learned core rec found fate known = failed_with known (a_claim (holder_of fate)) (state_of rec) found
@@ -167,60 +174,60 @@ abbrev pub maker_of : Option Change → Option ℕ
 maker_of None = None
 maker_of (Some change) = Some change.pass
 
--- The pass that stands in the way of a node's lock. It has locked the node. If the node is marked, it is the pass whose change unlinked the
--- node.
+-- The pass that stands in the way of a node's lock, where the node has this fate. It has the lock. Or the node is marked, and a change of
+-- that pass unlinked the node.
 abbrev pub blocking_pass_of : (core : Core) → (node : ℕ) → (fate : Fate) → Option ℕ
-blocking_pass_of core n (Marked since last epoch) = maker_of (slice_get core.changes last)
-blocking_pass_of core n fate = core.lock n
+blocking_pass_of core number (Marked since last epoch) = maker_of (slice_get core.changes last)
+blocking_pass_of core number fate = core.lock number
 
--- the pass that stands in the way of a lock, if one does
+-- the pass that stands in the way of a lock of this target, if one does
 abbrev pub blocking_pass_at : Core → Target → Option ℕ
 blocking_pass_at core Anchor = core.anchor
-blocking_pass_at core (NodeTarget n) = blocking_pass_of core n (core.fate (a_node n))
+blocking_pass_at core (NodeTarget number) = blocking_pass_of core number (core.fate (a_node number))
 
--- What a pass knows after it tried to lock the anchor, which `holder` had locked. If no pass had, the pass knows the root. Else the try has
--- failed, and the pass knows which pass has the lock.
+-- What a pass knows after it has tried to lock the anchor, whose lock `holder` had. If nobody had it, the pass knows the root. Else the try
+-- has failed, and the pass knows who has the lock.
 abbrev pub anchor_learned : (core : Core) → (found : ℕ) → (holder : Option ℕ) → (known : Known) → Known
 anchor_learned core found None known = record known { anchor = Some core.root; values = [] }
 anchor_learned core found (Some pass) known = failed_with known (a_lock (Some pass)) (target_word Anchor) found
 
--- What a pass knows after it tried to lock a node and found this state. If the node was live, the pass knows the node's words. Else the try
--- has failed, and the pass knows which pass stands in the way.
+-- What a pass knows after it has tried to lock a node, and found its state word to be `found`. If that says live, the pass knows the node's
+-- words. Else the try has failed, and the pass knows who stands in the way.
 abbrev pub node_learned : (core : Core) → (node found : ℕ) → (known : Known) → Known
-node_learned core n found known =
-    if nat_eq found (state_word Live) then record known { locks = record { node = n; words = core.words (a_node n) } ∷ known.locks; values = [] }
-    else failed_with known (a_lock (blocking_pass_of core n (core.fate (a_node n)))) (target_word (NodeTarget n)) found
+node_learned core number found known =
+    if nat_eq found (state_word Live) then record known { locks = record { node = number; words = core.words (a_node number) } ∷ known.locks; values = [] }
+    else failed_with known (a_lock (blocking_pass_of core number (core.fate (a_node number)))) (target_word (NodeTarget number)) found
 
--- What a pass knows after it loaded a record's state and found this word. If the record isn't free, that counts as a failed act, and the
--- pass knows whose the record is.
+-- What a pass knows after it has loaded a record's state word, which was `word`. If the record isn't free, that counts as a failed act, and
+-- the pass knows whose the record is.
 abbrev pub state_learned : (core : Core) → (rec : Rec) → (word : ℕ) → (known : Known) → Known
 state_learned core rec word known =
     if nat_eq word (state_word FreeTag) then known else failed_with known (a_load (holder_of (core.fate rec))) (state_of rec) word
 
--- the version of a pin; 0 without one
+-- the version at which a pin was set; 0 without a pin
 abbrev pub version_of : Option Pin → ℕ
 version_of None = 0
 version_of (Some pin) = pin.version
 
--- What a pass knows after it loaded the word of a spot: all changes up to now, and what stands there, as a fact. A load of the root is kept
--- as the pass's last one.
+-- What a pass knows after it has loaded the word of a spot. It has seen all changes by now. What stands at the spot is a fact, if the pass
+-- is pinned. A load of the root counts as its last one, and a loaded value is remembered.
 abbrev pub entry_learned : (core : Core) → (spot : Spot) → (known : Known) → Known
 entry_learned core Root known = record known {
   front = core.changes;
   fresh = record { front = core.changes; step = known.steps; pinned = version_of known.pin };
   facts = facts_with known.pin (λ since. Rooted since core.past.now core.root) known.facts;
 }
-entry_learned core (Slot n j) known = record known {
+entry_learned core (Slot number slot) known = record known {
   front = core.changes;
-  facts = facts_with known.pin (λ since. Placed since core.past.now n j (entry_of (record_word core (a_node n) (FIRST_ENTRY + j)))) known.facts;
+  facts = facts_with known.pin (λ since. Placed since core.past.now number slot (entry_of (record_word core (a_node number) (FIRST_ENTRY + slot)))) known.facts;
 }
-entry_learned core (Value l) known = record known {
+entry_learned core (Value number) known = record known {
   front = core.changes;
-  facts = facts_with known.pin (λ since. Valued since core.past.now l (record_word core (a_leaf l) VALUE_OFFSET)) known.facts;
-  values = record { leaf = l; value = record_word core (a_leaf l) VALUE_OFFSET } ∷ known.values;
+  facts = facts_with known.pin (λ since. Valued since core.past.now number (record_word core (a_leaf number) VALUE_OFFSET)) known.facts;
+  values = record { leaf = number; value = record_word core (a_leaf number) VALUE_OFFSET } ∷ known.values;
 }
 
--- the records of a tree
+-- the records of a tree, each before those below it
 abbrev pub records_of : Tree → List Rec
 records_of (leaf number key value) = a_leaf number ∷ []
 records_of (node number fixed body) = a_node number ∷ records_of body
@@ -231,33 +238,35 @@ abbrev pub records_in : Option Tree → List Rec
 records_in None = []
 records_in (Some tree) = records_of tree
 
--- A record of this fate that the pass has just unlinked, as its own. It is the pass's own until it is marked.
+-- The record as one of the pass's own, after its publish has unlinked the record. It was in the tree, as its fate says. It is the pass's
+-- own until it is marked.
 abbrev pub owned_unlinked : (core : Core) → (rec : Rec) → (fate : Fate) → Owned
 owned_unlinked core rec (InTree since) = record { rec = rec; holding = Unlinked since core.past.now; words = core.words rec }
 owned_unlinked core rec _ = record { rec = rec; holding = Unlinked 0 0; words = core.words rec }
 
--- The pass's own records after a publish of this tree. The records that the tree links are gone from them, and those that it unlinks are
--- among them.
+-- The records of a pass's own after its publish has made this the tree. Those that the publish unlinks are among them. Those that the tree
+-- links are gone from them.
 abbrev pub own_after : (core : Core) → (tree : Option Tree) → (own : List Owned) → List Owned
-own_after core t own =
-    map (λ r. owned_unlinked core r (core.fate r)) (filter (λ r. not (is_linked t r)) (records_in (core.past.version core.past.now))) ++
-    filter (λ o. not (is_linked t o.rec)) own
+own_after core tree own =
+    map (λ rec. owned_unlinked core rec (core.fate rec)) (filter (λ rec. not (is_linked tree rec)) (records_in (core.past.version core.past.now))) ++
+    filter (λ owned. not (is_linked tree owned.rec)) own
 
--- a lock, with the words that its node has now
+-- the lock of a node, with the words that this node has now
 abbrev pub locked_with_words : (Rec → List ℕ) → Locked → Locked
 locked_with_words words lock = record lock { words = words (a_node lock.node) }
 
--- the pass's locks on nodes that this tree links, each with the node's words after the publish
+-- The locks of a pass after its publish has made this the tree, in which records have these words. Those of unlinked nodes are gone.
 abbrev pub locks_after : (words : Rec → List ℕ) → (tree : Option Tree) → (locks : List Locked) → List Locked
-locks_after words t locks = map (λ l. locked_with_words words l) (filter (λ l. is_linked t (a_node l.node)) locks)
+locks_after words tree locks = map (λ lock. locked_with_words words lock) (filter (λ lock. is_linked tree (a_node lock.node)) locks)
 
--- the root as the holder of the anchor's lock knows it, after a store to a spot
+-- What a pass knows of the root by the anchor's lock, after its store to a spot. `root` is the root after the store, and `anchor` what the
+-- pass knew before.
 abbrev pub anchor_after : (spot : Spot) → (root : Option Entry) → (anchor : Option (Option Entry)) → Option (Option Entry)
 anchor_after Root root anchor = Some root
-anchor_after (Slot n j) root anchor = anchor
-anchor_after (Value l) root anchor = anchor
+anchor_after (Slot number slot) root anchor = anchor
+anchor_after (Value number) root anchor = anchor
 
--- what a pass knows after it published the word at the spot
+-- what a pass knows after it has published the word at the spot
 abbrev pub publish_learned : (core : Core) → (spot : Spot) → (word : ℕ) → (known : Known) → Known
 publish_learned core spot word known = record known {
   front = core.changes ++ next_change core known.pass spot word ∷ [];
@@ -267,7 +276,7 @@ publish_learned core spot word known = record known {
   values = [];
 }
 
--- What a pass knows after a bulk load of this tree. It has seen each leaf added, as if it had loaded the root just before.
+-- What a pass knows after a bulk load of this tree. It has seen each leaf added, as if it had loaded the root right before.
 abbrev pub load_learned : (core : Core) → (tree : Option Tree) → (known : Known) → Known
 load_learned core tree known = record known {
   front = core.changes ++ map (added_change known.pass) (items_of tree);
@@ -275,53 +284,54 @@ load_learned core tree known = record known {
   values = [];
 }
 
--- What a pass knows after an act of its own. The step is not counted yet.
+-- What a pass knows after an act of its own, but for the count of its steps.
 abbrev pub learned_by : (core : Core) → (act : Act) → (known : Known) → Known
-learned_by core (Claim r found) known = claim_learned core r found (core.fate r) known
-learned_by core (Fill r offset w) known = record known { own = map (with_filled_word r offset w) known.own }
-learned_by core (Ready r) known = record known { own = map (with_holding r IsReady) known.own }
-learned_by core (Release r) known = record known { own = without_record r known.own }
-learned_by core (LoadRef spot w) known = entry_learned core spot known
-learned_by core (LoadFixed r offset w) known =
-    record known { front = core.changes; facts = facts_with known.pin (λ since. Fixed since core.past.now r offset w) known.facts }
+learned_by core (Claim rec found) known = claim_learned core rec found (core.fate rec) known
+learned_by core (Fill rec offset word) known = record known { own = map (with_filled_word rec offset word) known.own }
+learned_by core (Ready rec) known = record known { own = map (with_holding rec IsReady) known.own }
+learned_by core (Release rec) known = record known { own = without_record rec known.own }
+learned_by core (LoadRef spot word) known = entry_learned core spot known
+learned_by core (LoadFixed rec offset word) known =
+    record known { front = core.changes; facts = facts_with known.pin (λ since. Fixed since core.past.now rec offset word) known.facts }
 learned_by core (Lock Anchor found) known = anchor_learned core found core.anchor known
-learned_by core (Lock (NodeTarget n) found) known = node_learned core n found known
+learned_by core (Lock (NodeTarget number) found) known = node_learned core number found known
 learned_by core (Unlock Anchor) known = record known { anchor = None; values = [] }
-learned_by core (Unlock (NodeTarget n)) known = record known { locks = without_lock n known.locks; values = [] }
-learned_by core (Publish spot w) known = publish_learned core spot w known
-learned_by core (Mark r epoch) known = record known { own = without_record r known.own; values = [] }
-learned_by core (LoadEpoch w) known = record known { round = begun_round core.epoch core.past.now }
+learned_by core (Unlock (NodeTarget number)) known = record known { locks = without_lock number known.locks; values = [] }
+learned_by core (Publish spot word) known = publish_learned core spot word known
+learned_by core (Mark rec epoch) known = record known { own = without_record rec known.own; values = [] }
+learned_by core (LoadEpoch word) known = record known { round = begun_round core.epoch core.past.now }
 learned_by core (Advance expected found) known = known
-learned_by core (SetPin w) known = record known { pin = Some (record { word = w; version = core.past.now; floor = core.epoch }) }
+learned_by core (SetPin word) known = record known { pin = Some (record { word = word; version = core.past.now; floor = core.epoch }) }
 learned_by core ClearPin known = record known { pin = None }
-learned_by core (LoadPin o w) known = record known { round = with_seen known.round o (core.pins o) }
-learned_by core (LoadState r w) known = state_learned core r w known
-learned_by core (GiveBack r epoch found) known = known
+learned_by core (LoadPin other word) known = record known { round = with_seen known.round other (core.pins other) }
+learned_by core (LoadState rec word) known = state_learned core rec word known
+learned_by core (GiveBack rec epoch found) known = known
 learned_by core (Load words) known = load_learned core (loaded_tree core.layout words.now) known
 
--- what a pass knows after its step: what the act teaches it, with one step more counted
+-- what a pass knows after its step: what the act teaches it, and that it has made one step more
 abbrev pub learned : (core : Core) → (act : Act) → (known : Known) → Known
-learned core act known = let j = learned_by core act known in record j { steps = known.steps + 1 }
+learned core act known = let taught = learned_by core act known in record taught { steps = known.steps + 1 }
 
--- One atomic step of a pass, which knew k before, and knows j after. `said` are the notes that its caller adds.
-pub record IsEvent (layout : Layout) (act : Act) (said : Known → List Note) (k j : Known) : Type 0 where
+-- The pass has made the act, as a legal step at some lawful core. It knew `before` before the step, and knows `after` after it. `said`
+-- gives the notes that its caller adds, by what the pass then knows.
+pub record IsEvent (layout : Layout) (act : Act) (said : Known → List Note) (before after : Known) : Type 0 where
   pub core : Core
   pub lawful : IsLawful core
   pub layout_is : core.layout ≡ layout
-  pub knows : Knows core k
-  pub legal : Legal core k.pass act
-  pub learned_is : j ≡ record (learned core act k) { notes = k.notes ++ said (learned core act k) }
+  pub knows : Knows core before
+  pub legal : Legal core before.pass act
+  pub learned_is : after ≡ record (learned core act before) { notes = before.notes ++ said (learned core act before) }
 
--- Between knowing k and knowing j a pass has loaded the root. At the last such load it knew `at`, which was true of a lawful core. The load
--- left it all changes of that core. They begin with what any pass had seen by then.
-pub record SeesAllAtRoot (layout : Layout) (k j : Known) : Type 0 where
+-- Between knowing `before` and knowing `after` a pass has loaded the root. At the last such load it knew `at`, which was true of a lawful
+-- core. The load showed it all changes of that core. They begin with those that any pass had seen by then.
+pub record SeesAllAtRoot (layout : Layout) (before after : Known) : Type 0 where
   pub core : Core
   pub lawful : IsLawful core
   pub layout_is : core.layout ≡ layout
   pub at : Known
   pub knows : Knows core at
-  pub pass : at.pass ≡ k.pass
-  pub since : k.steps ≤ at.steps
-  pub until : at.steps < j.steps
-  pub fresh : j.fresh ≡ record { front = core.changes; step = at.steps; pinned = version_of at.pin }
-  pub all : (o : Known) → Knows core o → BeginsWith j.fresh.front o.front
+  pub pass : at.pass ≡ before.pass
+  pub since : before.steps ≤ at.steps
+  pub until : at.steps < after.steps
+  pub fresh : after.fresh ≡ record { front = core.changes; step = at.steps; pinned = version_of at.pin }
+  pub all : (other : Known) → Knows core other → BeginsWith after.fresh.front other.front

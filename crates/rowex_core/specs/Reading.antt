@@ -18,57 +18,57 @@ use Rattle.versions.specs.Heap.{NodeWords, LeafWords}
 
 -- ---- the records that words say
 
--- the fixed part of a node, from the words of its head
+-- the part of a node that stays the same, from the words of its head: height, columns and rows
 abbrev pub fixed_of : List ℕ → Fixed
 fixed_of head = record { height = height_in (numbers_in head); columns = columns_in head; rows = rows_in head }
 
--- what a node's words say: `head` are those of its head, `tail` those of its entries
+-- what the words of a node say: `head` are the words of its head, and `tail` those of its entries
 abbrev pub node_words_from : (head tail : List ℕ) → NodeWords
 node_words_from head tail = record {
   fixed = fixed_of head;
   subtrie = piece_of (Leaf 0) (fixed_of head).columns (fixed_of head).rows (entries_of (count_in (numbers_in head)) tail);
 }
 
--- what the words of a node record behind its state say
+-- what the words of a node record say, where its state is left out
 unfoldable pub node_words_of : List ℕ → NodeWords
 node_words_of words = node_words_from (take HEAD_WORDS words) (drop HEAD_WORDS words)
 
--- what the words of a leaf record behind its state say
+-- what the words of a leaf record say, where its state is left out
 unfoldable pub leaf_of : List ℕ → LeafWords
 leaf_of words = record { key = leaf_key_in words; value = leaf_value_in words }
 
--- The words spell a value: all of a node's, or a leaf's up to the end of its key.
+-- The words of a record encode a node, or a leaf. Of a node these are all words, and of a leaf those up to the end of its key.
 unfoldable pub IsPacked : Rec → List ℕ → Type 0
-IsPacked (a_node n) words = (view : NodeView) × HasNodeWords view × (node_words view ≡ words)
-IsPacked (a_leaf n) words = (pair : List ℕ × ℕ) × HasLeafWords pair × (leaf_words pair ≡ up_to_key words)
+IsPacked (a_node number) words = (view : NodeView) × HasNodeWords view × (node_words view ≡ words)
+IsPacked (a_leaf number) words = (pair : List ℕ × ℕ) × HasLeafWords pair × (leaf_words pair ≡ up_to_key words)
 
 -- ---- trees
 
--- the entry for the record with which a tree begins
+-- the entry for the record with which a tree begins; none if it begins with a fork
 abbrev pub head_entry : Tree → Option Entry
 head_entry (leaf number key value) = Some (Leaf number)
 head_entry (node number fixed body) = Some (Node number fixed.height)
 head_entry (fork position left right) = None
 
--- the root's entry of a version, which may be empty
+-- the entry of the root in a version, which may be empty
 abbrev pub root_of : Option Tree → Option Entry
 root_of None = None
 root_of (Some tree) = head_entry tree
 
--- the entry in this slot of the node with which a tree begins
+-- the entry in this slot of the node with which a tree begins; none if the tree begins with no node, or has no entry there
 abbrev pub entry_in : (tree : Tree) → (slot : ℕ) → Option Entry
-entry_in (leaf number key value) j = None
-entry_in (node number fixed body) j = if nat_lt j (size (subtrie body)) then Some (entry_at (subtrie body) j) else None
-entry_in (fork position left right) j = None
+entry_in (leaf number key value) slot = None
+entry_in (node number fixed body) slot = if nat_lt slot (size (subtrie body)) then Some (entry_at (subtrie body) slot) else None
+entry_in (fork position left right) slot = None
 
--- the value of the leaf with which a tree begins
+-- the value of the leaf with which a tree begins; none if it begins with no leaf
 abbrev pub head_value : Tree → Option ℕ
 head_value (leaf number key value) = Some value
 head_value (node number fixed body) = None
 head_value (fork position left right) = None
 
--- The record with which the tree begins has this word at an offset of neither its state nor an entry. The words behind a leaf's key may be
--- any.
+-- The record with which the tree begins has this word at this offset. The offset is that of a word that stays while the record lives.
+-- Behind the end of a leaf's key any word may stand.
 abbrev pub HasWordAt : Tree → (offset word : ℕ) → Type 0
 HasWordAt (leaf number key value) offset word = offset < words_for (length key) → get_or (leaf_words (key, value)) (offset - FIELDS_OFFSET) 0 ≡ word
 HasWordAt (node number fixed body) offset word =

@@ -6,12 +6,12 @@ use Rattle.rowex_core.specs.Cores.{Core}
 use Rattle.rowex_core.specs.Events.{Legal, after}
 use Rattle.rowex_core.specs.Knowing.{IsViewOf}
 
--- the events are legal, one after the other, from the core `old` on, and lead to the core `new`
+-- the events are steps that are legal one after the other, from the core `old` on, and lead to the core `new`
 abbrev pub EventsLead : (old : Core) → (events : List Event) → (new : Core) → Type 0
 EventsLead old [] new = new ≡ old
-EventsLead old (x ∷ xs) new = Legal old x.pass x.act × EventsLead (after old x.pass x.act) xs new
+EventsLead old (event ∷ events) new = Legal old event.pass event.act × EventsLead (after old event.pass event.act) events new
 
--- none of the events is a step of a pass whose view this is
+-- no event is a step of a pass of which the view tells (`IsViewOf`)
 abbrev pub AreOthers : View → List Event → Type 0
 AreOthers view [] = Unit {0}
-AreOthers view (x ∷ xs) = (¬ IsViewOf view x.pass) × AreOthers view xs
+AreOthers view (event ∷ events) = (¬ IsViewOf view event.pass) × AreOthers view events

@@ -15,36 +15,36 @@ use Rattle.rowex_core.specs.declared.known.Known.{Known}
 use Rattle.rowex_core.specs.Cores.{Core}
 use Rattle.rowex_core.specs.Events.{IsInTree}
 
--- how the pass holds a record of this fate, if it does
+-- how the pass holds a record of this fate; none if the record is not its own
 abbrev pub holding_of : (pass : ℕ) → (fate : Fate) → Option Holding
-holding_of q (HeldBy p) = if nat_eq p q then Some Held else None
-holding_of q (ReadyBy p) = if nat_eq p q then Some IsReady else None
-holding_of q (UnlinkedBy since last p) = if nat_eq p q then Some (Unlinked since last) else None
-holding_of q Free = None
-holding_of q (InTree since) = None
-holding_of q (Marked since last epoch) = None
+holding_of pass (HeldBy holder) = if nat_eq holder pass then Some Held else None
+holding_of pass (ReadyBy holder) = if nat_eq holder pass then Some IsReady else None
+holding_of pass (UnlinkedBy since last holder) = if nat_eq holder pass then Some (Unlinked since last) else None
+holding_of pass Free = None
+holding_of pass (InTree since) = None
+holding_of pass (Marked since last epoch) = None
 
--- whether the pass has this lock
+-- whether the pass has this lock, of which `lock` tells the holder
 abbrev pub is_by : (pass : ℕ) → (lock : Option ℕ) → Bool
-is_by q None = false
-is_by q (Some p) = nat_eq p q
+is_by pass None = false
+is_by pass (Some holder) = nat_eq holder pass
 
 -- whether a record of this fate is in the tree
 abbrev pub is_in_tree : Fate → Bool
 is_in_tree (InTree since) = true
 is_in_tree fate = false
 
--- the record as a list of one, if the pass holds it, and else an empty list
+-- the record as a list of one, with its words, if it is held; else an empty list
 abbrev pub owned : (rec : Rec) → (words : List ℕ) → (holding : Option Holding) → List Owned
 owned rec words None = []
 owned rec words (Some holding) = record { rec = rec; holding = holding; words = words } ∷ []
 
--- the node as a list of one, if the pass has locked it, and else an empty list
+-- the node as a list of one, with its words, if it is locked; else an empty list
 abbrev pub locked : (node : ℕ) → (words : List ℕ) → (is_locked : Bool) → List Locked
-locked n words true = record { node = n; words = words } ∷ []
-locked n words false = []
+locked node words true = record { node = node; words = words } ∷ []
+locked node words false = []
 
--- the root's entry, if the pass has locked the anchor
+-- the entry of the root, if the pass has locked the anchor; else none
 abbrev pub anchored_at : Option Entry → Bool → Option (Option Entry)
 anchored_at root true = Some root
 anchored_at root false = None
@@ -60,27 +60,27 @@ pub record Share : Type 0 where
 
 -- what the pass has in the core
 abbrev pub share : (pass : ℕ) → (core : Core) → Share
-share q core = record {
-  own = λ r. owned r (core.words r) (holding_of q (core.fate r));
-  locks = λ n. locked n (core.words (a_node n)) (is_in_tree (core.fate (a_node n)) && is_by q (core.lock n));
-  anchor = anchored_at core.root (is_by q core.anchor);
-  pin = core.pins q;
-  round = core.rounds q;
+share pass core = record {
+  own = λ rec. owned rec (core.words rec) (holding_of pass (core.fate rec));
+  locks = λ number. locked number (core.words (a_node number)) (is_in_tree (core.fate (a_node number)) && is_by pass (core.lock number));
+  anchor = anchored_at core.root (is_by pass core.anchor);
+  pin = core.pins pass;
+  round = core.rounds pass;
 }
 
--- those of a pass's own records that are this record
+-- those of a pass's own records that are the record `rec`
 abbrev pub of_record : Rec → List Owned → List Owned
-of_record r own = filter (λ o. same_rec r o.rec) own
+of_record rec own = filter (λ owned. same_rec rec owned.rec) own
 
--- those of a pass's locks that are on this node
+-- those of a pass's locks that are on the node of this number
 abbrev pub of_node : (node : ℕ) → (locks : List Locked) → List Locked
-of_node n locks = filter (λ l. nat_eq n l.node) locks
+of_node node locks = filter (λ lock. nat_eq node lock.node) locks
 
--- what a pass has, by what it knows
+-- what a pass has, as far as it knows
 abbrev pub known_share : Known → Share
 known_share known = record {
-  own = λ r. of_record r known.own;
-  locks = λ n. of_node n known.locks;
+  own = λ rec. of_record rec known.own;
+  locks = λ number. of_node number known.locks;
   anchor = known.anchor;
   pin = known.pin;
   round = known.round;
@@ -89,8 +89,8 @@ known_share known = record {
 -- the share of a pass that has nothing, and has loaded no epoch
 abbrev pub nothing : Share
 nothing = record {
-  own = λ r. [];
-  locks = λ n. [];
+  own = λ rec. [];
+  locks = λ number. [];
   anchor = None;
   pin = None;
   round = record { epoch = 0; version = 0; bound = 0; seen = [] };
@@ -100,25 +100,26 @@ nothing = record {
 
 -- the fate of a record that the pass holds in this way
 abbrev pub fate_of : (pass : ℕ) → (holding : Holding) → Fate
-fate_of q Held = HeldBy q
-fate_of q IsReady = ReadyBy q
-fate_of q (Unlinked since last) = UnlinkedBy since last q
+fate_of pass Held = HeldBy pass
+fate_of pass IsReady = ReadyBy pass
+fate_of pass (Unlinked since last) = UnlinkedBy since last pass
 
--- The record is the pass's own in the way that it knows, and has the words that it knows.
+-- The record is the pass's own, in the way that the pass knows, and has the words that the pass knows.
 abbrev pub IsOwned : (pass : ℕ) → (core : Core) → (owned : Owned) → Type 0
-IsOwned pass core o = (core.fate o.rec ≡ fate_of pass o.holding) × (core.words o.rec ≡ o.words)
+IsOwned pass core owned = (core.fate owned.rec ≡ fate_of pass owned.holding) × (core.words owned.rec ≡ owned.words)
 
--- The node is locked by the pass, is in the tree, and has the words that the pass knows.
+-- The pass has the lock of the node. The node is in the tree, and has the words that the pass knows.
 abbrev pub IsLocked : (pass : ℕ) → (core : Core) → (lock : Locked) → Type 0
 IsLocked pass core lock = (core.lock lock.node ≡ Some pass) × IsInTree core lock.node × (core.words (a_node lock.node) ≡ lock.words)
 
--- the pass has what it knows that it has, and no more
+-- The pass has just what it knows that it has: records of its own, locks of nodes, and the lock of the anchor. Each has the words that the
+-- pass knows.
 pub record HasAll (core : Core) (known : Known) : Type 0 where
   pub own : All (IsOwned known.pass core) known.own
   pub all_own : (rec : Rec) (holding : Holding) → core.fate rec ≡ fate_of known.pass holding →
       Contains known.own (record { rec = rec; holding = holding; words = core.words rec })
   pub locks : All (IsLocked known.pass core) known.locks
-  pub all_locks : (n : ℕ) → core.lock n ≡ Some known.pass → IsInTree core n →
-      Contains known.locks (record { node = n; words = core.words (a_node n) })
-  pub anchor : (e : Option Entry) → known.anchor ≡ Some e → (core.anchor ≡ Some known.pass) × (core.root ≡ e)
+  pub all_locks : (number : ℕ) → core.lock number ≡ Some known.pass → IsInTree core number →
+      Contains known.locks (record { node = number; words = core.words (a_node number) })
+  pub anchor : (entry : Option Entry) → known.anchor ≡ Some entry → (core.anchor ≡ Some known.pass) × (core.root ≡ entry)
   pub all_anchor : core.anchor ≡ Some known.pass → known.anchor ≡ Some core.root

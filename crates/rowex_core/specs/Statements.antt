@@ -48,109 +48,118 @@ use Rattle.rowex_core.specs.declared.event.Event.{Event}
 abbrev pub StepsStayLawful : Type 0
 StepsStayLawful = (core : Core) (pass : ℕ) (act : Act) → IsLawful core → Legal core pass act → IsLawful (after core pass act)
 
--- a legal step of one pass leaves true what the view of another says
+-- Let a view be true of the core, and not tell of the pass that makes a legal step. The view is true of the core after the step, too.
 abbrev pub StepsKeepKnowledge : Type 0
 StepsKeepKnowledge =
-    (core : Core) (p : ℕ) (act : Act) (view : View) → IsLawful core → Legal core p act → ¬ IsViewOf view p → Knowing core view →
-    Knowing (after core p act) view
+    (core : Core) (pass : ℕ) (act : Act) (view : View) → IsLawful core → Legal core pass act → ¬ IsViewOf view pass → Knowing core view →
+    Knowing (after core pass act) view
 
--- A legal step of one pass leaves to another what it has, and the versions and changes so far. So locks of two passes on different nodes
--- are lawful at once. Each publish is one change, whatever other locks are held.
+-- A legal step of one pass leaves to another what this has, and the versions and changes so far. So two passes may have locks of different
+-- nodes at once. Each publish is one change, whatever other locks are held.
 abbrev pub StepsLeaveOthers : Type 0
-StepsLeaveOthers = (core : Core) (p q : ℕ) (act : Act) → p ≢ q → IsLawful core → Legal core p act → IsFrame q core (after core p act)
+StepsLeaveOthers =
+    (core : Core) (pass other : ℕ) (act : Act) → pass ≢ other → IsLawful core → Legal core pass act → IsFrame other core (after core pass act)
 
--- what a pass knows after its own step is true
+-- what a pass knows after a legal step of its own is true of the core after the step, if what it knew before was true
 abbrev pub LearnedIsTrue : Type 0
 LearnedIsTrue =
     (core : Core) (known : Known) (act : Act) → IsLawful core → Knows core known → Legal core known.pass act →
     Knows (after core known.pass act) (learned core act known)
 
--- A legal load of the root leaves its pass all changes made before it. So these include all that any pass had seen by then.
+-- A legal load of the root shows its pass all changes made before it. So they begin with those that any pass had seen by then.
 abbrev pub RootLoadSeesAll : Type 0
 RootLoadSeesAll =
-    (core : Core) (k : Known) (word : ℕ) → IsLawful core → Knows core k → Legal core k.pass (LoadRef Root word) →
-    let j = learned core (LoadRef Root word) k in (j.front ≡ core.changes) × (j.fresh.front ≡ core.changes) ×
-    ((o : Known) → Knows core o → BeginsWith j.fresh.front o.front)
+    (core : Core) (known : Known) (word : ℕ) → IsLawful core → Knows core known → Legal core known.pass (LoadRef Root word) →
+    let taught = learned core (LoadRef Root word) known in (taught.front ≡ core.changes) × (taught.fresh.front ≡ core.changes) ×
+    ((other : Known) → Knows core other → BeginsWith taught.fresh.front other.front)
 
--- If what a pass knows is true, the records and the locks that it has are just those that it knows of, with the words that it knows.
+-- If what a pass knows is true of the core, it knows just the records and locks that it has, with their words.
 abbrev pub PassKnowsAllItHas : Type 0
 PassKnowsAllItHas = (core : Core) (known : Known) → Knows core known → HasAll core known
 
--- a legal atomic step writes one word at most, and the words then show the core after it
+-- Let the table's words show a lawful core. An atomic step that is legal there writes one word at most. The words then show the core after
+-- the step.
 abbrev pub StepsWriteOneWord : Type 0
 StepsWriteOneWord =
     (core : Core) (pass : ℕ) (act : Act) (words : List ℕ) → IsAtomic act → IsLawful core → Legal core pass act → Shows core words →
     Shows (after core pass act) (set words (address core.layout (location_of pass act)) (writes act (word_at core (location_of pass act))))
 
--- the opening core is lawful, the opening words show it, and no pass has done anything
+-- The core of a new table is lawful, its words show it, and no pass has done anything in it.
 abbrev pub OpeningIsLawful : Type 0
 OpeningIsLawful = (layout : Layout) → IsLawful (opening layout) × Shows (opening layout) (opening_words layout) × Knowing (opening layout) (Dealer 0)
 
--- legal events that begin at the opening core lead to a lawful core
+-- legal events lead from the core of a new table to a lawful core
 abbrev pub RunsStayLawful : Type 0
 RunsStayLawful = (layout : Layout) (events : List Event) (core : Core) → EventsLead (opening layout) events core → IsLawful core
 
--- legal events leave true what a view says, if none is a step of a pass whose view it is
+-- Let a view be true of a lawful core. It stays true after legal events, if the view tells of no pass that makes one of them.
 abbrev pub RunsKeep : Type 0
 RunsKeep =
     (old : Core) (events : List Event) (new : Core) (view : View) → IsLawful old → EventsLead old events new → AreOthers view events →
     Knowing old view → Knowing new view
 
--- What a step does to the changes and the versions. A publish appends one of each, a bulk load one for each leaf. Any other step leaves
--- both as they are.
+-- What an act appends to the changes and the versions. A publish appends one of each, and a bulk load one for each leaf. Any other act
+-- leaves both as they are.
 abbrev pub Appends : (act : Act) → (old new : Core) → Type 0
-Appends (Publish spot w) old new =
+Appends (Publish spot word) old new =
     (change : Change) × (new.changes ≡ old.changes ++ change ∷ []) × (new.past.now ≡ suc old.past.now) ×
-    ((n : ℕ) → n ≤ old.past.now → new.past.version n ≡ old.past.version n)
+    ((version : ℕ) → version ≤ old.past.now → new.past.version version ≡ old.past.version version)
 Appends (Load words) old new =
     (pass : ℕ) × (new.changes ≡ old.changes ++ map (added_change pass) (items_of (loaded_tree old.layout words.now))) ×
     (new.past ≡ loaded_past (loaded_tree old.layout words.now))
 Appends _ old new = (new.changes ≡ old.changes) × (new.past ≡ old.past)
 
--- Each act appends the changes of its kind. A publish appends one change, a bulk load one for each leaf, and any other act none.
+-- Each act appends to the changes and versions what its kind says (`Appends`).
 abbrev pub EachActAppends : Type 0
 EachActAppends = (core : Core) (pass : ℕ) (act : Act) → Appends act core (after core pass act)
 
--- Let a pinned pass's search be led to a node since version m, which is no older than its pin. Then it is led since m to the child that the
--- node's words give it now, be the node still linked or not. A search is led to a record whose stem the key followed, unless it was absent.
+-- A search may go on in a node that was unlinked meanwhile. Let `since` be no older than the pin of a pass, and let its search have rightly
+-- come to a node since then (`IsLed`). The node's words now send it to an entry. It has rightly come to that, too. Rightly: the key
+-- followed the stem, or was absent in a version from `since` on.
 abbrev pub Hindsight : Type 0
 Hindsight =
-    (core : Core) → IsLawful core → (pass : ℕ) (pin : Pin) → core.pins pass ≡ Some pin → (m : ℕ) → pin.version ≤ m → (key : Key) (n height : ℕ) →
-    IsLed core.past m key (Node n height) → IsLed core.past m key (seek key (node_words_of (core.words (a_node n))).subtrie)
+    (core : Core) → IsLawful core → (pass : ℕ) (pin : Pin) → core.pins pass ≡ Some pin → (since : ℕ) → pin.version ≤ since →
+    (key : Key) (number height : ℕ) →
+    IsLed core.past since key (Node number height) → IsLed core.past since key (seek key (node_words_of (core.words (a_node number))).subtrie)
 
--- Keys below two entries of a record part at the fork between these, whichever versions of its present life they come from.
+-- Let a node have two entries, and take a key below each, from any versions of the node's present life. The keys part at the fork between
+-- the two entries.
 abbrev pub KeysPartAtFork : Type 0
 KeysPartAtFork =
-    (core : Core) → IsLawful core → (rec : Rec) (n o x y : ℕ) (g h : Fixed) (a b : Tree) → n ≤ core.past.now → o ≤ core.past.now →
-    Spans core.past.now (life_of (core.fate rec)) n → Spans core.past.now (life_of (core.fate rec)) o → Stands core.past n rec (node x g a) →
-    Stands core.past o rec (node y h b) →
-    (i j : ℕ) → i < j → (key other : Key) → IsUnder a i key → IsUnder b j other → IsParted (between (subtrie a) i j) key other
+    (core : Core) → IsLawful core → (rec : Rec) (version other_version number other_number : ℕ) (fixed other_fixed : Fixed) (body other_body : Tree) →
+    version ≤ core.past.now → other_version ≤ core.past.now →
+    Spans core.past.now (life_of (core.fate rec)) version → Spans core.past.now (life_of (core.fate rec)) other_version →
+    Stands core.past version rec (node number fixed body) → Stands core.past other_version rec (node other_number other_fixed other_body) →
+    (left right : ℕ) → left < right → (key other : Key) → IsUnder body left key → IsUnder other_body right other →
+    IsParted (between (subtrie body) left right) key other
 
--- A record that stood in a version since a pass's pin is neither free nor held. Its words are those that it had then, but for its state,
--- its entries, and the words behind a leaf's key.
+-- Let a record have stood in the tree in a version since a pass's pin. It is neither free nor held. Its words are those that it had then,
+-- but for its state, its entries, its value, and the words behind a leaf's key.
 abbrev pub ReachKeepsWords : Type 0
 ReachKeepsWords =
-    (core : Core) → IsLawful core → (pass : ℕ) (pin : Pin) → core.pins pass ≡ Some pin → (n : ℕ) (rec : Rec) (tree : Tree) → pin.version ≤ n →
-    n ≤ core.past.now → Stands core.past n rec tree →
-    (core.fate rec ≢ Free) × ((o : ℕ) → core.fate rec ≢ Held o) ×
+    (core : Core) → IsLawful core → (pass : ℕ) (pin : Pin) → core.pins pass ≡ Some pin → (version : ℕ) (rec : Rec) (tree : Tree) →
+    pin.version ≤ version →
+    version ≤ core.past.now → Stands core.past version rec tree →
+    (core.fate rec ≢ Free) × ((holder : ℕ) → core.fate rec ≢ Held holder) ×
     ((offset : ℕ) → IsFixedOffset rec offset → HasWordAt tree offset (record_word core rec offset))
 
--- the record stood in version n as u, and at no later one
-pub record StoodLast (s : Past) (n : ℕ) (rec : Rec) (u : Tree) : Type 0 where
-  pub past : n ≤ s.now
-  pub stands : Stands s n rec u
-  pub later : (o : ℕ) (v : Tree) → n < o → o ≤ s.now → Stands s o rec v → ⊥
+-- In this version the record stood with this tree, and in no later one does it stand.
+pub record StoodLast (versions : Past) (version : ℕ) (rec : Rec) (tree : Tree) : Type 0 where
+  pub past : version ≤ versions.now
+  pub stands : Stands versions version rec tree
+  pub later : (other : ℕ) (other_tree : Tree) → version < other → other ≤ versions.now → Stands versions other rec other_tree → ⊥
 
--- Let a node have stood in version m, which is no older than a pass's pin. Each of its entries is one that it had when it stood last, which
--- is now or in a version since m. Its other words but the state are as at m, and so are its stems.
+-- Let a node have stood in the tree in a version `since`, which is no older than a pass's pin. Let `last` be the last version in which it
+-- stood. Each of its entries now is one that it had in `last`. Its other words but the state are those of `since`, and so are its stems.
 abbrev pub EntriesInReach : Type 0
 EntriesInReach =
-    (core : Core) → IsLawful core → (pass : ℕ) (pin : Pin) → core.pins pass ≡ Some pin → (m n : ℕ) (u : Tree) → pin.version ≤ m → m ≤ core.past.now →
-    Stands core.past m (a_node n) u →
-    (o : ℕ) × (v : Tree) × (m ≤ o) × StoodLast core.past o (a_node n) v × IsSameRecord u v ×
-    ((j : ℕ) → j < MAX_ENTRIES → entry_of (record_word core (a_node n) (FIRST_ENTRY + j)) ≡ entry_in v j)
+    (core : Core) → IsLawful core → (pass : ℕ) (pin : Pin) → core.pins pass ≡ Some pin → (since number : ℕ) (tree : Tree) → pin.version ≤ since →
+    since ≤ core.past.now →
+    Stands core.past since (a_node number) tree →
+    (last : ℕ) × (last_tree : Tree) × (since ≤ last) × StoodLast core.past last (a_node number) last_tree × IsSameRecord tree last_tree ×
+    ((slot : ℕ) → slot < MAX_ENTRIES → entry_of (record_word core (a_node number) (FIRST_ENTRY + slot)) ≡ entry_in last_tree slot)
 
--- a call that makes a change of this kind to the key
+-- a call that makes a change of this kind, with this value, to the key
 abbrev pub call_of_kind : (kind : Kind) → (key : Key) → (value : ℕ) → Call
 call_of_kind Added key value = Upsert key value
 call_of_kind Replaced key value = Upsert key value
@@ -160,8 +169,8 @@ call_of_kind Removed key value = Remove key
 abbrev pub call_of_change : Change → Call
 call_of_change change = call_of_kind change.kind change.key change.value
 
--- A publish makes one change, by its pass, which fits the map of those before. The content is then that map after one call, whatever locks
--- others hold.
+-- A legal publish makes one change, by its pass, which fits the map of the changes before it. The new version's content is what one call
+-- makes of that map, whatever locks others hold.
 abbrev pub PublishIsAStep : Type 0
 PublishIsAStep =
     (core : Core) (pass : ℕ) (spot : Spot) (word : ℕ) → IsLawful core → Legal core pass (Publish spot word) →
@@ -171,8 +180,8 @@ PublishIsAStep =
     (content ((after core pass (Publish spot word)).past.version (after core pass (Publish spot word)).past.now) ≡
     map_after (map_of core.changes) (call_of_change (next_change core pass spot word)))
 
--- Let an entry be stored, and the words show a bit trie of lawful nodes then, or no tree. Let its leaves differ from those before by one
--- change of the pass. Then the publish makes that change.
+-- Let a word be stored where an entry stands, after which words show no tree, or a bit trie of lawful nodes. Let its leaves differ from
+-- those before by one change of the pass. The publish makes that change.
 abbrev pub FindsChange : Type 0
 FindsChange =
     (core : Core) (pass : ℕ) (spot : Spot) (word : ℕ) → IsOfEntry spot → IsLawful core →
@@ -181,10 +190,11 @@ FindsChange =
     IsChange (core.past.version core.past.now) change (next_tree core spot word) →
     items_of (core.past.version core.past.now) ≢ items_of (next_tree core spot word) → change.pass ≡ pass → next_change core pass spot word ≡ change
 
--- A pass may lock a node while another holds the lock of another node. Both have their locks then.
+-- A pass may lock a node while another pass holds the lock of another node. Both hold their locks then.
 abbrev pub LocksApart : Type 0
 LocksApart =
-    (core : Core) (other pass n m : ℕ) → IsLawful core → core.lock n ≡ Some other → n ≢ m → Legal core pass (Lock (NodeTarget m) (state_word Live)) →
-    IsLawful (after core pass (Lock (NodeTarget m) (state_word Live))) ×
-    ((after core pass (Lock (NodeTarget m) (state_word Live))).lock n ≡ Some other) ×
-    ((after core pass (Lock (NodeTarget m) (state_word Live))).lock m ≡ Some pass)
+    (core : Core) (other pass number other_number : ℕ) → IsLawful core → core.lock number ≡ Some other → number ≢ other_number →
+    Legal core pass (Lock (NodeTarget other_number) (state_word Live)) →
+    IsLawful (after core pass (Lock (NodeTarget other_number) (state_word Live))) ×
+    ((after core pass (Lock (NodeTarget other_number) (state_word Live))).lock number ≡ Some other) ×
+    ((after core pass (Lock (NodeTarget other_number) (state_word Live))).lock other_number ≡ Some pass)

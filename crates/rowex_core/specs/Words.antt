@@ -14,12 +14,12 @@ use Rattle.versions.specs.declared.Pin.{Pin}
 use Rattle.versions.specs.Core.{Fate, Free, Held, Ready, InTree, Unlinked, Marked}
 use Rattle.rowex_core.specs.Cores.{Core}
 
--- the state of a live node, by its lock
+-- what the state word says of a live node: locked, if a pass has its lock
 abbrev pub lock_tag : Option ℕ → Tag
 lock_tag None = Live
 lock_tag (Some pass) = Locked
 
--- the state of a record, where `lock` says who has locked it
+-- what the state word says of a record of this fate; `lock` is the pass that has locked the record, if one has
 abbrev pub tag_of : Option ℕ → Fate → Tag
 tag_of lock Free = FreeTag
 tag_of lock (Held pass) = HeldTag
@@ -28,21 +28,21 @@ tag_of lock (InTree since) = lock_tag lock
 tag_of lock (Unlinked since last pass) = lock_tag lock
 tag_of lock (Marked since last epoch) = Obsolete epoch
 
--- the lock of a record; a leaf is never locked
+-- the pass that has locked the record, if one has; a leaf is never locked
 abbrev pub lock_of : Core → Rec → Option ℕ
-lock_of core (a_node n) = core.lock n
-lock_of core (a_leaf n) = None
+lock_of core (a_node number) = core.lock number
+lock_of core (a_leaf number) = None
 
 -- the state word of a record
 abbrev pub state_at : Core → Rec → ℕ
 state_at core rec = state_word (tag_of (lock_of core rec) (core.fate rec))
 
--- the word of a pin, or of none
+-- the word of a pin; NO_PIN where there is none
 abbrev pub pin_word : Option Pin → ℕ
 pin_word None = NO_PIN
 pin_word (Some pin) = pin.word
 
--- the word at an offset of a record; at offset 0 stands its state
+-- The word of a record at an offset. At offset 0 stands its state.
 abbrev pub record_word : (core : Core) → (rec : Rec) → (offset : ℕ) → ℕ
 record_word core rec zero = state_at core rec
 record_word core rec (suc offset) = get_or (core.words rec) offset 0
@@ -53,10 +53,10 @@ word_at core Epoch = core.epoch
 word_at core Root = entry_word core.root
 word_at core Anchor = state_word (lock_tag core.anchor)
 word_at core (PinOf pass) = pin_word (core.pins pass)
-word_at core (NodeWord n offset) = record_word core (a_node n) offset
-word_at core (LeafWord n offset) = record_word core (a_leaf n) offset
+word_at core (NodeWord number offset) = record_word core (a_node number) offset
+word_at core (LeafWord number offset) = record_word core (a_leaf number) offset
 
--- the words of the table show the core
+-- The words of the table show the core: at each location of the table stands the word that the core has there.
 pub record Shows (core : Core) (words : List ℕ) : Type 0 where
   pub size : length words ≡ word_count core.layout
   pub each : (location : Location) → IsInTable core.layout location → get_or words (address core.layout location) 0 ≡ word_at core location

@@ -25,8 +25,9 @@ use Rattle.rowex_core.specs.Events.{IsLegalPublish, IsLockedAt, IsWordFor, IsOfE
 use Rattle.rowex_core.specs.Having.{OwnsJust, LocksJust, AreKept, InAnyWay, IsUnlinked}
 use Rattle.rowex_core.specs.Knowing.{Knows, publish_learned}
 
--- Let versions allow a store of an entry as a publish of this tree, by which the leaves change. Then it is a legal publish of the word. The
--- words show this tree, and the change found between the leaves is the one that versions tell.
+-- Let a pass hold the lock of a spot. Let the versions allow a store of an entry there as a publish of this tree and this change
+-- (`IsVersionsPublish`). Let the leaves change. The store is a legal publish. The words then show this tree, and the change that is found
+-- between the leaves is this one.
 abbrev pub PublishIsLegal : Type 0
 PublishIsLegal =
     (core : Core) (pass : ℕ) (spot : Spot) (word : ℕ) → IsOfEntry spot → IsLawful core → IsLockedAt core pass spot → IsWordFor spot word →
@@ -36,34 +37,34 @@ PublishIsLegal =
     items_of (core.past.version core.past.now) ≢ items_of tree →
     IsLegalPublish core pass spot word × (next_tree core spot word ≡ tree) × (next_change core pass spot word ≡ change)
 
--- A store of a value of 64 bits, under the lock of what names the leaf, is a legal publish. It links no record anew and unlinks none.
+-- A store of a value of 64 bits, under the lock of what names its leaf, is a legal publish. It links no record anew, and unlinks none.
 abbrev pub ValueIsLegal : Type 0
 ValueIsLegal =
-    (core : Core) (pass l word : ℕ) → IsLawful core → IsLockedAt core pass (Value l) → word < 2 ^ 64 →
-    IsLegalPublish core pass (Value l) word × HasTraded (core.past.version core.past.now) (next_tree core (Value l) word) [] []
+    (core : Core) (pass leaf word : ℕ) → IsLawful core → IsLockedAt core pass (Value leaf) → word < 2 ^ 64 →
+    IsLegalPublish core pass (Value leaf) word × HasTraded (core.past.version core.past.now) (next_tree core (Value leaf) word) [] []
 
--- Let the words of a node record spell a node, and an entry that may stand in it be stored in slot j. The words spell the node with that
--- entry then. What is read from them is the node's fixed part and its subtrie with that entry.
+-- Let words encode a node, and let an entry be stored in one of its slots that may stand below the node's height. The words encode the node
+-- with that entry then. What is read from them is the same fixed part, and the subtrie with that entry.
 abbrev pub SlotIsStored : Type 0
 SlotIsStored =
-    (view : NodeView) (words : List ℕ) → HasNodeWords view → node_words view ≡ words → All (λ w. w < 2 ^ 64) words →
-    (j : ℕ) (entry : Entry) → j < length view.entries → HasEntryWord (Some entry) → StandsBelow view.height entry →
-    let stored = record view { entries = set view.entries j entry } in let after = set words (HEAD_WORDS + j) (entry_word (Some entry)) in
+    (view : NodeView) (words : List ℕ) → HasNodeWords view → node_words view ≡ words → All (λ word. word < 2 ^ 64) words →
+    (slot : ℕ) (entry : Entry) → slot < length view.entries → HasEntryWord (Some entry) → StandsBelow view.height entry →
+    let stored = record view { entries = set view.entries slot entry } in let after = set words (HEAD_WORDS + slot) (entry_word (Some entry)) in
     HasNodeWords stored × (node_words stored ≡ after) ×
-    (node_words_of after ≡ record { fixed = (node_words_of words).fixed; subtrie = with_entry (node_words_of words).subtrie j entry })
+    (node_words_of after ≡ record { fixed = (node_words_of words).fixed; subtrie = with_entry (node_words_of words).subtrie slot entry })
 
--- A node that stood in the tree in a version since a pass's pin is in the tree, if its state is live.
+-- Let a node have stood in the tree in a version since a pass's pin. If its state word says live, it is in the tree.
 abbrev pub LedIsInTree : Type 0
 LedIsInTree =
-    (core : Core) → IsLawful core → (pass : ℕ) (pin : Pin) → core.pins pass ≡ Some pin → (n m : ℕ) (tree : Tree) → pin.version ≤ m →
-    m ≤ core.past.now →
-    Stands core.past m (a_node n) tree → state_at core (a_node n) ≡ 2 → IsInTree core n
+    (core : Core) → IsLawful core → (pass : ℕ) (pin : Pin) → core.pins pass ≡ Some pin → (number version : ℕ) (tree : Tree) → pin.version ≤ version →
+    version ≤ core.past.now →
+    Stands core.past version (a_node number) tree → state_at core (a_node number) ≡ 2 → IsInTree core number
 
--- What a pass has after a publish, if it owned just what is linked anew and had locked just these nodes. It owns just what is unlinked, and
--- has locked just those that are still linked.
+-- Let a pass own just the records that its publish links anew, and have locked just the nodes `held`. After the publish it owns just the
+-- records that this unlinked, and has locked just those of the nodes that are still linked.
 abbrev pub OwnedAfterPublish : Type 0
 OwnedAfterPublish =
     (core : Core) (known : Known) (spot : Spot) (word : ℕ) → IsLawful core → Knows core known → (new gone : List Rec) (held kept : List ℕ) →
     HasTraded (core.past.version core.past.now) (next_tree core spot word) new gone → OwnsJust known.own InAnyWay new → LocksJust known.locks held →
     AreKept held gone kept →
-    let j = publish_learned core spot word known in OwnsJust j.own IsUnlinked gone × LocksJust j.locks kept
+    let later = publish_learned core spot word known in OwnsJust later.own IsUnlinked gone × LocksJust later.locks kept

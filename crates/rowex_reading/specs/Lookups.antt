@@ -1,4 +1,4 @@
--- What searches for keys promise.
+-- What searches for one key or many promise: the steps made, and what was found.
 use Rattle.std.specs.Prelude.{◌≡◌, ℕ, ◌+◌, ◌*◌, ◌<◌, ◌≤◌, List, slice_get, Option, Some, None}
 use Rattle.key_bits.specs.declared.TheConstants.{MAX_BYTES}
 use Rattle.tries.specs.Keys.{Key}
@@ -9,12 +9,12 @@ use Rattle.rowex_table.specs.Seats.{TableView, SeatView}
 use Rattle.rowex_reading.specs.Reads.{Looks}
 use Rattle.rowex_reading.specs.Seen.{Sure, since}
 
--- how many words a search touches in each node on its path: those of its entries, while it searches the head
+-- how many words a search touches at most in each node on its path: those with its entries, while it searches the head
 abbrev pub search_touches : ℕ
 search_touches = 4
 
--- The pass has searched for a key. Its path had so many nodes, no more than a tree can be high. It has loaded the root, at most 26 words of
--- each node, one of them an entry, and 32 of a leaf. It has made no other step, and has touched four words of each node at most.
+-- The pass has searched for a key, through `nodes` nodes: at most as many as a key has positions. It has loaded the root, at most 26 words
+-- of each node, one of them an entry, and at most 32 of a leaf. It has made no other step, and has touched at most four words of each node.
 pub record HasSearched {G : Type 0} (table : TableView) (becomes : G → Event → G → Type 0) (old new : SeatView × G) : Type 0 where
   pub nodes : ℕ
   pub loaded : ℕ
@@ -23,13 +23,13 @@ pub record HasSearched {G : Type 0} (table : TableView) (becomes : G → Event �
   pub looks : Looks table becomes nodes loaded old new
   pub touched : new.0.touches ≤ old.0.touches + search_touches * nodes
 
--- What a search for the key found: since the last load of the root the key had the value, or was absent, in some version.
+-- What a search for the key found: in some version since the pass's last load of the root, the key had this value, or was absent.
 abbrev pub HasFound : (known : Known) → (key : Key) → (held : Option ℕ) → Type 0
 HasFound known key None = Sure known (λ past. WasAbsentSince past (since known) key)
 HasFound known key (Some value) = Sure known (λ past. IsHeldSince past (since known) key value)
 
--- The pass has searched for so many keys, and loaded the root once. The keys' paths had so many nodes, on each no more than a tree can be
--- high. It has loaded at most 26 words of each, one of them an entry, and 32 of each leaf. It has made no other step.
+-- The pass has searched for `count` keys, and loaded the root once. The paths have `nodes` nodes together, each at most as many as a key
+-- has positions. It has loaded at most 26 words of each node, one of them an entry, and at most 32 of each leaf. It has made no other step.
 pub record HaveSearched {G : Type 0} (table : TableView) (becomes : G → Event → G → Type 0) (count : ℕ) (old new : SeatView × G) : Type 0 where
   pub nodes : ℕ
   pub loaded : ℕ
@@ -37,7 +37,8 @@ pub record HaveSearched {G : Type 0} (table : TableView) (becomes : G → Event 
   pub few : loaded ≤ 32 * count + 26 * nodes
   pub looks : Looks table becomes nodes loaded old new
 
--- what searches for the first of these keys found, each in a version of its own since the last load of the root
+-- What searches for the first `count` of these keys found. Each result was right in some version since the pass's last load of the root,
+-- maybe another one for each key.
 abbrev pub HaveFound : (known : Known) → (count : ℕ) → (keys : List Key) → (found : List (Option ℕ)) → Type 0
 HaveFound known count keys found =
-    (i : ℕ) (key : Key) (o : Option ℕ) → i < count → slice_get keys i ≡ Some key → slice_get found i ≡ Some o → HasFound known key o
+    (index : ℕ) (key : Key) (held : Option ℕ) → index < count → slice_get keys index ≡ Some key → slice_get found index ≡ Some held → HasFound known key held

@@ -1,11 +1,11 @@
--- What a pass knows is true of some core.
+-- That what a pass knows is true of some core.
 use Rattle.std.specs.Prelude.{◌≡◌}
 use Rattle.record_words.specs.declared.layout.Layout.{Layout}
 use Rattle.rowex_core.specs.declared.known.Known.{Known}
 use Rattle.rowex_core.specs.Cores.{Core, IsLawful}
 use Rattle.rowex_core.specs.Knowing.{Knows}
 
--- There is a lawful core of this layout of which what the pass knows is true: that of its last load.
+-- What the pass knows is true of some lawful core of this layout, such as that at its last load.
 pub record IsPossible (layout : Layout) (known : Known) : Type 0 where
   pub core : Core
   pub lawful : IsLawful core

@@ -1,4 +1,4 @@
--- What several searches know that go down side by side, and the loads that they make.
+-- Several searches side by side: what each knows, and which loads they make together.
 use Rattle.std.specs.Prelude.{◌≡◌, ℕ, ◌+◌, ◌*◌, ◌<◌, ◌≤◌, List, slice_get, Some}
 use Rattle.std.specs.List.{sum_by}
 use Rattle.compound_node.specs.declared.entries.Entry.{Entry}
@@ -14,26 +14,26 @@ use Rattle.rowex_table.specs.Seats.{SeatView, TableView}
 use Rattle.rowex_reading.specs.Reads.{Reads}
 use Rattle.rowex_reading.specs.Seen.{Sure, since}
 
--- The key's search has led the pass to the entry, by loads since its last one of the root.
+-- The key's search has led the pass to this entry, by loads since the pass's last load of the root.
 pub record HasComeTo (known : Known) (key : Key) (entry : Entry) : Type 0 where
   pub pinned : IsPinnedSince known (since known)
   pub led : Sure known (λ past. IsLed past (since known) key entry)
 
--- the search for each key has led to its entry
+-- each key's search has led the pass to the entry of the same index in `tips`
 abbrev pub HaveComeTo : (known : Known) → (keys : List Key) → (tips : List Entry) → Type 0
 HaveComeTo known keys tips =
-    (i : ℕ) (key : Key) (entry : Entry) → slice_get keys i ≡ Some key → slice_get tips i ≡ Some entry → HasComeTo known key entry
+    (index : ℕ) (key : Key) (entry : Entry) → slice_get keys index ≡ Some key → slice_get tips index ≡ Some entry → HasComeTo known key entry
 
--- the first of these entries are leaves
+-- the first `count` of these entries are leaves
 abbrev pub AreLeaves : (count : ℕ) → (tips : List Entry) → Type 0
-AreLeaves count tips = (i : ℕ) (entry : Entry) → i < count → slice_get tips i ≡ Some entry → (number : ℕ) × (entry ≡ Leaf number)
+AreLeaves count tips = (index : ℕ) (entry : Entry) → index < count → slice_get tips index ≡ Some entry → (number : ℕ) × (entry ≡ Leaf number)
 
--- the sum of these entries' heights, which each step to a child lowers
+-- the sum of these entries' heights; each step of a search to a lower entry makes it less
 abbrev pub heights_in : List Entry → ℕ
 heights_in tips = sum_by height_of tips
 
--- The pass makes the loads of `count` searches from the root's entry on. They are at most 26 for each node on a path, one of them an entry,
--- and 32 for each leaf.
+-- The pass makes the loads of `count` searches that begin at the root's entry, and no other step. They are at most 26 for each node on a
+-- path, one of them of an entry, and 32 for each leaf.
 abbrev pub ReadsForAll : {G : Type 0} → (table : TableView) → (becomes : G → Event → G → Type 0) → (count : ℕ) → (old new : SeatView × G) →
     Type 0
 ReadsForAll table becomes count old new =

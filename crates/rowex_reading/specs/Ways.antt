@@ -1,4 +1,4 @@
--- What a writer's search has found, node by node of its way.
+-- What a writer's search has found, node by node of its path (in names a way).
 use Rattle.std.specs.Prelude.{◌≡◌, ℕ, zero, suc, ◌+◌, ◌*◌, ◌<◌, ◌≤◌, List, [], ◌∷◌, length, slice_get, Option, Some, None}
 use Rattle.key_bits.specs.Key.{IsKey}
 use Rattle.key_bits.specs.declared.TheConstants.{MAX_BYTES}
@@ -19,34 +19,35 @@ use Rattle.rowex_reading.specs.declared.descent.Found.{Found}
 use Rattle.rowex_reading.specs.declared.descent.Found.TheVariants.{Nothing, Leaf}
 use Rattle.std.specs.Prelude.{◌≢◌}
 
--- the entry at which a search ended
+-- the entry at which a search ended, or none if the index was empty
 abbrev pub end_of : Found → Option Entry
 end_of Nothing = None
 end_of (Leaf number value mismatch) = Some (LeafEntry number)
 
--- the value that a search found for its key
+-- the value that a search found for its key, or none if the key was absent
 abbrev pub value_of : Found → Option ℕ
 value_of (Leaf number value None) = Some value
 value_of found = None
 
--- What names node i of a path: the root's entry, or the entry taken in the node above. Behind the last node, it is what the search ended
--- at.
+-- What the search found at index i of its path: for 0 the root's entry, and else the entry that it took in the node before. Behind the last
+-- node this is the leaf at which the search ended, or none.
 abbrev pub named : (way : List PathNode) → (found : Found) → (index : ℕ) → Option Entry
-named [] found i = end_of found
-named (s ∷ way) found zero = Some (Node s.number s.height)
-named (s ∷ way) found (suc i) = named way found i
+named [] found index = end_of found
+named (step ∷ way) found zero = Some (Node step.number step.height)
+named (step ∷ way) found (suc index) = named way found index
 
--- the step of a path at a node with this head, in which the search takes slot `at`
+-- the path's entry for node `number` with this head, where the search takes slot `at`
 abbrev pub step_at : HeadView → (number at : ℕ) → PathNode
 step_at head number at =
     record { number = number; height = head.height; first_position = first_position (shape_of head); count = size (shape_of head); slot = at }
 
--- in a version since this one the root had this entry, or none
+-- the pass is sure that in some version since this one the root had this entry, or none
 abbrev pub RootWas : (known : Known) → (version : ℕ) → (root : Option Entry) → Type 0
 RootWas known version None = Sure known (λ past. IsBlank past version)
 RootWas known version (Some entry) = Sure known (λ past. IsRooted past version entry)
 
--- Since this version the pass was led to the node of the step. It has read the node's forks, and this entry in the slot on the key's path.
+-- What the pass has read of one node of its path, by loads since this version. The node stood in the tree and had these forks. In the slot
+-- that the key's search takes there, it had this entry, which is lower than the node.
 pub record IsWayNode (layout : Layout) (known : Known) (version : ℕ) (key : Key) (node : PathNode) (entry : Entry) : Type 0 where
   pub forks : Subtrie
   pub range : node.number < layout.nodes
@@ -59,23 +60,23 @@ pub record IsWayNode (layout : Layout) (known : Known) (version : ℕ) (key : Ke
   pub room : size forks ≤ 32
   pub first : node.first_position ≡ first_position forks
 
--- the first position at which the keys differ, or none
+-- the first position at which the two keys differ; none if they are the same
 abbrev pub IsMismatch : (key other : Key) → (mismatch : Option ℕ) → Type 0
 IsMismatch key other None = key ≡ other
 IsMismatch key other (Some position) = AgreeBelow position key other × (bit key position ≢ bit other position)
 
--- since this version the pass has read the leaf that its search found
+-- by loads since this version, the pass has read the key and the value of the leaf at which its search ended
 abbrev pub IsFoundAt : (known : Known) → (version : ℕ) → (key : Key) → (found : Found) → Type 0
 IsFoundAt known version key Nothing = Unit {0}
 IsFoundAt known version key (Leaf number value mismatch) =
     (other : Key) × Sure known (λ past. IsRead past version number other value) × IsMismatch key other mismatch
 
--- A search for the key, which loaded the root at this version, has taken this path and found this end.
+-- A search for the key loaded the root at this version. It took this path, and found this at the end.
 pub record IsWayOf (layout : Layout) (known : Known) (version : ℕ) (key : Key) (way : List PathNode) (found : Found) : Type 0 where
   pub is_key : IsKey key
   pub since : IsPinnedSince known version
   pub root : RootWas known version (named way found 0)
-  pub nodes : (i : ℕ) (node : PathNode) → slice_get way i ≡ Some node → (entry : Entry) × (named way found (i + 1) ≡ Some entry) ×
+  pub nodes : (index : ℕ) (node : PathNode) → slice_get way index ≡ Some node → (entry : Entry) × (named way found (index + 1) ≡ Some entry) ×
       IsWayNode layout known version key node entry
   pub found_at : IsFoundAt known version key found
   pub depth : length way ≤ 9 * MAX_BYTES

@@ -1,4 +1,4 @@
--- Tries of the records of a kind, from one number on and then from 0.
+-- Tries to claim a record of a kind: from one number on, then from 0.
 use Rattle.std.specs.Prelude.{◌≡◌, ◌≢◌, ℕ, ◌+◌, ◌-◌, ◌<◌, ◌≤◌, ◌*◌, ◌⊎◌, List, [], ◌∷◌, ◌++◌, length, map, nat_lt, All, Contains, MatchOption, Option, Some, None, if◌then◌else◌}
 use Rattle.record_words.specs.declared.layout.Layout.{Layout}
 use Rattle.record_words.specs.Layout.{leaf_size}
@@ -22,80 +22,82 @@ use Rattle.rowex_table.specs.Seats.{TableView, SeatView}
 use Rattle.rowex_records.specs.declared.claiming.RecordKind.{RecordKind}
 use Rattle.rowex_records.specs.declared.claiming.RecordKind.TheVariants.{Node, Leaf}
 
--- the record of this index in a kind
+-- the record of the kind that has this index; leaf records of one class begin at number `first`
 abbrev pub record_of : RecordKind → (index : ℕ) → Rec
 record_of Node = a_node
-record_of (Leaf first end) = λ i. a_leaf (first + i)
+record_of (Leaf first end) = λ index. a_leaf (first + index)
 
--- how many records of the kind there are
+-- how many records of the kind the table has
 abbrev pub count_of : RecordKind → Layout → ℕ
 count_of Node layout = layout.nodes
 count_of (Leaf first end) layout = end - first
 
--- the table has the records of this kind
+-- the table has all records of this kind
 abbrev pub IsKindOf : RecordKind → Layout → Type 0
 IsKindOf Node layout = Unit {0}
 IsKindOf (Leaf first end) layout = end ≤ layout.leaves
 
--- a kind of leaf records has one of this index
+-- the kind has a record of this index; of nodes nothing is asked
 abbrev pub HasIndex : RecordKind → (index : ℕ) → Type 0
 HasIndex Node index = Unit {0}
 HasIndex (Leaf first end) index = first + index < end
 
--- what a pass knew, but for its own records and its failed steps, which may have changed
+-- what the pass knew before, but with its own records and its failed steps as they are now
 abbrev pub claiming : (old new : Known) → Known
 claiming old new = record old { own = new.own; failed = new.failed }
 
--- where to begin among `count` numbers: at `from`, or at 0 if that is out of range
+-- where a walk over `count` numbers begins: at `from`, or at 0 if `from` is out of range
 abbrev pub begin_of : (count from : ℕ) → ℕ
 begin_of count from = if nat_lt from count then from else 0
 
--- of `count` numbers, the one that is `steps` after `from`, where 0 comes after the last
+-- the number that is `steps` after `from` among `count` numbers, where 0 comes after the last
 abbrev pub wrapped : (count from steps : ℕ) → ℕ
 wrapped count from steps = if nat_lt (from + steps) count then from + steps else from + steps - count
 
--- The acts of a try that finds the record not free. A try loads the state, and claims the record if that is free.
+-- The acts of a try that finds the record not free. Either the load of its state finds it so. Or the load finds it free, and the claim
+-- after it finds that it no longer is.
 abbrev pub Misses : (rec : Rec) → (acts : List Act) → Type 0
 Misses rec acts = (word : ℕ) × (1 ≤ word) × ((acts ≡ LoadState rec word ∷ []) ⊎ (acts ≡ LoadState rec 0 ∷ Claim rec word ∷ []))
 
--- Who may own a record that the pass finds not free. It is another pass of the index, or nobody, if the record is in the tree or retired.
--- The pass itself may own only those in `own`. Nobody owns a node of `locked`.
+-- Who may own a record that the pass finds not free: another pass of the index, or nobody, if the record is in the tree or retired. The
+-- pass itself may own only the records in `own`. The nodes in `locked` are nobody's.
 abbrev pub IsAnothers : (layout : Layout) → (pass : ℕ) → (own : List Rec) → (locked : List ℕ) → (rec : Rec) → (by : Option ℕ) → Type 0
 IsAnothers layout pass own locked rec None = Unit {0}
 IsAnothers layout pass own locked rec (Some by) = (by < layout.passes) × (by ≡ pass → Contains own rec) × ¬ (IsOneOf rec (map a_node locked))
 
--- Who may own a record that a pass with this knowledge finds not free. The pass itself may own only those in `own`. Nobody owns a node that
--- it has locked.
+-- Who may own a record that a pass with this knowledge finds not free, as `IsAnothers` says. The pass itself may own only the records in
+-- `own`. The nodes that it has locked are nobody's.
 abbrev pub IsAnothersBut : (layout : Layout) → (known : Known) → (own : List Rec) → (rec : Rec) → (by : Option ℕ) → Type 0
 IsAnothersBut layout known own = IsAnothers layout known.pass own (nodes_of known.locks)
 
--- the records that a pass has
+-- the pass's own records, without their words
 abbrev pub records_had : Known → List Rec
 records_had known = map (λ (owned : Owned). owned.rec) known.own
 
--- Who may own a record that a pass with this knowledge finds not free. The pass itself may own only those that it knows to be its own.
--- Nobody owns a node that it has locked.
+-- Who may own a record that a pass with this knowledge finds not free, as `IsAnothers` says. The pass itself owns just the records that it
+-- knows as its own. The nodes that it has locked are nobody's.
 abbrev pub IsAnothersTo : (layout : Layout) → (known : Known) → (rec : Rec) → (by : Option ℕ) → Type 0
 IsAnothersTo layout known = IsAnothersBut layout known (records_had known)
 
--- the failed step tells that a record was not free, and whose it was
+-- a claim or a load of a state has failed, since a record was not free, and `Whose` holds of the owner that was found
 abbrev pub TellsState : (Option ℕ → Type 0) → FailedAct → Type 0
 TellsState Whose (a_claim by) = Whose by
 TellsState Whose (a_load by) = Whose by
 TellsState Whose (a_lock by) = ⊥
 
--- The failed step of this number has found the record not free, by a claim or a load of the state. `Whose` holds of the owner that it
--- found.
+-- The failed step of this number found the record not free, by a claim or a load of its state. `Whose` holds of the record and the owner
+-- that was found.
 abbrev pub HasMissed : (Whose : Rec → Option ℕ → Type 0) → (failed : List Failed) → (rec : Rec) → (step : ℕ) → Type 0
 HasMissed Whose failed rec step =
     (act : FailedAct) × (word : ℕ) × TellsState (Whose rec) act × (1 ≤ word) ×
     Contains failed (record { act = act; location = word_of rec 0; word = word; step = step })
 
--- a failed step, of number `since` or a later one, has found the record not free, and `Whose` holds of the owner that it found
+-- a failed step, of number `since` or a later one, found the record not free; `Whose` holds of the record and the owner that was found
 abbrev pub HasMissedSince : (Whose : Rec → Option ℕ → Type 0) → (failed : List Failed) → (rec : Rec) → (since : ℕ) → Type 0
 HasMissedSince Whose failed rec since = (step : ℕ) × (since ≤ step) × HasMissed Whose failed rec step
 
--- The pass tries the record and finds it not free. It has one failed step more, which tells so, and its own records as before.
+-- The pass tries the record and finds it not free. It has the same own records, and remembers one more failed step, which tells that and
+-- who may own the record.
 pub record MissesOne {G : Type 0} (table : TableView) (becomes : G → Event → G → Type 0) (rec : Rec) (old new : SeatView × G) : Type 0 where
   pub acts : List Act
   pub misses : Misses rec acts
@@ -105,40 +107,41 @@ pub record MissesOne {G : Type 0} (table : TableView) (becomes : G → Event →
   pub failed_is : new.0.known.failed ≡ failed ∷ old.0.known.failed
   pub tells : HasMissedSince (IsAnothersTo table.layout old.0.known) (failed ∷ []) rec old.0.known.steps
 
--- From `old` to `new` the pass has come to hold this record, beside those that it had.
+-- From `old` to `new` the pass has come to own this record, claimed and not yet ready, beside those that it had.
 pub record HoldsOneMore (rec : Rec) (old new : Known) : Type 0 where
   pub words : List ℕ
   pub sized : length words ≡ word_count_of rec
   pub own : new.own ≡ record { rec = rec; holding = Held; words = words } ∷ old.own
-  pub apart : All (λ o. o.rec ≢ rec) old.own
+  pub apart : All (λ owned. owned.rec ≢ rec) old.own
 
--- The pass tries the record, finds it free and claims it.
+-- The pass tries the record, finds it free and claims it. It has no more failed steps than before.
 pub record ClaimsOne {G : Type 0} (table : TableView) (becomes : G → Event → G → Type 0) (rec : Rec) (old new : SeatView × G) : Type 0 where
   pub does : Does table becomes claiming (LoadState rec 0 ∷ Claim rec 0 ∷ []) old new
   pub failed : new.0.known.failed ≡ old.0.known.failed
   pub holds : HoldsOneMore rec old.0.known new.0.known
 
--- The pass tries the record of this number and finds it not free. If the number is none of the `count` records', nothing is done.
+-- The pass tries the record of this number and finds it not free. If the number is not below `count`, no step is made.
 abbrev pub MissesNumber : {G : Type 0} → (table : TableView) → (becomes : G → Event → G → Type 0) → (kind : ℕ → Rec) → (count number : ℕ) →
     (old new : SeatView × G) → Type 0
 MissesNumber table becomes kind count number old new =
     ((count ≤ number) × (new ≡ old)) ⊎ ((number < count) × MissesOne table becomes (kind number) old new)
 
--- Of the `count` records of the kind the pass tries `tried`, from number `from` on, each once, and finds none free. It has as many failed
--- steps more, one for each, and its own records as before.
+-- Of the `count` records of the kind, the pass tries `tried`, each once, from number `from` on. It finds none free. It has the same own
+-- records, and remembers one more failed step for each record tried.
 pub record FindsNone {G : Type 0} (table : TableView) (becomes : G → Event → G → Type 0) (kind : ℕ → Rec) (count from tried : ℕ)
     (old new : SeatView × G) : Type 0 where
   pub tries : List Act
-  pub in_turn : InTurn (λ i. Misses (kind (wrapped count from i))) tried tries
+  pub in_turn : InTurn (λ index. Misses (kind (wrapped count from index))) tried tries
   pub few : length tries ≤ 2 * tried
   pub does : Does table becomes claiming tries old new
   pub own : new.0.known.own ≡ old.0.known.own
   pub missed : List Failed
   pub failed : new.0.known.failed ≡ missed ++ old.0.known.failed
   pub size : length missed ≡ tried
-  pub each : (i : ℕ) → i < tried → HasMissedSince (IsAnothersTo table.layout old.0.known) missed (kind (wrapped count from i)) old.0.known.steps
+  pub each : (index : ℕ) → index < tried → HasMissedSince (IsAnothersTo table.layout old.0.known) missed (kind (wrapped count from index)) old.0.known.steps
 
--- Of the `count` records of the kind the pass finds some not free, from number `from` on, and then claims the one of number `number`.
+-- Of the `count` records of the kind, the pass tries some from number `from` on, and finds them not free. Then it claims the one of this
+-- number.
 pub record Claims {G : Type 0} (table : TableView) (becomes : G → Event → G → Type 0) (kind : ℕ → Rec) (count from number : ℕ)
     (old new : SeatView × G) : Type 0 where
   pub tried : ℕ
@@ -148,8 +151,8 @@ pub record Claims {G : Type 0} (table : TableView) (becomes : G → Event → G 
   pub none : FindsNone table becomes kind count from tried old before
   pub one : ClaimsOne table becomes (kind number) before new
 
--- Of the `count` records of the kind the pass tries fewer than `most`, from number `from` on, and finds none free. Then it loads the state
--- of the one of number `number`, and finds it free.
+-- Of the `count` records of the kind, the pass tries fewer than `most` from number `from` on, and finds them not free. Then it loads the
+-- state of the one of this number, and finds it free.
 pub record FindsFree {G : Type 0} (table : TableView) (becomes : G → Event → G → Type 0) (kind : ℕ → Rec) (count from most number : ℕ)
     (old new : SeatView × G) : Type 0 where
   pub tried : ℕ
@@ -159,8 +162,8 @@ pub record FindsFree {G : Type 0} (table : TableView) (becomes : G → Event →
   pub none : FindsNone table becomes kind count from tried old before
   pub free : Steps table becomes (LoadState (kind number) 0) before new
 
--- After tries that found none free, the pass goes on with the next `count` records of the kind, from `number` on. The result is none, or
--- how many of these it tried before the one that it has claimed.
+-- Let the pass have tried some records of the kind and found none free. It goes on with the next `count` ones, from `number` on. The result
+-- is none if none of these is free. Else it is how many of these the pass tried before the one that it claimed.
 abbrev pub GoesOnTrying : {G : Type 0} → (table : TableView) → (becomes : G → Event → G → Type 0) → (kind : RecordKind) →
     (number count : ℕ) → (result : Option ℕ) → (old new : SeatView × G) → Type 0
 GoesOnTrying {G = G} table becomes kind number count result old new =
@@ -170,29 +173,29 @@ GoesOnTrying {G = G} table becomes kind number count result old new =
     MatchOption result (FindsNone table becomes (record_of kind) all from (tried + count) first new)
     (λ index. (index < count) × (claims : Claims table becomes (record_of kind) all from (number + index) first new) × (claims.tried ≡ tried + index))
 
--- Of the records of the kind the pass tries at most `most`, from `begin` on. The answer is the number of the one that it has claimed, or
--- none, and how many it tried.
+-- The pass tries at most `most` records of the kind, from `begin` on. The answer has two parts: the number of the record that the pass has
+-- claimed, or none, and how many records it tried.
 abbrev pub TriesSome : {G : Type 0} → (table : TableView) → (becomes : G → Event → G → Type 0) → (kind : RecordKind) → (begin most : ℕ) →
     (answer : Option ℕ × ℕ) → (old new : SeatView × G) → Type 0
 TriesSome table becomes kind begin most (result, tried) old new =
     MatchOption result ((tried ≡ most) × FindsNone table becomes (record_of kind) (count_of kind table.layout) begin most old new)
     (λ number. (claims : Claims table becomes (record_of kind) (count_of kind table.layout) begin number old new) × (claims.tried + 1 ≡ tried))
 
--- The pass has found the record at `begin` not free, and goes on behind it. It tries at most `most` records, that one included, with this
--- result.
+-- Let the pass have found the record at `begin` not free. It goes on behind that one, up to `most` records with that one, as `TriesSome`
+-- says.
 abbrev pub GoesOnBehind : {G : Type 0} → (table : TableView) → (becomes : G → Event → G → Type 0) → (kind : RecordKind) → (begin most : ℕ) →
     (result : Option ℕ × ℕ) → (old new : SeatView × G) → Type 0
 GoesOnBehind {G = G} table becomes kind begin most result old new =
     (first : SeatView × G) → FindsNone table becomes (record_of kind) (count_of kind table.layout) begin 1 first old →
     TriesSome table becomes kind begin most result first new
 
--- Failed steps, of number `since` or later ones, have found each of the `count` records of the kind not free. `Whose` holds of the owner
--- that they found.
+-- Failed steps of number `since` or later found each of the `count` records of the kind not free. `Whose` holds of each record and the
+-- owner that was found.
 abbrev pub AllMissed : (Whose : Rec → Option ℕ → Type 0) → (kind : ℕ → Rec) → (count : ℕ) → (failed : List Failed) → (since : ℕ) → Type 0
 AllMissed Whose kind count failed since = (number : ℕ) → number < count → HasMissedSince Whose failed (kind number) since
 
--- Failed steps, of number `since` or later ones, have found each leaf record of at least so many words not free. `Whose` holds of the owner
--- that they found.
+-- Failed steps of number `since` or later found each leaf record of at least `words` words not free. `Whose` holds of each record and the
+-- owner that was found.
 abbrev pub AllMissedFrom : (Whose : Rec → Option ℕ → Type 0) → (layout : Layout) → (words : ℕ) → (failed : List Failed) → (since : ℕ) →
     Type 0
 AllMissedFrom Whose layout words failed since =

@@ -7,21 +7,21 @@ use Rattle.rowex_core.specs.Events.{after}
 use Rattle.rowex_core.specs.Opening.{opening}
 use Rattle.rowex_core.specs.Runs.{EventsLead}
 
--- a recorded run: the layout of its index, and the events so far, the oldest first
+-- A recorded run: the layout of its index, and the events so far, the oldest first.
 pub record Run : Type 0 where
   pub layout : Layout
   pub events : List Event
 
--- the core after these events
+-- the core after these events, the first of which happens at this core
 abbrev pub core_after : Core → List Event → Core
 core_after core [] = core
-core_after core (x ∷ xs) = core_after (after core x.pass x.act) xs
+core_after core (event ∷ events) = core_after (after core event.pass event.act) events
 
--- the core to which a run leads from the opening core
+-- the core to which a run leads from that of a new table
 abbrev pub core_of : Run → Core
 core_of run = core_after (opening run.layout) run.events
 
--- the events of a run are legal, one after the other from the opening core
+-- the events of the run are legal one after the other, from the core of a new table on
 abbrev pub HasLegalEvents : Run → Type 0
 HasLegalEvents run = EventsLead (opening run.layout) run.events (core_of run)
 

@@ -4,7 +4,7 @@ use Rattle.tries.proofs.Content.{trie_if_local, local_if_trie}
 use Rattle.versions.specs.Read.{read}
 use Rattle.versions.proofs.Read.{read_exact}
 use Rattle.rowex_replay_state.specs.declared.linked.Linked.{Linked}
-use Rattle.rowex_replay_state.specs.Versions.{IsSpelled, IsReadVersion, read_item, Table}
+use Rattle.rowex_replay_state.specs.Versions.{IsEncoded, IsReadVersion, read_item, Table}
 use Rattle.rowex_replay_state.specs.Parts.{ShowsPart, HasMarks, IsTreeRead}
 use Rattle.rowex_replay_state.proofs.parts.Parts.{from_start}
 
@@ -43,7 +43,7 @@ module _ (table : Table) (words : Rec → List ℕ) (e : Entry) where
   read_of : (t : Tree) → ShowsPart table words 0 (Place e) t → tree_of (heap_of words) (Some e) ≡ Some t
   read_of t part = read_exact (heap_of words) e t part.built part.shown part.subtrie_is
 
-  version_of : (o : Option Tree) (t : Tree) → o ≡ Some t → ShowsPart table words 0 (Place e) t → IsTop (heap_of words) (Some e) o × ((u : Tree) → o ≡ Some u → IsTrie u × IsBuilt u) × ((r : Rec) → IsLinked o r → IsSpelled table words r)
+  version_of : (o : Option Tree) (t : Tree) → o ≡ Some t → ShowsPart table words 0 (Place e) t → IsTop (heap_of words) (Some e) o × ((u : Tree) → o ≡ Some u → IsTrie u × IsBuilt u) × ((r : Rec) → IsLinked o r → IsEncoded table words r)
   version_of None t i part = absurd cc
   version_of (Some u) t i part =
       let s : t ≡ u = cc in (
@@ -74,7 +74,7 @@ module _ (table : Table) (words : Rec → List ℕ) (e : Entry) where
         },
       )
 
-  part_of : (o : Option Tree) → IsTop (heap_of words) (Some e) o → ((u : Tree) → o ≡ Some u → IsTrie u × IsBuilt u) → ((r : Rec) → IsLinked o r → IsSpelled table words r) →
+  part_of : (o : Option Tree) → IsTop (heap_of words) (Some e) o → ((u : Tree) → o ≡ Some u → IsTrie u × IsBuilt u) → ((r : Rec) → IsLinked o r → IsEncoded table words r) →
       (t : Tree) × ShowsPart table words 0 (Place e) t
   part_of None top tree spelled = absurd top
   part_of (Some t) top tree spelled =

@@ -9,25 +9,28 @@ use Rattle.rowex_replay_state.specs.Fates.{stored_fate}
 abbrev pub IsStoredInTree : Stored → Type 0
 IsStoredInTree stored = (since : ℕ) × (stored ≡ InTree since)
 
--- a record that the new tree links is in the tree, or the pass has made it ready
+-- If the new tree links the record, it is in the tree already, or the pass has made it ready.
 abbrev pub MayBeLinked : (pass : ℕ) → (linked : Bool) → (stored : Stored) → Type 0
 MayBeLinked pass linked stored = linked ≡ true → IsStoredInTree stored ⊎ (stored ≡ Ready pass)
 
--- a node in the tree that the new tree links no more is locked by the pass
+-- If the record of a node is in the tree, and the new tree links it no more, the pass has locked it.
 abbrev pub MayBeUnlinked : (pass : ℕ) → (linked : Bool) → (lock : Option ℕ) → (stored : Stored) → Type 0
 MayBeUnlinked pass linked lock stored = linked ≡ false → IsStoredInTree stored → lock ≡ Some pass
 
--- the pass may link each of the records that the new tree links
+-- the pass may link each record of one kind that the new tree links, by the fates of these
 abbrev pub AllMayBeLinked : (pass : ℕ) → (linked : List Bool) → (fates : List Stored) → Type 0
-AllMayBeLinked pass linked fates = (i : ℕ) (stored : Stored) → slice_get fates i ≡ Some stored → MayBeLinked pass (get_or linked i false) stored
+AllMayBeLinked pass linked fates =
+    (number : ℕ) (stored : Stored) → slice_get fates number ≡ Some stored → MayBeLinked pass (get_or linked number false) stored
 
--- the pass may unlink each node that the new tree links no more
+-- the pass may unlink each node record that the new tree links no more, by the locks and fates of these
 abbrev pub AllMayBeUnlinked : (pass : ℕ) → (linked : List Bool) → (locks : List (Option ℕ)) → (fates : List Stored) → Type 0
 AllMayBeUnlinked pass linked locks fates =
-    (i : ℕ) (stored : Stored) → slice_get fates i ≡ Some stored → MayBeUnlinked pass (get_or linked i false) (get_or locks i None) stored
+    (number : ℕ) (stored : Stored) → slice_get fates number ≡ Some stored →
+    MayBeUnlinked pass (get_or linked number false) (get_or locks number None) stored
 
--- the fates of records after a publish by the pass, which makes version `now`
+-- the fates of records of one kind after a publish by the pass, which makes the version `now`
 abbrev pub AreNextFates : (now pass : ℕ) → (linked : List Bool) → (old new : List Stored) → Type 0
 AreNextFates now pass linked old new =
-    (i : ℕ) (next : Stored) → slice_get new i ≡ Some next →
-    (stored : Stored) × (slice_get old i ≡ Some stored) × (stored_fate next ≡ next_fate now pass (get_or linked i false) (stored_fate stored))
+    (number : ℕ) (next : Stored) → slice_get new number ≡ Some next →
+    (stored : Stored) × (slice_get old number ≡ Some stored) ×
+    (stored_fate next ≡ next_fate now pass (get_or linked number false) (stored_fate stored))

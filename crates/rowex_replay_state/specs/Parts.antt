@@ -12,64 +12,65 @@ use Rattle.versions.specs.State.{Links}
 use Rattle.rowex_core.specs.Cores.{heap_of}
 use Rattle.rowex_replay_state.specs.declared.linked.Linked.{Linked}
 use Rattle.rowex_replay_state.specs.declared.parts.RecordedWords.{RecordedWords}
-use Rattle.rowex_replay_state.specs.Versions.{AreWordsOf, IsSpelled, Table, read_item}
+use Rattle.rowex_replay_state.specs.Versions.{AreWordsOf, IsEncoded, Table, read_item}
 
--- the table whose words these are
+-- the table that has these words
 abbrev pub table_of : RecordedWords → Table
 table_of records = record { nodes = records.nodes.now; leaves = records.leaves.now }
 
--- the tree's first fork is at `least` or later; a leaf has none
+-- The position of the tree's first fork is at least `least`. A leaf has no fork.
 abbrev pub IsForkedFrom : (least : ℕ) → (tree : Tree) → Type 0
 IsForkedFrom least (leaf number key value) = Unit {0}
 IsForkedFrom least (node number fixed body) = IsForkedFrom least body
 IsForkedFrom least (fork position left right) = least ≤ position
 
 -- The words show the tree, whose subtrie is `trie`. The tree is lawful: its forks rise and part its keys, and its nodes are built as they
--- must be. Each of its records is in the table, with the words of a node or a leaf. Its first fork, if any, is at `least` or later.
+-- must be. The table has its records, whose words encode nodes and leaves. The position of its first fork, if any, is at least `least`.
 pub record ShowsPart (table : Table) (words : Rec → List ℕ) (least : ℕ) (trie : Subtrie) (tree : Tree) : Type 0 where
   pub subtrie_is : subtrie tree ≡ trie
   pub shown : IsShown (heap_of words) tree
   pub local : IsLocal tree
   pub built : IsBuilt tree
   pub from : IsForkedFrom least tree
-  pub spelled : (rec : Rec) → Links tree rec → IsSpelled table words rec
+  pub spelled : (rec : Rec) → Links tree rec → IsEncoded table words rec
 
--- there is a mark for each record of the table
+-- there is a mark, linked or not, for each record of the table
 pub record HasMarks (table : Table) (linked : Linked) : Type 0 where
   pub all_nodes : length linked.nodes.items ≡ length table.nodes
   pub all_leaves : length linked.leaves.items ≡ length table.leaves
 
--- what is told has grown by what the tree links
+-- What was read has grown by the tree: by its leaves, and by the marks of the records that it links.
 pub record GrowsBy (tree : Tree) (old new : Linked) : Type 0 where
   pub items_are : map read_item new.items.items ≡ map read_item old.items.items ++ items tree
-  pub nodes_are : (n : ℕ) → (slice_index_or new.nodes.items n false ≡ true) ↔ ((slice_index_or old.nodes.items n false ≡ true) ⊎
-      Links tree (a_node n))
-  pub leaves_are : (n : ℕ) →
-      (slice_index_or new.leaves.items n false ≡ true) ↔ ((slice_index_or old.leaves.items n false ≡ true) ⊎ Links tree (a_leaf n))
+  pub nodes_are : (number : ℕ) → (slice_index_or new.nodes.items number false ≡ true) ↔ ((slice_index_or old.nodes.items number false ≡ true) ⊎
+      Links tree (a_node number))
+  pub leaves_are : (number : ℕ) →
+      (slice_index_or new.leaves.items number false ≡ true) ↔ ((slice_index_or old.leaves.items number false ≡ true) ⊎ Links tree (a_leaf number))
 
--- If `good` is true, a tree with the property `shows` was read, and what is told has grown by it. Else there is no such tree.
+-- If `good` is true, a tree of which `shows` holds was read, and what was read has grown by it. Else there is no such tree.
 abbrev pub IsTreeRead : (shows : Tree → Type 0) → (good : Bool) → (old new : Linked) → Type 0
 IsTreeRead shows true old new = (tree : Tree) × shows tree × GrowsBy tree old new
 IsTreeRead shows false old new = (tree : Tree) → ¬ (shows tree)
 
--- A part of a tree, whose subtrie has the property `fits`, was read exactly if the words show one. It is so for all words of which the
--- table's may be part.
+-- A part of a tree, whose subtrie has the property `fits`, was read exactly if the words show one. That holds whatever words are given to
+-- records that the table hasn't.
 abbrev pub IsPartRead : (table : Table) → (least : ℕ) → (fits : Subtrie → Type 0) → (good : Bool) → (old new : Linked) → Type 0
 IsPartRead table least fits good old new =
     (words : Rec → List ℕ) → AreWordsOf table words → (trie : Subtrie) → fits trie → IsTreeRead (ShowsPart table words least trie) good old new
 
--- There is still a mark for each record. If a part was read, one leaf more is told, or several.
+-- There is still a mark for each record of the table. If a part was read, there is at least one leaf more.
 pub record HasGrown (table : Table) (good : Bool) (old new : Linked) : Type 0 where
   pub room : HasMarks table new
   pub longer : good ≡ true → length old.items.items < length new.items.items
 
--- the table has this leaf record, whose words up to the end of its key spell this leaf
+-- The table has the leaf record of this number, and its words encode this key with this value, up to the end of the key.
 pub record IsLeafAt (leaves : List (List ℕ)) (number : ℕ) (pair : List ℕ × ℕ) : Type 0 where
   pub in_table : number < length leaves
   pub has : HasLeafWords pair
   pub spelling : leaf_words pair ≡ up_to_key (slice_index_or leaves number [])
 
--- `added` is true exactly if the leaf record spells a leaf. That leaf is then told and marked. If `added` is false, nothing has changed.
+-- `added` is true exactly if the words of the leaf record encode a leaf. That leaf is then added to what was read, and marked as linked.
+-- Else nothing has changed.
 abbrev pub AddsLeaf : (leaves : List (List ℕ)) → (number : ℕ) → (added : Bool) → (old new : Linked) → Type 0
 AddsLeaf leaves number true old new =
     (pair : List ℕ × ℕ) × IsLeafAt leaves number pair ×
@@ -77,14 +78,14 @@ AddsLeaf leaves number true old new =
     (new.nodes ≡ old.nodes) × (new.leaves.items ≡ slice_set old.leaves.items number true)
 AddsLeaf leaves number false old new = ((pair : List ℕ × ℕ) → ¬ (IsLeafAt leaves number pair)) × (new ≡ old)
 
--- the table has this node record, whose words spell a node of this height
-pub record SpellsNode (nodes : List (List ℕ)) (number height : ℕ) (view : NodeView) : Type 0 where
+-- The table has the node record of this number, and its words encode this node, which has this height.
+pub record EncodesNode (nodes : List (List ℕ)) (number height : ℕ) (view : NodeView) : Type 0 where
   pub in_table : number < length nodes
   pub has : HasNodeWords view
   pub spelling : node_words view ≡ slice_index_or nodes number []
   pub height_is : view.height ≡ height
 
--- a node was found exactly if the node record spells one of this height
+-- a node was found exactly if the words of the node record encode one of this height
 abbrev pub IsNodeAt : (nodes : List (List ℕ)) → (number height : ℕ) → (found : Option NodeView) → Type 0
-IsNodeAt nodes number height None = (view : NodeView) → ¬ (SpellsNode nodes number height view)
-IsNodeAt nodes number height (Some view) = SpellsNode nodes number height view
+IsNodeAt nodes number height None = (view : NodeView) → ¬ (EncodesNode nodes number height view)
+IsNodeAt nodes number height (Some view) = EncodesNode nodes number height view

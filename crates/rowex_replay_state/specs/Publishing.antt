@@ -14,30 +14,32 @@ use Rattle.rowex_core.specs.Cores.{Core, IsLawful, MustSpellValue, heap_of}
 use Rattle.rowex_core.specs.Events.{change_between, tree_of}
 use Rattle.rowex_replay_state.specs.States.{StateView, IsStateOf}
 
--- The state is that of the lawful core with other words of nodes. The words of leaves are the core's.
+-- The state is that of the lawful core once a word was stored in a node or at the root. Records have the words `words` then. Those of leaf
+-- records are the core's.
 pub record IsWordStored (state : StateView) (core : Core) (words : Rec → List ℕ) : Type 0 where
   pub lawful : ∥ IsLawful core ∥₁
   pub at : IsStateOf state (record core { words = words })
-  pub leaves : (n : ℕ) → words (a_leaf n) ≡ core.words (a_leaf n)
+  pub leaves : (number : ℕ) → words (a_leaf number) ≡ core.words (a_leaf number)
 
--- the words of each record that is neither free nor held spell a value
+-- the words of each record that is neither free nor held encode a node or a leaf
 abbrev pub AreWordsPacked : Core → (Rec → List ℕ) → Type 0
 AreWordsPacked core words = (rec : Rec) → MustSpellValue (core.fate rec) → IsPacked rec (words rec)
 
--- the change that the pass makes by a publish of the tree that the words show from this root
+-- the change that a publish by the pass makes, after which the words show the tree from this root
 abbrev pub change_to : (core : Core) → (pass : ℕ) → (words : Rec → List ℕ) → (root : Option Entry) → Change
 change_to core pass words root = change_between pass (items_of (core.past.version core.past.now)) (items_of (tree_of (heap_of words) root))
 
--- The pass may make the tree that the words show from this root the newest version, its locks on words aside.
+-- The pass may make the tree that the words show from this root the newest version. Its lock of the stored word is left aside.
 abbrev pub MayMakeVersion : (core : Core) → (pass : ℕ) → (words : Rec → List ℕ) → (root : Option Entry) → Type 0
 MayMakeVersion core pass words root = IsNextVersion core.shared pass (heap_of words) root (tree_of (heap_of words) root) (change_to core pass words root)
 
--- the core after the pass has made the tree that the words show from this root the newest version
+-- the core once the pass has made the tree that the words show from this root the newest version
 abbrev pub published : (core : Core) → (pass : ℕ) → (words : Rec → List ℕ) → (root : Option Entry) → Core
 published core pass words root =
     record { layout = core.layout; words = words; shared = published_by core.shared pass root (tree_of (heap_of words) root) (change_to core pass words root) }
 
--- The publish was made, and is legal in each core that the old state stands for. Or it was not made, and is legal in none.
+-- Whether a replay has made the pass's publish. If so, the publish is legal in each core with the old state, and the new state is that of
+-- the core after it. If not, it is legal in none, and the state is as before.
 abbrev pub IsPublishJudged : (made : Bool) → (old new : StateView) → (pass : ℕ) → (root : Option Entry) → Type 0
 IsPublishJudged true old new pass root =
     (core : Core) (words : Rec → List ℕ) → IsWordStored old core words → MayMakeVersion core pass words root ×
@@ -46,12 +48,12 @@ IsPublishJudged false old new pass root =
     (new ≡ old) × ((core : Core) (words : Rec → List ℕ) → IsWordStored old core words → AreWordsPacked core words →
     ¬ (MayMakeVersion core pass words root))
 
--- the old leaf, with this word as its value if it has the number `leaf`
+-- the leaf `old`, which has the word as its value if its number is `leaf`
 abbrev pub revalued_item : (leaf word : ℕ) → (old : Item) → Item
 revalued_item leaf word old = item old.number old.key (if nat_eq old.number leaf then word else old.value)
 
--- the lists have the same leaves, except that the leaf of this number has this word as its value in the new one
+-- The two lists have the same leaves. But in `new` the leaf of the number `leaf` has the word as its value.
 pub record AreRevalued (leaf word : ℕ) (old new : List ReadItem) : Type 0 where
   pub count : length new ≡ length old
-  pub each : (i : ℕ) (x : ReadItem) → slice_get new i ≡ Some x → (y : ReadItem) × (slice_get old i ≡ Some y) ×
-      (read_item x ≡ revalued_item leaf word (read_item y))
+  pub each : (place : ℕ) (next : ReadItem) → slice_get new place ≡ Some next → (was : ReadItem) × (slice_get old place ≡ Some was) ×
+      (read_item next ≡ revalued_item leaf word (read_item was))

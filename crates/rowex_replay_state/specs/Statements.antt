@@ -6,7 +6,8 @@ use Rattle.rowex_core.specs.declared.event.Spot.{Spot}
 use Rattle.rowex_core.specs.Cores.{Core, IsLawful, heap_of}
 use Rattle.rowex_core.specs.Events.{AreSame, IsOfEntry, stored_words, stored_root, next_tree}
 
--- If the words show a tree after an entry word is stored, a number names one leaf before and after.
+-- Let a word be stored where an entry stands, and let the words then show a tree or none. A leaf record's number names the same leaf before
+-- and after.
 abbrev pub LeavesAreOne : Type 0
 LeavesAreOne =
     (core : Core) (spot : Spot) (word : ℕ) → IsOfEntry spot → IsLawful core →

@@ -19,7 +19,7 @@ use Rattle.rowex_replay_state.specs.declared.passes.PassState.{PassState}
 use Rattle.rowex_replay_state.specs.Passes.{ArePassesOf}
 use Rattle.rowex_replay_state.specs.Records.{RecordsView, AreRecordsOf, HasLockedEntry, lock_in, words_in}
 
--- what contracts see of the state of a replay
+-- What contracts see of the state of a replay. `items` are the leaves of the newest version, in order.
 pub record StateView : Type 0 where
   pub records : RecordsView
   pub passes : List PassState
@@ -29,8 +29,8 @@ pub record StateView : Type 0 where
   pub changes : List Change
   pub items : List ReadItem
 
--- The state is that of this core. They have the same records, passes, locks, epoch, root and changes. The state has the leaves of the
--- newest version.
+-- The state is that of this core: with the same records, passes, locks, epoch, root and changes. It has the leaves of the core's newest
+-- version.
 pub record IsStateOf (state : StateView) (core : Core) : Type 0 where
   pub records : AreRecordsOf state.records core.layout core.words core.fate core.lock
   pub passes : ArePassesOf state.passes core.layout core.pins core.rounds
@@ -40,21 +40,22 @@ pub record IsStateOf (state : StateView) (core : Core) : Type 0 where
   pub changes : core.changes ≡ state.changes
   pub items : items_of (core.past.version core.past.now) ≡ map read_item state.items
 
--- The pass's act was made, and is legal in each lawful core that the old state stands for. Or it was not made, and is legal in none.
+-- Whether a replay has made the pass's act. If so, the act is legal in each lawful core with the old state, and the new state is that of
+-- the core after it. If not, the act is legal in none, and the state is as before.
 abbrev pub IsStepped : (made : Bool) → (old new : StateView) → (pass : ℕ) → (act : Act) → Type 0
 IsStepped true old new pass act = (core : Core) → ∥ IsLawful core ∥₁ → IsStateOf old core → LegalAct core pass act × IsStateOf new (after core pass act)
 IsStepped false old new pass act = (new ≡ old) × ((core : Core) → IsLawful core → IsStateOf old core → ¬ (LegalAct core pass act))
 
--- the pass has locked what names the leaf: the anchor, or a node
+-- the pass has locked what names the leaf: the anchor if the root does, or else a node with the leaf's entry
 abbrev pub HasNamerLocked : (state : StateView) → (pass leaf : ℕ) → Type 0
 HasNamerLocked state pass leaf =
     ((state.anchor ≡ Some pass) × (state.root ≡ Some (Leaf leaf))) ⊎ HasLockedEntry state.records pass (entry_word (Some (Leaf leaf)))
 
--- The pass has the lock under which the spot's word is stored. For a value, it is that of what names the leaf.
+-- The pass has the lock under which the word of the spot is stored. For a value it is that of what names the leaf.
 abbrev pub HasLock : (state : StateView) → (pass : ℕ) → (spot : Spot) → Type 0
 HasLock state pass Root = state.anchor ≡ Some pass
-HasLock state pass (Slot n j) = (j < MAX_ENTRIES) × (lock_in state.records (a_node n) ≡ Some (Some pass))
-HasLock state pass (Value l) = ((words : List ℕ) × (words_in state.records (a_leaf l) ≡ Some words)) × HasNamerLocked state pass l
+HasLock state pass (Slot number slot) = (slot < MAX_ENTRIES) × (lock_in state.records (a_node number) ≡ Some (Some pass))
+HasLock state pass (Value number) = ((words : List ℕ) × (words_in state.records (a_leaf number) ≡ Some words)) × HasNamerLocked state pass number
 
 -- the act is a publish, and the pass has the lock of its spot
 abbrev pub IsLockedPublish : (state : StateView) → (pass : ℕ) → (act : Act) → Type 0

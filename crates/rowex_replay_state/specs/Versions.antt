@@ -13,48 +13,49 @@ use Rattle.rowex_core.specs.Events.{tree_of}
 use Rattle.rowex_replay_state.specs.declared.linked.Item.{Item as ReadItem}
 use Rattle.rowex_replay_state.specs.declared.linked.Linked.{Linked}
 
--- the words of each node record and of each leaf record, behind its state
+-- The words of each node record and of each leaf record of a table, without the state.
 pub record Table : Type 0 where
   pub nodes : List (List ℕ)
   pub leaves : List (List ℕ)
 
--- the words of the table's records are these
+-- `words` gives the words of each record that the table has. Of other records it may give any.
 pub record AreWordsOf (table : Table) (words : Rec → List ℕ) : Type 0 where
-  pub nodes_are : (n : ℕ) → n < length table.nodes → words (a_node n) ≡ slice_index_or table.nodes n []
-  pub leaves_are : (n : ℕ) → n < length table.leaves → words (a_leaf n) ≡ slice_index_or table.leaves n []
+  pub nodes_are : (number : ℕ) → number < length table.nodes → words (a_node number) ≡ slice_index_or table.nodes number []
+  pub leaves_are : (number : ℕ) → number < length table.leaves → words (a_leaf number) ≡ slice_index_or table.leaves number []
 
 -- the table has this record
 abbrev pub HasRecordIn : (table : Table) → (rec : Rec) → Type 0
-HasRecordIn table (a_node n) = n < length table.nodes
-HasRecordIn table (a_leaf n) = n < length table.leaves
+HasRecordIn table (a_node number) = number < length table.nodes
+HasRecordIn table (a_leaf number) = number < length table.leaves
 
--- the record is in the table, and its words spell a value
-abbrev pub IsSpelled : (table : Table) → (words : Rec → List ℕ) → (rec : Rec) → Type 0
-IsSpelled table words rec = HasRecordIn table rec × IsPacked rec (words rec)
+-- the table has the record, and its words encode a node or a leaf
+abbrev pub IsEncoded : (table : Table) → (words : Rec → List ℕ) → (rec : Rec) → Type 0
+IsEncoded table words rec = HasRecordIn table rec × IsPacked rec (words rec)
 
--- The words show a lawful tree from this root, or none if the root is empty. Each record that it links is in the table and spells a value.
+-- The words show a lawful tree from this root, or the root is empty. The table has each record that the tree links, and its words encode a
+-- node or a leaf.
 pub record IsVersion (table : Table) (words : Rec → List ℕ) (root : Option Entry) : Type 0 where
   pub top : IsTop (heap_of words) root (tree_of (heap_of words) root)
-  pub tree : (t : Tree) → tree_of (heap_of words) root ≡ Some t → IsTrie t × IsBuilt t
-  pub spelled : (rec : Rec) → IsLinked (tree_of (heap_of words) root) rec → IsSpelled table words rec
+  pub tree : (shown : Tree) → tree_of (heap_of words) root ≡ Some shown → IsTrie shown × IsBuilt shown
+  pub spelled : (rec : Rec) → IsLinked (tree_of (heap_of words) root) rec → IsEncoded table words rec
 
--- a leaf that was read
+-- the leaf of a tree that was read
 abbrev pub read_item : ReadItem → Item
-read_item x = record { number = x.number; key = x.key; value = x.value }
+read_item read = record { number = read.number; key = read.key; value = read.value }
 
--- What is told of a tree: its leaves in order, and for each record of the table whether the tree links it.
+-- What was read of a tree, `linked`: its leaves in order, and for each record of the table whether the tree links it.
 pub record Tells (table : Table) (tree : Option Tree) (linked : Linked) : Type 0 where
   pub items_are : map read_item linked.items.items ≡ items_of tree
   pub all_nodes : length linked.nodes.items ≡ length table.nodes
   pub all_leaves : length linked.leaves.items ≡ length table.leaves
-  pub nodes_are : (n : ℕ) → (slice_index_or linked.nodes.items n false ≡ true) ↔ IsLinked tree (a_node n)
-  pub leaves_are : (n : ℕ) → (slice_index_or linked.leaves.items n false ≡ true) ↔ IsLinked tree (a_leaf n)
+  pub nodes_are : (number : ℕ) → (slice_index_or linked.nodes.items number false ≡ true) ↔ IsLinked tree (a_node number)
+  pub leaves_are : (number : ℕ) → (slice_index_or linked.leaves.items number false ≡ true) ↔ IsLinked tree (a_leaf number)
 
--- Something was told exactly if the words show a lawful version. It is then told of that version's tree.
+-- A version was read exactly if the words show a lawful one from this root. What was read is then told of that version's tree.
 abbrev pub IsReadVersion : (table : Table) → (words : Rec → List ℕ) → (root : Option Entry) → (told : Option Linked) → Type 0
 IsReadVersion table words root None = ¬ (IsVersion table words root)
 IsReadVersion table words root (Some linked) = IsVersion table words root × Tells table (tree_of (heap_of words) root) linked
 
--- Something was told exactly if there is a lawful version, by any words of which the table's are part.
+-- A version was read exactly if there is a lawful one from this root, whatever words are given to records that the table hasn't.
 abbrev pub IsToldVersion : (table : Table) → (root : Option Entry) → (linked : Option Linked) → Type 0
 IsToldVersion table root linked = (words : Rec → List ℕ) → AreWordsOf table words → IsReadVersion table words root linked

@@ -44,7 +44,7 @@ impl Model for Records {
 
 impl Records {
     ghost use Rattle.rowex_core.specs.Opening.{opening};
-    ghost use Rattle.rowex_replay_state.specs.Records.{AreRecordsOf, HasEntryStored, HasLockedEntry, HasKeyIn, HasState, AreNextRecords, IsEntryLocked, IsSpelledIn, MayPublishTree, HasWordStored, IsPackedIn, fate_in, lock_in, with_fate_unlocked_in, tag_in, words_in, with_fate_in, with_lock_in, with_words_in};
+    ghost use Rattle.rowex_replay_state.specs.Records.{AreRecordsOf, HasEntryStored, HasLockedEntry, HasKeyIn, HasState, AreNextRecords, IsEntryLocked, IsEncodedIn, MayPublishTree, HasWordStored, IsPackedIn, fate_in, lock_in, with_fate_unlocked_in, tag_in, words_in, with_fate_in, with_lock_in, with_words_in};
 
     /// Returns the records of a table of `layout`, all free: all words are 0, and nothing is locked. `AllocError` if memory is refused.
     pub(crate) fn new(alloc: Global, layout: Layout) -> Result<Records, AllocError>
@@ -298,7 +298,7 @@ impl Records {
 
     /// Returns the key of the leaf record `number`; `None` if the table hasn't the record, or its words are those of no leaf.
     pub(crate) fn key_of(&self, number: u32) -> Option<Key>
-        ensures { MatchOption result (¬ (IsSpelledIn self.now (a_leaf number))) (λ key. HasKeyIn self.now number key) }
+        ensures { MatchOption result (¬ (IsEncodedIn self.now (a_leaf number))) (λ key. HasKeyIn self.now number key) }
     {
         let Some(words) = self.leaf(number) else {
             return None;

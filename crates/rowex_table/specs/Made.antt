@@ -11,18 +11,18 @@ use Rattle.rowex_core.specs.declared.known.Locked.{Locked}
 use Rattle.rowex_core.specs.declared.known.Owned.{Owned}
 use Rattle.rowex_core.specs.Knowing.{IsFact}
 
--- a new record, with the words that it is filled with
+-- a new record, with the words with which its pass fills it
 pub record Made : Type 0 where
   pub rec : Rec
   pub words : List ℕ
 
--- the new record among a pass's own records, held as `holding` says
+-- the new record as one of a pass's own, held as `holding` says
 abbrev pub held_as : Holding → Made → Owned
 held_as holding made = record { rec = made.rec; holding = holding; words = made.words }
 
--- the records that a list of new records names, without their words
+-- the new records of a list, without their words
 abbrev pub recs_of : List Made → List Rec
-recs_of made = map (λ (m : Made). m.rec) made
+recs_of made = map (λ (one : Made). one.rec) made
 
 -- the numbers of the locked nodes, without the nodes' words
 abbrev pub nodes_of : List Locked → List ℕ
@@ -37,10 +37,10 @@ HoldsMade known news = (known.own ≡ map (held_as Held) news) × AreApart (recs
 abbrev pub HasReadied : (known : Known) → (done todo : List Made) → Type 0
 HasReadied known done todo = (known.own ≡ map (held_as Ready) done ++ map (held_as Held) todo) × AreApart (recs_of (done ++ todo))
 
--- What a pass knows has gone on from k to j. The pin is the same, and the front has grown by changes of other passes alone. Where the facts
--- of j are true, so are those of k.
-pub record IsLater (k j : Known) : Type 0 where
-  pub pass : j.pass ≡ k.pass
-  pub pin : j.pin ≡ k.pin
-  pub front : OthersGoOn k.pass k.front j.front
-  pub facts : (past : Past) → All (IsFact past) j.facts → All (IsFact past) k.facts
+-- What a pass knows has gone on from `before` to `after`. The pin is the same, and the front has grown by changes of other passes alone.
+-- Where the facts of `after` are true, so are those of `before`.
+pub record IsLater (before after : Known) : Type 0 where
+  pub pass : after.pass ≡ before.pass
+  pub pin : after.pin ≡ before.pin
+  pub front : OthersGoOn before.pass before.front after.front
+  pub facts : (past : Past) → All (IsFact past) after.facts → All (IsFact past) before.facts

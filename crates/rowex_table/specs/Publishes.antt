@@ -15,25 +15,25 @@ use Rattle.rowex_table.specs.Rule.{MayStep}
 use Rattle.rowex_table.specs.Made.{nodes_of}
 use Rattle.rowex_table.specs.Runs.{silent}
 
--- A pass that knew k has published the change x, and knows j now. Its front has all changes so far, x as the last. The change x is legal on
--- the map before it, in which its key has the value `was`. The pass owns just the records `gone`, which it has unlinked. It has locked just
--- the nodes `kept`, and the anchor if it had before.
-pub record HasPublished (k j : Known) (x : Change) (was : Option ℕ) (gone : List Rec) (kept : List ℕ) : Type 0 where
-  pub pass : j.pass ≡ k.pass
-  pub pin : j.pin ≡ k.pin
+-- A pass that knew `earlier` has published the change, and knows `later` now. Its front has all changes so far, this one as the last. The
+-- change is legal on the map before it, in which its key has the value `was`. The pass owns just the records `gone`, which it has unlinked.
+-- It has locked just the nodes `kept`, and the anchor if it had before.
+pub record HasPublished (earlier later : Known) (change : Change) (was : Option ℕ) (gone : List Rec) (kept : List ℕ) : Type 0 where
+  pub pass : later.pass ≡ earlier.pass
+  pub pin : later.pin ≡ earlier.pin
   pub before : List Change
-  pub others : OthersGoOn k.pass k.front before
-  pub front : j.front ≡ before ++ x ∷ []
-  pub fits : Fits (map_of before) x
-  pub was_held : value_at (map_of before) x.key ≡ was
-  pub own : OwnsJust j.own IsUnlinked gone
+  pub others : OthersGoOn earlier.pass earlier.front before
+  pub front : later.front ≡ before ++ change ∷ []
+  pub fits : Fits (map_of before) change
+  pub was_held : value_at (map_of before) change.key ≡ was
+  pub own : OwnsJust later.own IsUnlinked gone
   pub apart : AreApart gone
-  pub locks : LocksJust j.locks kept
-  pub anchor : (k.anchor ≡ None → j.anchor ≡ None) × (IsSome k.anchor → IsSome j.anchor)
+  pub locks : LocksJust later.locks kept
+  pub anchor : (earlier.anchor ≡ None → later.anchor ≡ None) × (IsSome earlier.anchor → IsSome later.anchor)
 
--- A pass that knows k may publish the change x by a store of the word at the spot. Then it has published the change, as `HasPublished`
+-- A pass that knows `known` may publish the change by a store of the word at the spot. Then it has published the change, as `HasPublished`
 -- says. Of its locked nodes it keeps those that are not among the records `gone`.
-pub record Publishes (layout : Layout) (k : Known) (spot : Spot) (word : ℕ) (x : Change) (was : Option ℕ) (gone : List Rec) : Type 0 where
-  pub may : MayStep layout (λ found. Publish spot word) k
-  pub gives : (j : Known) (kept : List ℕ) → AreKept (nodes_of k.locks) gone kept → IsEvent layout (Publish spot word) silent k j →
-      HasPublished k j x was gone kept
+pub record Publishes (layout : Layout) (known : Known) (spot : Spot) (word : ℕ) (change : Change) (was : Option ℕ) (gone : List Rec) : Type 0 where
+  pub may : MayStep layout (λ found. Publish spot word) known
+  pub gives : (later : Known) (kept : List ℕ) → AreKept (nodes_of known.locks) gone kept → IsEvent layout (Publish spot word) silent known later →
+      HasPublished known later change was gone kept

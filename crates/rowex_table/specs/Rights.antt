@@ -15,16 +15,17 @@ use Rattle.rowex_core.specs.Words.{state_at}
 use Rattle.rowex_core.specs.Events.{IsInTree}
 use Rattle.rowex_core.specs.Knowing.{Knows}
 
--- the pass owns the record, holds it as `holding` says, and knows `words` as its words behind the state
+-- The record is one of the pass's own. It is held as `holding` says, and the pass knows it to have these words, without its state.
 abbrev pub OwnsAs : (known : Known) → (rec : Rec) → (holding : Holding) → (words : List ℕ) → Type 0
 OwnsAs known rec holding words = Contains known.own (record { rec = rec; holding = holding; words = words })
 
--- the pass has claimed the record, and not made it ready
+-- the pass has claimed the record, and has not made it ready
 abbrev pub IsClaimed : Known → Rec → Type 0
 IsClaimed known rec = (words : List ℕ) × (length words ≡ word_count_of rec) × OwnsAs known rec Held words
 
--- The pass may lock the target: the anchor always, and a node that it knows to stand in the tree, if it is live.
+-- The pass may try to lock the target. It always may for the anchor. For a node it must know that the node is in the tree if its state word
+-- says live.
 abbrev pub MayLock : (layout : Layout) → (target : Target) → (known : Known) → Type 0
 MayLock layout Anchor known = Unit {0}
-MayLock layout (NodeTarget n) known =
-    (core : Core) → IsLawful core → core.layout ≡ layout → Knows core known → state_at core (a_node n) ≡ state_word Live → IsInTree core n
+MayLock layout (NodeTarget number) known =
+    (core : Core) → IsLawful core → core.layout ≡ layout → Knows core known → state_at core (a_node number) ≡ state_word Live → IsInTree core number

@@ -15,34 +15,35 @@ use Rattle.rowex_table.specs.Seats.{TableView, SeatView, MakesNoAside}
 use Rattle.rowex_table.specs.Stays.{LeavesFresh}
 use Rattle.rowex_table.specs.Traces.{IsNextStep, RunBeginsWith, own_acts}
 
--- no notes, whatever the pass knows
+-- no notes, as of a step that ends no call
 abbrev pub silent : Known → List Note
 silent known = []
 
--- The gate was `before`, is told the events in order, and is `after` then. `becomes` says what one event makes of a gate.
+-- The gate was `before`, is told these events in order, and is `after` then. `becomes` says what a gate becomes by one event.
 abbrev pub IsTold : {G : Type 0} → (becomes : G → Event → G → Type 0) → (events : List Event) → (before after : G) → Type 0
-IsTold becomes [] g h = h ≡ g
-IsTold {G = G} becomes (event ∷ events) g h = (f : G) × becomes g event f × IsTold becomes events f h
+IsTold becomes [] before after = after ≡ before
+IsTold {G = G} becomes (event ∷ events) before after = (middle : G) × becomes before event middle × IsTold becomes events middle after
 
--- the acts as events of one pass
+-- the acts as events of the pass
 abbrev pub events_of : (pass : ℕ) → (acts : List Act) → List Event
 events_of pass acts = map (λ act. record { pass = pass; act = act }) acts
 
--- The most words that a pass touches beside a load of an entry: four of the entry's node, and seven of the record below.
+-- The most words that a pass touches for one load of an entry: four of the entry's node, and seven of the record below. A touch is a load
+-- whose word is ignored.
 abbrev pub entry_touches : ℕ
 entry_touches = 11
 
--- the most words that a pass touches beside a step: none, if it loads no entry
+-- the most words that a pass touches beside this act: none, unless it loads an entry of a node
 abbrev pub most_touches : Act → ℕ
-most_touches (LoadRef (Slot n i) word) = entry_touches
+most_touches (LoadRef (Slot node slot) word) = entry_touches
 most_touches act = 0
 
--- beside this step the count of touches may rise from `before` to `after`
+-- while a pass makes this act, its count of touches may rise from `before` to `after`
 abbrev pub MayTouch : Act → (before after : ℕ) → Type 0
 MayTouch act before after = (before ≤ after) × (after ≤ before + most_touches act)
 
 -- The seat's pass makes the atomic step `act`, with the notes `said`, and the gate is told of it. It is the next step of the table's run,
--- which goes on from the steps that the pass knew. Beside the step the pass may touch some words.
+-- which begins with the steps that the pass knew. Beside the step the pass may touch some words.
 pub record StepsWith {G : Type 0} (table : TableView) (becomes : G → Event → G → Type 0) (act : Act) (said : Known → List Note)
     (old new : SeatView × G) : Type 0 where
   pub seat : MakesNoAside old.0 new.0
@@ -52,13 +53,13 @@ pub record StepsWith {G : Type 0} (table : TableView) (becomes : G → Event →
   pub touches : MayTouch act old.0.touches new.0.touches
   pub told : becomes old.1 (record { pass = old.0.known.pass; act = act }) new.1
 
--- the pass's load of the root that finds this word, as an event
+-- the load of the root by the pass that finds this word, as an event
 abbrev pub root_load : (pass word : ℕ) → Event
-root_load q word = record { pass = q; act = LoadRef Root word }
+root_load pass word = record { pass = pass; act = LoadRef Root word }
 
--- Between these views of a seat its pass has loaded the root, as `SeesAllAtRoot` says. The steps `run` lead from a new table to the core of
--- that load, and begin with those that the pass knew at first. In the steps that it knows at last, the load stands right behind `run`. No
--- later load of the root by this pass stands there.
+-- From `old` to `new` the seat's pass has loaded the root, as `SeesAllAtRoot` says. The steps `run` lead from a new table to the core of
+-- the last such load. They begin with those that the pass knew at first. In the steps that it knows at last, the load stands right behind
+-- `run`.
 pub record SeesAllOfRun (layout : Layout) (old new : SeatView) : Type 0 where
   pub sees : SeesAllAtRoot layout old.known new.known
   pub run : List Event
@@ -86,15 +87,15 @@ abbrev pub Ends : {G : Type 0} → (table : TableView) → (becomes : G → Even
 Ends {G = G} table becomes acts act said old new =
     (middle : SeatView × G) × Runs table becomes acts old middle × StepsWith table becomes act said middle new
 
--- The seat's pass makes the steps `acts` and no others, and the gate is told of each. `changed` takes from the second knowledge what the
--- steps may change, and the rest from the first. So all else that the pass knew stays, but for the count of its steps.
+-- The seat's pass makes the steps `acts` and no others, and the gate is told of each. `changed` takes what the steps may change from the
+-- knowledge after them, and the rest from that before. So all else that the pass knew stays, but for the count of its steps.
 pub record Does {G : Type 0} (table : TableView) (becomes : G → Event → G → Type 0) (changed : Known → Known → Known)
     (acts : List Act) (old new : SeatView × G) : Type 0 where
   pub seat : MakesNoAside old.0 new.0
   pub steps : Runs table becomes acts old new
   pub rest : new.0.known ≡ record (changed old.0.known new.0.known) { steps = old.0.known.steps + length acts }
 
--- the acts are those of the parts 0 to `count` - 1, one part after the other
+-- The acts are those of parts 0 to `count` - 1, one part after the other. `Parts` says which acts make up a part.
 abbrev pub InTurn : (Parts : ℕ → List Act → Type 0) → (count : ℕ) → (acts : List Act) → Type 0
 InTurn Parts zero acts = acts ≡ []
-InTurn Parts (suc n) acts = (before : List Act) × (last : List Act) × InTurn Parts n before × Parts n last × (acts ≡ before ++ last)
+InTurn Parts (suc below) acts = (before : List Act) × (last : List Act) × InTurn Parts below before × Parts below last × (acts ≡ before ++ last)

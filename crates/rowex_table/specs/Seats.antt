@@ -9,14 +9,14 @@ use Rattle.rowex_table.specs.declared.traces.TracedView.{TracedView}
 use Rattle.rowex_table.specs.Rule.{opening_of, loader_of, load_trace, dealt_at, known_of, trace_of}
 use Rattle.rowex_table.specs.Traces.{IsShownRun}
 
--- a table: which one it is, and its layout
+-- What contracts see of a table: which one it is, and its layout.
 pub record TableView : Type 0 where
   pub id : TableId
   pub layout : Layout
 
--- A seat: its table, which one it is there, and what its pass knows. The trace is a list of steps of all passes, up to the last that this
--- pass knows. `asides` says how often the pass has made or followed a stamp, or met another pass. `touches` says how often it has touched a
--- word, which is no step.
+-- What contracts see of a seat: its table, which one it is there, and what its pass knows. The trace is the list of steps of all passes, up
+-- to the last that this pass knows. `asides` counts the stamps that the pass has made or followed, and its meetings. `touches` counts the
+-- words that it has touched, which are no steps.
 pub record SeatView : Type 0 where
   pub table : TableId
   pub id : ℕ
@@ -25,7 +25,7 @@ pub record SeatView : Type 0 where
   pub asides : ℕ
   pub touches : ℕ
 
--- a stamp: its table, and the changes and the steps that it tells of
+-- What contracts see of a stamp: its table, and the changes and the steps that it tells of.
 pub record StampView : Type 0 where
   pub table : TableId
   pub front : List Change
@@ -33,7 +33,7 @@ pub record StampView : Type 0 where
 
 -- the stamp is one of this table
 abbrev pub IsStampOf : TableView → StampView → Type 0
-IsStampOf table s = s.table ≡ table.id
+IsStampOf table stamp = stamp.table ≡ table.id
 
 -- the seat is one of this table
 abbrev pub IsSeatOf : TableView → SeatView → Type 0
@@ -43,38 +43,39 @@ IsSeatOf table seat = seat.table ≡ table.id
 abbrev pub IsPassOf : TableView → SeatView → Type 0
 IsPassOf table seat = IsSeatOf table seat × (seat.known.pass < table.layout.passes)
 
--- the two views are of one seat of one pass
+-- the two views are of one seat, which has one pass
 abbrev pub IsOneSeat : (old new : SeatView) → Type 0
 IsOneSeat old new = (new.table ≡ old.table) × (new.id ≡ old.id) × (new.known.pass ≡ old.known.pass)
 
--- The two views are of one seat. Meanwhile its pass has made or followed no stamp, and met no other pass.
+-- The two views are of one seat. Between them its pass has made or followed no stamp, and met no other pass.
 abbrev pub MakesNoAside : (old new : SeatView) → Type 0
 MakesNoAside old new = (new.table ≡ old.table) × (new.id ≡ old.id) × (new.known.pass ≡ old.known.pass) × (new.asides ≡ old.asides)
 
--- the seat, once its pass has touched so many words more
+-- the seat once its pass has touched `more` words
 abbrev pub touched : (more : ℕ) → (seat : SeatView) → SeatView
-touched n seat = record seat { touches = seat.touches + n }
+touched more seat = record seat { touches = seat.touches + more }
 
--- The pass has touched some words, `most` of them at most. Nothing else of its seat has changed.
+-- The pass has touched some words, at most `most`. Nothing else of its seat has changed.
 abbrev pub HasTouched : (most : ℕ) → (old new : SeatView) → Type 0
-HasTouched most old new = (n : ℕ) × (n ≤ most) × (new ≡ touched n old)
+HasTouched most old new = (more : ℕ) × (more ≤ most) × (new ≡ touched more old)
 
--- the seat, as if its pass had touched so many words so far
+-- the seat as if its pass had touched `count` words so far
 abbrev pub touched_to : (count : ℕ) → (seat : SeatView) → SeatView
-touched_to n seat = record seat { touches = n }
+touched_to count seat = record seat { touches = count }
 
--- The pass is shown a run, and the changes that were made in it (`IsShownRun`), as where it follows a stamp or meets another pass.
+-- The pass is shown a run, and the changes that were made in it (`IsShownRun`). So it is where the pass follows a stamp or meets another
+-- pass.
 pub record IsShownAll (layout : Layout) (old new : SeatView) : Type 0 where
   pub pass : new.known.pass ≡ old.known.pass
   pub run : IsShownRun layout old.known.pass old.trace new.trace new.known.front
   pub asides : new.asides ≡ suc old.asides
   pub touches : new.touches ≡ old.touches
 
--- the seat of a new pass of this table
+-- the seat is one of this table, and its pass is new
 abbrev pub IsNewSeat : TableView → SeatView → Type 0
 IsNewSeat table seat = IsPassOf table seat × (seat.known ≡ opening_of seat.known.pass) × (seat.trace ≡ []) × (seat.asides ≡ 0)
 
--- the seat of a new pass of this table, which has this number
+-- the seat is one of this table, and has the pass of this number, which is new
 abbrev pub IsNewSeatOf : (table : TableView) → (pass : ℕ) → (seat : SeatView) → Type 0
 IsNewSeatOf table pass seat = IsSeatOf table seat × (seat.known ≡ opening_of pass) × (seat.trace ≡ []) × (seat.asides ≡ 0)
 
@@ -83,7 +84,7 @@ abbrev pub IsLoaderSeat : (table : TableView) → (words : List ℕ) → (seat :
 IsLoaderSeat table words seat =
     IsSeatOf table seat × (seat.known ≡ loader_of table.layout words) × (seat.trace ≡ (load_trace words).events) × (seat.asides ≡ 0)
 
--- the seat of the pass of this number when it is dealt, by the table's first view
+-- the seat has just been dealt with the pass of this number; `first` is the table's first view
 abbrev pub IsDealtSeat : (table : TableView) → (first : TracedView) → (pass : ℕ) → (seat : SeatView) → Type 0
 IsDealtSeat table first pass seat =
     IsSeatOf table seat × (seat.known ≡ known_of (dealt_at first pass)) × (seat.trace ≡ (trace_of (dealt_at first pass)).events) ×

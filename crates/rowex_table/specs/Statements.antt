@@ -19,18 +19,18 @@ use Rattle.rowex_table.specs.Seats.{TableView, SeatView}
 use Rattle.rowex_table.specs.Runs.{Ends, IsTold, Runs, events_of, silent}
 use Rattle.rowex_table.specs.Traces.{IsTableRun, RunBeginsWith, own_acts, taught}
 
--- the gate of a run is told the event of each of its steps, in order, and nothing else
+-- The gate of a pass is told the event of each of the pass's steps, in order, and nothing else.
 abbrev pub GateIsToldEachStep : {G : Type 0} → (G → Event → G → Type 0) → Type 0
 GateIsToldEachStep {G = G} becomes = (table : TableView) (acts : List Act) (old new : SeatView × G) → Runs table becomes acts old new →
     IsTold becomes (events_of old.0.known.pass acts) old.1 new.1
 
--- what a pass knows, with the notes `said` behind those that it has
+-- what a pass knows, with the notes that `said` gives behind those that it has
 abbrev pub with_notes : (Known → List Note) → Known → Known
 with_notes said known = record known { notes = known.notes ++ said known }
 
--- From the view `old` to the view `new` a seat's pass has made exactly these acts, in one run of the table. `steps` are the run's steps of
--- all passes, behind those that the pass knew. They lead on from the core of the steps before. In the end the pass knows what they have
--- taught it, and the notes `said`.
+-- From `old` to `new` a seat's pass has made exactly these acts, in one run of the table. `steps` are the steps of all passes behind those
+-- that the pass knew. They lead on from the core of the steps before. In the end the pass knows what they have taught it, and has the notes
+-- that `said` gives.
 pub record IsInOneRun (layout : Layout) (acts : List Act) (said : Known → List Note) (old new : SeatView) : Type 0 where
   pub steps : List Event
   pub trace : new.trace ≡ old.trace ++ steps
@@ -49,10 +49,12 @@ abbrev pub CallStepsAreInOneRun : {G : Type 0} → (G → Event → G → Type 0
 CallStepsAreInOneRun {G = G} becomes = (table : TableView) (acts : List Act) (act : Act) (said : Known → List Note) (old new : SeatView × G) →
     Ends table becomes acts act said old new → IsInOneRun table.layout (acts ++ act ∷ []) said old.0 new.0
 
--- By the rule of the table all traces are of one run. Of what two passes know of its steps, now or earlier, one begins with the other. No
--- contract shows the state of a table. By contracts two passes have one run if they meet, or one follows the other's stamp.
+-- By the rule of the table all traces are of one run. Take steps that one pass knows of, now or earlier, and steps that another knows of.
+-- One list begins with the other. No contract shows the state of a table. By contracts two passes have one run if they meet, or one follows
+-- the other's stamp.
 abbrev pub TracesAreOfOneRun : Type 0
 TracesAreOfOneRun =
-    (layout : Layout) (s : State (Unit {0}) TracedView) → Ruled layout s → (i j : ℕ) (k l : Known) (first second : Trace) →
-    get_elem? s.views i ≡ some (Pass k first) → get_elem? s.views j ≡ some (Pass l second) →
+    (layout : Layout) (state : State (Unit {0}) TracedView) → Ruled layout state →
+    (place other_place : ℕ) (known other_known : Known) (first second : Trace) →
+    get_elem? state.views place ≡ some (Pass known first) → get_elem? state.views other_place ≡ some (Pass other_known second) →
     (one other : List Event) → RunBeginsWith first.events one → RunBeginsWith second.events other → RunBeginsWith other one ⊎ RunBeginsWith one other

@@ -6,94 +6,94 @@ use Rattle.rowex_core.specs.declared.event.Spot.TheVariants.{Root, Value}
 use Rattle.rowex_core.specs.declared.event.Target.TheVariants.{Anchor, Node as NodeTarget}
 use Rattle.rowex_core.specs.declared.known.Known.{Known}
 
--- a step that shows its pass no change: no load of a record or the root, no publish, no bulk load
+-- the act shows its pass no change: it is no load of the root or of a record, no publish and no bulk load
 abbrev pub LeavesFront : Act → Type 0
-LeavesFront (LoadRef spot w) = ⊥
-LeavesFront (LoadFixed r offset w) = ⊥
-LeavesFront (Publish spot w) = ⊥
+LeavesFront (LoadRef spot word) = ⊥
+LeavesFront (LoadFixed rec offset word) = ⊥
+LeavesFront (Publish spot word) = ⊥
 LeavesFront (Load words) = ⊥
 LeavesFront act = Unit {0}
 
--- a step that is neither a load of the root nor a bulk load
+-- the act is neither a load of the root nor a bulk load, so its pass's last load of the root stays the same
 abbrev pub LeavesFresh : Act → Type 0
-LeavesFresh (LoadRef Root w) = ⊥
+LeavesFresh (LoadRef Root word) = ⊥
 LeavesFresh (Load words) = ⊥
 LeavesFresh act = Unit {0}
 
--- a step that can't fail
+-- the act can't fail, so its pass's failed acts stay the same
 abbrev pub LeavesFailed : Act → Type 0
-LeavesFailed (Claim r found) = ⊥
+LeavesFailed (Claim rec found) = ⊥
 LeavesFailed (Lock target found) = ⊥
-LeavesFailed (LoadState r w) = ⊥
+LeavesFailed (LoadState rec word) = ⊥
 LeavesFailed act = Unit {0}
 
--- a step after which its pass owns the same records
+-- the act leaves its pass the same records of its own
 abbrev pub LeavesOwn : Act → Type 0
-LeavesOwn (Claim r found) = ⊥
-LeavesOwn (Fill r offset w) = ⊥
-LeavesOwn (Ready r) = ⊥
-LeavesOwn (Release r) = ⊥
-LeavesOwn (Publish spot w) = ⊥
-LeavesOwn (Mark r epoch) = ⊥
+LeavesOwn (Claim rec found) = ⊥
+LeavesOwn (Fill rec offset word) = ⊥
+LeavesOwn (Ready rec) = ⊥
+LeavesOwn (Release rec) = ⊥
+LeavesOwn (Publish spot word) = ⊥
+LeavesOwn (Mark rec epoch) = ⊥
 LeavesOwn act = Unit {0}
 
--- a step after which its pass has locked the same nodes
+-- the act leaves its pass the same locks of nodes
 abbrev pub LeavesLocks : Act → Type 0
-LeavesLocks (Lock (NodeTarget n) found) = ⊥
-LeavesLocks (Unlock (NodeTarget n)) = ⊥
-LeavesLocks (Publish spot w) = ⊥
+LeavesLocks (Lock (NodeTarget number) found) = ⊥
+LeavesLocks (Unlock (NodeTarget number)) = ⊥
+LeavesLocks (Publish spot word) = ⊥
 LeavesLocks act = Unit {0}
 
--- a step after which its pass knows the same of the anchor's lock
+-- the act leaves its pass what it knows of the anchor's lock
 abbrev pub LeavesAnchor : Act → Type 0
 LeavesAnchor (Lock Anchor found) = ⊥
 LeavesAnchor (Unlock Anchor) = ⊥
-LeavesAnchor (Publish Root w) = ⊥
+LeavesAnchor (Publish Root word) = ⊥
 LeavesAnchor act = Unit {0}
 
--- a step after which its pass has loaded the same values
+-- the act leaves its pass the values of leaves that it has loaded
 abbrev pub LeavesValues : Act → Type 0
-LeavesValues (LoadRef (Value l) w) = ⊥
+LeavesValues (LoadRef (Value leaf) word) = ⊥
 LeavesValues (Lock target found) = ⊥
 LeavesValues (Unlock target) = ⊥
-LeavesValues (Publish spot w) = ⊥
-LeavesValues (Mark r epoch) = ⊥
+LeavesValues (Publish spot word) = ⊥
+LeavesValues (Mark rec epoch) = ⊥
 LeavesValues (Load words) = ⊥
 LeavesValues act = Unit {0}
 
--- a step after which its pass has the same pin
+-- the act leaves its pass the same pin
 abbrev pub LeavesPin : Act → Type 0
-LeavesPin (SetPin w) = ⊥
+LeavesPin (SetPin word) = ⊥
 LeavesPin ClearPin = ⊥
 LeavesPin act = Unit {0}
 
--- a step after which its pass is in the same round
+-- the act leaves its pass what its round of collection has loaded
 abbrev pub LeavesRound : Act → Type 0
-LeavesRound (LoadEpoch w) = ⊥
-LeavesRound (LoadPin o w) = ⊥
+LeavesRound (LoadEpoch word) = ⊥
+LeavesRound (LoadPin other word) = ⊥
 LeavesRound act = Unit {0}
 
--- A step after which the pass recalls all that it did before: no publish, bulk load, pin or unpin.
+-- After this act its pass still knows all that `Recalls` names. The act is no publish and no bulk load, and neither sets nor clears a pin.
 abbrev pub KeepsRecall : Act → Type 0
-KeepsRecall (Publish spot w) = ⊥
+KeepsRecall (Publish spot word) = ⊥
 KeepsRecall (Load words) = ⊥
-KeepsRecall (SetPin w) = ⊥
+KeepsRecall (SetPin word) = ⊥
 KeepsRecall ClearPin = ⊥
 KeepsRecall act = Unit {0}
 
--- One act, which counts as one step and has no note, leads from knowing k to knowing j. Each part of what the pass knew stays as it was,
--- unless the act is of a kind that changes the part.
-pub record IsNext (act : Act) (k j : Known) : Type 0 where
-  pub pass : j.pass ≡ k.pass
-  pub steps : j.steps ≡ k.steps + 1
-  pub notes : j.notes ≡ k.notes
-  pub front : LeavesFront act → j.front ≡ k.front
-  pub fresh : LeavesFresh act → j.fresh ≡ k.fresh
-  pub failed : LeavesFailed act → j.failed ≡ k.failed
-  pub own : LeavesOwn act → j.own ≡ k.own
-  pub locks : LeavesLocks act → j.locks ≡ k.locks
-  pub anchor : LeavesAnchor act → j.anchor ≡ k.anchor
-  pub values : LeavesValues act → j.values ≡ k.values
-  pub pin : LeavesPin act → j.pin ≡ k.pin
-  pub round : LeavesRound act → j.round ≡ k.round
-  pub facts : LeavesFront act → j.facts ≡ k.facts
+-- One act, which counts as one step and has no note, has made what a pass knows `after` of `before`. Each part stays as it was, unless the
+-- act is of a kind that changes this part.
+pub record IsNext (act : Act) (before after : Known) : Type 0 where
+  pub pass : after.pass ≡ before.pass
+  pub steps : after.steps ≡ before.steps + 1
+  pub notes : after.notes ≡ before.notes
+  pub front : LeavesFront act → after.front ≡ before.front
+  pub fresh : LeavesFresh act → after.fresh ≡ before.fresh
+  pub failed : LeavesFailed act → after.failed ≡ before.failed
+  pub own : LeavesOwn act → after.own ≡ before.own
+  pub locks : LeavesLocks act → after.locks ≡ before.locks
+  pub anchor : LeavesAnchor act → after.anchor ≡ before.anchor
+  pub values : LeavesValues act → after.values ≡ before.values
+  pub pin : LeavesPin act → after.pin ≡ before.pin
+  pub round : LeavesRound act → after.round ≡ before.round
+  pub facts : LeavesFront act → after.facts ≡ before.facts

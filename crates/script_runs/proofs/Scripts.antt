@@ -4,7 +4,7 @@ use Rattle.std.proofs.lemmas.Slice.Zip.{seconds-zip}
 use Rattle.finite_map.specs.Weaves.{AllLegal}
 use Rattle.script_runs.specs.declared.answer.Done.{Done}
 use Rattle.script_runs.specs.Progress.{AllThree, HasAnsweredLast, HasRunCommands, IsDone, IsNewPassOf, MeetInTurn}
-use Rattle.script_runs.specs.Scripts.{AllFrom, AllTwoFrom, AreAllAnswered, IsLegalRun, LawfulScripts, Ran, by_pass, commands_in, notes_in, sections, text_in}
+use Rattle.script_runs.specs.Scripts.{AllFrom, AllTwoFrom, AreAllAnswered, IsLegalRun, LawfulScripts, RanScript, by_pass, commands_in, notes_in, sections, text_in}
 use Rattle.script_runs.specs.Told.{IsOfSize, IsToldOf, WasToldAnew}
 use Rattle.script_runs.proofs.together.Numbered.{AllFrom-append, first_with, seat_at, zip_at}
 use Rattle.script_runs.proofs.Progress.{AreTold-untold, stand_lower, told_events, told_stood}
@@ -40,14 +40,14 @@ legal_between front mid later q notes h l g b =
 
 -- The passes of scripts
 
-other_numbers : (q first : ℕ) (rans : List Ran) → q < first → All (λ other. other.0 ≢ q) (by_pass first rans)
+other_numbers : (q first : ℕ) (rans : List RanScript) → q < first → All (λ other. other.0 ≢ q) (by_pass first rans)
 other_numbers q first [] lt = All-nil (λ other. other.0 ≢ q)
 other_numbers q first (ran ∷ rans) lt =
     let other : first ≢ q = λ e. omega (arith, e, lt) in
     All-cons (λ other. other.0 ≢ q) (first, notes_in ran) (by_pass (first + 1) rans) other (other_numbers q (first + 1) rans (omega (arith, lt)))
 
 -- the calls of all passes are legal in one front
-all_legal : (front : List Change) (first : ℕ) (rans : List Ran) → AllFrom first (λ q ran. LegalCalls front q (notes_in ran)) rans
+all_legal : (front : List Change) (first : ℕ) (rans : List RanScript) → AllFrom first (λ q ran. LegalCalls front q (notes_in ran)) rans
     → AllLegal front (by_pass first rans)
 all_legal front first [] h = tt
 all_legal front first (ran ∷ rans) h =
@@ -63,16 +63,16 @@ module _ (index : TableView) where
   met_begins k j (b ∷ befores) (a ∷ afters) (m, met, text, rest) = begins_on k.front m.front j.front met.first.front (met_begins m j befores afters rest)
 
   -- What a pass keeps through meetings.
-  record HasKept (k j : PassView) : Type 0 where
+  record HasRunItsOrder (k j : PassView) : Type 0 where
     pub number : j.number ≡ k.number
     pub notes : j.notes ≡ k.notes
     pub legal : LegalCalls j.front j.number j.notes
     pub makers : AreByPasses index.layout j.front
 
   met_kept : (k j : PassView) (befores afters : List Done) → LegalCalls k.front k.number k.notes → AreByPasses index.layout k.front
-      → MeetInTurn index k befores j afters → HasKept k j
+      → MeetInTurn index k befores j afters → HasRunItsOrder k j
   met_kept k j [] [] legal makers h =
-      let same : HasKept k k = record { number = refl; notes = refl; legal = legal; makers = makers } in subst (HasKept k) (sym h) same
+      let same : HasRunItsOrder k k = record { number = refl; notes = refl; legal = legal; makers = makers } in subst (HasRunItsOrder k) (sym h) same
   met_kept k j [] (a ∷ afters) legal makers h = absurd h
   met_kept k j (b ∷ befores) [] legal makers h = absurd h
   met_kept k j (b ∷ befores) (a ∷ afters) legal makers (m, met, text, rest) =
@@ -93,7 +93,7 @@ module _ (index : TableView) where
 
   -- A script that a new pass ran.
   record RanFirst {G : Type 0} (becomes : G → Event → G → Type 0) (q : ℕ) (gate : G × G) (commands : List Command) (j : PassView) (text : List ℕ) : Type 0 where
-    pub ran : Ran
+    pub ran : RanScript
     pub front : ran.front ≡ j.front
     pub commands_are : commands_in ran ≡ commands
     pub text_is : text_in ran ≡ text
@@ -115,7 +115,7 @@ module _ (index : TableView) where
       let j = b.0 in
       let new = first.1 in
       let stood = told_stood index becomes a b run.answers (new_legal q p new) (new_makers q p new) run.told in
-      let ran : Ran = record { answers = run.answers; front = j.front } in
+      let ran : RanScript = record { answers = run.answers; front = j.front } in
       let number : j.number ≡ q = stood.number ∙ new.0 in
       let notes : j.notes ≡ notes_in ran = stood.notes ∙ ap (λ ns. ns ++ notes_in ran) new.2 in
       record {
@@ -146,7 +146,7 @@ module _ (index : TableView) where
   -- The scripts of files, the first with the pass q, that all met before the last script and again after it.
   pub record HaveRun {G : Type 0} (becomes : G → Event → G → Type 0) (gates : List (G × G)) (met last : List Change) (q : ℕ)
       (scripts : List (List Command)) (texts : List (List ℕ)) : Type 0 where
-    pub rans : List Ran
+    pub rans : List RanScript
     pub commands : map commands_in rans ≡ scripts
     pub texts_are : map text_in rans ≡ texts
     pub each : AllFrom q (λ q ran. IsLegalRun q 0 ran) rans
@@ -194,7 +194,7 @@ module _ (index : TableView) where
         commands = ap₂ (λ c cs. c ∷ cs) ran.commands_are others.commands;
         texts_are = ap₂ (λ t ts. t ∷ ts) (ran.text_is ∙ ap (λ t. t.items) (sym same) ∙ ap (λ t. t.items) (sym same')) others.texts_are;
         each = (ran.run, others.each);
-        begins = All-cons (λ (ran : Ran). BeginsWith j.front ran.front) ran.ran others.rans (subst (λ cs. BeginsWith j.front cs) (sym ran.front) seen) others.begins;
+        begins = All-cons (λ (ran : RanScript). BeginsWith j.front ran.front) ran.ran others.rans (subst (λ cs. BeginsWith j.front cs) (sym ran.front) seen) others.begins;
         shared = (legal_between pass.front last f.handle.pass.front q (notes_in ran.ran) begin end (begins_on pass.front j.front last seen b) later, others.shared);
         told = (ran.told, others.told);
       }
@@ -212,7 +212,7 @@ module _ (index : TableView) where
       let ran = answered.ran in
       let kept = met_kept pass k (map (λ r. r.0) done) met (new_legal _ pass last.1) (new_makers _ pass last.1) first in
       let stood = told_stood index untold (k, tt) (j, tt) ran.answers kept.legal kept.makers ran.told in
-      let whole : Ran = record { answers = ran.answers; front = j.front } in
+      let whole : RanScript = record { answers = ran.answers; front = j.front } in
       let notes : j.notes ≡ notes_in whole = stood.notes ∙ ap (λ ns. ns ++ notes_in whole) (kept.notes ∙ last.1.2) in
       let began : k.number ≡ length scripts = kept.number ∙ last.1.0 in
       let number : j.number ≡ length scripts = stood.number ∙ began in
@@ -249,7 +249,7 @@ module _ (index : TableView) where
 -- What gates are told
 
 -- each gate was told the steps of its file's pass
-pub each_told : {G : Type 0} (index : TableView) (becomes : G → Event → G → Type 0) (first : ℕ) (gates : List (G × G)) (rans : List Ran)
+pub each_told : {G : Type 0} (index : TableView) (becomes : G → Event → G → Type 0) (first : ℕ) (gates : List (G × G)) (rans : List RanScript)
     → AllTwoFrom first (λ q gate ran. WasToldAnew index becomes q gate ran.answers ran.front) gates rans → AllFrom first (IsToldOf becomes) gates
 each_told index becomes first [] rans told = tt
 each_told index becomes first (gate ∷ gates) [] told = absurd told
@@ -261,7 +261,7 @@ each_told index becomes first (gate ∷ gates) (ran ∷ rans) told =
 
 -- Nobody need be told
 
-WasTold-untold : {G : Type 0} (index : TableView) (becomes : G → Event → G → Type 0) (q : ℕ) (gate : G × G) (ran : Ran)
+WasTold-untold : {G : Type 0} (index : TableView) (becomes : G → Event → G → Type 0) (q : ℕ) (gate : G × G) (ran : RanScript)
     → WasToldAnew index becomes q gate ran.answers ran.front → WasToldAnew index untold q (tt, tt) ran.answers ran.front
 WasTold-untold index becomes q gate ran anew =
     let was = anew.told in
@@ -278,7 +278,7 @@ WasTold-untold index becomes q gate ran anew =
       new = anew.new;
     }
 
-files_untold : {G A : Type 0} (index : TableView) (becomes : G → Event → G → Type 0) (first : ℕ) (gates : List (G × G)) (files : List A) (rans : List Ran)
+files_untold : {G A : Type 0} (index : TableView) (becomes : G → Event → G → Type 0) (first : ℕ) (gates : List (G × G)) (files : List A) (rans : List RanScript)
     → length gates ≡ length files
     → AllTwoFrom first (λ q gate ran. WasToldAnew index becomes q gate ran.answers ran.front) gates rans
     → AllTwoFrom first (λ q gate ran. WasToldAnew index untold q gate ran.answers ran.front) (map (λ f. (tt, tt)) files) rans

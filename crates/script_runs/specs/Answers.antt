@@ -22,7 +22,7 @@ abbrev pub answer_text : Answer → List ℕ
 answer_text (Reply reply) = reply_text reply
 answer_text (Refused full) = full_text full
 
--- A command with its answer. It is a call that was answered, with its note, a call that lacked records of a kind, or a scan. `before`
+-- A command with its answer. It is a call that was answered, as its note tells, a call that lacked records of a kind, or a scan. `before`
 -- and `after` are the lengths of the pass's front at the scan's load of the root and at its end.
 pub data Answered : Type 0 where
   called : (note : Note) → Answered
@@ -35,7 +35,7 @@ answered_command (called note) = Asks note.call
 answered_command (refused call full) = Asks call
 answered_command (listed range scan before after) = Lists range
 
--- the lines that are printed for an answer
+-- the lines that the program prints for an answer
 abbrev pub lines_of_answer : Answered → List ℕ
 lines_of_answer (called note) = line (reply_text note.reply)
 lines_of_answer (refused call full) = line (full_text full)

@@ -19,13 +19,13 @@ use Rattle.script_runs.specs.Answers.{Answered, called, refused, answered_comman
 use Rattle.script_runs.specs.Scripts.{sections}
 use Rattle.script_runs.specs.Told.{AreTold, IsCommandTold}
 
--- the call with its answer as a command with an answer; its note has this place
+-- the call with its answer, as a command with its answer; the place is that of its note
 abbrev pub answered_as : (call : Call) (answer : Answer) (place : ℕ) → Answered
 answered_as call (Reply reply) place = called (record { place = place; call = call; reply = reply })
 answered_as call (Refused full) place = refused call full
 
--- The pass has run this command: it was told the answer, and its gate was told the steps. `after` is the text `before` with the answer's
--- lines behind it.
+-- The pass has run this command: it was told the answer, and its gate was told the steps. The text `after` is the text `before` with the
+-- lines of the answer behind it.
 pub record HasAnsweredCommand {G : Type 0} (index : TableView) (becomes : G → Event → G → Type 0)
     (old : PassView × G) (command : Command) (new : PassView × G) (before after : List ℕ) : Type 0 where
   pub answer : Answered
@@ -34,7 +34,7 @@ pub record HasAnsweredCommand {G : Type 0} (index : TableView) (becomes : G → 
   pub steps : HasMadeCallSteps index becomes old new
   pub text_is : after ≡ before ++ lines_of_answer answer
 
--- The pass has run these commands, one after another, and the text has their answers.
+-- The pass has run these commands, one after another, and the text has the answers to them.
 pub record HasRunCommands {G : Type 0} (index : TableView) (becomes : G → Event → G → Type 0)
     (old : PassView × G) (commands : List Command) (new : PassView × G) (text : List ℕ) : Type 0 where
   pub answers : List Answered
@@ -42,40 +42,42 @@ pub record HasRunCommands {G : Type 0} (index : TableView) (becomes : G → Even
   pub text_is : text ≡ flat_map lines_of_answer answers
   pub told : AreTold index becomes old answers new
 
--- the pass of this number belongs to the index, and is new
+-- the pass belongs to the index, has this number, and is new
 abbrev pub IsNewPassOf : (index : TableView) (number : ℕ) (pass : PassView) → Type 0
 IsNewPassOf index number pass = Owns index pass × IsNewPass number pass
 
--- there are as many scripts and gates as handles
-abbrev pub AreReady : {H C G : Type 0} → (handles : List H) (scripts : List C) (gates : List G) → Type 0
-AreReady handles scripts gates = (length scripts ≡ length handles) × (length gates ≡ length handles)
+-- there are as many scripts as handles, and as many gates
+abbrev pub AreAsManyAsHandles : {H C G : Type 0} → (handles : List H) (scripts : List C) (gates : List G) → Type 0
+AreAsManyAsHandles handles scripts gates = (length scripts ≡ length handles) × (length gates ≡ length handles)
 
--- The thread with this handle and this gate has run these commands. `ran` is the handle after it with its text, and the gate after it.
+-- A thread with this handle and this gate has run these commands. `ran` has the handle after the run with the text of the answers, and the
+-- gate after the run.
 abbrev pub IsDone : {G : Type 0} → (becomes : G → Event → G → Type 0) (handle : HandleView × G) (commands : List Command) (ran : Done × G) → Type 0
 IsDone becomes handle commands ran =
     (ran.0.handle.index ≡ handle.0.index) ×
     HasRunCommands handle.0.index becomes (handle.0.pass, handle.1) commands (ran.0.handle.pass, ran.1) ran.0.text.items
 
--- a thread's order has this handle, this gate and these commands
+-- the order of a thread has this handle, this gate and these commands
 abbrev pub IsOrderOf : {G : Type 0} → (handle : HandleView × G) (commands : List Command) (order : Order G) → Type 0
 IsOrderOf handle commands order =
     (order.handle.value ≡ handle.0) × (order.gate.value ≡ handle.1) × (script_commands order.script.value ≡ commands)
 
--- the thread has run the commands of its order, with the handle and the gate of its order
-abbrev pub HasKept : {G : Type 0} → (becomes : G → Event → G → Type 0) (order : Order G) (ran : Done × G) → Type 0
-HasKept becomes order ran = IsDone becomes (order.handle.value, order.gate.value) (script_commands order.script.value) ran
+-- a thread has run the commands of its order, with the handle and the gate of the order
+abbrev pub HasRunItsOrder : {G : Type 0} → (becomes : G → Event → G → Type 0) (order : Order G) (ran : Done × G) → Type 0
+HasRunItsOrder becomes order ran = IsDone becomes (order.handle.value, order.gate.value) (script_commands order.script.value) ran
 
--- `Holds` holds of the items of three lists, which are equally long, place by place
+-- `Holds` holds of three lists of one length, place by place.
 abbrev pub AllThree : {A B C : Type 0} → (Holds : A → B → C → Type 0) (first : List A) (second : List B) (third : List C) → Type 0
 AllThree Holds [] [] [] = Unit {0}
-AllThree Holds (x ∷ xs) (y ∷ ys) (z ∷ zs) = Holds x y z × AllThree Holds xs ys zs
+AllThree Holds (one ∷ first) (two ∷ second) (three ∷ third) = Holds one two three × AllThree Holds first second third
 AllThree Holds _ _ _ = ⊥
 
--- this handle, and the handles of scripts that have run, are at the index
+-- the handle, and the handles of these scripts that have run, are at the index
 abbrev pub AreAt : (index : TableView) (handle : HandleView) (done : List Done) → Type 0
-AreAt index handle done = (handle.index ≡ index) × All (λ d. d.handle.index ≡ index) done
+AreAt index handle done = (handle.index ≡ index) × All (λ ran. ran.handle.index ≡ index) done
 
--- The pass meets the passes of the scripts that have run, one after another. `old` and `ran` become `new` and `met`, with the same texts.
+-- The pass `old` meets the passes of the scripts that have run, `ran`, one after another, and becomes `new`. The scripts that have run
+-- become `met`, with the same texts.
 abbrev pub MeetInTurn : (index : TableView) (old : PassView) (ran : List Done) (new : PassView) (met : List Done) → Type 0
 MeetInTurn index old [] new [] = new ≡ old
 MeetInTurn index old (before ∷ befores) new (after ∷ afters) =
@@ -83,7 +85,8 @@ MeetInTurn index old (before ∷ befores) new (after ∷ afters) =
     (after.text ≡ before.text) × MeetInTurn index middle befores new afters
 MeetInTurn index old _ new _ = ⊥
 
--- The handle's pass has run the last script's commands, and then met the passes of the files again. The text has all answers.
+-- The pass of the handle has run the commands of the last script. Then it has met the passes of the files again. The text has the answers
+-- to all scripts.
 pub record HasAnsweredLast (handle : HandleView) (met : List Done) (commands : List Command) (text : List ℕ) : Type 0 where
   pub after : PassView
   pub last : PassView
@@ -92,13 +95,13 @@ pub record HasAnsweredLast (handle : HandleView) (met : List Done) (commands : L
   pub own : Owns handle.index handle.pass
   pub ran : HasRunCommands handle.index untold (handle.pass, tt) commands (after, tt) answers
   pub meet : MeetInTurn handle.index after met last again
-  pub text_is : text ≡ sections 1 (map (λ d. d.text.items) again) ++ line (codes "last") ++ answers
+  pub text_is : text ≡ sections 1 (map (λ one. one.text.items) again) ++ line (codes "last") ++ answers
 
--- The handle's pass met the passes of the scripts in files, which had run, and then answered the last script. The results have the gates of
--- the scripts in files, and all answers as texts.
+-- The pass of the handle has met the passes of the scripts in files, which had run. Then it has answered the last script. The results have
+-- the gates of the scripts in files, and all answers as texts.
 pub record HaveAnswered {G : Type 0} (ran : List (Done × G)) (commands : List Command) (handle : HandleView) (results : Results G) : Type 0 where
   pub met : List Done
   pub after : PassView
-  pub gates_are : results.gates.items ≡ map (λ r. r.1) ran
-  pub meet : MeetInTurn handle.index handle.pass (map (λ r. r.0) ran) after met
-  pub answered : HasAnsweredLast (handle_at handle.index after) met commands (flat_map (λ t. t.items) results.texts.items)
+  pub gates_are : results.gates.items ≡ map (λ one. one.1) ran
+  pub meet : MeetInTurn handle.index handle.pass (map (λ one. one.0) ran) after met
+  pub answered : HasAnsweredLast (handle_at handle.index after) met commands (flat_map (λ text. text.items) results.texts.items)

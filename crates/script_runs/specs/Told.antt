@@ -18,7 +18,7 @@ use Rattle.hot_scripts.specs.declared.command.Command.{Command}
 use Rattle.hot_scripts.specs.Grammar.{called_key}
 use Rattle.script_runs.specs.Answers.{Answered, called, refused, listed}
 
--- The pass has made a call, with this note. The call stands behind all changes that the pass had seen before.
+-- The pass has made a call, which was answered with this note. The note stands behind all changes that the pass had seen before.
 pub record IsCalled (layout : Layout) (old new : PassView) (note : Note) : Type 0 where
   pub number : new.number ≡ old.number
   pub front : BeginsWith new.front old.front
@@ -28,7 +28,7 @@ pub record IsCalled (layout : Layout) (old new : PassView) (note : Note) : Type 
   pub makers : AreByPasses layout new.front
 
 -- The pass was told this answer to a command. A call was refused only if it found no node record free, or no leaf record with room for its
--- key. A scan is lawful between the two lengths of the front.
+-- key. A scan is lawful while the front grew from its length `before` to its length `after`.
 abbrev pub IsCommandTold : (layout : Layout) (old : PassView) (answer : Answered) (new : PassView) → Type 0
 IsCommandTold layout old (called note) new = IsCalled layout old new note
 IsCommandTold layout old (refused call full) new = MayLack call full × IsRefusedFor layout call old new (fault_of full)
@@ -44,31 +44,32 @@ AreTold {G = G} index becomes old (answer ∷ answers) new =
     (middle : PassView × G) × IsCommandTold index.layout old.0 answer middle.0 × HasMadeCallSteps index becomes old middle ×
     AreTold index becomes middle answers new
 
--- `gate` is a gate as it was before and after. It was told steps of this pass, one after another, and no others.
+-- `gate` is a gate as it was before and after. Meanwhile it was told steps of the pass, one after another, and nothing else.
 abbrev pub IsToldOf : {G : Type 0} → (becomes : G → Event → G → Type 0) (pass : ℕ) (gate : G × G) → Type 0
-IsToldOf becomes pass gate = (events : List Event) × All (λ e. e.pass ≡ pass) events × IsTold becomes events gate.0 gate.1
+IsToldOf becomes pass gate = (events : List Event) × All (λ event. event.pass ≡ pass) events × IsTold becomes events gate.0 gate.1
 
--- The index has so many passes, node records, with one more that is kept, and leaf records. Each leaf record has room for any key.
+-- The index has so many passes, `nodes` node records and one more, kept for removals, and `leaves` leaf records. Each leaf record has room
+-- for any key.
 pub record IsOfSize (passes nodes leaves : ℕ) (index : TableView) : Type 0 where
   pub passes_are : index.layout.passes ≡ passes
   pub nodes_are : index.layout.nodes ≡ with_one_kept nodes
   pub leaves_are : index.layout.leaves ≡ leaves
   pub all_long : index.layout.long_from ≡ 0
 
--- each leaf record has room for the key of the command's call
+-- each leaf record has room for the key of the call that the command makes
 abbrev pub HasRoomFor : (layout : Layout) (command : Command) → Type 0
 HasRoomFor layout command = (leaf : ℕ) → leaf < layout.leaves → words_for (length (called_key command)) ≤ leaf_size layout leaf
 
--- The index has so many passes, node records, with one more that is kept, and leaf records. Each leaf record has room for the key of each
--- of these commands.
+-- The index has so many passes, `nodes` node records and one more, kept for removals, and `leaves` leaf records. Each leaf record has room
+-- for the key of each of these commands.
 pub record IsSizedFor (commands : List Command) (passes nodes leaves : ℕ) (index : TableView) : Type 0 where
   pub passes_are : index.layout.passes ≡ passes
   pub nodes_are : index.layout.nodes ≡ with_one_kept nodes
   pub leaves_are : index.layout.leaves ≡ leaves
   pub room : All (HasRoomFor index.layout) commands
 
--- The pass of this number of the index was told the answers. It had seen the changes `before`, and has seen `after` then. `gate` is its
--- gate before and after, which was told the steps.
+-- The pass of this number of the index was told the answers. It had seen the changes `before`, and has seen the changes `after` then.
+-- `gate` is its gate as it was before and after, which was told the steps.
 pub record WasTold {G : Type 0} (index : TableView) (becomes : G → Event → G → Type 0) (pass : ℕ) (gate : G × G)
     (before : List Change) (answers : List Answered) (after : List Change) : Type 0 where
   pub first : PassView

@@ -5,7 +5,7 @@ ghost use Rattle.std.specs.List.{AllZip, zip};
 ghost use Rattle.hot_index_calls.specs.Answers.{HaveMet};
 ghost use Rattle.hot_scripts.specs.declared.script.TheConstants.{MAX_FILES};
 ghost use Rattle.hot_scripts.specs.Parses.{script_commands};
-ghost use Rattle.script_runs.specs.Progress.{AllThree, AreAt, AreReady, HasAnsweredLast, HasKept, HaveAnswered, IsDone, IsOrderOf, MeetInTurn};
+ghost use Rattle.script_runs.specs.Progress.{AllThree, AreAt, AreAsManyAsHandles, HasAnsweredLast, HasRunItsOrder, HaveAnswered, IsDone, IsOrderOf, MeetInTurn};
 ghost use Rattle.script_runs.specs.Scripts.{AreAllAnswered};
 
 use crate::answer::{Done, make_sections};
@@ -42,9 +42,9 @@ struct Order<'a, G> {
 
 impl<'a, G: Gate> Promise<Result<(Done<'a>, G), AllocError>> for Order<'a, G> {
     ghost use Rattle.std.specs.Prelude.{IfOk};
-    ghost use Rattle.script_runs.specs.Progress.{HasKept};
+    ghost use Rattle.script_runs.specs.Progress.{HasRunItsOrder};
 
-    ghost kept_by = { λ order result. IfOk result (HasKept G.becomes order) };
+    ghost kept_by = { λ order result. IfOk result (HasRunItsOrder G.becomes order) };
 }
 
 /// Makes an index of `records` and runs scripts on it. The scripts of files, `scripts`, `MAX_FILES` at most, run at the same time, each in
@@ -132,14 +132,14 @@ fn run_files<'a, T: AllocGlobal + Threads + Wait + Sync, G: Gate + Send + Drop>(
     scripts: &[Script],
     gates: Vec<G>,
 ) -> Result<Vec<(Done<'a>, G)>, AllocError>
-    requires ready { AreReady handles.items scripts.now gates.items }
+    requires ready { AreAsManyAsHandles handles.items scripts.now gates.items }
     ensures { IfOk result (λ done. AllThree (IsDone G.becomes) (zip handles.entry.items gates.items) (map script_commands scripts.now) done.items) }
 {
     scope(
         scope_env(),
         rt,
         |threads| -> Result<Vec<(Done, G)>, AllocError>
-            requires { AreReady handles.items scripts.now gates.items }
+            requires { AreAsManyAsHandles handles.items scripts.now gates.items }
             ensures { IfOk result (λ done. AllThree (IsDone G.becomes) (zip handles.entry.items gates.items) (map script_commands scripts.entry.now) done.items) }
         { run_files_in_scope(threads, rt, handles, scripts, gates) },
     )
@@ -157,7 +157,7 @@ fn run_files_in_scope<'a: 's, 's, E, T, G>(
 where
     T: AllocGlobal + Threads + Wait + Sync + 's,
     G: Gate + Send + Drop + 's,
-    requires { AreReady handles.items scripts.now gates.items }
+    requires { AreAsManyAsHandles handles.items scripts.now gates.items }
     ensures { IfOk result (λ done. AllThree (IsDone G.becomes) (zip handles.entry.items gates.items) (map script_commands scripts.entry.now) done.items) }
 {
     let running = start_files(threads, rt, handles, scripts, gates)?;
@@ -176,7 +176,7 @@ fn start_files<'a: 's, 's, E, T, G>(
 where
     T: AllocGlobal + Threads + Wait + Sync + 's,
     G: Gate + Send + Drop + 's,
-    requires { AreReady handles.items scripts.now gates.items }
+    requires { AreAsManyAsHandles handles.items scripts.now gates.items }
     ensures { IfOk result (λ running. AllThree IsOrderOf (zip handles.entry.items gates.items) (map script_commands scripts.entry.now)
         (map (λ t. t.promise) running.items)) }
 {
@@ -202,7 +202,7 @@ fn join_files<'a, T: AllocGlobal + Threads + Wait, G: Gate + Drop>(
     rt: &T,
     running: Vec<Running<'a, G>>,
 ) -> Result<Vec<(Done<'a>, G)>, AllocError>
-    ensures { IfOk result (λ done. AllZip (HasKept G.becomes) (map (λ t. t.promise) running.entry.items) done.items) }
+    ensures { IfOk result (λ done. AllZip (HasRunItsOrder G.becomes) (map (λ t. t.promise) running.entry.items) done.items) }
 {
     let mut done = Vec::new(rt.alloc());
     for thread in running {

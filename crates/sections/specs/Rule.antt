@@ -13,7 +13,7 @@ use Rattle.sections.specs.Runs.{HasNoneOf, IsLawfulRun, OthersRunOn, moments_in,
 
 -- Words
 
--- how many words a table of so many sections has
+-- how many words a table of `count` sections has
 abbrev pub sections_words : (count : ℕ) → ℕ
 sections_words count = FIRST_SECTION + 8 * count
 
@@ -21,8 +21,8 @@ sections_words count = FIRST_SECTION + 8 * count
 abbrev pub section_place : (section : ℕ) → ℕ
 section_place section = FIRST_SECTION + 8 * section
 
--- The words show the run: the number of its moments, and the word of each section. No section whose number is the extent or higher was ever
--- entered.
+-- The words show the run: the number of its moments, and the word of each section. The extent says which sections looks count: none of that
+-- number or higher was ever entered.
 pub record ShowsRun (count : ℕ) (run : List SectionEvent) (words : List ℕ) : Type 0 where
   pub size : length words ≡ sections_words count
   pub moments : slice_index words MOMENTS ≡ moments_in run
@@ -32,18 +32,19 @@ pub record ShowsRun (count : ℕ) (run : List SectionEvent) (words : List ℕ) :
 
 -- Seats
 
--- the section of this number is the seat's, or one that it may still deal
+-- the seat has the section of this number, or may still deal it
 abbrev pub HasSection : (seat : Seated) (section : ℕ) → Type 0
 HasSection (Dealer next count) section = next ≤ section
-HasSection (Owner k) section = k.number ≡ section
+HasSection (Owner known) section = known.number ≡ section
 
--- What a seat knows is true of this run, in a table of `count` sections. Sections below the extent may have been entered.
+-- What a seat knows is true of the run, in a table of `count` sections. Only sections below the extent may have been entered.
 abbrev pub IsTrueOfRun : (count extent : ℕ) (run : List SectionEvent) (seat : Seated) → Type 0
-IsTrueOfRun count extent run (Dealer next n) = (n ≡ count) × ((section : ℕ) → next ≤ section → HasNoneOf section run)
-IsTrueOfRun count extent run (Owner k) = (k.count ≡ count) × OthersRunOn k.number k.run run × (k.counted ≡ true → k.number < extent)
+IsTrueOfRun count extent run (Dealer next sections) = (sections ≡ count) × ((section : ℕ) → next ≤ section → HasNoneOf section run)
+IsTrueOfRun count extent run (Owner known) =
+    (known.count ≡ count) × OthersRunOn known.number known.run run × (known.counted ≡ true → known.number < extent)
 
--- The rule of the table of `count` sections. There is a lawful run that its words show. What each seat knows is true of this run, and no
--- two seats have the same section.
+-- The rule of a table of `count` sections. The words show a lawful run. What each seat knows is true of this run, and no two seats have the
+-- same section.
 pub record SectionsRuled {S : Type 0} (count : ℕ) (state : State S Seated) : Type 0 where
   pub run : List SectionEvent
   pub lawful : IsLawfulRun run
@@ -56,18 +57,18 @@ pub record SectionsRuled {S : Type 0} (count : ℕ) (state : State S Seated) : T
 abbrev pub new_section : (section count : ℕ) → SectionKnowledge
 new_section section count = record { number = section; count = count; counted = false; run = [] }
 
--- what an owner's seat knows; of a dealer's, what a new section 0 would
+-- what the owner of a section knows; of a dealer's seat, what the owner of a new section 0 would
 abbrev pub owner_of : Seated → SectionKnowledge
-owner_of (Owner k) = k
+owner_of (Owner known) = known
 owner_of (Dealer next count) = new_section 0 0
 
--- The seat is of the owner of this section, whose word is `word`. `counted` says whether looks count the section.
+-- The seat is that of the owner of this section, whose word is `word`. `counted` says whether looks count the section.
 abbrev pub IsOwners : {S : Type 0} → (me : Me S Seated) (section : ℕ) (counted : Bool) (word : ℕ) → Type 0
 IsOwners me section counted word = let knowledge : SectionKnowledge = owner_of me.0 in
     (me ≡ (Owner knowledge, [])) × (knowledge.number ≡ section) × (knowledge.counted ≡ counted) ×
     (word_in section knowledge.run ≡ word) × (section < knowledge.count)
 
--- the seat of a dealer that has dealt one section more
+-- the seat of a dealer once it has dealt one more section
 abbrev pub next_section : Seated → Seated
 next_section (Dealer next count) = Dealer (next + 1) count
 next_section view = view
@@ -79,14 +80,15 @@ section_dealt view = view
 
 -- Steps
 
--- By a load an owner learns the run so far, which is lawful. It has no new event of the owner's section. `Found` says what the loaded word
--- tells of the run.
+-- By a load the owner of a section learns the run so far, which is lawful. It has no new event of the owner's section. `Found` says what
+-- the loaded word tells of the run.
 abbrev pub Finds : (Found : SectionKnowledge → List SectionEvent → Type 0) (old new : Seated) → Type 0
-Finds Found (Owner k) new =
-    (run : List SectionEvent) × (new ≡ Owner (record k { run = run })) × OthersRunOn k.number k.run run × IsLawfulRun run × Found k run
+Finds Found (Owner known) new =
+    (run : List SectionEvent) × (new ≡ Owner (record known { run = run })) × OthersRunOn known.number known.run run × IsLawfulRun run ×
+    Found known run
 Finds Found old new = Unit {0}
 
--- a step that loads a word and changes nothing
+-- A step that loads a word and changes nothing, in the form in which a shared table asks for it.
 abbrev pub finding : {S : Type 0} → (Found : ℕ → ℕ → SectionKnowledge → List SectionEvent → Type 0) (step : Step S) (before : Me S Seated)
     (told : ℕ) (after : Me S Seated) → Type 0
 finding Found step before told after = (after.1 ≡ before.1) × Finds (Found step.word told) before.0 after.0
@@ -95,45 +97,48 @@ finding Found step before told after = (after.1 ≡ before.1) × Finds (Found st
 abbrev pub found_moments : (word told : ℕ) (knowledge : SectionKnowledge) (run : List SectionEvent) → Type 0
 found_moments word told knowledge run = (told ≡ moments_in run) × (told ≤ MOST_MOMENTS)
 
--- the loaded word is an extent: no section of that number or a higher one was ever entered
+-- the loaded word is the extent: no section of that number or a higher one was ever entered
 abbrev pub found_extent : (word told : ℕ) (knowledge : SectionKnowledge) (run : List SectionEvent) → Type 0
 found_extent word told knowledge run = (told ≤ knowledge.count) × ((section : ℕ) → told ≤ section → HasNoneOf section run)
 
--- a word that was loaded at a section's index is that section's word
+-- if the word was loaded at a section's index, it is the word of that section
 abbrev pub found_word : (word told : ℕ) (knowledge : SectionKnowledge) (run : List SectionEvent) → Type 0
 found_word word told knowledge run = (section : ℕ) → word ≡ section_place section → section < knowledge.count → told ≡ word_in section run
 
--- After the step, looks count the owner's section.
+-- After the step looks count the owner's section. The owner learns the run so far.
 abbrev pub Counted : (old new : Seated) → Type 0
-Counted (Owner k) new = (run : List SectionEvent) × (new ≡ Owner (record k { counted = true; run = run })) × OthersRunOn k.number k.run run
+Counted (Owner known) new =
+    (run : List SectionEvent) × (new ≡ Owner (record known { counted = true; run = run })) × OthersRunOn known.number known.run run
 Counted old new = Unit {0}
 
--- a step after which looks count the section
+-- A step after which looks count the owner's section, in the form in which a shared table asks for it.
 abbrev pub counting : {S : Type 0} → (step : Step S) (before : Me S Seated) (told : ℕ) (after : Me S Seated) → Type 0
 counting step before told after = (after.1 ≡ before.1) × Counted before.0 after.0
 
--- An event of the owner is the next one of the run, and the owner knows the run with the event. `next` adds the event to a run.
+-- An event of the owner's section is the next one of the run, and the owner then knows the run with the event. `next` adds the event to a
+-- run.
 abbrev pub EventHappens : (next : SectionKnowledge → List SectionEvent → List SectionEvent) (old new : Seated) → Type 0
-EventHappens next (Owner k) new =
-    (before : List SectionEvent) × (new ≡ Owner (record k { run = next k before })) × OthersRunOn k.number k.run before
+EventHappens next (Owner known) new =
+    (before : List SectionEvent) × (new ≡ Owner (record known { run = next known before })) × OthersRunOn known.number known.run before
 EventHappens next old new = Unit {0}
 
--- a step that enters the owner's section; the stored word is the number of moments and one
+-- A step that enters the owner's section, in the form in which a shared table asks for it. The stored word is one more than a number of
+-- moments.
 abbrev pub entering : {S : Type 0} → (step : Step S) (before : Me S Seated) (told : ℕ) (after : Me S Seated) → Type 0
 entering step before told after =
-    (after.1 ≡ before.1) × EventHappens (λ k run. Entered k.number (told - 1) ∷ run) before.0 after.0
+    (after.1 ≡ before.1) × EventHappens (λ known run. Entered known.number (told - 1) ∷ run) before.0 after.0
 
--- a step that leaves the owner's section
+-- A step that leaves the owner's section, in the form in which a shared table asks for it.
 abbrev pub leaving : {S : Type 0} → (step : Step S) (before : Me S Seated) (told : ℕ) (after : Me S Seated) → Type 0
-leaving step before told after = (after.1 ≡ before.1) × EventHappens (λ k run. Left k.number ∷ run) before.0 after.0
+leaving step before told after = (after.1 ≡ before.1) × EventHappens (λ known run. Left known.number ∷ run) before.0 after.0
 
--- The exchange takes a moment if `expected` is the number of moments taken so far. `told` is that number.
+-- The exchange takes a moment if `expected` is the number of moments taken so far, which is `told`.
 abbrev pub Takes : (expected told : ℕ) (old new : Seated) → Type 0
-Takes expected told (Owner k) new =
-    (before : List SectionEvent) × (new ≡ Owner (record k { run = if nat_eq told expected then Taken ∷ before else before }))
-    × OthersRunOn k.number k.run before × (told ≡ moments_in before)
+Takes expected told (Owner known) new =
+    (before : List SectionEvent) × (new ≡ Owner (record known { run = if nat_eq told expected then Taken ∷ before else before }))
+    × OthersRunOn known.number known.run before × (told ≡ moments_in before)
 Takes expected told old new = Unit {0}
 
--- an exchange that may take a moment
+-- An exchange that may take a moment, in the form in which a shared table asks for it.
 abbrev pub taking : {S : Type 0} → (step : Step S) (before : Me S Seated) (told : ℕ) (after : Me S Seated) → Type 0
 taking step before told after = (after.1 ≡ before.1) × Takes step.first told before.0 after.0

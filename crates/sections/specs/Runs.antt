@@ -4,48 +4,49 @@ use Rattle.sections.specs.declared.events.SectionEvent.{SectionEvent}
 use Rattle.sections.specs.declared.events.SectionEvent.TheVariants.{Entered, Left, Taken}
 use Rattle.sections.specs.declared.table.TheConstants.{MOST_MOMENTS}
 
--- how many moments have been taken
+-- how many moments have been taken in the run
 abbrev pub moments_in : List SectionEvent → ℕ
 moments_in [] = 0
-moments_in (Entered section n ∷ run) = moments_in run
+moments_in (Entered section moments ∷ run) = moments_in run
 moments_in (Left section ∷ run) = moments_in run
 moments_in (Taken ∷ run) = suc (moments_in run)
 
--- The word of a section: 0 if the section isn't open, and else one more than the number of moments with which it was entered.
+-- The word of a section after the run. It is 0 if the section isn't open, and else one more than the number of moments with which it was
+-- entered.
 abbrev pub word_in : (section : ℕ) (run : List SectionEvent) → ℕ
 word_in section [] = 0
-word_in section (Entered p n ∷ run) = if nat_eq p section then n + 1 else word_in section run
-word_in section (Left p ∷ run) = if nat_eq p section then 0 else word_in section run
+word_in section (Entered other moments ∷ run) = if nat_eq other section then moments + 1 else word_in section run
+word_in section (Left other ∷ run) = if nat_eq other section then 0 else word_in section run
 word_in section (Taken ∷ run) = word_in section run
 
--- the section has been entered, and not been left since
+-- the section has been entered in the run, and not been left since
 abbrev pub IsOpen : (section : ℕ) (run : List SectionEvent) → Type 0
 IsOpen section run = 0 < word_in section run
 
--- The event may happen after this run. A section that isn't open may be entered, with a number of moments that had been taken. An open one
--- may be left.
+-- The event may happen after the run. A section that isn't open may be entered, with a number of moments that had been taken by then. An
+-- open one may be left. A moment may be taken while a table can tell one more.
 abbrev pub MayFollow : (run : List SectionEvent) (event : SectionEvent) → Type 0
-MayFollow run (Entered section n) = (word_in section run ≡ 0) × (n ≤ moments_in run)
+MayFollow run (Entered section moments) = (word_in section run ≡ 0) × (moments ≤ moments_in run)
 MayFollow run (Left section) = IsOpen section run
 MayFollow run Taken = moments_in run < MOST_MOMENTS
 
 -- each event of the run may follow those before it
 abbrev pub IsLawfulRun : List SectionEvent → Type 0
 IsLawfulRun [] = Unit {0}
-IsLawfulRun (e ∷ run) = MayFollow run e × IsLawfulRun run
+IsLawfulRun (event ∷ run) = MayFollow run event × IsLawfulRun run
 
--- none of the events is of this section
+-- no event of the run is of this section
 abbrev pub HasNoneOf : (section : ℕ) (run : List SectionEvent) → Type 0
 HasNoneOf section [] = Unit {0}
-HasNoneOf section (Entered p n ∷ run) = (p ≢ section) × HasNoneOf section run
-HasNoneOf section (Left p ∷ run) = (p ≢ section) × HasNoneOf section run
+HasNoneOf section (Entered other moments ∷ run) = (other ≢ section) × HasNoneOf section run
+HasNoneOf section (Left other ∷ run) = (other ≢ section) × HasNoneOf section run
 HasNoneOf section (Taken ∷ run) = HasNoneOf section run
 
--- the later run is the earlier one, and then more events
+-- the later run is the earlier one, and then further events
 abbrev pub RunGoesOn : (earlier later : List SectionEvent) → Type 0
 RunGoesOn earlier later = (more : List SectionEvent) × (later ≡ more ++ earlier)
 
--- the later run is the earlier one, and then events of sections other than this one
+-- the later run is the earlier one, and then further events, none of which is of this section
 abbrev pub OthersRunOn : (section : ℕ) (earlier later : List SectionEvent) → Type 0
 OthersRunOn section earlier later = (more : List SectionEvent) × (later ≡ more ++ earlier) × HasNoneOf section more
 
@@ -56,10 +57,10 @@ IsPast moment run =
     (section : ℕ) (before since : List SectionEvent) → run ≡ since ++ before → moments_in before < moment → IsOpen section before →
     Contains since (Left section)
 
--- A section with this word isn't open, or was entered when the moment had been taken.
+-- A section with this word isn't open, or was entered after the moment was taken.
 abbrev pub IsNewer : (moment word : ℕ) → Type 0
 IsNewer moment word = (word ≡ 0) ⊎ (moment < word)
 
--- What holds a moment: it has not been taken, or a section is open that was entered with fewer moments.
+-- The moment is not past as far as words tell. It has not been taken, or a section is open that was entered with fewer moments.
 abbrev pub IsHeld : (moment : ℕ) (run : List SectionEvent) → Type 0
 IsHeld moment run = (moments_in run < moment) ⊎ ((section : ℕ) × IsOpen section run × (word_in section run ≤ moment))

@@ -8,12 +8,12 @@ use Rattle.sections.specs.declared.table.TheConstants.{MOST_MOMENTS}
 use Rattle.sections.specs.Rule.{new_section}
 use Rattle.sections.specs.Runs.{IsLawfulRun, IsOpen, OthersRunOn, moments_in}
 
--- a table: which one it is, and how many sections it has
+-- What contracts see of a table of sections: which one it is, and how many sections it has.
 pub record SectionsView : Type 0 where
   pub id : TableId
   pub count : ℕ
 
--- a section: its table, and what its owner knows
+-- What contracts see of a section: its table, and what its owner knows.
 pub record SectionView : Type 0 where
   pub table : TableId
   pub known : SectionKnowledge
@@ -22,11 +22,11 @@ pub record SectionView : Type 0 where
 abbrev pub IsSectionOf : (table : SectionsView) (section : SectionView) → Type 0
 IsSectionOf table section = (section.table ≡ table.id) × (section.known.count ≡ table.count)
 
--- the section of this number, which was never entered
+-- it is the section of this number of the table, and was never entered
 abbrev pub IsNewSection : (table : SectionsView) (number : ℕ) (section : SectionView) → Type 0
 IsNewSection table number section = (section.table ≡ table.id) × (section.known ≡ new_section number table.count)
 
--- the section is open
+-- the section is open, as its owner knows
 abbrev pub IsInside : SectionView → Type 0
 IsInside section = IsOpen section.known.number section.known.run
 
@@ -34,14 +34,14 @@ IsInside section = IsOpen section.known.number section.known.run
 abbrev pub IsOneSection : (old new : SectionView) → Type 0
 IsOneSection old new = (new.table ≡ old.table) × (new.known.number ≡ old.known.number) × (new.known.count ≡ old.known.count)
 
--- The section's owner has made no event, and knows those of others up to now, which make a lawful run. Nothing else has changed.
+-- The section's owner has made no event, and knows those of others up to now. They make a lawful run. Nothing else has changed.
 pub record SeesOthers (old new : SectionView) : Type 0 where
   pub table : new.table ≡ old.table
   pub known : new.known ≡ record old.known { run = new.known.run }
   pub others : OthersRunOn old.known.number old.known.run new.known.run
   pub lawful : IsLawfulRun new.known.run
 
--- The owner's section is entered, which is the last event of the run. The event has the number of moments that the call has loaded.
+-- The section is entered, which is the last event of the run. The event has the number of moments that the call has loaded.
 pub record Enters (old new : SectionView) : Type 0 where
   pub one : IsOneSection old new
   pub before : List SectionEvent
@@ -50,15 +50,15 @@ pub record Enters (old new : SectionView) : Type 0 where
   pub fresh : moments_in old.known.run ≤ moments
   pub run : new.known.run ≡ Entered old.known.number moments ∷ before
 
--- The owner's section is left, which is the last event of the run.
+-- The section is left, which is the last event of the run.
 pub record Leaves (old new : SectionView) : Type 0 where
   pub one : IsOneSection old new
   pub before : List SectionEvent
   pub others : OthersRunOn old.known.number old.known.run before
   pub run : new.known.run ≡ Left old.known.number ∷ before
 
--- The call took the moment of this number. At some time of the call fewer moments had been taken, and this one has been by its end. Or a
--- table tells no more moments apart: all have been taken, and the number is the next one.
+-- The call took the moment of this number. At some time of the call fewer moments had been taken, and by its end this one has been. Or the
+-- table can tell no more moments apart: all have been taken, and the number is the next one.
 pub record TakesMoment (moment : ℕ) (old new : SectionView) : Type 0 where
   pub one : IsOneSection old new
   pub before : List SectionEvent
@@ -67,13 +67,13 @@ pub record TakesMoment (moment : ℕ) (old new : SectionView) : Type 0 where
   pub until : OthersRunOn old.known.number before new.known.run
   pub taken : (moment ≤ moments_in new.known.run) ⊎ ((moment ≡ MOST_MOMENTS + 1) × (moments_in new.known.run ≡ MOST_MOMENTS))
 
--- After the call, looks count the section. Its owner has made no event.
+-- Looks count the section after the call. Its owner has made no event.
 pub record StartsCounting (old new : SectionView) : Type 0 where
   pub table : new.table ≡ old.table
   pub known : new.known ≡ record old.known { counted = true; run = new.known.run }
   pub others : OthersRunOn old.known.number old.known.run new.known.run
 
--- More moments than expected have been taken by the end of the call. Nothing of the section has changed.
+-- By the end of the call more moments than expected have been taken. Nothing of the section has changed.
 pub record TakesNext (expected : ℕ) (old new : SectionView) : Type 0 where
   pub table : new.table ≡ old.table
   pub known : new.known ≡ record old.known { run = new.known.run }

@@ -4,11 +4,12 @@ use Rattle.tries.specs.Keys.{Key, AgreeBelow}
 use Rattle.tries.specs.Tree.{Tree, Has, IsTrie}
 use Rattle.tries.specs.Content.{Item, items, IsMore}
 
--- The second tree is the first with one leaf more. The leaf's key agrees with a key of the first before the position.
-pub record IsAdded (item : Item) (position : ℕ) (s r : Tree) : Type 0 where
-  pub trie : IsTrie r
-  pub more : IsMore item (items s) (items r)
-  pub keys : (key : Key) → Has r key → (key ≡ item.key) ⊎ Has s key
+-- The tree `after` is `before` with one leaf more. The new key agrees with some key `like` of the tree `before`, at all positions before
+-- this one.
+pub record IsAdded (item : Item) (position : ℕ) (before after : Tree) : Type 0 where
+  pub trie : IsTrie after
+  pub more : IsMore item (items before) (items after)
+  pub keys : (key : Key) → Has after key → (key ≡ item.key) ⊎ Has before key
   pub like : Key
-  pub has_like : Has s like
+  pub has_like : Has before like
   pub agree : AgreeBelow position item.key like

@@ -9,6 +9,6 @@ node_numbers (leaf number key value) = []
 node_numbers (node number fixed body) = number ∷ node_numbers body
 node_numbers (fork position left right) = node_numbers left ++ node_numbers right
 
--- a tree whose nodes each have two entries or more has fewer nodes than leaves
+-- a tree of lawful nodes, each with two entries or more, has fewer nodes than leaves
 abbrev pub NodesAreFewer : Type 0
 NodesAreFewer = (tree : Tree) → IsBuilt tree → length (node_numbers tree) < length (items tree)

@@ -1,4 +1,4 @@
--- The places of a subtrie, by number.
+-- The slots of a subtrie, and what becomes of a subtrie when an entry is exchanged or taken out.
 use Rattle.std.specs.Prelude.{ℕ, ◌+◌, ◌-◌, if◌then◌else◌, nat_lt, Bool, true, false, Option, None, Some}
 use Rattle.tries.specs.Keys.{Key, bit}
 use Rattle.compound_node.specs.declared.entries.Entry.{Entry}
@@ -6,23 +6,23 @@ use Rattle.compound_node.specs.declared.entries.Entry.TheVariants.{Leaf}
 use Rattle.tries.specs.Tree.{Subtrie}
 use Rattle.node_tries.specs.Piece.{Place, Fork, size}
 
--- The slot to which a key's search leads.
+-- The slot to which a key's search leads in a subtrie.
 abbrev pub spot : Key → Subtrie → ℕ
 spot key (Place entry) = 0
 spot key (Fork position left right) = if bit key position then size left + spot key right else spot key left
 
 -- the entry in a slot
 abbrev pub entry_at : (trie : Subtrie) → (slot : ℕ) → Entry
-entry_at (Place entry) i = entry
-entry_at (Fork position left right) i = if nat_lt i (size left) then entry_at left i else entry_at right (i - size left)
+entry_at (Place entry) slot = entry
+entry_at (Fork position left right) slot = if nat_lt slot (size left) then entry_at left slot else entry_at right (slot - size left)
 
 -- The subtrie with another entry in one slot.
 abbrev pub with_entry : (trie : Subtrie) → (slot : ℕ) → (entry : Entry) → Subtrie
-with_entry (Place e) i entry = Place entry
-with_entry (Fork position left right) i entry =
-    if nat_lt i (size left) then Fork position (with_entry left i entry) right else Fork position left (with_entry right (i - size left) entry)
+with_entry (Place old) slot entry = Place entry
+with_entry (Fork position left right) slot entry =
+    if nat_lt slot (size left) then Fork position (with_entry left slot entry) right else Fork position left (with_entry right (slot - size left) entry)
 
--- The forks of a subtrie, with no entries: what the fixed words show.
+-- The forks of a subtrie, without its entries. They are what a node's fixed words show.
 abbrev pub shape : Subtrie → Subtrie
 shape (Place entry) = Place (Leaf 0)
 shape (Fork position left right) = Fork position (shape left) (shape right)
@@ -33,55 +33,58 @@ pub data Swap : Subtrie → Subtrie → Type 0 where
   in_zero : {p : ℕ} {a b c : Subtrie} → Swap a c → Swap (Fork p a b) (Fork p c b)
   in_one : {p : ℕ} {a b c : Subtrie} → Swap b c → Swap (Fork p a b) (Fork p a c)
 
--- The subtrie with the subtrie `other` in place of the entry to which a key's search leads.
+-- The subtrie `trie`, with `other` in place of the entry to which the key's search leads.
 abbrev pub with_subtrie : (key : Key) → (other trie : Subtrie) → Subtrie
-with_subtrie key trie (Place entry) = trie
-with_subtrie key trie (Fork position left right) =
-    if bit key position then Fork position left (with_subtrie key trie right) else Fork position (with_subtrie key trie left) right
+with_subtrie key other (Place entry) = other
+with_subtrie key other (Fork position left right) =
+    if bit key position then Fork position left (with_subtrie key other right) else Fork position (with_subtrie key other left) right
 
--- A fork after an entry was taken out of the side of the bit. It is the fork with the rest of that side, or the other side alone if nothing
--- is left there.
+-- A fork after one entry was taken out of one side, that of the bit. `rest` is what is left of that side. If the side was that entry alone,
+-- nothing of it is left, and the result is the other side.
 abbrev pub joined : (position : ℕ) → (bit : Bool) → (left right rest : Subtrie) → Subtrie
-joined q true x (Place entry) r = x
-joined q true x (Fork position left right) r = Fork q x r
-joined q false (Place entry) y r = y
-joined q false (Fork position left right) y r = Fork q r y
+joined position true left (Place entry) rest = left
+joined position true left (Fork below zero one) rest = Fork position left rest
+joined position false (Place entry) right rest = right
+joined position false (Fork below zero one) right rest = Fork position rest right
 
--- A subtrie without the entry to which a key's search leads, and without the last fork on its path. One entry stays.
+-- A subtrie without the entry to which a key's search leads, and without the last fork on the key's path. A subtrie of one entry stays as
+-- it is.
 abbrev pub subtrie_without : Key → Subtrie → Subtrie
 subtrie_without key (Place entry) = Place entry
 subtrie_without key (Fork position left right) =
     joined position (bit key position) left right (if bit key position then subtrie_without key right else subtrie_without key left)
 
--- The last fork on a key's path, by one fork and what was found below it: its position, and the subtrie on its other side.
+-- One step of `subtrie_sibling`: the last fork on a key's path, and the subtrie on its other side. If this fork's side of the bit is one
+-- entry, it is this fork. Else it is what was found below.
 abbrev pub side_beside : (position : ℕ) → (bit : Bool) → (left right : Subtrie) → (below : Option (ℕ × Subtrie)) → Option (ℕ × Subtrie)
-side_beside q true trie (Place entry) below = Some (q, trie)
-side_beside q true trie (Fork position left right) below = below
-side_beside q false (Place entry) trie below = Some (q, trie)
-side_beside q false (Fork position left right) trie below = below
+side_beside position true left (Place entry) below = Some (position, left)
+side_beside position true left (Fork lower zero one) below = below
+side_beside position false (Place entry) right below = Some (position, right)
+side_beside position false (Fork lower zero one) right below = below
 
--- the last fork on a key's path: its position, and the subtrie on its other side; none in one entry
+-- the last fork on a key's path: its position, and the subtrie on its other side; none if the subtrie is one entry
 abbrev pub subtrie_sibling : Key → Subtrie → Option (ℕ × Subtrie)
 subtrie_sibling key (Place entry) = None
 subtrie_sibling key (Fork position left right) =
     side_beside position (bit key position) left right (if bit key position then subtrie_sibling key right else subtrie_sibling key left)
 
--- A fork after the last fork on a key's path was closed to one entry. If it is the last one, it becomes the entry. Else it has the side
--- `below` in place of the side of the bit.
+-- One step of `subtrie_collapsed`, at one fork. If the side of the bit is one entry, this fork is the last on the path, and the new entry
+-- takes its place. Else `below` takes the place of that side.
 abbrev pub fork_closed : (position : ℕ) → (bit : Bool) → (entry : Entry) → (left right below : Subtrie) → Subtrie
-fork_closed q true entry trie (Place e) below = Place entry
-fork_closed q true entry trie (Fork position left right) below = Fork q trie below
-fork_closed q false entry (Place e) trie below = Place entry
-fork_closed q false entry (Fork position left right) trie below = Fork q below trie
+fork_closed position true entry left (Place old) below = Place entry
+fork_closed position true entry left (Fork lower zero one) below = Fork position left below
+fork_closed position false entry (Place old) right below = Place entry
+fork_closed position false entry (Fork lower zero one) right below = Fork position below right
 
--- a subtrie with an entry in place of the last fork on a key's path, and of all below that
+-- the subtrie with this entry in place of the last fork on the key's path, and of all below that fork; a subtrie of one entry stays as it
+-- is
 abbrev pub subtrie_collapsed : (key : Key) → (entry : Entry) → (trie : Subtrie) → Subtrie
-subtrie_collapsed key entry (Place e) = Place e
+subtrie_collapsed key entry (Place old) = Place old
 subtrie_collapsed key entry (Fork position left right) =
     fork_closed position (bit key position) entry left right
     (if bit key position then subtrie_collapsed key entry right else subtrie_collapsed key entry left)
 
--- A fork of two subtries, the first one on the side of the bit.
+-- A fork of two subtries: `first` on the side of the bit, `second` on the other.
 abbrev pub fork_of : (bit : Bool) → (position : ℕ) → (first second : Subtrie) → Subtrie
-fork_of false q x y = Fork q x y
-fork_of true q x y = Fork q y x
+fork_of false position first second = Fork position first second
+fork_of true position first second = Fork position second first

@@ -6,16 +6,16 @@ use Rattle.tries.specs.Tree.{Fixed, Subtrie, Tree, node, fork}
 
 -- a fork of two trees, if both are there
 abbrev pub join_fork : (position : ℕ) → (left right : Option Tree) → Option Tree
-join_fork position (Some a) (Some b) = Some (fork position a b)
-join_fork p (Some tree) None = None
-join_fork p None tree = None
+join_fork position (Some left) (Some right) = Some (fork position left right)
+join_fork position (Some left) None = None
+join_fork position None right = None
 
 -- a node around a body, if the body is there
 abbrev pub join_node : (number : ℕ) → (fixed : Fixed) → (body : Option Tree) → Option Tree
-join_node n fixed (Some tree) = Some (node n fixed tree)
-join_node n fixed None = None
+join_node number fixed (Some body) = Some (node number fixed body)
+join_node number fixed None = None
 
--- The tree that a subtrie shows, where `f` says what each entry shows.
+-- The tree that a subtrie shows, where `read_entry` says what tree an entry shows, or none. It shows none if one of its entries does.
 abbrev pub read_subtrie : (Entry → Option Tree) → Subtrie → Option Tree
-read_subtrie f (Place entry) = f entry
-read_subtrie f (Fork position left right) = join_fork position (read_subtrie f left) (read_subtrie f right)
+read_subtrie read_entry (Place entry) = read_entry entry
+read_subtrie read_entry (Fork position left right) = join_fork position (read_subtrie read_entry left) (read_subtrie read_entry right)

@@ -8,31 +8,33 @@ use Rattle.std.specs.BTreeMap.{insert_entry, is_at}
 use Rattle.tries.specs.Tree.{Tree, IsTrie}
 use Rattle.tries.specs.Content.{Item, items, pairs, IsMore, IsExchange, IsLocal}
 
--- The keys of a trie's leaves rise strictly in byte order.
+-- The keys of the leaves of a bit trie, in the tree's order, rise strictly in byte order.
 abbrev pub ContentRises : Type 0
 ContentRises = (tree : Tree) → IsTrie tree → IsStrictlySortedBy (slice_cmp nat_cmp) (keys_of (pairs (items tree)))
 
--- A tree is a trie exactly if the local rules hold in it.
+-- A tree is a bit trie exactly if the rules of `IsLocal`, which look at neighbours alone, hold in it.
 abbrev pub LocalIsTrie : Type 0
 LocalIsTrie = (tree : Tree) → IsLocal tree ↔ IsTrie tree
 
--- With one leaf more, the key was absent before, and has the value after.
+-- If a bit trie has one leaf more than before, the key of that leaf was absent before. The new content is the old one with the key and
+-- value inserted.
 abbrev pub AddingInserts : Type 0
 AddingInserts =
-    (s t : Tree) (item : Item) → IsTrie t → IsMore item (items s) (items t) →
-    (lookup (is_at (slice_cmp nat_cmp item.key)) (pairs (items s)) ≡ None) ×
-    (insert_entry (slice_cmp nat_cmp) (pairs (items s)) item.key item.value ≡ pairs (items t))
+    (before after : Tree) (item : Item) → IsTrie after → IsMore item (items before) (items after) →
+    (lookup (is_at (slice_cmp nat_cmp item.key)) (pairs (items before)) ≡ None) ×
+    (insert_entry (slice_cmp nat_cmp) (pairs (items before)) item.key item.value ≡ pairs (items after))
 
--- With one leaf for another of the same key, the key has the new value.
+-- If a bit trie has one leaf in place of another with the same key, the key had the old value before. The new content is the old one with
+-- the new value of the key.
 abbrev pub ExchangeReplaces : Type 0
 ExchangeReplaces =
-    (s t : Tree) (item other : Item) → IsTrie s → IsExchange item other (items s) (items t) → item.key ≡ other.key →
-    (lookup (is_at (slice_cmp nat_cmp other.key)) (pairs (items s)) ≡ Some item.value) ×
-    (insert_entry (slice_cmp nat_cmp) (pairs (items s)) other.key other.value ≡ pairs (items t))
+    (before after : Tree) (item other : Item) → IsTrie before → IsExchange item other (items before) (items after) → item.key ≡ other.key →
+    (lookup (is_at (slice_cmp nat_cmp other.key)) (pairs (items before)) ≡ Some item.value) ×
+    (insert_entry (slice_cmp nat_cmp) (pairs (items before)) other.key other.value ≡ pairs (items after))
 
--- With one leaf less, the key had the value before, and is absent after.
+-- If a bit trie has one leaf less than before, the key of that leaf had its value before. The new content is the old one without the key.
 abbrev pub TakingRemoves : Type 0
 TakingRemoves =
-    (s t : Tree) (item : Item) → IsTrie s → IsMore item (items t) (items s) →
-    (lookup (is_at (slice_cmp nat_cmp item.key)) (pairs (items s)) ≡ Some item.value) ×
-    (remove_entry (is_at (slice_cmp nat_cmp item.key)) (pairs (items s)) ≡ pairs (items t))
+    (before after : Tree) (item : Item) → IsTrie before → IsMore item (items after) (items before) →
+    (lookup (is_at (slice_cmp nat_cmp item.key)) (pairs (items before)) ≡ Some item.value) ×
+    (remove_entry (is_at (slice_cmp nat_cmp item.key)) (pairs (items before)) ≡ pairs (items after))

@@ -1,4 +1,4 @@
--- The two directions of a scan: in which order it passes places and keys, what it knows of the past, and what it promises.
+-- The two directions of a scan: in which order a scan passes slots and keys, what it knows of the past, and what it promises.
 use Rattle.std.specs.Prelude.{◌≡◌, ◌⊎◌, ℕ, suc, ◌+◌, ◌-◌, ◌<◌, ◌≤◌, List, [], ◌∷◌, length, Bool, false, true}
 use Rattle.finite_map.specs.declared.Change.{Change}
 use Rattle.finite_map.specs.declared.Scan.{Scan}
@@ -13,46 +13,46 @@ use Rattle.version_laws.specs.Scan.{MayStandAt, HadKeyBelow, Frame, IsStack, Pai
 use Rattle.packed_pairs.specs.declared.direction.Direction.{Direction}
 use Rattle.packed_pairs.specs.declared.direction.Direction.TheVariants.{Upwards, Downwards}
 
--- Places. A walk stands at a gap between the entries of a node, before the first or behind the last: gap i is left of place i.
+-- Gaps. A scan stands at a gap in a node: before the first entry, between two, or behind the last. Gap i is just below slot i.
 
--- the gap before the entry in slot `place`, in this direction
+-- the gap at which a scan in this direction is just before it takes the entry in slot `place`
 abbrev pub gap_before : (direction : Direction) → (place : ℕ) → ℕ
 gap_before Upwards place = place
 gap_before Downwards place = suc place
 
--- the gap behind the entry in slot `place`, in this direction
+-- the gap at which a scan in this direction is just after it has taken the entry in slot `place`
 abbrev pub gap_behind : (direction : Direction) → (place : ℕ) → ℕ
 gap_behind Upwards place = suc place
 gap_behind Downwards place = place
 
--- the gap at which a scan enters a node with so many entries
+-- the gap at which a scan enters a node of `count` entries
 abbrev pub first_gap : (direction : Direction) → (count : ℕ) → ℕ
 first_gap Upwards count = 0
 first_gap Downwards count = count
 
--- how many of a node's `count` entries are still to come at a gap
+-- how many of a node's `count` entries a scan at this gap has still to take
 abbrev pub to_come : Direction → (count gap : ℕ) → ℕ
 to_come Upwards count gap = count - gap
 to_come Downwards count gap = gap
 
--- the gap behind the next `entries` entries
+-- the gap at which a scan is after it has taken the next `entries` entries
 abbrev pub gap_after : Direction → (gap entries : ℕ) → ℕ
 gap_after Upwards gap entries = gap + entries
 gap_after Downwards gap entries = gap - entries
 
--- the slot of the entry that comes after the next `entries` entries
+-- the slot of the entry that a scan takes after the next `entries` entries
 abbrev pub place_ahead : Direction → (gap entries : ℕ) → ℕ
 place_ahead Upwards gap entries = gap + entries
 place_ahead Downwards gap entries = gap - suc entries
 
 -- Keys
 
--- a scan comes to the first key before it comes to the second
+-- a scan comes to `key` before it comes to `other`
 abbrev pub IsEarlier : (direction : Direction) → (key other : Key) → Type 0
 IsEarlier Upwards key other = IsBefore key other
 IsEarlier Downwards key other = IsBefore other key
 
--- a scan comes to the first key before the second, or the two are one
+-- a scan comes to `key` before it comes to `other`, or the two keys are the same
 abbrev pub IsNoLater : (direction : Direction) → (key other : Key) → Type 0
 IsNoLater Upwards key other = IsAtMost key other
 IsNoLater Downwards key other = IsAtMost other key
@@ -67,102 +67,106 @@ abbrev pub last_key : Direction → Range → Key
 last_key Upwards range = range.upto
 last_key Downwards range = range.from
 
--- Places and gaps
+-- Slots and gaps
 
--- the slot is behind the gap, so it is still to come
+-- a scan at this gap has still to take the entry in slot `place`
 abbrev pub IsToCome : Direction → (gap place : ℕ) → Type 0
 IsToCome Upwards gap place = gap ≤ place
 IsToCome Downwards gap place = place < gap
 
--- the slot is before the gap, so it was passed
+-- a scan at this gap has passed slot `place`
 abbrev pub WasPassed : Direction → (gap place : ℕ) → Type 0
 WasPassed Upwards gap place = place < gap
 WasPassed Downwards gap place = gap ≤ place
 
--- What a scan knows. In its lowest node, whose frame is the first one, it is at a gap; in the others at the place of an entry.
+-- What a scan knows. The first frame is that of the lowest node, and has the gap where the scan is. Each other frame has the slot below
+-- which the scan is.
 
--- the key may stand in a slot of the node that the scan has passed at this gap
+-- the key may stand in a slot of the node that a scan at this gap has passed
 abbrev pub MayStandPassed : (direction : Direction) → (past : Past) → (since node gap : ℕ) → (key : Key) → Type 0
-MayStandPassed direction past m r gap key = (j : ℕ) × WasPassed direction gap j × MayStandAt past m r j key
+MayStandPassed direction past since number gap key = (slot : ℕ) × WasPassed direction gap slot × MayStandAt past since number slot key
 
--- the key may stand before the slot in which the scan is, in the node of one of the frames
+-- in the node of one of the frames, the key may stand in a slot before the frame's
 abbrev pub MayStandBeforeFrames : (direction : Direction) → (past : Past) → (since : ℕ) → (key : Key) → (frames : List Frame) → Type 0
-MayStandBeforeFrames direction past m key [] = ⊥
-MayStandBeforeFrames direction past m key (f ∷ fs) =
-    MayStandPassed direction past m f.number (gap_before direction f.place) key ⊎ MayStandBeforeFrames direction past m key fs
+MayStandBeforeFrames direction past since key [] = ⊥
+MayStandBeforeFrames direction past since key (frame ∷ others) =
+    MayStandPassed direction past since frame.number (gap_before direction frame.place) key ⊎ MayStandBeforeFrames direction past since key others
 
--- the scan has passed a slot in which the key may stand, in the node of one of its frames
+-- in the node of one of its frames, the scan has passed a slot in which the key may stand
 abbrev pub HasPassed : (direction : Direction) → (past : Past) → (since : ℕ) → (key : Key) → (frames : List Frame) → Type 0
-HasPassed direction past m key [] = ⊥
-HasPassed direction past m key (f ∷ fs) = MayStandPassed direction past m f.number f.place key ⊎ MayStandBeforeFrames direction past m key fs
+HasPassed direction past since key [] = ⊥
+HasPassed direction past since key (lowest ∷ others) =
+    MayStandPassed direction past since lowest.number lowest.place key ⊎ MayStandBeforeFrames direction past since key others
 
--- the node of one of the frames had the key below it, behind the slot in which the scan is
+-- the node of one of the frames had the key below it, in a slot behind the frame's
 abbrev pub ComesOnWay : (direction : Direction) → (past : Past) → (since : ℕ) → (key : Key) → (frames : List Frame) → Type 0
-ComesOnWay direction past m key [] = ⊥
-ComesOnWay direction past m key (f ∷ fs) =
-    (HadKeyBelow past m key (a_node f.number) × IsToCome direction (gap_behind direction f.place) (spot key f.shape)) ⊎
-    ComesOnWay direction past m key fs
+ComesOnWay direction past since key [] = ⊥
+ComesOnWay direction past since key (frame ∷ others) =
+    (HadKeyBelow past since key (a_node frame.number) × IsToCome direction (gap_behind direction frame.place) (spot key frame.shape)) ⊎
+    ComesOnWay direction past since key others
 
--- the scan has the key still before it, in the node of one of its frames
+-- the node of one of the frames had the key below it, in a slot that the scan has still to take
 abbrev pub Comes : (direction : Direction) → (past : Past) → (since : ℕ) → (key : Key) → (frames : List Frame) → Type 0
-Comes direction past m key [] = ⊥
-Comes direction past m key (f ∷ fs) =
-    (HadKeyBelow past m key (a_node f.number) × IsToCome direction f.place (spot key f.shape)) ⊎ ComesOnWay direction past m key fs
+Comes direction past since key [] = ⊥
+Comes direction past since key (lowest ∷ others) =
+    (HadKeyBelow past since key (a_node lowest.number) × IsToCome direction lowest.place (spot key lowest.shape)) ⊎ ComesOnWay direction past since key others
 
--- the pairs are in the order of the scan, where the newest pair stands first
+-- the keys of the pairs are in the order of the scan; the newest pair stands first in the list
 abbrev pub AreOrdered : Direction → List Pair → Type 0
 AreOrdered direction [] = Unit {0}
-AreOrdered direction (x ∷ xs) = Every (λ y. IsEarlier direction y.key x.key) xs × AreOrdered direction xs
+AreOrdered direction (newest ∷ older) = Every (λ pair. IsEarlier direction pair.key newest.key) older × AreOrdered direction older
 
--- The invariant of a scan's loop: what the pairs so far, the newest first, and the frames have in common with the past.
-pub record IsScanBy (direction : Direction) (past : Past) (m : ℕ) (range : Range) (fs : List Frame) (xs : List Pair) : Type 0 where
-  pub stack : IsStack past m fs
-  pub ordered : AreOrdered direction xs
-  pub within : Every (λ x. IsInRange range x.key) xs
-  pub held : Every (λ x. IsHeldSince past m x.key x.value) xs
-  pub passed : Every (λ x. HasPassed direction past m x.key fs) xs
-  pub short : length xs ≤ range.limit
-  pub covered : (key : Key) → IsKeptSince past m key → IsInRange range key → IsKeyListed key xs ⊎ Comes direction past m key fs
+-- The invariant of a scan's loop, by the past, the frames and the pairs taken so far, the newest first. Each pair was held in a version
+-- from `since` on. Each key of the range that was held in all these versions is listed, or is still to come.
+pub record IsScanBy (direction : Direction) (past : Past) (since : ℕ) (range : Range) (frames : List Frame) (taken : List Pair) : Type 0 where
+  pub stack : IsStack past since frames
+  pub ordered : AreOrdered direction taken
+  pub within : Every (λ pair. IsInRange range pair.key) taken
+  pub held : Every (λ pair. IsHeldSince past since pair.key pair.value) taken
+  pub passed : Every (λ pair. HasPassed direction past since pair.key frames) taken
+  pub short : length taken ≤ range.limit
+  pub covered : (key : Key) → IsKeptSince past since key → IsInRange range key → IsKeyListed key taken ⊎ Comes direction past since key frames
 
--- What a scan that came to its end promises, by versions.
-pub record IsComplete (direction : Direction) (past : Past) (m : ℕ) (range : Range) (xs : List Pair) : Type 0 where
-  pub ordered : AreOrdered direction xs
-  pub within : Every (λ x. IsInRange range x.key) xs
-  pub held : Every (λ x. IsHeldSince past m x.key x.value) xs
-  pub short : length xs ≤ range.limit
-  pub covered : (key : Key) → IsKeptSince past m key → IsInRange range key → IsKeyListed key xs
+-- What a scan that came to the end of its range promises. Each pair was held in a version from `since` on, and each key of the range that
+-- was held in all these versions is listed.
+pub record IsComplete (direction : Direction) (past : Past) (since : ℕ) (range : Range) (taken : List Pair) : Type 0 where
+  pub ordered : AreOrdered direction taken
+  pub within : Every (λ pair. IsInRange range pair.key) taken
+  pub held : Every (λ pair. IsHeldSince past since pair.key pair.value) taken
+  pub short : length taken ≤ range.limit
+  pub covered : (key : Key) → IsKeptSince past since key → IsInRange range key → IsKeyListed key taken
 
--- The scan has reached the key: it is no later than that of the newest pair, which stands first.
+-- the scan has reached the key: the newest pair, which stands first, has this key or a later one
 abbrev pub IsReachedBy : (direction : Direction) → (key : Key) → (taken : List Pair) → Type 0
 IsReachedBy direction key [] = ⊥
-IsReachedBy direction key (x ∷ xs) = IsNoLater direction key x.key
+IsReachedBy direction key (newest ∷ older) = IsNoLater direction key newest.key
 
--- What a scan that was cut at its limit promises, by versions. Some key is later than those of all pairs, and the keys up to the newest
--- pair's are covered.
-pub record IsCut (direction : Direction) (past : Past) (m : ℕ) (range : Range) (xs : List Pair) : Type 0 where
-  pub ordered : AreOrdered direction xs
-  pub within : Every (λ x. IsInRange range x.key) xs
-  pub held : Every (λ x. IsHeldSince past m x.key x.value) xs
-  pub full : length xs ≡ range.limit
-  pub further : (key : Key) × (v : ℕ) × IsInRange range key × IsHeldSince past m key v × Every (λ x. IsEarlier direction x.key key) xs
-  pub covered : (key : Key) → IsKeptSince past m key → IsInRange range key → IsReachedBy direction key xs → IsKeyListed key xs
+-- What a scan that was cut at its limit promises. It has as many pairs as its limit, and some key was held later than all of these. Each
+-- key up to the newest pair's that was held in all versions from `since` on is listed.
+pub record IsCut (direction : Direction) (past : Past) (since : ℕ) (range : Range) (taken : List Pair) : Type 0 where
+  pub ordered : AreOrdered direction taken
+  pub within : Every (λ pair. IsInRange range pair.key) taken
+  pub held : Every (λ pair. IsHeldSince past since pair.key pair.value) taken
+  pub full : length taken ≡ range.limit
+  pub further : (key : Key) × (value : ℕ) × IsInRange range key × IsHeldSince past since key value × Every (λ pair. IsEarlier direction pair.key key) taken
+  pub covered : (key : Key) → IsKeptSince past since key → IsInRange range key → IsReachedBy direction key taken → IsKeyListed key taken
 
--- Without `more` the scan is complete, and with `more` it was cut at its limit.
+-- what a scan promises: if `more` is false it is complete, and if `more` is true it was cut at its limit
 abbrev pub IsAnswer : (direction : Direction) → (past : Past) → (since : ℕ) → (range : Range) → (taken : List Pair) → (more : Bool) → Type 0
-IsAnswer direction past m range xs false = IsComplete direction past m range xs
-IsAnswer direction past m range xs true = IsCut direction past m range xs
+IsAnswer direction past since range taken false = IsComplete direction past since range taken
+IsAnswer direction past since range taken true = IsCut direction past since range taken
 
--- Each key that may stand behind this gap of the node comes later than `key`, and does so however the past grows.
+-- Each key that may stand behind this gap of the node comes later than `key`, now and however the past grows.
 abbrev pub IsPastKey : (direction : Direction) → (past : Past) → (since : ℕ) → (key : Key) → (node gap : ℕ) → Type 0
-IsPastKey direction old m key r gap =
-    (new : Past) → IsGrown old new → KeepsFixedWordsSince new m → (j : ℕ) (z : Key) → IsToCome direction gap j → MayStandAt new m r j z →
-    IsEarlier direction key z
+IsPastKey direction old since key number gap =
+    (new : Past) → IsGrown old new → KeepsFixedWordsSince new since → (slot : ℕ) (other : Key) → IsToCome direction gap slot → MayStandAt new since number slot other →
+    IsEarlier direction key other
 
--- What is said of a scan. The fronts are those before and after it, and the keys its first and last one.
+-- A statement on a scan from one front to another, by the range's ends and its limit.
 abbrev pub ScanLaw : Type 1
-ScanLaw = List Change → List Change → Key → Key → ℕ → Scan → Type 0
+ScanLaw = (before after : List Change) → (from upto : Key) → (limit : ℕ) → (scan : Scan) → Type 0
 
--- a scan in this direction is lawful while the front grew
+-- what a lawful scan in this direction is
 abbrev pub IsLawfulBy : Direction → ScanLaw
 IsLawfulBy Upwards = IsLawfulScan
 IsLawfulBy Downwards = IsLawfulReverseScan

@@ -1,4 +1,4 @@
--- What a writer has checked and prepared, in words: locked nodes with their subtries, new records with theirs.
+-- What a writer has before a publish: locked nodes with their subtries, new records with theirs, and what rises from the nodes.
 use Rattle.std.specs.Prelude.{◌≡◌, ℕ, List, [], ◌∷◌, ◌++◌, Some}
 use Rattle.tries.specs.Keys.{Key, bit}
 use Rattle.compound_node.specs.declared.entries.Entry.{Entry}
@@ -15,95 +15,106 @@ use Rattle.versions.specs.Core.{Ready, BareCore}
 use Rattle.version_laws.specs.Writer.{IsFoundBelow, Newcomer}
 use Rattle.version_laws.specs.Spots.{IsLockedNode, AffectsOne}
 
--- A new node record that pass q has filled with this subtrie and made ready.
-pub record IsNewSubtrie (core : BareCore) (q m : ℕ) (fixed : Fixed) (trie : Subtrie) : Type 0 where
-  pub fate : core.fate (a_node m) ≡ Ready q
-  pub words : core.heap.nodes m ≡ record { fixed = fixed; subtrie = trie }
+-- The pass has made node record `number` ready. The record's words show this fixed part and this subtrie of two entries or more, which are
+-- lower than the node.
+pub record IsNewSubtrie (core : BareCore) (pass number : ℕ) (fixed : Fixed) (trie : Subtrie) : Type 0 where
+  pub fate : core.fate (a_node number) ≡ Ready pass
+  pub words : core.heap.nodes number ≡ record { fixed = fixed; subtrie = trie }
   pub two : IsTipSubtrie trie → ⊥
   pub lower : IsLowerSubtrie fixed.height trie
   pub fit : IsFit fixed trie
 
--- The entry for a subtrie: the one entry that the subtrie is, or that of a new node that shows the subtrie.
+-- The entry that stands for a subtrie. If the subtrie is one entry, it is that one. Else it is the entry of a new node that shows the
+-- subtrie.
 pub data IsEntryFor (core : BareCore) (pass : ℕ) (trie : Subtrie) : Entry → Type 0 where
-  alone : (e : Entry) → trie ≡ Place e → IsEntryFor core pass trie e
-  in_node : (m : ℕ) (fixed : Fixed) → IsNewSubtrie core pass m fixed trie → IsEntryFor core pass trie (Node m fixed.height)
+  alone : (single : Entry) → trie ≡ Place single → IsEntryFor core pass trie single
+  in_node : (number : ℕ) (fixed : Fixed) → IsNewSubtrie core pass number fixed trie → IsEntryFor core pass trie (Node number fixed.height)
 
--- A locked node's entry on the key's path names node `n`. It is all that an insertion affects there, where the key first differs at `p`.
-pub record IsUpper (core : BareCore) (pass : ℕ) (key : Key) (p o n : ℕ) : Type 0 where
-  pub locked : IsLockedNode core pass o
+-- Node `upper`, which the pass has locked, has node `lower` as its entry on the key's path. An insertion of the key, which first differs at
+-- this position, affects no more of node `upper` than that entry.
+pub record IsUpper (core : BareCore) (pass : ℕ) (key : Key) (position upper lower : ℕ) : Type 0 where
+  pub locked : IsLockedNode core pass upper
   pub height : ℕ
-  pub entry : seek key (core.heap.nodes o).subtrie ≡ Node n height
-  pub path : AffectsOne p key (core.heap.nodes o).subtrie (core.heap.nodes n).subtrie
+  pub entry : seek key (core.heap.nodes upper).subtrie ≡ Node lower height
+  pub path : AffectsOne position key (core.heap.nodes upper).subtrie (core.heap.nodes lower).subtrie
 
--- What an insertion changes of the locked node with this number: its body, or the entry that names it.
+-- What an insertion changes of the locked node with this number: the body of the node, or the entry that names the node.
 pub data Side : Type 0 where
   body : ℕ → Side
   entry : ℕ → Side
 
--- What rises, from the lowest locked node upwards. At a body, it is the subtrie that the body becomes. At an entry, it is what takes its
--- place: one entry, or a fork of two.
-pub data IsRise (core : BareCore) (q : ℕ) (newcomer : Newcomer) : Side → Subtrie → Type 0 where
+-- What rises, from the lowest locked node upwards. At the side `body`, it is the subtrie that the node's body becomes. At the side `entry`,
+-- it is what takes the place of the node's entry: one entry, or a fork of two.
+pub data IsRise (core : BareCore) (pass : ℕ) (newcomer : Newcomer) : Side → Subtrie → Type 0 where
   -- the lowest node gets the new leaf
-  grows : (n : ℕ) → IsFoundBelow core q newcomer n →
-      IsPartSubtrie (subtrie_affected newcomer.mismatch newcomer.item.key (core.heap.nodes n).subtrie) →
-      IsRise core q newcomer (body n) (subtrie_grown newcomer.mismatch newcomer.item.key (Leaf newcomer.item.number) (core.heap.nodes n).subtrie)
+  grows : (lowest : ℕ) → IsFoundBelow core pass newcomer lowest →
+      IsPartSubtrie (subtrie_affected newcomer.mismatch newcomer.item.key (core.heap.nodes lowest).subtrie) →
+      IsRise core pass newcomer (body lowest)
+      (subtrie_grown newcomer.mismatch newcomer.item.key (Leaf newcomer.item.number) (core.heap.nodes lowest).subtrie)
   -- the node above gets what replaces the node below
-  pulls : (o n : ℕ) (r : Subtrie) → IsUpper core q newcomer.item.key newcomer.mismatch o n → IsRise core q newcomer (entry n) r →
-      IsRise core q newcomer (body o) (with_subtrie newcomer.item.key r (core.heap.nodes o).subtrie)
-  -- a body in a node of its own: a copy of the old one
-  copies : (n : ℕ) (r : Subtrie) (m : ℕ) (fixed : Fixed) → IsRise core q newcomer (body n) r → IsNewSubtrie core q m fixed r →
-      IsRise core q newcomer (entry n) (Place (Node m fixed.height))
-  -- a body cut at its first fork
-  halves : (n f : ℕ) (a b : Subtrie) (d e : Entry) → IsRise core q newcomer (body n) (Fork f a b) → IsEntryFor core q a d → IsEntryFor core q b e →
-      IsRise core q newcomer (entry n) (Fork f (Place d) (Place e))
+  pulls : (upper lower : ℕ) (risen : Subtrie) → IsUpper core pass newcomer.item.key newcomer.mismatch upper lower →
+      IsRise core pass newcomer (entry lower) risen →
+      IsRise core pass newcomer (body upper) (with_subtrie newcomer.item.key risen (core.heap.nodes upper).subtrie)
+  -- a body gets a new node of its own, a copy of the old one
+  copies : (old : ℕ) (grown : Subtrie) (copy : ℕ) (fixed : Fixed) → IsRise core pass newcomer (body old) grown →
+      IsNewSubtrie core pass copy fixed grown →
+      IsRise core pass newcomer (entry old) (Place (Node copy fixed.height))
+  -- a body is cut at its first fork, and each half has an entry
+  halves : (old position : ℕ) (left right : Subtrie) (left_entry right_entry : Entry) → IsRise core pass newcomer (body old) (Fork position left right) →
+      IsEntryFor core pass left left_entry → IsEntryFor core pass right right_entry →
+      IsRise core pass newcomer (entry old) (Fork position (Place left_entry) (Place right_entry))
   -- the lowest node stays whole, and the new leaf stands beside it
-  stays_whole : (n : ℕ) → IsFoundBelow core q newcomer n → FirstForkIsFrom newcomer.mismatch (core.heap.nodes n).subtrie →
-      IsRise core q newcomer (entry n) (subtrie_forked (bit newcomer.item.key newcomer.mismatch) newcomer.mismatch (Leaf newcomer.item.number)
-      (Place (Node n (core.heap.nodes n).fixed.height)))
-  -- a fork in a node of its own: an intermediate node, a new root
-  wraps : (n : ℕ) (r : Subtrie) (m : ℕ) (fixed : Fixed) → IsRise core q newcomer (entry n) r → IsNewSubtrie core q m fixed r →
-      IsRise core q newcomer (entry n) (Place (Node m fixed.height))
+  stays_whole : (lowest : ℕ) → IsFoundBelow core pass newcomer lowest → FirstForkIsFrom newcomer.mismatch (core.heap.nodes lowest).subtrie →
+      IsRise core pass newcomer (entry lowest)
+      (subtrie_forked (bit newcomer.item.key newcomer.mismatch) newcomer.mismatch (Leaf newcomer.item.number)
+      (Place (Node lowest (core.heap.nodes lowest).fixed.height)))
+  -- a fork gets a new node of its own: an intermediate node, or a new root
+  wraps : (old : ℕ) (risen : Subtrie) (number : ℕ) (fixed : Fixed) → IsRise core pass newcomer (entry old) risen →
+      IsNewSubtrie core pass number fixed risen →
+      IsRise core pass newcomer (entry old) (Place (Node number fixed.height))
 
--- The new node record that the entry for a subtrie names, if there is one.
-abbrev pub linked_for_entry : {c : BareCore} {q : ℕ} {x : Subtrie} {e : Entry} → IsEntryFor c q x e → List Rec
-linked_for_entry (alone e h) = []
-linked_for_entry (in_node m g i) = a_node m ∷ []
+-- The record of the new node that stands for the subtrie, if there is one.
+abbrev pub linked_for_entry : {core : BareCore} {pass : ℕ} {trie : Subtrie} {single : Entry} → IsEntryFor core pass trie single → List Rec
+linked_for_entry (alone single is) = []
+linked_for_entry (in_node number fixed new) = a_node number ∷ []
 
--- The records that a rise links anew, the one made last first. Of a cut, the upper half is made before the lower one.
-abbrev pub linked_by_rise : {c : BareCore} {q : ℕ} {x : Newcomer} {d : Side} {r : Subtrie} → IsRise c q x d r → List Rec
-linked_by_rise {x = x} (grows n found i) = a_leaf x.item.number ∷ []
-linked_by_rise (pulls o n r u i) = linked_by_rise i
-linked_by_rise (copies n r m g i z) = a_node m ∷ linked_by_rise i
-linked_by_rise (halves n f a b d e i u v) = linked_for_entry u ++ (linked_for_entry v ++ linked_by_rise i)
-linked_by_rise {x = x} (stays_whole n found i) = a_leaf x.item.number ∷ []
-linked_by_rise (wraps n r m g i z) = a_node m ∷ linked_by_rise i
+-- The records that a rise links anew, the one made last first. Of a cut, the record of the upper half is made before that of the lower one.
+abbrev pub linked_by_rise : {core : BareCore} {pass : ℕ} {newcomer : Newcomer} {side : Side} {trie : Subtrie} → IsRise core pass newcomer side trie → List Rec
+linked_by_rise {newcomer = newcomer} (grows lowest found part) = a_leaf newcomer.item.number ∷ []
+linked_by_rise (pulls upper lower risen over rise) = linked_by_rise rise
+linked_by_rise (copies old grown copy fixed rise new) = a_node copy ∷ linked_by_rise rise
+linked_by_rise (halves old position left right d e rise for_left for_right) = linked_for_entry for_left ++ (linked_for_entry for_right ++ linked_by_rise rise)
+linked_by_rise {newcomer = newcomer} (stays_whole lowest found whole) = a_leaf newcomer.item.number ∷ []
+linked_by_rise (wraps old risen number fixed rise new) = a_node number ∷ linked_by_rise rise
 
 -- The records that a rise unlinks: each node that was copied or cut, the topmost first.
-abbrev pub unlinked_by_rise : {c : BareCore} {q : ℕ} {x : Newcomer} {d : Side} {r : Subtrie} → IsRise c q x d r → List Rec
-unlinked_by_rise (grows n found i) = []
-unlinked_by_rise (pulls o n r u i) = unlinked_by_rise i
-unlinked_by_rise (copies n r m g i z) = a_node n ∷ unlinked_by_rise i
-unlinked_by_rise (halves n f a b d e i u v) = a_node n ∷ unlinked_by_rise i
-unlinked_by_rise (stays_whole n found i) = []
-unlinked_by_rise (wraps n r m g i z) = unlinked_by_rise i
+abbrev pub unlinked_by_rise : {core : BareCore} {pass : ℕ} {newcomer : Newcomer} {side : Side} {trie : Subtrie} → IsRise core pass newcomer side trie → List Rec
+unlinked_by_rise (grows lowest found part) = []
+unlinked_by_rise (pulls upper lower risen over rise) = unlinked_by_rise rise
+unlinked_by_rise (copies old grown copy fixed rise new) = a_node old ∷ unlinked_by_rise rise
+unlinked_by_rise (halves old position left right d e rise for_left for_right) = a_node old ∷ unlinked_by_rise rise
+unlinked_by_rise (stays_whole lowest found whole) = []
+unlinked_by_rise (wraps old risen number fixed rise new) = unlinked_by_rise rise
 
--- A locked node's entry on the key's path names leaf `j`, which has the key.
-pub record IsLeafOf (core : BareCore) (pass : ℕ) (k : Key) (n j : ℕ) : Type 0 where
-  pub lock : core.lock n ≡ Some pass
-  pub entry : seek k (core.heap.nodes n).subtrie ≡ Leaf j
-  pub key : (core.heap.leaves j).key ≡ k
+-- Node `node`, which the pass has locked, has leaf `number` as its entry on the key's path, and the leaf has that key.
+pub record IsLeafOf (core : BareCore) (pass : ℕ) (sought : Key) (node number : ℕ) : Type 0 where
+  pub lock : core.lock node ≡ Some pass
+  pub entry : seek sought (core.heap.nodes node).subtrie ≡ Leaf number
+  pub key : (core.heap.leaves number).key ≡ sought
 
--- A locked node's entry on the key's path names node `n`. On the other side of the last fork on that path is just the entry of node `m`,
--- which is locked, too.
-pub record IsBesideNode (core : BareCore) (pass : ℕ) (key : Key) (o n m : ℕ) : Type 0 where
-  pub locked : core.lock o ≡ Some pass
+-- Node `upper`, which the pass has locked, has node `lower` as its entry on the key's path. The last fork on that path has just the entry
+-- of node `beside` on its other side. Node `beside` is locked, too.
+pub record IsBesideNode (core : BareCore) (pass : ℕ) (key : Key) (upper lower beside : ℕ) : Type 0 where
+  pub locked : core.lock upper ≡ Some pass
   pub height : ℕ
-  pub entry : seek key (core.heap.nodes o).subtrie ≡ Node n height
+  pub entry : seek key (core.heap.nodes upper).subtrie ≡ Node lower height
   pub position : ℕ
   pub other_height : ℕ
-  pub sibling : subtrie_sibling key (core.heap.nodes o).subtrie ≡ Some (position, Place (Node m other_height))
-  pub locked_too : core.lock m ≡ Some pass
+  pub sibling : subtrie_sibling key (core.heap.nodes upper).subtrie ≡ Some (position, Place (Node beside other_height))
+  pub locked_too : core.lock beside ≡ Some pass
 
--- The subtrie of a merge: what is left of node `n` without the key's leaf, and all of node `m`, below the fork between them.
-abbrev pub subtrie_merged : (core : BareCore) (pass : ℕ) (key : Key) (o n m : ℕ) → IsBesideNode core pass key o n m → Subtrie
-subtrie_merged c q trie o n m b = fork_of (bit trie b.position) b.position (subtrie_without trie (c.heap.nodes n).subtrie) (c.heap.nodes m).subtrie
+-- The subtrie that a merge makes: what is left of node `lower` without the key's leaf, and all of node `beside`, below the fork between the
+-- two.
+abbrev pub subtrie_merged : (core : BareCore) (pass : ℕ) (key : Key) (upper lower beside : ℕ) → IsBesideNode core pass key upper lower beside → Subtrie
+subtrie_merged core pass key upper lower beside two =
+    fork_of (bit key two.position) two.position (subtrie_without key (core.heap.nodes lower).subtrie) (core.heap.nodes beside).subtrie

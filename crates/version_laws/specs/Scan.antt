@@ -1,4 +1,4 @@
--- What a scan knows: facts of the past alone.
+-- What a search or a scan knows of past versions, and the path of a scan.
 use Rattle.std.specs.Prelude.{◌≡◌, ◌⊎◌, ℕ, suc, ◌<◌, ◌≤◌, ◌-◌, List, [], ◌∷◌, ◌++◌, Some, None, if◌then◌else◌, nat_lt}
 use Rattle.tries.specs.Keys.{IsAtMost, Key, AgreeBelow}
 use Rattle.tries.specs.Tree.{Fixed, Subtrie, Tree, leaf, node, fork, subtrie, Has}
@@ -11,68 +11,74 @@ use Rattle.record_words.specs.declared.records.Rec.{Rec}
 use Rattle.record_words.specs.declared.records.Rec.TheVariants.{Node as a_node, Leaf as a_leaf}
 use Rattle.tries.specs.Place.{shape}
 
--- What stands in a slot of a body.
+-- The tree that stands in a slot of a body.
 abbrev pub at_place : (tree : Tree) → (slot : ℕ) → Tree
-at_place (leaf number key value) i = leaf number key value
-at_place (node number fixed body) i = node number fixed body
-at_place (fork position left right) i = if nat_lt i (size (subtrie left)) then at_place left i else at_place right (i - size (subtrie left))
+at_place (leaf number key value) slot = leaf number key value
+at_place (node number fixed body) slot = node number fixed body
+at_place (fork position left right) slot = if nat_lt slot (size (subtrie left)) then at_place left slot else at_place right (slot - size (subtrie left))
 
--- The keys have the same bits up to and at the position of each fork on the path to a slot.
+-- On the path to a slot, the two keys have the same bits up to and at the position of each fork.
 abbrev pub AgreeUpToPlace : (trie : Subtrie) → (slot : ℕ) → (key other : Key) → Type 0
-AgreeUpToPlace (Place entry) i key other = Unit {0}
-AgreeUpToPlace (Fork position left right) i key other =
-    AgreeBelow (suc position) key other × (i < size left → AgreeUpToPlace left i key other) ×
-    (size left ≤ i → AgreeUpToPlace right (i - size left) key other)
+AgreeUpToPlace (Place entry) slot key other = Unit {0}
+AgreeUpToPlace (Fork position left right) slot key other =
+    AgreeBelow (suc position) key other × (slot < size left → AgreeUpToPlace left slot key other) ×
+    (size left ≤ slot → AgreeUpToPlace right (slot - size left) key other)
 
--- In a version since `m` the node record had this body.
-pub record Stood (past : Past) (m r : ℕ) (tree : Tree) : Type 0 where
+-- In version `first` or a later one, node record `number` stood in the tree with this body.
+pub record Stood (past : Past) (first number : ℕ) (tree : Tree) : Type 0 where
   pub at : ℕ
-  pub since : m ≤ at
+  pub since : first ≤ at
   pub until : at ≤ past.now
   pub fixed : Fixed
-  pub stands : Stands past at (a_node r) (node r fixed tree)
+  pub stands : Stands past at (a_node number) (node number fixed tree)
 
 -- What a load of the root tells: in a version from `since` on the root had this entry.
 abbrev pub IsRooted : (past : Past) → (since : ℕ) → (entry : Entry) → Type 0
-IsRooted past m entry = (n : ℕ) × (tree : Tree) × (m ≤ n) × (n ≤ past.now) × (past.version n ≡ Some tree) × (subtrie tree ≡ Place entry)
+IsRooted past since entry =
+    (version : ℕ) × (tree : Tree) × (since ≤ version) × (version ≤ past.now) × (past.version version ≡ Some tree) × (subtrie tree ≡ Place entry)
 
 -- What a load of an entry tells: in a version from `since` on the node record had this entry in this slot.
 abbrev pub IsPlaced : (past : Past) → (since node slot : ℕ) → (entry : Entry) → Type 0
-IsPlaced past since r j entry = (tree : Tree) × Stood past since r tree × (j < size (subtrie tree)) × (subtrie (at_place tree j) ≡ Place entry)
+IsPlaced past since number slot entry =
+    (tree : Tree) × Stood past since number tree × (slot < size (subtrie tree)) × (subtrie (at_place tree slot) ≡ Place entry)
 
 -- What the loads of a head tell: in a version from `since` on the node record had these forks.
 abbrev pub HadShapeSince : (past : Past) → (since node : ℕ) → (trie : Subtrie) → Type 0
-HadShapeSince past since r trie = (tree : Tree) × Stood past since r tree × (shape (subtrie tree) ≡ trie)
+HadShapeSince past since number trie = (tree : Tree) × Stood past since number tree × (shape (subtrie tree) ≡ trie)
 
 -- What the loads of a leaf tell: in a version from `since` on the leaf record had this key and value.
 abbrev pub IsRead : (past : Past) → (since leaf : ℕ) → (key : Key) → (value : ℕ) → Type 0
-IsRead past m r key v = (n : ℕ) × (m ≤ n) × (n ≤ past.now) × Stands past n (a_leaf r) (leaf r key v)
+IsRead past since number key value =
+    (version : ℕ) × (since ≤ version) × (version ≤ past.now) × Stands past version (a_leaf number) (leaf number key value)
 
--- The key may stand in this slot of the node record, by some version from `since` on.
+-- The key may stand in this slot of the node record. In a version from `since` on some key stood there, and the two agree at each fork on
+-- the path to the slot.
 abbrev pub MayStandAt : (past : Past) → (since node slot : ℕ) → (key : Key) → Type 0
-MayStandAt past since r i key =
-    (tree : Tree) × (other : Key) × Stood past since r tree × IsUnder tree i other × AgreeUpToPlace (subtrie tree) i other key
+MayStandAt past since number slot key =
+    (tree : Tree) × (other : Key) × Stood past since number tree × IsUnder tree slot other × AgreeUpToPlace (subtrie tree) slot other key
 
 -- In a version from `since` on the key stood below the record.
 abbrev pub HadKeyBelow : (past : Past) → (since : ℕ) → (key : Key) → (rec : Rec) → Type 0
-HadKeyBelow past m key rec = (n : ℕ) × (tree : Tree) × (m ≤ n) × (n ≤ past.now) × Stands past n rec tree × Has tree key
+HadKeyBelow past since key rec =
+    (version : ℕ) × (tree : Tree) × (since ≤ version) × (version ≤ past.now) × Stands past version rec tree × Has tree key
 
--- A node on the path of a scan: its number, its forks, and a slot. For the topmost frame it is the gap where the scan is, for others the
--- slot below which the scan is.
+-- A node on the path of a scan: its number, its height, its forks and a place. In the lowest node the place is the gap where the scan is.
+-- In each other node the place is the slot below which the scan is.
 pub record Frame : Type 0 where
   pub number : ℕ
   pub height : ℕ
   pub shape : Subtrie
   pub place : ℕ
 
--- The frames, topmost first, are the path of a scan from the root.
+-- The frames, the lowest node's first, are the path of a scan from the root.
 abbrev pub IsStack : (past : Past) → (since : ℕ) → (frames : List Frame) → Type 0
-IsStack past m [] = Unit {0}
-IsStack past m (f ∷ []) = IsRooted past m (Node f.number f.height) × HadShapeSince past m f.number f.shape
-IsStack past since (f ∷ g ∷ gs) =
-    IsPlaced past since g.number g.place (Node f.number f.height) × HadShapeSince past since f.number f.shape × IsStack past since (g ∷ gs)
+IsStack past since [] = Unit {0}
+IsStack past since (top ∷ []) = IsRooted past since (Node top.number top.height) × HadShapeSince past since top.number top.shape
+IsStack past since (lower ∷ upper ∷ others) =
+    IsPlaced past since upper.number upper.place (Node lower.number lower.height) × HadShapeSince past since lower.number lower.shape ×
+    IsStack past since (upper ∷ others)
 
--- A pair that a scan lists.
+-- A key and a value that a scan lists.
 pub record Pair : Type 0 where
   pub key : Key
   pub value : ℕ
@@ -87,26 +93,26 @@ abbrev pub IsKeyListed : Key → List Pair → Type 0
 IsKeyListed key [] = ⊥
 IsKeyListed key (x ∷ xs) = (key ≡ x.key) ⊎ IsKeyListed key xs
 
--- What a scan is asked for: its first and last key, and its limit.
+-- What a scan is asked for: the least and the greatest key, and the most pairs to list.
 pub record Range : Type 0 where
   pub from : Key
   pub upto : Key
   pub limit : ℕ
 
--- the key is in the range
+-- the key is in the range, whose both ends belong to it
 abbrev pub IsInRange : Range → Key → Type 0
 IsInRange range key = IsAtMost range.from key × IsAtMost key range.upto
 
 -- In a version from `since` on the record that the entry names stood in the tree, with the entry's height.
 abbrev pub EntryStoodSince : (past : Past) → (since : ℕ) → (entry : Entry) → Type 0
 EntryStoodSince past since entry =
-    (n : ℕ) × (tree : Tree) × (since ≤ n) × (n ≤ past.now) × Stands past n (rec_of entry) tree × (subtrie tree ≡ Place entry)
+    (version : ℕ) × (tree : Tree) × (since ≤ version) × (version ≤ past.now) × Stands past version (rec_of entry) tree × (subtrie tree ≡ Place entry)
 
 -- In a version from `since` on the index had no key.
 abbrev pub IsBlank : (past : Past) → (since : ℕ) → Type 0
-IsBlank past m = (n : ℕ) × (m ≤ n) × (n ≤ past.now) × (past.version n ≡ None)
+IsBlank past since = (version : ℕ) × (since ≤ version) × (version ≤ past.now) × (past.version version ≡ None)
 
--- The pairs in the order in which they were taken.
+-- The pairs in the order in which a scan took them; in the given list the newest stands first.
 abbrev pub in_order_taken : List Pair → List (Key × ℕ)
 in_order_taken [] = []
-in_order_taken (x ∷ xs) = in_order_taken xs ++ (x.key, x.value) ∷ []
+in_order_taken (newest ∷ older) = in_order_taken older ++ (newest.key, newest.value) ∷ []

@@ -1,4 +1,4 @@
--- The laws of versions for writers, searches and scans, as the functions of the module `laws` promise them.
+-- The laws of versions for writers, searches and scans. The functions of the module `laws` promise them.
 use Rattle.std.specs.Prelude.{◌≡◌, ◌≢◌, ◌⊎◌, ℕ, ◌++◌, List, [], ◌∷◌, length, Bool, Option, Some, None, ◌≤◌, ◌<◌}
 use Rattle.finite_map.specs.declared.Change.{Change}
 use Rattle.finite_map.specs.declared.Scan.{Scan as Answer}
@@ -29,140 +29,158 @@ use Rattle.packed_pairs.specs.declared.direction.Direction.{Direction}
 use Rattle.compound_node.specs.Nodes.{height_of}
 use Rattle.versions.specs.Frames.{IsGrown}
 
--- The store is a legal publish of this tree, which may be empty, and tells this change by the change's pass. The leaves are others than
--- before. Just the records `new` are linked anew, and just the records `gone` are linked no more.
+-- The store makes a legal publish of the tree, which may be empty, and the publish makes this change, by the change's pass. The leaves are
+-- not the same as before. Just the records `new` are linked anew, and just the records `gone` are unlinked.
 pub record IsPublished (core : BareCore) (heap : Heap) (root : Option Entry) (change : Change) (new gone : List Rec) : Type 0 where
   pub tree : Option Tree
   pub legal : IsVersionPublish core change.pass heap root tree change
   pub differs : items_of (core.past.version core.past.now) ≢ items_of tree
   pub trade : HasTraded (core.past.version core.past.now) tree new gone
 
--- An insertion may store the one entry that has risen from node `n` at the spot of `n`. So the entry names a copy of the node, an
--- intermediate node or a new root.
+-- An insertion may store the one entry that has risen from a locked node, at the spot where that node's own entry stands. The new entry
+-- names a copy of the node, an intermediate node or a new root.
 abbrev pub InsertAtSpot : Type 0
 InsertAtSpot =
     (core : BareCore) (pass : ℕ) → IsLawfulState (view core) → (newcomer : Newcomer) → IsNewLeaf core pass newcomer.item →
-    (n height : ℕ) (e : Entry) →
-    (i : IsRise core pass newcomer (entry n) (Place e)) → (s : HoldsSpot core pass newcomer.item.key (Node n height)) →
-    AffectsSpotAloneInCore s newcomer.mismatch → IsLowAt s e →
-    (heap : Heap) (root : Option Entry) → IsStoredAt s heap root e →
-    IsPublished core heap root (added_change pass newcomer.item) (linked_by_rise i) (unlinked_by_rise i)
+    (node height : ℕ) (risen : Entry) →
+    -- the entry has risen from the node, whose own entry stands at the locked spot
+    (rise : IsRise core pass newcomer (entry node) (Place risen)) → (at : HoldsSpot core pass newcomer.item.key (Node node height)) →
+    -- nothing else is affected there, and the new entry may stand there
+    AffectsSpotAloneInCore at newcomer.mismatch → IsLowAt at risen →
+    -- what the words show after the store
+    (heap : Heap) (root : Option Entry) → IsStoredAt at heap root risen →
+    IsPublished core heap root (added_change pass newcomer.item) (linked_by_rise rise) (unlinked_by_rise rise)
 
--- If a locked node's entry for the node below is all that an insertion affects, the node's own first fork is before `p`. So the node above
--- it needs no other check than that its entry names it.
+-- Let an insertion affect no more of a locked node than its entry for the node below. Then the locked node's own first fork is before the
+-- insertion's position. So of the node above that one, only its entry need be checked.
 abbrev pub UpperGoesOn : Type 0
 UpperGoesOn =
-    (core : BareCore) (pass : ℕ) → IsLawfulState (view core) → (key : Key) (p o n : ℕ) → IsUpper core pass key p o n →
-    FirstForkIsBefore p (core.heap.nodes o).subtrie
+    (core : BareCore) (pass : ℕ) → IsLawfulState (view core) → (key : Key) (position upper lower : ℕ) → IsUpper core pass key position upper lower →
+    FirstForkIsBefore position (core.heap.nodes upper).subtrie
 
--- An insertion that affects one leaf alone may store a new node of that leaf and the new one. In a node this is a leaf pushdown, at the
+-- An insertion that affects one leaf alone may store a new node of that leaf and the new one. In a node it is a leaf pushdown, and at the
 -- root it adds the second key.
 abbrev pub PairAtSpot : Type 0
 PairAtSpot =
-    (core : BareCore) (q : ℕ) → IsLawfulState (view core) → (x : Item) (position : ℕ) → IsNewLeaf core q x → (j m : ℕ) (fixed : Fixed) →
-    (s : HoldsSpot core q x.key (Leaf j)) → AffectsSpotAloneInCore s position → AgreeBelow position x.key (core.heap.leaves j).key →
-    bit x.key position ≢ bit (core.heap.leaves j).key position →
-    IsNewSubtrie core q m fixed (subtrie_forked (bit x.key position) position (Leaf x.number) (Place (Leaf j))) → IsLowAt s (Node m fixed.height) →
-    (heap : Heap) (root : Option Entry) → IsStoredAt s heap root (Node m fixed.height) →
-    IsPublished core heap root (added_change q x) (a_node m ∷ a_leaf x.number ∷ []) []
+    (core : BareCore) (pass : ℕ) → IsLawfulState (view core) → (new : Item) (position : ℕ) → IsNewLeaf core pass new →
+    (other new_node : ℕ) (fixed : Fixed) →
+    -- the other leaf stands at the locked spot, and nothing else is affected there
+    (at : HoldsSpot core pass new.key (Leaf other)) → AffectsSpotAloneInCore at position →
+    -- the two leaves' keys first differ at the position
+    AgreeBelow position new.key (core.heap.leaves other).key →
+    bit new.key position ≢ bit (core.heap.leaves other).key position →
+    -- the new node has both leaves, and may stand at the spot
+    IsNewSubtrie core pass new_node fixed (subtrie_forked (bit new.key position) position (Leaf new.number) (Place (Leaf other))) →
+    IsLowAt at (Node new_node fixed.height) →
+    -- what the words show after the store
+    (heap : Heap) (root : Option Entry) → IsStoredAt at heap root (Node new_node fixed.height) →
+    IsPublished core heap root (added_change pass new) (a_node new_node ∷ a_leaf new.number ∷ []) []
 
 -- An insertion into an empty index may store the new leaf at the root.
 abbrev pub FirstKey : Type 0
 FirstKey =
-    (core : BareCore) (pass : ℕ) → IsLawfulState (view core) → (x : Item) → core.anchor ≡ Some pass → core.root ≡ None → IsNewLeaf core pass x →
-    IsPublished core core.heap (Some (Leaf x.number)) (added_change pass x) (a_leaf x.number ∷ []) []
+    (core : BareCore) (pass : ℕ) → IsLawfulState (view core) → (new : Item) → core.anchor ≡ Some pass → core.root ≡ None → IsNewLeaf core pass new →
+    IsPublished core core.heap (Some (Leaf new.number)) (added_change pass new) (a_leaf new.number ∷ []) []
 
--- An upsert of a held key may store a new leaf in place of the old one.
+-- An upsert of a held key may store a new leaf in place of the old one, at a locked spot.
 abbrev pub UpsertAtSpot : Type 0
 UpsertAtSpot =
-    (core : BareCore) (pass : ℕ) → IsLawfulState (view core) → (x : Item) → IsNewLeaf core pass x → (j : ℕ) (s : HoldsSpot core pass x.key (Leaf j)) →
-    (core.heap.leaves j).key ≡ x.key →
-    (heap : Heap) (root : Option Entry) → IsStoredAt s heap root (Leaf x.number) →
-    IsPublished core heap root (replaced_change pass x) (a_leaf x.number ∷ []) (a_leaf j ∷ [])
+    (core : BareCore) (pass : ℕ) → IsLawfulState (view core) → (new : Item) → IsNewLeaf core pass new → (old : ℕ) (at : HoldsSpot core pass new.key (Leaf old)) →
+    (core.heap.leaves old).key ≡ new.key →
+    (heap : Heap) (root : Option Entry) → IsStoredAt at heap root (Leaf new.number) →
+    IsPublished core heap root (replaced_change pass new) (a_leaf new.number ∷ []) (a_leaf old ∷ [])
 
--- A removal may store what is left of the leaf's node, one entry or a new node, in place of the node.
+-- A removal may store what is left of the leaf's node, one entry or a new node, at the spot where that node's entry stands.
 abbrev pub RemoveAtSpot : Type 0
 RemoveAtSpot =
-    (core : BareCore) (pass : ℕ) → IsLawfulState (view core) → (key : Key) (n j : ℕ) → IsLeafOf core pass key n j → (height : ℕ) (e : Entry) →
-    (i : IsEntryFor core pass (subtrie_without key (core.heap.nodes n).subtrie) e) → (s : HoldsSpot core pass key (Node n height)) → IsLowAt s e →
-    (heap : Heap) (root : Option Entry) → IsStoredAt s heap root e →
-    IsPublished core heap root (removed_change pass (item j key (core.heap.leaves j).value)) (linked_for_entry i) (a_node n ∷ a_leaf j ∷ [])
+    (core : BareCore) (pass : ℕ) → IsLawfulState (view core) → (key : Key) (node leaf : ℕ) → IsLeafOf core pass key node leaf → (height : ℕ) (left : Entry) →
+    (stands : IsEntryFor core pass (subtrie_without key (core.heap.nodes node).subtrie) left) → (at : HoldsSpot core pass key (Node node height)) → IsLowAt at left →
+    (heap : Heap) (root : Option Entry) → IsStoredAt at heap root left →
+    IsPublished core heap root (removed_change pass (item leaf key (core.heap.leaves leaf).value)) (linked_for_entry stands) (a_node node ∷ a_leaf leaf ∷ [])
 
--- A removal may merge what is left of the leaf's node with the node beside it. Their new node's entry closes the fork between them in the
--- node above. What is left of that, one entry or a new node, takes its place.
+-- A removal may merge what is left of the leaf's node with the node beside it, into one new node. In the node above, the new node's entry
+-- takes the place of the fork between the two. What is left of the node above, one entry or a new node, takes that node's place.
 abbrev pub MergeAtSpot : Type 0
 MergeAtSpot =
-    (core : BareCore) (pass : ℕ) → IsLawfulState (view core) → (key : Key) (n j : ℕ) → IsLeafOf core pass key n j →
-    (o m : ℕ) (b : IsBesideNode core pass key o n m) →
-    (z : ℕ) (fixed : Fixed) → IsNewSubtrie core pass z fixed (subtrie_merged core pass key o n m b) →
-    (height : ℕ) (e : Entry) (i : IsEntryFor core pass (subtrie_collapsed key (Node z fixed.height) (core.heap.nodes o).subtrie) e) →
-    (s : HoldsSpot core pass key (Node o height)) → IsLowAt s e → (heap : Heap) (root : Option Entry) → IsStoredAt s heap root e →
-    IsPublished core heap root (removed_change pass (item j key (core.heap.leaves j).value)) (linked_for_entry i ++ a_node z ∷ [])
-    (a_node o ∷ a_node n ∷ a_node m ∷ a_leaf j ∷ [])
+    -- the leaf stands in the lower node, which is beside another one in the upper node
+    (core : BareCore) (pass : ℕ) → IsLawfulState (view core) → (key : Key) (lower leaf : ℕ) → IsLeafOf core pass key lower leaf →
+    (upper beside : ℕ) (two : IsBesideNode core pass key upper lower beside) →
+    -- the merged node
+    (merged : ℕ) (fixed : Fixed) → IsNewSubtrie core pass merged fixed (subtrie_merged core pass key upper lower beside two) →
+    -- the entry for what is left of the upper node
+    (height : ℕ) (left : Entry) (stands : IsEntryFor core pass (subtrie_collapsed key (Node merged fixed.height) (core.heap.nodes upper).subtrie) left) →
+    -- the locked spot of the upper node, and what the words show after the store
+    (at : HoldsSpot core pass key (Node upper height)) → IsLowAt at left → (heap : Heap) (root : Option Entry) → IsStoredAt at heap root left →
+    IsPublished core heap root (removed_change pass (item leaf key (core.heap.leaves leaf).value)) (linked_for_entry stands ++ a_node merged ∷ [])
+    (a_node upper ∷ a_node lower ∷ a_node beside ∷ a_leaf leaf ∷ [])
 
 -- A removal of the last key may empty the root.
 abbrev pub RemoveLast : Type 0
 RemoveLast =
-    (core : BareCore) (pass : ℕ) → IsLawfulState (view core) → (j : ℕ) → core.anchor ≡ Some pass → core.root ≡ Some (Leaf j) →
-    IsPublished core core.heap None (removed_change pass (item j (core.heap.leaves j).key (core.heap.leaves j).value)) [] (a_leaf j ∷ [])
+    (core : BareCore) (pass : ℕ) → IsLawfulState (view core) → (leaf : ℕ) → core.anchor ≡ Some pass → core.root ≡ Some (Leaf leaf) →
+    IsPublished core core.heap None (removed_change pass (item leaf (core.heap.leaves leaf).key (core.heap.leaves leaf).value)) [] (a_leaf leaf ∷ [])
 
--- A search that was led to a leaf has its result from the leaf's key. The search's key was held with the leaf's value, or was absent, in a
--- version since its start.
+-- A search that was led to a leaf has its result from the leaf's key. If it is the search's key, the key was held with the leaf's value in
+-- a version since the search began. Else the key was absent in one.
 abbrev pub GetEnds : Type 0
 GetEnds =
-    (state : State) → IsLawfulState state → (since : ℕ) → IsReach state since → (key : Key) (n : ℕ) → IsLed state.past since key (Leaf n) →
-    ((key ≡ (state.heap.leaves n).key) × IsHeldSince state.past since key (state.heap.leaves n).value) ⊎
-    ((key ≢ (state.heap.leaves n).key) × WasAbsentSince state.past since key)
+    (state : State) → IsLawfulState state → (since : ℕ) → IsReach state since → (key : Key) (leaf : ℕ) → IsLed state.past since key (Leaf leaf) →
+    ((key ≡ (state.heap.leaves leaf).key) × IsHeldSince state.past since key (state.heap.leaves leaf).value) ⊎
+    ((key ≢ (state.heap.leaves leaf).key) × WasAbsentSince state.past since key)
 
--- Let one front begin the other, and let their changes be those of the versions. Let a walk since the first front have found these pairs.
--- Then a scan of them is lawful from the one front to the other. It may have come to its end, or have been cut at the limit.
+-- Let a walk since the front `before` have found these pairs, and have come to its end or been cut at the limit. Then a scan of them is
+-- lawful from that front to `before ++ rest`.
 abbrev pub ScanIsLawful : Type 0
 ScanIsLawful =
-    (direction : Direction) (more : Bool) (past : Past) (before rest : List Change) (m : ℕ) → KeepsFixedWordsSince past m →
+    -- the versions tell the changes of the later front
+    (direction : Direction) (more : Bool) (past : Past) (before rest : List Change) (since : ℕ) → KeepsFixedWordsSince past since →
     TellChanges past (before ++ rest) →
     (range : Range) → IsKey range.from → IsKey range.upto →
-    (xs : List Pair) (scan : Answer) → scan.pairs.items ≡ in_order_taken xs → scan.more ≡ more →
-    IsAnswer direction past (length before) range xs more →
+    -- the scan lists the pairs that the walk took
+    (taken : List Pair) (scan : Answer) → scan.pairs.items ≡ in_order_taken taken → scan.more ≡ more →
+    IsAnswer direction past (length before) range taken more →
     IsLawfulBy direction before (before ++ rest) range.from range.upto range.limit scan
 
--- A load of the root in a lawful state tells that the root had the loaded entry, as `IsRooted` says.
+-- A load of the root in a lawful state tells which entry the root had in a version from `since` on (`IsRooted`).
 abbrev pub LoadsRoot : Type 0
-LoadsRoot = (state : State) → IsLawfulState state → (m : ℕ) → m ≤ state.now → (e : Entry) → state.root ≡ Some e → IsRooted state.past m e
+LoadsRoot = (state : State) → IsLawfulState state → (since : ℕ) → since ≤ state.now → (top : Entry) → state.root ≡ Some top → IsRooted state.past since top
 
--- A load of an entry of a node in reach tells that the node had this entry, as `IsPlaced` says. The entry is lower than the node.
+-- A load of a slot of a node that stood in the tree since `since` tells which entry the node had there (`IsPlaced`). The entry is lower
+-- than the node.
 abbrev pub LoadsPlace : Type 0
 LoadsPlace =
-    (state : State) → IsLawfulState state → (since : ℕ) → IsReach state since → (c height : ℕ) → EntryStoodSince state.past since (Node c height) →
-    (j : ℕ) → j < size (state.heap.nodes c).subtrie →
-    IsPlaced state.past since c j (entry_at (state.heap.nodes c).subtrie j) × (height_of (entry_at (state.heap.nodes c).subtrie j) < height)
+    (state : State) → IsLawfulState state → (since : ℕ) → IsReach state since → (number height : ℕ) → EntryStoodSince state.past since (Node number height) →
+    (slot : ℕ) → slot < size (state.heap.nodes number).subtrie →
+    IsPlaced state.past since number slot (entry_at (state.heap.nodes number).subtrie slot) × (height_of (entry_at (state.heap.nodes number).subtrie slot) < height)
 
--- The loads of the head of a node in reach tell that the node had these forks, as `HadShapeSince` says.
+-- The loads of a node's head tell which forks the node had in a version from `since` on (`HadShapeSince`).
 abbrev pub LoadsShape : Type 0
 LoadsShape =
-    (state : State) → IsLawfulState state → (since : ℕ) → IsReach state since → (c height : ℕ) → EntryStoodSince state.past since (Node c height) →
-    HadShapeSince state.past since c (shape (state.heap.nodes c).subtrie)
+    (state : State) → IsLawfulState state → (since : ℕ) → IsReach state since → (number height : ℕ) → EntryStoodSince state.past since (Node number height) →
+    HadShapeSince state.past since number (shape (state.heap.nodes number).subtrie)
 
--- The loads of the words of a leaf in reach tell that the leaf had this key and value, as `IsRead` says.
+-- The loads of a leaf's words tell which key and value the leaf had in a version from `since` on (`IsRead`).
 abbrev pub LoadsLeaf : Type 0
 LoadsLeaf =
-    (state : State) → IsLawfulState state → (since : ℕ) → IsReach state since → (n : ℕ) → EntryStoodSince state.past since (Leaf n) →
-    IsRead state.past since n (state.heap.leaves n).key (state.heap.leaves n).value
+    (state : State) → IsLawfulState state → (since : ℕ) → IsReach state since → (leaf : ℕ) → EntryStoodSince state.past since (Leaf leaf) →
+    IsRead state.past since leaf (state.heap.leaves leaf).key (state.heap.leaves leaf).value
 
--- After a load of an empty root, each key was absent.
+-- A load that finds the root empty tells that each key was absent in a version from `since` on.
 abbrev pub LoadsNone : Type 0
-LoadsNone = (state : State) → IsLawfulState state → (m : ℕ) → m ≤ state.now → (key : Key) → state.root ≡ None → WasAbsentSince state.past m key
+LoadsNone = (state : State) → IsLawfulState state → (since : ℕ) → since ≤ state.now → (key : Key) → state.root ≡ None → WasAbsentSince state.past since key
 
--- A search is led from a node to the entry on its path, whichever versions of the node's life it was loaded in.
+-- A search is led from a node to the entry in the slot on the key's path. The forks and the entry may have been loaded in different
+-- versions of the node's life.
 abbrev pub LedPlaced : Type 0
 LedPlaced =
-    (past : Past) (since : ℕ) → KeepsFixedWordsSince past since → (key : Key) (r height j : ℕ) (trie : Subtrie) (e : Entry) →
-    HadShapeSince past since r trie → spot key trie ≡ j → IsPlaced past since r j e →
-    IsLed past since key (Node r height) → IsLed past since key e
+    (past : Past) (since : ℕ) → KeepsFixedWordsSince past since → (key : Key) (number height slot : ℕ) (trie : Subtrie) (next : Entry) →
+    HadShapeSince past since number trie → spot key trie ≡ slot → IsPlaced past since number slot next →
+    IsLed past since key (Node number height) → IsLed past since key next
 
--- What a writer has found below a locked node stays true while the versions grow. It asks that the writer keeps the lock, with the words
--- that the node had, and its pin.
+-- What a writer has found below a locked node stays true while the versions grow. It does as long as the writer keeps the lock and its pin,
+-- and the node its words.
 abbrev pub FoundIsKept : Type 0
 FoundIsKept =
-    (old new : BareCore) (pass : ℕ) (newcomer : Newcomer) (n : ℕ) (pin : Pin) → IsLawfulState (view new) → IsGrown old.past new.past →
-    new.lock n ≡ Some pass → new.heap.nodes n ≡ old.heap.nodes n → new.pins pass ≡ Some pin → pin.version ≤ newcomer.since →
-    IsFoundBelow old pass newcomer n → IsFoundBelow new pass newcomer n
+    (old new : BareCore) (pass : ℕ) (newcomer : Newcomer) (lowest : ℕ) (pin : Pin) → IsLawfulState (view new) → IsGrown old.past new.past →
+    new.lock lowest ≡ Some pass → new.heap.nodes lowest ≡ old.heap.nodes lowest → new.pins pass ≡ Some pin → pin.version ≤ newcomer.since →
+    IsFoundBelow old pass newcomer lowest → IsFoundBelow new pass newcomer lowest

@@ -1,4 +1,4 @@
--- A writer's descent below its lock, by facts of the past alone; and what it knows where nothing has changed since.
+-- A writer's search below its lock, by facts of the past alone; and where a search is if nothing has changed since.
 use Rattle.std.specs.Prelude.{◌≡◌, ℕ, ◌≤◌, Some}
 use Rattle.compound_node.specs.declared.entries.Entry.{Entry}
 use Rattle.compound_node.specs.declared.entries.Entry.TheVariants.{Leaf, Node}
@@ -12,89 +12,100 @@ use Rattle.versions.specs.Frames.{IsGrown}
 use Rattle.version_laws.specs.Scan.{EntryStoodSince, IsRooted, IsBlank, IsPlaced, HadShapeSince, IsRead}
 use Rattle.version_laws.specs.Writer.{BeganAt, IsWayBelow}
 
--- A descent from the node `start`, whose first fork is at `first_fork`, has come to the entry. Before that position the keys below the
--- entry agree with a key that the node had.
+-- A search went on from node `start`, whose first fork is at `first_fork`, and has come to the entry. All keys below the entry agree,
+-- before `first_fork`, with some key `like` of that node.
 abbrev pub IsOnWay : (past : Past) → (since first_fork start : ℕ) → (entry : Entry) → Type 0
-IsOnWay past m r a entry = (like : Key) × BeganAt past m r like a × StoodWithKeys past m (λ y. AgreeBelow r like y) entry
+IsOnWay past since first_fork start entry =
+    (like : Key) × BeganAt past since first_fork like start × StoodWithKeys past since (λ below. AgreeBelow first_fork like below) entry
 
--- A descent that began at this entry ended at a leaf with this key.
-pub data IsWayFrom (past : Past) (m : ℕ) (key : Key) : Entry → Type 0 where
-  from_leaf : (j : ℕ) → StoodWithKeys past m (λ y. y ≡ key) (Leaf j) → IsWayFrom past m key (Leaf j)
-  from_node : (a height r : ℕ) (like : Key) → BeganAt past m r like a → AgreeBelow r like key → IsWayFrom past m key (Node a height)
+-- A search that went on from this entry ended at a leaf with this key. The entry is that leaf. Or it is a node that had some key `like`,
+-- and the two keys agree before that node's first fork.
+pub data IsWayFrom (past : Past) (since : ℕ) (key : Key) : Entry → Type 0 where
+  from_leaf : (number : ℕ) → StoodWithKeys past since (λ held. held ≡ key) (Leaf number) → IsWayFrom past since key (Leaf number)
+  from_node : (number height first_fork : ℕ) (like : Key) → BeganAt past since first_fork like number → AgreeBelow first_fork like key →
+      IsWayFrom past since key (Node number height)
 
--- If no change was made since the version `since`, the key's search is at this entry in the newest tree. The entry stands there, and the
--- search below it ends where that of the whole tree does.
+-- If no change was made since the version `since`, a search for the key is at this entry in the newest tree. The entry stands there, and a
+-- search that goes on from it ends where a search from the root does.
 abbrev pub IsStill : (past : Past) → (since : ℕ) → (key : Key) → (entry : Entry) → Type 0
-IsStill past m key entry =
-    m ≡ past.now → (t : Tree) × (u : Tree) × (past.version m ≡ Some t) × Within u t × (subtrie u ≡ Place entry) × (found key u ≡ found key t)
+IsStill past since key entry =
+    since ≡ past.now → (tree : Tree) × (part : Tree) × (past.version since ≡ Some tree) × Within part tree × (subtrie part ≡ Place entry) ×
+    (found key part ≡ found key tree)
 
 -- The way of a writer
 
--- A descent begins at a node to which it was led, and whose forks it has read.
+-- A search goes on from a node that stood in the tree since the version `since`, and whose forks were read.
 abbrev pub WayBegins : Type 0
 WayBegins =
-    (past : Past) (since : ℕ) → KeepsFixedWordsSince past since → (a height r : ℕ) (trie : Subtrie) → EntryStoodSince past since (Node a height) →
-    HadShapeSince past since a trie → first_position trie ≡ r →
-    IsOnWay past since r a (Node a height)
+    (past : Past) (since : ℕ) → KeepsFixedWordsSince past since → (start height first_fork : ℕ) (trie : Subtrie) → EntryStoodSince past since (Node start height) →
+    HadShapeSince past since start trie → first_position trie ≡ first_fork →
+    IsOnWay past since first_fork start (Node start height)
 
--- A descent goes on by an entry that was read, whatever was published in between.
+-- A search below a lock goes on by an entry that was read, whatever was published in between.
 abbrev pub WayGoesOn : Type 0
 WayGoesOn =
-    (past : Past) (since : ℕ) → KeepsFixedWordsSince past since → (r a n height j : ℕ) (entry : Entry) → IsOnWay past since r a (Node n height) →
-    IsPlaced past since n j entry → IsOnWay past since r a entry
+    (past : Past) (since : ℕ) → KeepsFixedWordsSince past since → (first_fork start number height slot : ℕ) (entry : Entry) →
+    IsOnWay past since first_fork start (Node number height) →
+    IsPlaced past since number slot entry → IsOnWay past since first_fork start entry
 
--- A descent ends at a leaf that was read.
+-- A search below a lock ends at a leaf whose key and value were read.
 abbrev pub WayEnds : Type 0
 WayEnds =
-    (past : Past) (m : ℕ) → KeepsFixedWordsSince past m → (r a height j : ℕ) (key : Key) (v : ℕ) → IsOnWay past m r a (Leaf j) →
-    IsRead past m j key v → IsWayFrom past m key (Node a height)
+    (past : Past) (since : ℕ) → KeepsFixedWordsSince past since → (first_fork start height number : ℕ) (key : Key) (value : ℕ) →
+    IsOnWay past since first_fork start (Leaf number) →
+    IsRead past since number key value → IsWayFrom past since key (Node start height)
 
--- A leaf that was read is a descent by itself.
+-- A leaf whose key was read is the end of a search that went on from the leaf itself.
 abbrev pub WayOfLeaf : Type 0
-WayOfLeaf = (past : Past) (m j : ℕ) (key : Key) (v : ℕ) → IsRead past m j key v → IsWayFrom past m key (Leaf j)
+WayOfLeaf = (past : Past) (since number : ℕ) (key : Key) (value : ℕ) → IsRead past since number key value → IsWayFrom past since key (Leaf number)
 
--- A descent from a locked node's entry on the key's path is what a pass knows of the path below that node.
+-- Let a search have gone on from a locked node's entry on the key's path. Then what is known of that search is what an insertion needs of
+-- the path below the node.
 abbrev pub WayIsBelow : Type 0
 WayIsBelow =
-    (past : Past) (m : ℕ) (key : Key) (trie : Subtrie) (other : Key) → IsWayFrom past m other (seek key trie) → IsWayBelow past m key trie other
+    (past : Past) (since : ℕ) (key : Key) (trie : Subtrie) (other : Key) → IsWayFrom past since other (seek key trie) → IsWayBelow past since key trie other
 
 -- Where nothing has changed
 
--- A search is at the root that was read, if no change was made since.
+-- If no change was made since the root was read, a search is at the entry that the root had.
 abbrev pub StillRooted : Type 0
-StillRooted = (past : Past) (m : ℕ) (key : Key) (entry : Entry) → IsRooted past m entry → IsStill past m key entry
+StillRooted = (past : Past) (since : ℕ) (key : Key) (entry : Entry) → IsRooted past since entry → IsStill past since key entry
 
--- A search goes on by an entry that was read, if no change was made since.
+-- A search goes on from a node to the entry that was read in the slot on the key's path, if no change was made since.
 abbrev pub StillPlaced : Type 0
 StillPlaced =
-    (past : Past) (since : ℕ) → KeepsFixedWordsSince past since → since ≤ past.now → (key : Key) (n height j : ℕ) (trie : Subtrie) (entry : Entry) →
-    HadShapeSince past since n trie → spot key trie ≡ j → IsPlaced past since n j entry →
-    IsStill past since key (Node n height) → IsStill past since key entry
+    (past : Past) (since : ℕ) → KeepsFixedWordsSince past since → since ≤ past.now → (key : Key) (number height slot : ℕ) (trie : Subtrie) (entry : Entry) →
+    HadShapeSince past since number trie → spot key trie ≡ slot → IsPlaced past since number slot entry →
+    IsStill past since key (Node number height) → IsStill past since key entry
 
--- Where a search is, if no change was made since, stays true while the past grows.
+-- What `IsStill` says of an older past stays true in a past that goes on from it.
 abbrev pub StillGrows : Type 0
 StillGrows =
-    (old new : Past) → IsGrown old new → (m : ℕ) (key : Key) (entry : Entry) → m ≤ old.now → IsStill old m key entry → IsStill new m key entry
+    (old new : Past) → IsGrown old new → (since : ℕ) (key : Key) (entry : Entry) → since ≤ old.now → IsStill old since key entry → IsStill new since key entry
 
--- In one version a node stands in one slot of the tree: two bodies of it that are kin are one.
+-- A tree has each of its nodes in one place only: two bodies with which one node stands in it are one, if they have the same forks and
+-- stems.
 abbrev pub OneBody : Type 0
 OneBody =
-    (n : ℕ) (fixed : Fixed) (b c t : Tree) → Within (node n fixed b) t → Within (node n fixed c) t → IsTrie t → IsBuilt t → Kin b c → b ≡ c
+    (number : ℕ) (fixed : Fixed) (body other tree : Tree) → Within (node number fixed body) tree → Within (node number fixed other) tree → IsTrie tree →
+    IsBuilt tree → Kin body other → body ≡ other
 
 -- Two reads since, where nothing has changed
 
--- Two loads of the root in one version find one entry, or both find none.
+-- Two loads of the root in the newest version find the same entry, or both find none.
 abbrev pub RootedSame : Type 0
 RootedSame =
-    (past : Past) (m : ℕ) → m ≡ past.now → ((e f : Entry) → IsRooted past m e → IsRooted past m f → e ≡ f) ×
-    ((e : Entry) → IsRooted past m e → ¬ (IsBlank past m))
+    (past : Past) (since : ℕ) → since ≡ past.now → ((first second : Entry) → IsRooted past since first → IsRooted past since second → first ≡ second) ×
+    ((first : Entry) → IsRooted past since first → ¬ (IsBlank past since))
 
--- Two loads of one entry of a node in one version find the same.
+-- Two loads of one slot of a node in the newest version find the same entry.
 abbrev pub PlacedSame : Type 0
 PlacedSame =
-    (past : Past) (since : ℕ) → KeepsFixedWordsSince past since → since ≡ past.now → (n j : ℕ) (e f : Entry) → IsPlaced past since n j e →
-    IsPlaced past since n j f → e ≡ f
+    (past : Past) (since : ℕ) → KeepsFixedWordsSince past since → since ≡ past.now → (number slot : ℕ) (first second : Entry) → IsPlaced past since number slot first →
+    IsPlaced past since number slot second → first ≡ second
 
--- Two searches for one key in one version that end at leaves end at one leaf.
+-- Two searches for one key in the newest version that end at leaves end at the same leaf.
 abbrev pub FoundSame : Type 0
-FoundSame = (past : Past) (m : ℕ) → m ≡ past.now → (key : Key) (i j : ℕ) → IsStill past m key (Leaf i) → IsStill past m key (Leaf j) → i ≡ j
+FoundSame =
+    (past : Past) (since : ℕ) → since ≡ past.now → (key : Key) (first second : ℕ) → IsStill past since key (Leaf first) → IsStill past since key (Leaf second) →
+    first ≡ second

@@ -1,4 +1,4 @@
--- The whole core: fates, locks, epochs.
+-- The whole core: what passes share between two steps, and what holds of epochs.
 use Rattle.versions.specs.declared.Pin.{Pin}
 use Rattle.versions.specs.declared.Round.{Round}
 use Rattle.std.specs.Prelude.{◌≡◌, ◌⊎◌, ℕ, ◌<◌, ◌≤◌, List, [], ◌∷◌, Option, Some, None, Bool, true, false, if◌then◌else◌, nat_eq}
@@ -8,8 +8,8 @@ use Rattle.versions.specs.Heap.{Heap}
 use Rattle.versions.specs.State.{Life, Out, Linked, Retired, Past, State}
 use Rattle.record_words.specs.declared.records.Rec.{Rec}
 
--- What has become of a record. It is free, held by a pass that fills it, or ready to be linked by a pass. It is in the tree since a
--- version, or a pass has unlinked it behind the version `last`. Or it is marked with an epoch, until it is given back.
+-- What has become of a record. It is free, or held by a pass that fills it, or ready for that pass to link it. It is in the tree since a
+-- version, or was unlinked by a pass after the version `last`. Or it is marked with an epoch, until it is given back.
 pub data Fate : Type 0 where
   Free : Fate
   Held : (by : ℕ) → Fate
@@ -18,22 +18,22 @@ pub data Fate : Type 0 where
   Unlinked : (since last by : ℕ) → Fate
   Marked : (since last epoch : ℕ) → Fate
 
--- the life of a record that its fate tells
+-- the life of a record with this fate
 abbrev pub life_of : Fate → Life
 life_of Free = Out
-life_of (Held pass) = Out
-life_of (Ready pass) = Out
-life_of (InTree f) = Linked f
-life_of (Unlinked f l pass) = Retired f l
-life_of (Marked f l s) = Retired f l
+life_of (Held by) = Out
+life_of (Ready by) = Out
+life_of (InTree since) = Linked since
+life_of (Unlinked since last by) = Retired since last
+life_of (Marked since last epoch) = Retired since last
 
 -- whether the pass is among those whose pins a round has loaded
 abbrev pub has_seen : (seen : List ℕ) → (pass : ℕ) → Bool
-has_seen [] i = false
-has_seen (x ∷ xs) i = if nat_eq i x then true else has_seen xs i
+has_seen [] pass = false
+has_seen (first ∷ others) pass = if nat_eq pass first then true else has_seen others pass
 
--- What passes share, but for the words of records: the root's entry, the versions, the changes, and the fate of each record. So are the
--- holders of the anchor's lock and of each node's, the epoch, and each pass's pin and round.
+-- What passes share, but for the words of records: the root's entry, the versions, the changes, and each record's fate. Further, which pass
+-- has locked the anchor, and which each node; the epoch; and each pass's pin and round.
 pub record Shared : Type 0 where
   pub root : Option Entry
   pub past : Past
@@ -51,7 +51,7 @@ pub record BareCore : Type 0 where
   pub shared : Shared
   pub open shared use *
 
--- the version since which a pass is pinned
+-- the version in which the pin was set, or none if the pass is not pinned
 abbrev pub pin_version : Option Pin → Option ℕ
 pin_version None = None
 pin_version (Some pin) = Some pin.version
@@ -61,15 +61,22 @@ abbrev pub view : BareCore → State
 view core =
     record { heap = core.heap; root = core.root; past = core.past; life = λ r. life_of (core.fate r); pin = λ pass. pin_version (core.pins pass) }
 
--- What holds of epochs. The mark of a retired record is not below the epoch at which a pass was pinned that may have found it linked.
+-- What holds of epochs: each record that a pinned pass may still reach has a mark that keeps it from being given back. A pin has three
+-- parts. Its word is an epoch that was loaded before; its floor and its version are the epoch and the newest version when it was set.
 pub record HasLawfulEpochs (shared : Shared) : Type 0 where
+  -- the parts of a pin are in order, and none is ahead of the present
   pub floors : (pass : ℕ) (pin : Pin) → shared.pins pass ≡ Some pin → (pin.word ≤ pin.floor) × (pin.floor ≤ shared.epoch) ×
       (pin.version ≤ shared.past.now)
+  -- the parts of a round are in order, and none is ahead of the present
   pub loads : (pass : ℕ) → ((shared.rounds pass).epoch ≤ shared.epoch) × ((shared.rounds pass).version ≤ shared.past.now) ×
       ((shared.rounds pass).bound ≤ (shared.rounds pass).epoch)
-  pub after : (pass o : ℕ) (pin : Pin) → shared.pins pass ≡ Some pin → (pin.floor ≤ (shared.rounds o).epoch) ⊎
-      ((shared.rounds o).version ≤ pin.version)
-  pub marks : (rec : Rec) (f l s : ℕ) → shared.fate rec ≡ Marked f l s → (pass : ℕ) (pin : Pin) → shared.pins pass ≡ Some pin → (pin.floor ≤ s) ⊎
-      (l < pin.version)
-  pub bounds : (pass o : ℕ) (pin : Pin) → shared.pins pass ≡ Some pin → has_seen (shared.rounds o).seen pass ≡ true →
-      (shared.rounds o).bound ≤ pin.floor
+  -- a pass was pinned before a round loaded the epoch, or at the round's version or a later one
+  pub after : (pass other : ℕ) (pin : Pin) → shared.pins pass ≡ Some pin → (pin.floor ≤ (shared.rounds other).epoch) ⊎
+      ((shared.rounds other).version ≤ pin.version)
+  -- a record's mark is no less than the floor of a pin, or the pass was pinned after the record was unlinked
+  pub marks : (rec : Rec) (since last epoch : ℕ) → shared.fate rec ≡ Marked since last epoch → (pass : ℕ) (pin : Pin) → shared.pins pass ≡ Some pin →
+      (pin.floor ≤ epoch) ⊎
+      (last < pin.version)
+  -- the bound of a round that has loaded a pin is no greater than the pin's floor
+  pub bounds : (pass other : ℕ) (pin : Pin) → shared.pins pass ≡ Some pin → has_seen (shared.rounds other).seen pass ≡ true →
+      (shared.rounds other).bound ≤ pin.floor

@@ -6,9 +6,9 @@ use Rattle.versions.specs.Steps.{IsLawfulCore}
 use Rattle.versions.specs.Trades.{AreApart}
 use Rattle.record_words.specs.declared.records.Rec.TheVariants.{Node as a_node}
 
--- The node records in the tree, each listed once, are fewer than the keys of the map. If that has none, there is none.
+-- Node records in the tree, each listed once, are fewer than the keys of the map. If the map has no key, there is no such record.
 abbrev pub NodesInTreeAreFewer : Type 0
 NodesInTreeAreFewer =
     (core : BareCore) → IsLawfulCore core → (numbers : List ℕ) → AreApart numbers →
-    All (λ n. (since : ℕ) × (core.fate (a_node n) ≡ InTree since)) numbers →
+    All (λ number. (since : ℕ) × (core.fate (a_node number) ≡ InTree since)) numbers →
     length numbers ≤ length (map_of core.changes) - 1

@@ -31,8 +31,8 @@ IsShown heap (leaf number key value) = heap.leaves number ≡ record { key = key
 IsShown heap (node number fixed body) = (heap.nodes number ≡ record { fixed = fixed; subtrie = subtrie body }) × IsShown heap body
 IsShown heap (fork position left right) = IsShown heap left × IsShown heap right
 
--- From one heap to the next, each leaf keeps its key, and each node its fixed words. Each subtrie keeps all entries but one at most.
+-- From one heap to the next, each leaf keeps its key, and each node its fixed words. Each subtrie keeps all its entries but one at most.
 abbrev pub KeepsAllButOneEntry : (old new : Heap) → Type 0
 KeepsAllButOneEntry old new =
-    ((n : ℕ) → (old.leaves n).key ≡ (new.leaves n).key) × ((n : ℕ) → ((old.nodes n).fixed ≡ (new.nodes n).fixed)) ×
-    ((n : ℕ) → ((old.nodes n).subtrie ≡ (new.nodes n).subtrie) ⊎ Swap (old.nodes n).subtrie (new.nodes n).subtrie)
+    ((number : ℕ) → (old.leaves number).key ≡ (new.leaves number).key) × ((number : ℕ) → ((old.nodes number).fixed ≡ (new.nodes number).fixed)) ×
+    ((number : ℕ) → ((old.nodes number).subtrie ≡ (new.nodes number).subtrie) ⊎ Swap (old.nodes number).subtrie (new.nodes number).subtrie)

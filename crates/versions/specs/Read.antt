@@ -6,10 +6,10 @@ use Rattle.compound_node.specs.declared.entries.Entry.{Entry}
 use Rattle.compound_node.specs.declared.entries.Entry.TheVariants.{Leaf, Node}
 use Rattle.versions.specs.Heap.{Heap}
 
--- the tree that the words show from an entry on; none, if one of its paths has more than `depth` nodes
+-- the tree that the words show from an entry on; none, if a path below the entry has more than `depth` nodes
 abbrev pub read : (heap : Heap) → (depth : ℕ) → (entry : Entry) → Option Tree
-read heap f (Leaf number) = Some (leaf number (heap.leaves number).key (heap.leaves number).value)
+read heap depth (Leaf number) = Some (leaf number (heap.leaves number).key (heap.leaves number).value)
 read heap zero (Node number height) = None
-read heap (suc f) (Node number height) =
-    if nat_eq (heap.nodes number).fixed.height height then join_node number (heap.nodes number).fixed (read_subtrie (read heap f) (heap.nodes number).subtrie)
+read heap (suc depth) (Node number height) =
+    if nat_eq (heap.nodes number).fixed.height height then join_node number (heap.nodes number).fixed (read_subtrie (read heap depth) (heap.nodes number).subtrie)
     else None

@@ -14,21 +14,24 @@ use Rattle.finite_map.specs.Fronts.{map_of}
 use Rattle.versions.specs.Told.{content}
 use Rattle.versions.specs.Steps.{IsLawfulCore, IsCoreStep, bare_opening}
 
--- A search may go on in a node that has changed since it was led there.
+-- A search may go on in a node that has changed since it was led there. It is led to the node's present entry on the key's path.
 abbrev pub StateHindsight : Type 0
 StateHindsight =
-    (state : State) → IsLawfulState state → (since : ℕ) → IsReach state since → (key : Key) (n height : ℕ) →
-    IsLed state.past since key (Node n height) → IsLed state.past since key (seek key (state.heap.nodes n).subtrie)
+    (state : State) → IsLawfulState state → (since : ℕ) → IsReach state since → (key : Key) (number height : ℕ) →
+    IsLed state.past since key (Node number height) → IsLed state.past since key (seek key (state.heap.nodes number).subtrie)
 
--- Keys below two slots of a node are parted by the fork between the slots, whichever versions they are of.
+-- Let one key be below a slot of a node, and another one below a later slot. The fork between the slots parts the two keys, whichever
+-- versions they are of.
 abbrev pub StateParting : Type 0
 StateParting =
-    (state : State) → IsLawfulState state → (rec : Rec) (n o x y : ℕ) (g h : Fixed) (b c : Tree) → n ≤ state.now → o ≤ state.now →
-    Spans state.now (state.life rec) n → Spans state.now (state.life rec) o → Stands state.past n rec (node x g b) →
-    Stands state.past o rec (node y h c) →
-    (i j : ℕ) → i < j → (key other : Key) → IsUnder b i key → IsUnder c j other → IsParted (between (subtrie b) i j) key other
+    (state : State) → IsLawfulState state → (rec : Rec) (version other_version number other_number : ℕ) (fixed other_fixed : Fixed) (body other_body : Tree) →
+    version ≤ state.now → other_version ≤ state.now →
+    Spans state.now (state.life rec) version → Spans state.now (state.life rec) other_version → Stands state.past version rec (node number fixed body) →
+    Stands state.past other_version rec (node other_number other_fixed other_body) →
+    (slot later_slot : ℕ) → slot < later_slot → (key other : Key) → IsUnder body slot key → IsUnder other_body later_slot other →
+    IsParted (between (subtrie body) slot later_slot) key other
 
--- The opening core is lawful.
+-- The core of a new table is lawful.
 abbrev pub BareOpeningIsLawful : Type 0
 BareOpeningIsLawful = (heap : Heap) → IsLawfulCore (bare_opening heap)
 
@@ -36,20 +39,21 @@ BareOpeningIsLawful = (heap : Heap) → IsLawfulCore (bare_opening heap)
 abbrev pub StepKeepsLawful : Type 0
 StepKeepsLawful = (old : BareCore) (pass : ℕ) (new : BareCore) → IsLawfulCore old → IsCoreStep old pass new → IsLawfulCore new
 
--- The content of each version, in strict key order, is the map of the changes before it.
+-- The content of version n is the map after the first n changes. Its keys rise strictly.
 abbrev pub ContentIsMap : Type 0
 ContentIsMap =
-    (core : BareCore) → IsLawfulCore core → (n : ℕ) → n ≤ core.past.now →
-    (content (core.past.version n) ≡ map_of (take n core.changes)) × IsRising (content (core.past.version n))
+    (core : BareCore) → IsLawfulCore core → (version : ℕ) → version ≤ core.past.now →
+    (content (core.past.version version) ≡ map_of (take version core.changes)) × IsRising (content (core.past.version version))
 
--- No record of a pinned pass's reach is free or held.
+-- No record that stood in the tree in a version since a pass's pin is free or held.
 abbrev pub BareReachIsKept : Type 0
 BareReachIsKept =
-    (core : BareCore) → IsLawfulCore core → (pass : ℕ) (pin : Pin) → core.pins pass ≡ Some pin → (n : ℕ) → pin.version ≤ n → n ≤ core.past.now →
-    (rec : Rec) (tree : Tree) → Stands core.past n rec tree → (core.fate rec ≢ Free) × ((o : ℕ) → core.fate rec ≢ Held o)
+    (core : BareCore) → IsLawfulCore core → (pass : ℕ) (pin : Pin) → core.pins pass ≡ Some pin → (version : ℕ) → pin.version ≤ version → version ≤ core.past.now →
+    (rec : Rec) (tree : Tree) → Stands core.past version rec tree → (core.fate rec ≢ Free) × ((by : ℕ) → core.fate rec ≢ Held by)
 
--- In all versions since a pass's pin, a node of its reach has the same fixed words and stems. A leaf has the same key.
+-- In all versions since a pass's pin, a node has the same fixed words and stems, and a leaf has the same key.
 abbrev pub ReachIsSteady : Type 0
 ReachIsSteady =
-    (core : BareCore) → IsLawfulCore core → (pass : ℕ) (pin : Pin) → core.pins pass ≡ Some pin → (rec : Rec) (n o : ℕ) (u v : Tree) →
-    pin.version ≤ n → n ≤ core.past.now → pin.version ≤ o → o ≤ core.past.now → Stands core.past n rec u → Stands core.past o rec v → IsSameRecord u v
+    (core : BareCore) → IsLawfulCore core → (pass : ℕ) (pin : Pin) → core.pins pass ≡ Some pin → (rec : Rec) (version other_version : ℕ) (part other_part : Tree) →
+    pin.version ≤ version → version ≤ core.past.now → pin.version ≤ other_version → other_version ≤ core.past.now → Stands core.past version rec part →
+    Stands core.past other_version rec other_part → IsSameRecord part other_part

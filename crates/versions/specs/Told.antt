@@ -1,4 +1,4 @@
--- The content of a version, and how the versions tell the changes.
+-- What a version holds, and how the versions tell the changes.
 use Rattle.std.specs.Prelude.{◌≡◌, ℕ, suc, ◌≤◌, List, [], ◌∷◌, length, take, Option, Some, None}
 use Rattle.finite_map.specs.declared.Call.TheVariants.{Insert}
 use Rattle.finite_map.specs.declared.Change.{Change}
@@ -17,13 +17,13 @@ abbrev pub items_of : Option Tree → List Item
 items_of None = []
 items_of (Some tree) = items tree
 
--- The keys and values of a version's leaves, in order.
+-- The keys and values of the leaves of a version, in key order.
 abbrev pub content : Option Tree → Map
 content tree = pairs (items_of tree)
 
--- The leaf record of this number, with a change's key and value.
+-- The leaf with this record number, and with the change's key and value.
 abbrev pub item_of : (number : ℕ) → (change : Change) → Item
-item_of n change = record { number = n; key = change.key; value = change.value }
+item_of number change = record { number = number; key = change.key; value = change.value }
 
 -- The change by which the pass adds this leaf.
 abbrev pub added_change : (pass : ℕ) → (item : Item) → Change
@@ -37,24 +37,24 @@ replaced_change pass item = record { pass = pass; key = item.key; value = item.v
 abbrev pub removed_change : (pass : ℕ) → (item : Item) → Change
 removed_change pass item = record { pass = pass; key = item.key; value = item.value; kind = Removed }
 
--- the notes of answered insertions of these leaves, one after the other, at places from `place` on
+-- the notes of insertions of these leaves, one after the other, at places from `place` on; each has the reply `Inserted`
 abbrev pub added_notes : (place : ℕ) → (leaves : List Item) → List Note
-added_notes n [] = []
-added_notes n (x ∷ xs) = record { place = n; call = Insert x.key x.value; reply = Inserted } ∷ added_notes (suc n) xs
+added_notes place [] = []
+added_notes place (first ∷ others) = record { place = place; call = Insert first.key first.value; reply = Inserted } ∷ added_notes (suc place) others
 
--- What a change of this kind makes of a list of leaves. The list gets the leaf, gets it in place of one with the same key, or loses it.
+-- What a change of this kind makes of a list of leaves. The list gets the leaf, or gets it in place of one with the same key, or loses it.
 abbrev pub IsChanged : (kind : Kind) → (item : Item) → (before after : List Item) → Type 0
-IsChanged Added item xs ys = IsMore item xs ys
-IsChanged Replaced item xs ys = (other : Item) × (other.key ≡ item.key) × IsExchange other item xs ys
-IsChanged Removed item xs ys = IsMore item ys xs
+IsChanged Added item before after = IsMore item before after
+IsChanged Replaced item before after = (other : Item) × (other.key ≡ item.key) × IsExchange other item before after
+IsChanged Removed item before after = IsMore item after before
 
--- From one version to the next one leaf changes, as the change tells.
+-- From one version to the next one leaf changes, as the change says.
 abbrev pub IsChange : (before : Option Tree) → (change : Change) → (after : Option Tree) → Type 0
-IsChange s change t = (n : ℕ) × IsChanged change.kind (item_of n change) (items_of s) (items_of t)
+IsChange before change after = (number : ℕ) × IsChanged change.kind (item_of number change) (items_of before) (items_of after)
 
--- Each number of changes has its version, whose content is the map of so many first changes. Each change is legal on the map of those
--- before it.
+-- The versions tell these changes. There are as many as versions after the empty one. The content of version n is the map after the first n
+-- changes, and each change is legal on the map before it.
 pub record TellChanges (past : Past) (changes : List Change) : Type 0 where
   pub count : length changes ≡ past.now
-  pub content_is : (n : ℕ) → n ≤ past.now → content (past.version n) ≡ map_of (take n changes)
+  pub content_is : (version : ℕ) → version ≤ past.now → content (past.version version) ≡ map_of (take version changes)
   pub legal : LegalFront changes

@@ -14,11 +14,11 @@ abbrev pub AreApart : {X : Type 0} → List X → Type 0
 AreApart [] = Unit {0}
 AreApart (x ∷ xs) = (¬ (IsOneOf x xs)) × AreApart xs
 
--- From version `s` to the next, `t`, just the records `new` are linked anew. Just the records `gone`, each listed once, are linked no more.
--- Either version may be empty.
-pub record HasTraded (s t : Option Tree) (new gone : List Rec) : Type 0 where
-  pub comes : (rec : Rec) → IsLinked t rec → IsLinked s rec ⊎ IsOneOf rec new
-  pub came : (rec : Rec) → IsOneOf rec new → IsLinked t rec × (IsLinked s rec → ⊥)
-  pub goes : (rec : Rec) → IsLinked s rec → IsLinked t rec ⊎ IsOneOf rec gone
-  pub went : (rec : Rec) → IsOneOf rec gone → IsLinked s rec × (IsLinked t rec → ⊥)
+-- From the version `before` to the next one, `after`, just the records `new` are linked anew. Just the records `gone`, each listed once,
+-- are unlinked. Either version may be empty.
+pub record HasTraded (before after : Option Tree) (new gone : List Rec) : Type 0 where
+  pub comes : (rec : Rec) → IsLinked after rec → IsLinked before rec ⊎ IsOneOf rec new
+  pub came : (rec : Rec) → IsOneOf rec new → IsLinked after rec × (IsLinked before rec → ⊥)
+  pub goes : (rec : Rec) → IsLinked before rec → IsLinked after rec ⊎ IsOneOf rec gone
+  pub went : (rec : Rec) → IsOneOf rec gone → IsLinked before rec × (IsLinked after rec → ⊥)
   pub apart : AreApart gone

@@ -3,7 +3,7 @@ use Rattle.bulk_load.proofs.Common.{zero, suc, ◌≡◌, ◌⊎◌, inl, inr, �
 use Rattle.std.proofs.Common.{append_assoc}
 use Rattle.bulk_load.specs.declared.builder.Builder.{Builder}
 use Rattle.bulk_load.specs.declared.builder.StackedPiece.{StackedPiece}
-use Rattle.bulk_load.specs.Loading.{CanJoin, HasPieces, IsOnePiece, HasTakenNone, IsJoined, IsLoading, CanPart, FitsOneNode, HasNodesFor, IsOfLeaves, MayStandBeside, IsPiece, IsStackOf, IsTreeOf, StandsFor, greatest_key}
+use Rattle.bulk_load.specs.Loading.{CanJoin, HasPieces, IsOnePiece, HasTakenNone, IsJoined, IsLoading, CanPart, FitsOneNode, HasNodesFor, IsOfLeaves, MayStandBeside, IsPiece, IsStackOf, IsTreeOf, MayTakePlaceOf, greatest_key}
 use Rattle.bulk_load.specs.Stacks.{LeftPiece, left_piece, whole_of, counts, position_of, front_tips, with_right}
 use Rattle.bulk_load.proofs.Stacks.{fronts, items_joined, last_joined, local_inner, tips_joined}
 use Rattle.bulk_load.proofs.tips.Rows.{head_entry, tips_split as piece_split}
@@ -172,11 +172,11 @@ pub first_piece : (l : Builder) (xs : List Item) (s : IsStackOf l xs) (i : ℕ) 
 first_piece l xs s i x e is = record { tree = s.tree; count_is = top_count l s.levels s.top s.pieces i x e is; behind_is = refl }
 
 next_piece : (l new : Builder) (m : LeftPiece) (ms : List LeftPiece) (top : Tree) (h : HasPieces l (m ∷ ms) top) (i : ℕ) (x : StackedPiece) → i + 2 ≡ length l.pieces.items → x ≡ get_or l.pieces.items i x →
-    (y : Tree) (behind : ℕ) → StandsFor y top behind → IsTreeOf new (whole_of (m ∷ ms) y) → IsPiece new ms m.tree (Some (left_piece y m.position)) x.count behind
+    (y : Tree) (behind : ℕ) → MayTakePlaceOf y top behind → IsTreeOf new (whole_of (m ∷ ms) y) → IsPiece new ms m.tree (Some (left_piece y m.position)) x.count behind
 next_piece l new m ms top h i x e is y behind st t = record { tree = t; count_is = next_count l m ms top h i x e is; behind_is = sym st.count_is }
 
 pub second_piece : (l new : Builder) (ls : List LeftPiece) (top : Tree) (h : HasPieces l ls top) (i : ℕ) (x : StackedPiece) → i + 2 ≡ length l.pieces.items → x ≡ get_or l.pieces.items i x →
-    (y : Tree) (behind : ℕ) → StandsFor y top behind → IsTreeOf new (whole_of ls y) → (ms : List LeftPiece) × (z : Tree) × (right : Option LeftPiece) × IsPiece new ms z right x.count behind
+    (y : Tree) (behind : ℕ) → MayTakePlaceOf y top behind → IsTreeOf new (whole_of ls y) → (ms : List LeftPiece) × (z : Tree) × (right : Option LeftPiece) × IsPiece new ms z right x.count behind
 second_piece l new [] top h i x e is y behind st t = absurd (let long = pieces_long l [] top h in omega (arith, e, long))
 second_piece l new (m ∷ ms) top h i x e is y behind st t = (ms, m.tree, Some (left_piece y m.position), next_piece l new m ms top h i x e is y behind st t)
 
@@ -185,7 +185,7 @@ pub both_fit : (l : Builder) (xs : List Item) (s : IsStackOf l xs) (i j : ℕ) (
     j + 1 ≡ length l.pieces.items → right ≡ get_or l.pieces.items j right → right.count + left.count ≤ length l.tips.items
 both_fit l xs s i j left right long left_is longer right_is =
     let p = first_piece l xs s j right longer right_is in
-    let same : StandsFor s.top s.top right.count = record { count_is = sym p.count_is; same_items = refl; same_first = refl; same_last = refl; above = λ q h. h } in
+    let same : MayTakePlaceOf s.top s.top right.count = record { count_is = sym p.count_is; same_items = refl; same_first = refl; same_last = refl; above = λ q h. h } in
     let (ms, z, beside, q) = second_piece l l s.levels s.top s.pieces i left long left_is s.top right.count same s.tree in
     omega (arith, fits l ms z beside left.count right.count q)
 
@@ -208,8 +208,8 @@ module _ (l between closed new : Builder) (xs : List Item) (i : ℕ) (left whole
     (sum : whole.count ≡ count + behind) (small : count + behind ≤ 32) (same_tree : (t : Tree) → IsTreeOf closed t → IsTreeOf new t)
     (pieces_are : new.pieces.items ≡ slice_set (take (i + 1) l.pieces.items) i whole) (same_last : new.last ≡ l.last) (room : HasNodesFor new 0) (few : new.nodes + length new.tips.items ≤ length xs)
     (low : new.nodes ≡ 0 → All IsOfLeaves new.pieces.items) (bare : length xs ≤ 32 → new.nodes ≡ 0)
-    (closes : (ms : List LeftPiece) (z : Tree) (right : Option LeftPiece) → IsPiece between ms z right left.count behind → (w : Tree) × StandsFor w z count × IsTreeOf closed (whole_of ms (with_right w right))) where
-  pub joined_stack : (ls : List LeftPiece) (top : Tree) → HasPieces l ls top → items (whole_of ls top) ≡ xs → l.last ≡ greatest_key (whole_of ls top) → (y : Tree) → StandsFor y top behind →
+    (closes : (ms : List LeftPiece) (z : Tree) (right : Option LeftPiece) → IsPiece between ms z right left.count behind → (w : Tree) × MayTakePlaceOf w z count × IsTreeOf closed (whole_of ms (with_right w right))) where
+  pub joined_stack : (ls : List LeftPiece) (top : Tree) → HasPieces l ls top → items (whole_of ls top) ≡ xs → l.last ≡ greatest_key (whole_of ls top) → (y : Tree) → MayTakePlaceOf y top behind →
       IsTreeOf between (whole_of ls y) → IsJoined new xs ls
   joined_stack [] top h content last y st t = absurd (let more = pieces_long l [] top h in omega (arith, long, more))
   joined_stack (m ∷ ms) top h content last y st t =

@@ -5,7 +5,7 @@ use Rattle.hot_c.specs.Calls.{KeepsAll}
 use Rattle.hot_c.specs.Ends.{FindsBy, FindsFirstIn}
 use Rattle.hot_c.specs.Orders.{IsFilledIn}
 use Rattle.hot_c.specs.Pairs.{IsPairTold}
-use Rattle.hot_c.specs.Scans.{HasFilled, ListsNothing}
+use Rattle.hot_c.specs.Scans.{HasFilledList, ListsNothing}
 use Rattle.hot_c.specs.declared.opened.Opened.{Opened}
 use Rattle.hot_c.specs.declared.pairs.Order.{Order}
 use Rattle.hot_c.specs.declared.pairs.Pair.{Pair}
@@ -18,7 +18,7 @@ one_at_most (pair ∷ []) few = refl
 one_at_most (pair ∷ next ∷ pairs) few = absurd (omega (arith, few))
 
 module _ (order : Order) {from upto : List ℕ} {old new : Option Opened} {before after : Pair} {status : ℕ} where
-  pub found : {mid : Option Opened} {count : ℕ} {is_more : Bool} (h : HasFilled (IsFilledIn order) (range_from from upto 1) old mid count is_more) (u v : Opened) → mid ≡ Some u → new ≡ Some v → KeepsAll u v
+  pub found : {mid : Option Opened} {count : ℕ} {is_more : Bool} (h : HasFilledList (IsFilledIn order) (range_from from upto 1) old mid count is_more) (u v : Opened) → mid ≡ Some u → new ≡ Some v → KeepsAll u v
       → IsPairTold (slice_get u.list 0) before after status → FindsFirstIn order from upto old new before after status
   found {is_more = is_more} h u v is last kept told = record {
     closed = λ none. absurd (not_closed h u is none);

@@ -1,7 +1,7 @@
 -- The pairs of a list are written to an array, one after the other.
 use Rattle.hot_c.proofs.Common.{◌≡◌, ℕ, zero, suc, ◌+◌, ◌<◌, ◌≤◌, List, [], ◌∷◌, ◌++◌, length, drop, reverse, All, Some, sym, ap, ◌∙◌, subst, arith, get_or, slice_set, slice_get, drop-set-lt, length-drop, length-set, reverse-append, All-head, All-tail, IsKey}
 use Rattle.std.proofs.lemmas.Option.{slice_get_within}
-use Rattle.hot_c.specs.Pairs.{AreSpelled, BecomesAt, Spells}
+use Rattle.hot_c.specs.Pairs.{HoldPairs, BecomesAt, HoldsPair}
 use Rattle.hot_c.specs.declared.pairs.Pair.{Pair}
 use Rattle.hot_c.proofs.opening.Places.{at_both, one_less, written}
 
@@ -37,7 +37,7 @@ module _ (pairs : List (List ℕ × ℕ)) (left : List (List ℕ × ℕ)) (n : �
     is_inside room = let low = (at_place n pairs e rest (h.left_are ∙ is)).0 in let count = h.count in omega (arith, low, count, room)
 
     -- one pair more is written
-    pub one_more : length pairs ≤ length before → (d pair : Pair) → Spells e (get_or after n d) pair → HasWritten pairs rest (n + 1) before (slice_set after n pair)
+    pub one_more : length pairs ≤ length before → (d pair : Pair) → HoldsPair e (get_or after n d) pair → HasWritten pairs rest (n + 1) before (slice_set after n pair)
     one_more room d pair spelled =
         let (low, got) = at_place n pairs e rest (h.left_are ∙ is) in
         let was = at_both n after before d (is_inside room) h.others in
@@ -47,7 +47,7 @@ module _ (pairs : List (List ℕ × ℕ)) (left : List (List ℕ × ℕ)) (n : �
           keys = All-tail (λ (pair : List ℕ × ℕ). IsKey pair.0) e rest (subst HaveKeys is h.keys);
           count = length-set after n pair ∙ h.count;
           written = written (BecomesAt before) pairs after n pair (is_inside room) h.written
-              (λ f g. (get_or after n d, was, subst (λ (x : List ℕ × ℕ). Spells x (get_or after n d) pair) (same e f (sym got ∙ g)) spelled));
+              (λ f g. (get_or after n d, was, subst (λ (x : List ℕ × ℕ). HoldsPair x (get_or after n d) pair) (same e f (sym got ∙ g)) spelled));
           others = drop-set-lt (n + 1) after n pair (omega arith) ∙ one_less n after ∙ ap (drop 1) h.others ∙ sym (one_less n before);
         }
 
@@ -56,7 +56,7 @@ module _ (pairs : List (List ℕ × ℕ)) (left : List (List ℕ × ℕ)) (n : �
     many = let l = length-drop n pairs in let z : length (drop n pairs) ≡ 0 = ap length (h.left_are ∙ none) in let short = h.short in omega (arith, l, z, short)
 
     -- all are written
-    pub all_written : AreSpelled pairs before after
+    pub all_written : HoldPairs pairs before after
     all_written q e got = let low = slice_get_within pairs q e got in let all = many in h.written q e (omega (arith, low, all)) got
 
     pub others_kept : drop (length pairs) after ≡ drop (length pairs) before

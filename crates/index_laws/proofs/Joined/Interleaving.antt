@@ -266,8 +266,8 @@ record IsLife (table : TableView) (q : ℕ) (hs : List Happening) (e : SeatView)
 
 life_of : {table : TableView} {q : ℕ} {done : List Happening} {s : SeatView} → q < table.layout.passes → HasGoneThrough table q done s → (hs : List Happening) (e : SeatView) →
     Life table q s None hs e → IsLife table q (done ++ hs) e
-life_of low (new {s = s} is) hs e l = record { start = s; fresh = is; life = l }
-life_of {table} {q} low (loader {s = m} first words load is) hs e l =
+life_of low (new {start = s} is) hs e l = record { start = s; fresh = is; life = l }
+life_of {table} {q} low (loader {start = m} first words load is) hs e l =
     let notes : List Note = insertion_notes table.layout words in
     let start : SeatView = unloaded m in
     let made : MakesStep table (load_of words) notes start m = record {
@@ -281,13 +281,13 @@ life_of {table} {q} low (loader {s = m} first words load is) hs e l =
       life = asks (insertions table.layout words) (closes (load_of words) notes (responds q notes) made
           (loaded (record { words = words; load = load; new = refl; loader = is.1; calls_are = refl; notes_are = refl })) l);
     }
-life_of {table} {q} low (called {done = done} {s = s} {e = m} before_it calls acts last said ends {ended = h} so) hs e l =
+life_of {table} {q} low (called {done = done} {start = s} {end = m} before_it calls acts last said ends {ended = h} so) hs e l =
     let this : List Happening = call_of q calls acts last (notes_of_end table acts last said s m ends) h in
     subst (λ z. IsLife table q z e) (sym (append_assoc done this hs)) (life_of low before_it (this ++ hs) e (one_call table q s m e hs calls acts last said ends h so l))
-life_of {table} {q} low (shown {done = done} {s = s} {e = m} before_it all more known) hs e l =
+life_of {table} {q} low (shown {done = done} {start = s} {end = m} before_it all more known) hs e l =
     subst (λ z. IsLife table q z e) (sym (append_assoc done (shows q m.known.front ∷ []) hs)) (life_of low before_it (shows q m.known.front ∷ hs) e (sees m.known.front
     (inl (all, more, known)) l))
-life_of {table} {q} low (stamped {done = done} {s = s} {e = m} before_it is) hs e l =
+life_of {table} {q} low (stamped {done = done} {start = s} {end = m} before_it is) hs e l =
     subst (λ z. IsLife table q z e) (sym (append_assoc done (shows q s.known.front ∷ []) hs))
     (life_of low before_it (shows q s.known.front ∷ hs) e (sees s.known.front (inr (ap (λ (z : SeatView). z.known) is, ap (λ (z : SeatView). z.trace) is, refl)) l))
 
@@ -298,7 +298,7 @@ runs_named table acts s e runs = (runs_same table untold acts (s, tt) (e, tt) ru
 pub named_by : {table : TableView} {q : ℕ} {done : List Happening} {s : SeatView} → HasGoneThrough table q done s → s.known.pass ≡ q
 named_by (new is) = ap (λ (k : Known). k.pass) is.1
 named_by (loader first words load is) = ap (λ (k : Known). k.pass) is.1 ∙ sym first
-named_by {table} (called {s = s} before_it calls acts last said ends so) = ends.2.seat.2 ∙ (runs_named table acts s ends.0.0 ends.1 ∙ named_by before_it)
+named_by {table} (called {start = s} before_it calls acts last said ends so) = ends.2.seat.2 ∙ (runs_named table acts s ends.0.0 ends.1 ∙ named_by before_it)
 named_by (shown before_it all more known) = all.pass ∙ named_by before_it
 named_by (stamped before_it is) = ap (λ (z : SeatView). z.known.pass) is ∙ named_by before_it
 

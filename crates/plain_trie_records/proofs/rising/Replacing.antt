@@ -2,7 +2,7 @@
 use Rattle.plain_trie_records.proofs.Common.{◌≡◌, ◌⊎◌, inl, inr, ℕ, suc, ◌+◌, ◌*◌, ◌<◌, ◌≤◌, Bool, true, false, List, refl, ap, ap₂, sym, ◌∙◌, arith, if◌then◌else◌, MatchBool, lt-ltb, false≢true, MAX_BYTES, Place, Fork, places, size, NodeView, piece, greatest_height, head_of, Entry, affected, IsAdded, put, IsInOwnSubtrie, IsPathBelow, Item, Key, bit, spot, without_marks, child, Subtrie, Fixed, Tree, leaf, node, fork, subtrie, IsTrie, IsBuilt, IsLower, first_position, Within, here, inside, zero_side, one_side, IsTip, has_within, grafted, IsAbovePath, WayBelow, size-piece, body_bound, greatest_if_lower, node_built, fork_of_two_places, Risen, Whole, Split, subtrie_of}
 use Rattle.tries.proofs.Place.Spots.{path_spot, grafted_spot}
 use Rattle.plain_trie_records.specs.declared.leaf.LeafRecord.{LeafRecord}
-use Rattle.plain_trie_records.specs.Risen.{IsNamed, IsFor, RisenShows}
+use Rattle.plain_trie_records.specs.Risen.{IsNamed, StandsForSubtrie, RisenShows}
 use Rattle.plain_trie_records.specs.Store.{ShowsTree}
 use Rattle.plain_trie_records.specs.Rising.{StaysStored}
 use Rattle.plain_trie_records.proofs.Store.{lower_more, shown_kept}
@@ -47,7 +47,7 @@ module _ (ms : List NodeView) (ls : List LeafRecord) (old : NodeView) (bounded :
           let g : first_position (piece old) ≡ first_position (subtrie s) = sym e.1 ∙ ap first_position i.shows in
           omega (arith, bounded)
 
-  for_around : (e : Entry) (s : Tree) → IsFor ms old e (subtrie s) → IsTrie s → IsBuilt s → ShowsTree ms ls s → IsLower old.height s → IsAround ms ls old.height (Place e) s
+  for_around : (e : Entry) (s : Tree) → StandsForSubtrie ms old e (subtrie s) → IsTrie s → IsBuilt s → ShowsTree ms ls s → IsLower old.height s → IsAround ms ls old.height (Place e) s
   for_around e s (inl is) trie built shown low =
       record { tree = s; begins = is; same = refl; built = built; lower = lower_more ms old.height (suc old.height) s low (omega arith); shown = shown }
   for_around e s (inr i) trie built shown low = named_around e s i trie built shown low

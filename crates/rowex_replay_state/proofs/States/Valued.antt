@@ -7,7 +7,7 @@ use Rattle.rowex_core.proofs.Cores.Valuing.{fate_stays, valued_in_tree, value_tr
 use Rattle.rowex_replay_state.specs.declared.linked.Item.{Item as ReadItem}
 use Rattle.rowex_replay_state.specs.Versions.{read_item}
 use Rattle.rowex_replay_state.specs.declared.fate.Fate.TheVariants.{InTree as IsTree}
-use Rattle.rowex_replay_state.specs.Records.{AreRecordsOf, HasKeyIn, IsSpelledIn, with_words_in}
+use Rattle.rowex_replay_state.specs.Records.{AreRecordsOf, HasKeyIn, IsEncodedIn, with_words_in}
 use Rattle.rowex_replay_state.specs.States.{StateView, HasNamerLocked, IsStateOf, IsStepped}
 use Rattle.rowex_replay_state.specs.Publishing.{AreRevalued, revalued_item}
 use Rattle.rowex_replay_state.proofs.Tables as table
@@ -82,7 +82,7 @@ namer_from s c q l law h (in_node n since place lock fate low names) =
     )
 
 -- a leaf that is named so has words that spell it
-pub named_spelled : (s : StateView) (c : Core) (q l : ℕ) → IsLawful c → IsStateOf s c → IsLockedAt c q (Value l) → IsSpelledIn s.records (a_leaf l)
+pub named_spelled : (s : StateView) (c : Core) (q l : ℕ) → IsLawful c → IsStateOf s c → IsLockedAt c q (Value l) → IsEncodedIn s.records (a_leaf l)
 named_spelled s c q l law h named =
     (c.words (a_leaf l), words_from s c h (a_leaf l) named.0, law.records.packed (a_leaf l) (subst MustSpellValue (sym (valued_in_tree c q l 0 law named).1) tt))
 
@@ -107,7 +107,7 @@ list_revalued l w (y ∷ ys) (x ∷ xs) a =
 pub not_named : (s t : StateView) (q l w : ℕ) → t ≡ s → ¬ (HasNamerLocked s q l) → IsStepped false s t q (Publish (Value l) w)
 not_named s t q l w same none = (same, λ c law h legal. none (namer_from s c q l law h legal.0.1))
 
-pub not_there : (s t : StateView) (q l w : ℕ) → t ≡ s → ¬ (IsSpelledIn s.records (a_leaf l)) → IsStepped false s t q (Publish (Value l) w)
+pub not_there : (s t : StateView) (q l w : ℕ) → t ≡ s → ¬ (IsEncodedIn s.records (a_leaf l)) → IsStepped false s t q (Publish (Value l) w)
 not_there s t q l w same none = (same, λ c law h legal. none (named_spelled s c q l law h legal.0))
 
 module _ (s : StateView) (q l w : ℕ) (fits : l < 2 ^ 32) (small : w < 2 ^ 64) (named : HasNamerLocked s q l) (key : List ℕ) (has : HasKeyIn s.records l key)

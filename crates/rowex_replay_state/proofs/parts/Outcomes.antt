@@ -3,7 +3,7 @@ use Rattle.rowex_replay_state.proofs.Common.{◌≡◌, ◌↔◌, ◌⊎◌, in
 use Rattle.rowex_replay_state.specs.declared.linked.Item.{Item as ReadItem}
 use Rattle.rowex_replay_state.specs.declared.linked.Linked.{Linked}
 use Rattle.rowex_replay_state.specs.Versions.{AreWordsOf, read_item, Table}
-use Rattle.rowex_replay_state.specs.Parts.{ShowsPart, HasMarks, GrowsBy, AddsLeaf, SpellsNode, IsTreeRead}
+use Rattle.rowex_replay_state.specs.Parts.{ShowsPart, HasMarks, GrowsBy, AddsLeaf, EncodesNode, IsTreeRead}
 use Rattle.rowex_replay_state.proofs.parts.Grown.{leaf_grown, node_grown, fork_grown, first_read}
 use Rattle.rowex_replay_state.proofs.parts.Parts.{leaf_part, no_leaf, node_part, node_back, fork_part, fork_back, one_tree}
 
@@ -27,7 +27,7 @@ module _ (table : Table) (words : Rec → List ℕ) (are : AreWordsOf table word
   )
   leaf_read n false old new room taken = λ t. no_leaf table words are least n t taken.0
 
-  module _ (n h : ℕ) (view : NodeView) (cut : Cut) (at : SpellsNode table.nodes n h view) (cuts : CutShows cut (piece view)) where
+  module _ (n h : ℕ) (view : NodeView) (cut : Cut) (at : EncodesNode table.nodes n h view) (cuts : CutShows cut (piece view)) where
     pub no_height : 9 * MAX_BYTES < h + cut.position → (t : Tree) → ¬ (ShowsPart table words least (Place (Node n h)) t)
     no_height over t part =
         let b = node_back table words are least n h view t at part in

@@ -3,8 +3,8 @@ use Rattle.rowex_replay_state.proofs.Common.{◌≡◌, ◌⊎◌, inl, inr, ℕ
 use Rattle.partial_keys.specs.Shows.{ShowsPiece}
 use Rattle.rowex_replay_state.proofs.parts.Lists.{all_parts}
 use Rattle.rowex_replay_state.proofs.node.Small.{node_small}
-use Rattle.rowex_replay_state.specs.Versions.{AreWordsOf, IsSpelled, Table}
-use Rattle.rowex_replay_state.specs.Parts.{IsForkedFrom, ShowsPart, IsLeafAt, SpellsNode}
+use Rattle.rowex_replay_state.specs.Versions.{AreWordsOf, IsEncoded, Table}
+use Rattle.rowex_replay_state.specs.Parts.{IsForkedFrom, ShowsPart, IsLeafAt, EncodesNode}
 
 -- Where a first fork stands
 above_from : (p : ℕ) (t : Tree) → IsForkedFrom (p + 1) t → IsAbove p t
@@ -42,24 +42,24 @@ module _ (table : Table) (words : Rec → List ℕ) (are : AreWordsOf table word
     local = at.has.key;
     built = tt;
     from = tt;
-    spelled = λ r e. subst (IsSpelled table words) (sym e) (at.in_table, leaf_packed n pair at);
+    spelled = λ r e. subst (IsEncoded table words) (sym e) (at.in_table, leaf_packed n pair at);
   }
 
-  leaf_spelled : (n : ℕ) → IsSpelled table words (a_leaf n) → (pair : List ℕ × ℕ) × IsLeafAt table.leaves n pair
+  leaf_spelled : (n : ℕ) → IsEncoded table words (a_leaf n) → (pair : List ℕ × ℕ) × IsLeafAt table.leaves n pair
   unfolding IsPacked
   leaf_spelled n s = (s.1.0, record { in_table = s.0; has = s.1.1; spelling = s.1.2 ∙ ap up_to_key (are.leaves_are n s.0) })
 
   pub no_leaf : (least n : ℕ) (t : Tree) → ((pair : List ℕ × ℕ) → ¬ (IsLeafAt table.leaves n pair)) → ¬ (ShowsPart table words least (Place (Leaf n)) t)
   no_leaf least n (leaf o k v) none part =
       let e : o ≡ n = leaf_parts part.subtrie_is in
-      let found = leaf_spelled n (subst (λ z. IsSpelled table words (a_leaf z)) e (part.spelled (a_leaf o) refl)) in
+      let found = leaf_spelled n (subst (λ z. IsEncoded table words (a_leaf z)) e (part.spelled (a_leaf o) refl)) in
       none found.0 found.1
   no_leaf least n (node o x b) none part = let e = part.subtrie_is in absurd cc
   no_leaf least n (fork p a b) none part = let e = part.subtrie_is in absurd cc
 
   -- Nodes
 
-  node_packed : (n h : ℕ) (view : NodeView) → SpellsNode table.nodes n h view → IsPacked (a_node n) (words (a_node n))
+  node_packed : (n h : ℕ) (view : NodeView) → EncodesNode table.nodes n h view → IsPacked (a_node n) (words (a_node n))
   unfolding IsPacked
   node_packed n h view at = (view, at.has, at.spelling ∙ sym (are.nodes_are n at.in_table))
 
@@ -75,7 +75,7 @@ module _ (table : Table) (words : Rec → List ℕ) (are : AreWordsOf table word
     bound = bound;
   })
 
-  pub node_part : (least n h : ℕ) (view : NodeView) (b : Tree) → SpellsNode table.nodes n h view → h + first_position (piece view) ≤ 9 * MAX_BYTES → IsFork b →
+  pub node_part : (least n h : ℕ) (view : NodeView) (b : Tree) → EncodesNode table.nodes n h view → h + first_position (piece view) ≤ 9 * MAX_BYTES → IsFork b →
       ShowsPart table words least (piece view) b → ShowsPart table words least (Place (Node n h)) (node n (head_of view) b)
   node_part least n h view b at bound two part = record {
     subtrie_is = ap (λ z. Place (Node n z)) at.height_is;
@@ -91,24 +91,24 @@ module _ (table : Table) (words : Rec → List ℕ) (are : AreWordsOf table word
     spelled = of;
   }
     where
-      of : (r : Rec) → (r ≡ a_node n) ⊎ Links b r → IsSpelled table words r
-      of r (inl e) = subst (IsSpelled table words) (sym e) (at.in_table, node_packed n h view at)
+      of : (r : Rec) → (r ≡ a_node n) ⊎ Links b r → IsEncoded table words r
+      of r (inl e) = subst (IsEncoded table words) (sym e) (at.in_table, node_packed n h view at)
       of r (inr l) = part.spelled r l
 
-  node_spelled : (n : ℕ) → IsSpelled table words (a_node n) → (view : NodeView) × (n < length table.nodes) × HasNodeWords view × (node_words view ≡ get_or table.nodes n [])
+  node_spelled : (n : ℕ) → IsEncoded table words (a_node n) → (view : NodeView) × (n < length table.nodes) × HasNodeWords view × (node_words view ≡ get_or table.nodes n [])
   unfolding IsPacked
   node_spelled n s = (s.1.0, s.0, s.1.1, s.1.2 ∙ are.nodes_are n s.0)
 
-  pub no_node : (least n h : ℕ) (t : Tree) → ((view : NodeView) → ¬ (SpellsNode table.nodes n h view)) → ¬ (ShowsPart table words least (Place (Node n h)) t)
+  pub no_node : (least n h : ℕ) (t : Tree) → ((view : NodeView) → ¬ (EncodesNode table.nodes n h view)) → ¬ (ShowsPart table words least (Place (Node n h)) t)
   no_node least n h (leaf o k v) none part = let e = part.subtrie_is in absurd cc
   no_node least n h (fork p a b) none part = let e = part.subtrie_is in absurd cc
   no_node least n h (node o x b) none part =
       let e = node_parts part.subtrie_is in
-      let s = node_spelled n (subst (λ z. IsSpelled table words (a_node z)) e.0 (part.spelled (a_node o) (inl refl))) in
+      let s = node_spelled n (subst (λ z. IsEncoded table words (a_node z)) e.0 (part.spelled (a_node o) (inl refl))) in
       let w : record { fixed = x; subtrie = subtrie b } ≡ record { fixed = head_of s.0; subtrie = piece s.0 } = sym part.shown.0 ∙ (ap (λ z. node_words_of (words (a_node z))) e.0 ∙ words_are n s.0 s.1 s.2 s.3) in
       none s.0 (record { in_table = s.1; has = s.2; spelling = s.3; height_is = sym (ap (λ (z : NodeWords). z.fixed.height) w) ∙ e.1 })
 
-  pub node_back : (least n h : ℕ) (view : NodeView) (t : Tree) → SpellsNode table.nodes n h view → ShowsPart table words least (Place (Node n h)) t →
+  pub node_back : (least n h : ℕ) (view : NodeView) (t : Tree) → EncodesNode table.nodes n h view → ShowsPart table words least (Place (Node n h)) t →
       (b : Tree) × ShowsPart table words least (piece view) b × (h + first_position (piece view) ≤ 9 * MAX_BYTES)
   node_back least n h view (leaf o k v) at part = let e = part.subtrie_is in absurd cc
   node_back least n h view (fork p a b) at part = let e = part.subtrie_is in absurd cc
@@ -134,7 +134,7 @@ module _ (table : Table) (words : Rec → List ℕ) (are : AreWordsOf table word
     spelled = of;
   }
     where
-      of : (r : Rec) → Links a r ⊎ Links b r → IsSpelled table words r
+      of : (r : Rec) → Links a r ⊎ Links b r → IsEncoded table words r
       of r (inl l) = zero.spelled r l
       of r (inr l) = one.spelled r l
 

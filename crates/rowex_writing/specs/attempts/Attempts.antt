@@ -35,13 +35,13 @@ use Rattle.rowex_reading.specs.Seen.{Sure}
 use Rattle.versions.specs.State.{IsHeldSince, WasAbsentSince}
 use Rattle.rowex_writing.specs.store.Values.{HasMoved}
 
--- the step is a load of a search: of the root, or below it
+-- the step is a load of a search: of the root, or of a word below it
 abbrev pub IsOfSearch : Act → Type 0
 IsOfSearch (LoadRef Root word) = Unit {0}
 IsOfSearch act = IsBelowRoot act
 
--- The acts are the steps of one attempt, its pin left out: first those of its search, then the rest. None gives a record back, and no lock
--- is tried twice. The nodes on the search's path and the locks tried bound their number.
+-- The acts are the steps of one attempt without those on its pin: first the search's, then the rest. None gives a record back, and none
+-- tries a lock that was tried before. Their number is bounded by the nodes on the search's path and the locks tried.
 pub record AreAttemptSteps (layout : Layout) (acts : List Act) : Type 0 where
   pub search : List Act
   pub rest : List Act
@@ -53,12 +53,12 @@ pub record AreAttemptSteps (layout : Layout) (acts : List Act) : Type 0 where
   pub locks : length (targets_of acts) ≤ most_locks
   pub few : length acts ≤ attempt_steps layout (entries_in search) (length (targets_of acts))
 
--- the pass makes the steps of an attempt, but for its pin, and the gate is told each
+-- the pass makes the steps of one attempt, without those on its pin, and the gate is told each
 abbrev pub HasAttempted : {G : Type 0} → (table : TableView) → (becomes : G → Event → G → Type 0) → (old new : SeatView × G) → Type 0
 HasAttempted table becomes old new = (acts : List Act) × AreAttemptSteps table.layout acts × Runs table becomes acts old new
 
--- A call with this reply has only looked. In a version since the pass's last load of the root, its key had a value, or none, to which this
--- is the reply. The reply stands for no change.
+-- A call with this reply has changed nothing. In a version since the pass's last load of the root, its key had a value, or none. By that
+-- value this is the reply.
 abbrev pub HasLooked : (known : Known) → (call : Call) → (reply : Reply) → Type 0
 HasLooked known call reply = (held : Option ℕ) × HasFound known (key_of call) held × (reply ≡ reply_to call held) × (effect_of call reply ≡ None)
 
@@ -67,8 +67,8 @@ abbrev pub IsChangeOf : (pass : ℕ) → (call : Call) → (reply : Reply) → (
 IsChangeOf pass call reply change was =
     (reply ≡ reply_to call was) × (change_of pass (record { place = 0; call = call; reply = reply }) ≡ Some change)
 
--- Why a planned change was not made. Busy: another pass has changed the map since the search, and the pass is at rest. Full: no record of
--- the kind was free.
+-- Why a planned change was not made. Busy: the pass has seen a change made since the job's search, and is at rest. Full: no record of the
+-- kind was free.
 abbrev pub HasFailed : (layout : Layout) → (job : Job) → (old new : Known) → (made : List Rec) → (fault : TryFault) → Type 0
 HasFailed layout job old new made Busy = IsAtRest new × IsLater old new × HasMoved layout job old new
 HasFailed layout job old new made FullNodes = HasNoRoom layout job.key.now old new made Nodes
@@ -79,26 +79,26 @@ abbrev pub refusal_of : Full → TryFault
 refusal_of Nodes = FullNodes
 refusal_of Leaves = FullLeaves
 
--- The attempt has ended with this reply. It has only looked, and all changes since are other passes'. Or the pass has made one change, that
--- of the reply.
+-- The attempt has ended with this reply. Either it has only looked, and the changes in the pass's front since `old` are other passes'. Or
+-- the pass has made one change, the one that the reply tells.
 abbrev pub HasAnswered : (old new : Known) → (call : Call) → (reply : Reply) → Type 0
 HasAnswered old new call reply = (HasLooked new call reply × OthersGoOn old.pass old.front new.front) ⊎
     ((change : Change) × (was : Option ℕ) × IsChangeOf old.pass call reply change was × HasChanged old new change was)
 
--- a removal is not refused for want of a leaf record
+-- a removal does not return `leaves`, the fault that no leaf record was free
 abbrev pub LacksNoLeaf : {F : Type 0} → (leaves : F) → (call : Call) → (result : Result Reply F) → Type 0
 LacksNoLeaf leaves (Remove key) result = result ≢ Err leaves
 LacksNoLeaf leaves (RemoveIf key expected) result = result ≢ Err leaves
 LacksNoLeaf leaves call result = Unit {0}
 
--- Why an attempt was refused. As busy, a lock found its target taken by another pass, or the pass has seen a change since its pin. As full,
+-- Why an attempt was refused. Busy: a lock found its target taken by another pass, or the pass has seen a change made since its pin. Full:
 -- no node record was free, or no leaf record with room for the key.
 abbrev pub IsAttemptCause : (layout : Layout) → (key : Key) → (old new : Known) → (made : List Rec) → (fault : TryFault) → Type 0
 IsAttemptCause layout key old new made Busy = HasMetLock layout old new ⊎ ((since : ℕ) × IsPinnedSince old since × (since < length new.front))
 IsAttemptCause layout key old new made FullNodes = IsFull layout key old new made Nodes
 IsAttemptCause layout key old new made FullLeaves = IsFull layout key old new made Leaves
 
--- the fault is that no record was free
+-- the fault says that no record of some kind was free
 abbrev pub IsFullFault : TryFault → Type 0
 IsFullFault Busy = ⊥
 IsFullFault fault = Unit {0}
@@ -111,8 +111,8 @@ HasSeenKeyAbsent known key = (since : ℕ) × IsPinnedSince known since × Sure 
 abbrev pub HasSeenKeyHeld : (known : Known) → (key : Key) → (value : ℕ) → Type 0
 HasSeenKeyHeld known key value = (since : ℕ) × IsPinnedSince known since × Sure known (λ past. IsHeldSince past since key value)
 
--- A call may lack a record. It is an insertion or an upsert whose key was absent in a version since the pin. Or it is a removal whose key
--- was there, with the value that the call expects.
+-- A call may lack a record. It is an insertion or an upsert, and its key was absent in a version since the pin. Or it is a removal, and its
+-- key was held then, with the value that the call expects, if it expects one.
 abbrev pub WantsRecord : Known → Call → Type 0
 WantsRecord known (Insert key value) = HasSeenKeyAbsent known key
 WantsRecord known (Upsert key value) = HasSeenKeyAbsent known key
@@ -120,11 +120,12 @@ WantsRecord known (Remove key) = (value : ℕ) × HasSeenKeyHeld known key value
 WantsRecord known (RemoveIf key expected) = HasSeenKeyHeld known key expected
 WantsRecord known call = ⊥
 
--- a fault that no record was free comes only to a call that may lack one (`WantsRecord`)
+-- if the fault says that no record was free, the call is one that may lack a record (`WantsRecord`)
 abbrev pub IsFullOnlyIfWanting : (known : Known) → (call : Call) → (fault : TryFault) → Type 0
 IsFullOnlyIfWanting known call fault = IsFullFault fault → WantsRecord known call
 
--- The attempt was refused with this fault, and the pass has made no change. All changes since are other passes'.
+-- The attempt was refused with this fault, for its cause, and the pass has made no change. All changes in its front since `old` are other
+-- passes'.
 pub record HasRefused (layout : Layout) (key : Key) (old new : Known) (made : List Rec) (fault : TryFault) : Type 0 where
   pub others : OthersGoOn old.pass old.front new.front
   pub cause : IsAttemptCause layout key old new made fault

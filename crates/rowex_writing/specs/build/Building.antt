@@ -1,4 +1,4 @@
--- Records made for what a node becomes.
+-- Which records a pass has made for what nodes become, and what rises from node to node.
 use Rattle.std.specs.Prelude.{◌≡◌, ◌<◌, ◌≤◌, ◌+◌, ◌-◌, ◌↔◌, ℕ, List, [], ◌∷◌, ◌++◌, map, drop, take, length, slice_get, Option, MatchOption, IfSome, Some, reverse, Bool, true, IsTrue, if◌then◌else◌}
 use Rattle.compound_node.specs.Nodes.{NodeView, height_of, piece}
 use Rattle.compound_node.specs.declared.entries.Entry.{Entry}
@@ -43,30 +43,30 @@ use Rattle.rowex_writing.specs.declared.build.rising.Rise.{Rise}
 use Rattle.rowex_writing.specs.declared.build.remaking.Fork.{Fork}
 use Rattle.rowex_writing.specs.declared.build.remaking.NewLeaf.{NewLeaf}
 
--- each of the new records spells a value for which it has room
+-- the words of each new record are those of a node or a leaf, and fit into the record
 abbrev pub AreMadePacked : Layout → List Made → Type 0
 AreMadePacked layout [] = Unit {0}
-AreMadePacked layout (m ∷ news) = (IsPacked m.rec m.words × FitsIn layout m.rec m.words) × AreMadePacked layout news
+AreMadePacked layout (new ∷ news) = (IsPacked new.rec new.words × FitsIn layout new.rec new.words) × AreMadePacked layout news
 
--- `new` is the entry for a half of a cut node, and `news` are the records made for it. An entry alone needs no record, and a node has a new
--- one. A half that stays whole keeps the old entry.
+-- `new` is the entry for a half of a cut node, and `news` are the records made for it. A half of one entry needs no record. A half of
+-- several gets a new node. A half that is the whole old node keeps the old entry.
 abbrev pub IsHalfMade : (old : Entry) → (half : Half) → (new : Entry) → (news : List Made) → Type 0
 IsHalfMade old (One alone) new news = (new ≡ alone) × (news ≡ [])
 IsHalfMade old (Many view) new news = (number : ℕ) × (new ≡ Node number view.height) × (news ≡ made_of_node number view ∷ []) × HasNodeWords view
 IsHalfMade old Same new news = (new ≡ old) × (news ≡ [])
 
--- What rises in place of the node that `old` names, once its records are made. `after` lists them in front of those before, the last one
--- made first. Of a cut the upper half is made first.
+-- What rises in place of the entry `old`, once the records for it are made. `after` lists them in front of the records `before`, the last
+-- one made first. Of a cut, the upper half's record is made first.
 abbrev pub IsMadeFrom : (old : Entry) → (grown : Grown) → (risen : Risen) → (before after : List Made) → Type 0
-IsMadeFrom old (Single view) (Whole e) before after =
-    (number : ℕ) × (e ≡ Node number view.height) × (after ≡ made_of_node number view ∷ before) × HasNodeWords view
+IsMadeFrom old (Single view) (Whole alone) before after =
+    (number : ℕ) × (alone ≡ Node number view.height) × (after ≡ made_of_node number view ∷ before) × HasNodeWords view
 IsMadeFrom old (Two cut) (Split position zero one) before after =
     (lower : List Made) × (upper : List Made) × (position ≡ cut.position) × IsHalfMade old cut.zero zero lower × IsHalfMade old cut.one one upper ×
     (after ≡ lower ++ (upper ++ before))
 IsMadeFrom old grown risen before after = ⊥
 
--- What rises in place of the node `was` that gets the new leaf. It is one entry if the node has room. The node stays whole only if the
--- leaf's position is before its first fork. The records made stand in `after`, in front of those before.
+-- The node `was` gets the new leaf, and `risen` rises in its place: one entry if the node has room, else a fork. The node stays whole
+-- (`stays`) only if the leaf's position is before its first fork. `after` lists the records made, in front of the records `before`.
 pub record IsGrownFrom (old : Entry) (was : NodeView) (new : NewLeaf) (risen : Risen) (stays : Bool) (before after : List Made) : Type 0 where
   pub grown : Grown
   pub shows : GrownShows was grown (subtrie_with_leaf new (piece was))
@@ -107,8 +107,8 @@ pub record HasLeafMade (table : TableView) (seat : SeatView) (made : List Rec) (
 
 -- ---- on the way up
 
--- A pass is adding the newcomer, whose record is made. The subtrie is to take the place of the node's body or entry, as `side` says. The
--- records `gone` are to be unlinked.
+-- A pass is adding the newcomer, whose record is made. The subtrie is to take the place of what `side` names: a node's body, or the node's
+-- entry. The records `gone` are to be unlinked then.
 pub record IsRaising (table : TableView) (seat : SeatView) (made : List Rec) (gone : List Rec) (newcomer : Newcomer) (side : Side)
     (trie : Subtrie) : Type 0 where
   pub news : List Made
@@ -116,7 +116,7 @@ pub record IsRaising (table : TableView) (seat : SeatView) (made : List Rec) (go
   pub leaf : HasLeaf news newcomer.item
   pub risen : HasRisen table.layout seat.known seat.known.locks news newcomer side trie gone
 
--- What has risen is to take the place of this locked node's entry.
+-- What has risen is to take the place of the entry of node `number`, which is locked.
 pub record IsRisenAt (table : TableView) (seat : SeatView) (made : List Rec) (number : ℕ) (risen : Risen) : Type 0 where
   pub gone : List Rec
   pub newcomer : Newcomer
@@ -124,8 +124,8 @@ pub record IsRisenAt (table : TableView) (seat : SeatView) (made : List Rec) (nu
   pub locked : HasLocked seat.known number words
   pub raising : IsRaising table seat made gone newcomer (entry number) (subtrie_of risen)
 
--- What has risen so far is a fork of two entries. It is to take the place of the lower node's entry in the locked node above, which is
--- higher than both.
+-- What has risen so far is a fork of two entries. In node `above`, which is locked, the fork is to take the place of the lower node's
+-- entry. Node `above` is higher than both entries.
 pub record GetsFork (table : TableView) (seat : SeatView) (made : List Rec) (above : ℕ) (fork : Fork) : Type 0 where
   pub lower : ℕ
   pub here : IsRisenAt table seat made lower (Split fork.position fork.zero fork.one)
@@ -134,19 +134,19 @@ pub record GetsFork (table : TableView) (seat : SeatView) (made : List Rec) (abo
   pub zero_low : height_of fork.zero < (node_words_of over.upper).fixed.height
   pub one_low : height_of fork.one < (node_words_of over.upper).fixed.height
 
--- each entry that rises has at most this height
+-- what rises is no higher than this: the one entry, or both entries of the fork
 abbrev pub IsLowRisen : (height : ℕ) → (risen : Risen) → Type 0
-IsLowRisen height (Whole e) = height_of e ≤ height
+IsLowRisen height (Whole alone) = height_of alone ≤ height
 IsLowRisen height (Split position zero one) = (height_of zero ≤ height) × (height_of one ≤ height)
 
 -- what rises is a fork of two entries
 abbrev pub IsSplit : Risen → Type 0
-IsSplit (Whole e) = ⊥
+IsSplit (Whole alone) = ⊥
 IsSplit (Split position zero one) = Unit {0}
 
 -- what rises is one entry
 abbrev pub IsSingle : Risen → Type 0
-IsSingle (Whole e) = Unit {0}
+IsSingle (Whole alone) = Unit {0}
 IsSingle (Split position zero one) = ⊥
 
 -- What rises from the node with these words is no higher than the node. A fork rises if the node was full, and one entry if it had room.
@@ -155,23 +155,24 @@ pub record IsLevelRisen (words : List ℕ) (risen : Risen) : Type 0 where
   pub split : size (node_words_of words).subtrie ≡ 32 → IsSplit risen
   pub single : size (node_words_of words).subtrie < 32 → IsSingle risen
 
--- The entry's height is at most one more than this. If what rises is one entry, it is no more than this.
+-- The entry made of what rises is at most one higher than this height. If what rises is one entry, it is no higher.
 abbrev pub IsAtMostOneHigher : (height : ℕ) → Risen → Entry → Type 0
-IsAtMostOneHigher height risen e = (height_of e ≤ height + 1) × (IsSingle risen → height_of e ≤ height)
+IsAtMostOneHigher height risen made = (height_of made ≤ height + 1) × (IsSingle risen → height_of made ≤ height)
 
--- The entry is at most one higher than the node with these words. If the node has room, the entry is no higher.
+-- The entry is at most one higher than the node with these words. If that node has room for one more, the entry is no higher.
 abbrev pub FitsAbove : (words : List ℕ) → Entry → Type 0
-FitsAbove words e =
-    (height_of e ≤ (node_words_of words).fixed.height + 1) × (size (node_words_of words).subtrie < 32 → height_of e ≤ (node_words_of words).fixed.height)
+FitsAbove words made =
+    (height_of made ≤ (node_words_of words).fixed.height + 1) × (size (node_words_of words).subtrie < 32 → height_of made ≤ (node_words_of words).fixed.height)
 
--- the entry may take the place of the locked node at this index of the path
+-- the answer, if there is one, may stand in place of the locked node at index `end` of the path
 abbrev pub FitsOnWay : (known : Known) → (way : List PathNode) → (end : ℕ) → (answer : Option Entry) → Type 0
 FitsOnWay known way end answer =
     (node : PathNode) (words : List ℕ) → slice_get way end ≡ Some node → HasLocked known node.number words → IfSome answer (FitsAbove words)
 
 -- ---- at the lower end
 
--- The new leaf's record is made, and no other. The leaf goes into this locked node, at the slot to which its key leads there.
+-- The new leaf's record is made, and no other. The leaf is to go into node `number`, which is locked, at the slot to which its key leads
+-- there.
 pub record GetsLeaf (table : TableView) (seat : SeatView) (made : List Rec) (number : ℕ) (new : NewLeaf) : Type 0 where
   pub since : ℕ
   pub item : Item
@@ -184,9 +185,9 @@ pub record GetsLeaf (table : TableView) (seat : SeatView) (made : List Rec) (num
   pub part : IsPartSubtrie (subtrie_affected new.position item.key (node_words_of words).subtrie)
   pub leads : spot item.key (node_words_of words).subtrie ≡ new.slot
 
--- the newcomer that a locked node gets as its new leaf
-abbrev pub newcomer_of : {table : TableView} {a : SeatView} {made : List Rec} {number : ℕ} {new : NewLeaf} →
-    GetsLeaf table a made number new → Newcomer
+-- the newcomer that the leaf of `GetsLeaf` is, with what the search for its key found
+abbrev pub newcomer_of : {table : TableView} {seat : SeatView} {made : List Rec} {number : ℕ} {new : NewLeaf} →
+    GetsLeaf table seat made number new → Newcomer
 newcomer_of {new = new} low = record { since = low.since; item = low.item; mismatch = new.position; like = low.like }
 
 -- the record of the node to unlink, or none if the node stays whole
@@ -195,17 +196,19 @@ gone_unless_whole stays number = if stays then [] else a_node number ∷ []
 
 -- ---- a span
 
--- The nodes of the path from index `end`, the topmost, down to index `level`. Of each two that follow each other both are locked, and the
--- upper one names the lower one and is higher. An insertion of the key at this position affects no more of the upper one than that entry.
--- The nodes strictly between the ends are full. The path's nodes above `level` are of the table's `nodes` node records.
+-- Of the nodes of the path from index `end`, the topmost, down to index `level`. Each is locked, and names the next one, which is lower. An
+-- insertion of the key at this position affects no more of each upper one than that entry. The nodes strictly between the ends are full.
+-- The path's nodes above `level` are of the table's `nodes` node records.
 pub record IsLockedSpan (nodes : ℕ) (held : List Locked) (way : List PathNode) (key : Key) (position end level : ℕ) : Type 0 where
-  pub there : (i : ℕ) (s : PathNode) → i < level → slice_get way i ≡ Some s → s.number < nodes
-  pub above : (i : ℕ) (s u : PathNode) → end ≤ i → i < level → slice_get way i ≡ Some s → slice_get way (i + 1) ≡ Some u →
-      (over : IsLockedAbove held key position s.number u.number) × ((node_words_of over.lower).fixed.height < (node_words_of over.upper).fixed.height)
-  pub full : (i : ℕ) (s : PathNode) → end < i → i < level → slice_get way i ≡ Some s →
-      (words : List ℕ) → IsOneOf (record { node = s.number; words = words }) held → size (node_words_of words).subtrie ≡ 32
+  pub there : (index : ℕ) (step : PathNode) → index < level → slice_get way index ≡ Some step → step.number < nodes
+  pub above : (index : ℕ) (step next : PathNode) → end ≤ index → index < level → slice_get way index ≡ Some step →
+      slice_get way (index + 1) ≡ Some next →
+      (over : IsLockedAbove held key position step.number next.number) × ((node_words_of over.lower).fixed.height < (node_words_of over.upper).fixed.height)
+  pub full : (index : ℕ) (step : PathNode) → end < index → index < level → slice_get way index ≡ Some step →
+      (words : List ℕ) → IsOneOf (record { node = step.number; words = words }) held → size (node_words_of words).subtrie ≡ 32
 
--- What has risen takes the place of the entry of the node at `rise.level`. It is to rise on to the node at `rise.end`.
+-- What has risen so far is to take the place of the entry of the node at index `rise.level` of the path. It is to rise on, up to the node
+-- at index `rise.end`.
 pub record Rises (table : TableView) (seat : SeatView) (made : List Rec) (way : List PathNode) (rise : Rise) : Type 0 where
   pub step : PathNode
   pub at : slice_get way rise.level ≡ Some step
@@ -217,18 +220,19 @@ pub record Rises (table : TableView) (seat : SeatView) (made : List Rec) (way : 
   pub single : (other : List ℕ) → HasLocked seat.known step.number other → size (node_words_of other).subtrie < 32 → IsSingle rise.risen
   pub chain : IsLockedSpan table.layout.nodes seat.known.locks way here.newcomer.item.key here.newcomer.mismatch rise.end rise.level
 
--- through how many nodes of the path what has risen is still to rise
+-- how many nodes of the path what has risen is still to rise through
 abbrev pub levels_above : Rise → ℕ
 levels_above rise = rise.level - rise.end
 
--- the records to unlink, with the nodes of the path from `end` to before `level`
+-- the records `gone`, with the nodes of the path from index `end` to before `level` in front
 abbrev pub gone_with_way : (way : List PathNode) → (end level : ℕ) → (gone : List Rec) → List Rec
 gone_with_way way end level gone = map (λ (node : PathNode). a_node node.number) (drop end (take level way)) ++ gone
 
--- one entry has risen to the node at `end` of the path, and takes the place of that node's entry
+-- one entry has risen to the node at index `end` of the path, and is to take the place of that node's entry
 abbrev pub HasRisenTo : (table : TableView) (seat : SeatView) (made : List Rec) (way : List PathNode) (newcomer : Newcomer)
-    (end : ℕ) (gone : List Rec) (e : Entry) → Type 0
-HasRisenTo table a made way x end gone e = (top : PathNode) × (slice_get way end ≡ Some top) × IsRaising table a made gone x (entry top.number) (Place e)
+    (end : ℕ) (gone : List Rec) (risen : Entry) → Type 0
+HasRisenTo table seat made way newcomer end gone risen =
+    (top : PathNode) × (slice_get way end ≡ Some top) × IsRaising table seat made gone newcomer (entry top.number) (Place risen)
 
 -- The lowest node of the span gets the new leaf. What that node becomes is to rise to the span's topmost node.
 pub record IsGrowing (table : TableView) (seat : SeatView) (made : List Rec) (way : List PathNode) (span : Span) (new : NewLeaf) : Type 0 where

@@ -36,55 +36,56 @@ use Rattle.rowex_writing.specs.declared.plan.Full.TheVariants.{Nodes, Leaves}
 
 -- ---- the plan
 
--- the job's span and its deed are planned by what a search for its key has found since some version
+-- the deed for the job's span is planned by what a search for the job's key has found since some version
 abbrev pub HasPlanned : (layout : Layout) → (known : Known) → (job : Job) → (deed : Deed) → Type 0
 HasPlanned layout known job deed =
-    (m : ℕ) × (aim : Aim) × IsJobFrom layout known m job ×
-    IsPlanned known m job.key.now job.way.now aim job.found (change job.span.len job.span.end deed)
+    (version : ℕ) × (aim : Aim) × IsJobFrom layout known version job ×
+    IsPlanned known version job.key.now job.way.now aim job.found (change job.span.len job.span.end deed)
 
 -- ---- the store
 
--- the pass has loaded this value of each leaf among the records
+-- of each leaf among the records `gone`, the pass has loaded the value, and `was` is that value
 abbrev pub KnowsWas : (known : Known) → (gone : List Rec) → (was : Option ℕ) → Type 0
 KnowsWas known gone was = (leaf : ℕ) → IsOneOf (a_leaf leaf) gone → (value : ℕ) × (was ≡ Some value) × HasLoaded known leaf value
 
--- Once the records `made` are ready, the pass may publish the change x by a store of this word at the spot. By then it must know the value
--- of each leaf that is unlinked.
-pub record MayPublishOnceReady (table : TableView) (seat : SeatView) (made : List Rec) (spot : Spot) (word : ℕ) (x : Change)
+-- Once the records `made` are ready, the pass may make this change by a store of the word at the spot. By then it must have loaded the
+-- value of each leaf that is unlinked.
+pub record MayPublishOnceReady (table : TableView) (seat : SeatView) (made : List Rec) (spot : Spot) (word : ℕ) (done : Change)
     (was : Option ℕ) (gone : List Rec) : Type 0 where
   pub news : List Made
   pub building : IsBuilding table seat made news
   pub publishes : (known : Known) → IsLater seat.known known → HasReady known seat.known.locks news → known.anchor ≡ seat.known.anchor →
       KnowsWas known gone was →
-      Publishes table.layout known spot word x was gone
+      Publishes table.layout known spot word done was gone
 
 -- ---- what is left
 
--- The pass has made the change x, and `was` was the key's value. It is the last change that the pass has seen, and others have made those
--- before. The last load of the root was before x. The pass has no records of its own and no locks.
-pub record HasChanged (old new : Known) (x : Change) (was : Option ℕ) : Type 0 where
+-- The pass has made this change, and `was` is the value that the key had before. In the pass's front the change is the last one, and since
+-- `old` only others have made changes before it. The pass's last load of the root was before the change. The pass is at rest.
+pub record HasChanged (old new : Known) (done : Change) (was : Option ℕ) : Type 0 where
   pub rest : IsAtRest new
   pub before : List Change
   pub others : OthersGoOn old.pass old.front before
-  pub front : new.front ≡ before ++ x ∷ []
+  pub front : new.front ≡ before ++ done ∷ []
   pub fresh : BeginsWith before new.fresh.front
-  pub fits : Fits (map_of before) x
-  pub was_held : value_at (map_of before) x.key ≡ was
+  pub fits : Fits (map_of before) done
+  pub was_held : value_at (map_of before) done.key ≡ was
 
--- By failed steps since `since` the pass has found each node record not free. Those in `own` were its own: at most two for each node that
--- it had locked, and one. Each locked one was nobody's. Any other was another pass's, or nobody's, and then in the tree or retired.
+-- By failed steps since step `since` the pass has found each node record not free. Those in `own` were its own: at most two for each node
+-- in `locked`, and one. Those in `locked` it had locked, so they were nobody's. Each other record was another pass's, or nobody's: in the
+-- tree or retired.
 pub record LacksNodes (layout : Layout) (pass : ℕ) (failed : List Failed) (since : ℕ) (own : List Rec) : Type 0 where
   pub locked : List ℕ
   pub few : length own ≤ 2 * length locked + 1
   pub most : length locked ≤ most_nodes
   pub apart : AreApart locked
-  pub low : All (λ n. n < layout.nodes) locked
+  pub low : All (λ number. number < layout.nodes) locked
   pub missed : AllMissed (IsAnothers layout pass own locked) a_node layout.nodes failed since
-  pub own_is : All (λ r. HasMissedSince (IsOwnOf pass) failed r since) own
+  pub own_is : All (λ rec. HasMissedSince (IsOwnOf pass) failed rec since) own
   pub once : AreApart own
 
--- By failed steps since `since` the pass has found each leaf record with room for the key not free. None was its own. Each was another
--- pass's, or nobody's, and then in the tree or retired.
+-- By failed steps since step `since` the pass has found each leaf record with room for the key not free. None was its own. Each was another
+-- pass's, or nobody's: in the tree or retired.
 abbrev pub LacksLeaves : (layout : Layout) → (key : Key) → (pass : ℕ) → (failed : List Failed) → (since : ℕ) → Type 0
 LacksLeaves layout key pass failed since = AllMissedFrom (IsAnothers layout pass [] []) layout (words_for (length key)) failed since
 
@@ -99,20 +100,20 @@ pub record HasNoRoom (layout : Layout) (key : Key) (old new : Known) (made : Lis
   pub later : IsLater old new
   pub full_of : IsFull layout key old new made full
 
--- the change that gives the key this value: it replaces the value that the search found, or adds the key
-abbrev pub IsPutChange : (pass : ℕ) → (key : Key) → (value : ℕ) → (found : Found) → (x : Change) → (was : Option ℕ) → Type 0
-IsPutChange pass key value (Leaf number held None) x was = (x ≡ record { pass = pass; key = key; value = value; kind = Replaced }) × (was ≡ Some held)
-IsPutChange pass key value found x was = (x ≡ record { pass = pass; key = key; value = value; kind = Added }) × (was ≡ None)
+-- the change that gives the key this value: it replaces the value that the search found, or adds the key if the search found none
+abbrev pub IsPutChange : (pass : ℕ) → (key : Key) → (value : ℕ) → (found : Found) → (done : Change) → (was : Option ℕ) → Type 0
+IsPutChange pass key value (Leaf number held None) done was = (done ≡ record { pass = pass; key = key; value = value; kind = Replaced }) × (was ≡ Some held)
+IsPutChange pass key value found done was = (done ≡ record { pass = pass; key = key; value = value; kind = Added }) × (was ≡ None)
 
--- the change that removes the key that its search found
-abbrev pub IsTakeChange : (pass : ℕ) → (key : Key) → (found : Found) → (x : Change) → (was : Option ℕ) → Type 0
-IsTakeChange pass key (Leaf number held None) x was = (x ≡ record { pass = pass; key = key; value = held; kind = Removed }) × (was ≡ Some held)
-IsTakeChange pass key found x was = ⊥
+-- the change that removes the key, which the search found with a value
+abbrev pub IsTakeChange : (pass : ℕ) → (key : Key) → (found : Found) → (done : Change) → (was : Option ℕ) → Type 0
+IsTakeChange pass key (Leaf number held None) done was = (done ≡ record { pass = pass; key = key; value = held; kind = Removed }) × (was ≡ Some held)
+IsTakeChange pass key found done was = ⊥
 
--- the change that a deed makes: the key gets the value, or is removed
-abbrev pub IsDeedChange : (pass : ℕ) → (deed : Deed) → (key : Key) → (value : ℕ) → (found : Found) → (x : Change) → (was : Option ℕ) →
+-- the change that a deed makes: the key gets this value, or is removed if the deed is that of a removal
+abbrev pub IsDeedChange : (pass : ℕ) → (deed : Deed) → (key : Key) → (value : ℕ) → (found : Found) → (done : Change) → (was : Option ℕ) →
     Type 0
-IsDeedChange pass Take key value found x was = IsTakeChange pass key found x was
-IsDeedChange pass TakeTop key value found x was = IsTakeChange pass key found x was
-IsDeedChange pass Empty key value found x was = IsTakeChange pass key found x was
-IsDeedChange pass deed key value found x was = IsPutChange pass key value found x was
+IsDeedChange pass Take key value found done was = IsTakeChange pass key found done was
+IsDeedChange pass TakeTop key value found done was = IsTakeChange pass key found done was
+IsDeedChange pass Empty key value found done was = IsTakeChange pass key found done was
+IsDeedChange pass deed key value found done was = IsPutChange pass key value found done was

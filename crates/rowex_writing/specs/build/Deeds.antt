@@ -36,8 +36,8 @@ gone_of_span way span raised = map (λ (node : PathNode). a_node node.number) (s
 abbrev pub kept_of_span : (way : List PathNode) → (span : Span) → (raised : Raised) → List PathNode
 kept_of_span way span raised = slice_range way (span.end - 1) span.end ++ slice_range way raised.low span.len
 
--- All nodes of the job's span are to be unlinked, or all but the lowest. Once the records that the pass has made are ready, it may make
--- this change by a store of what is raised above the span.
+-- What is raised takes the place of the job's span. All nodes of the span are to be unlinked, or all but the lowest. Once the records that
+-- the pass has made are ready, it may make this change by a store of the raised entry above the span.
 pub record MayReplace (table : TableView) (seat : SeatView) (made : List Rec) (job : Job) (raised : Raised) (change : Change)
     (was : Option ℕ) : Type 0 where
   pub from : job.span.end ≤ raised.low
@@ -50,7 +50,7 @@ pub record MayReplace (table : TableView) (seat : SeatView) (made : List Rec) (j
   -- the leaf that goes is the found one, and the key had its value
   pub takes : (number : ℕ) → raised.leaf ≡ Some number → (value : ℕ) × (job.found ≡ FoundLeaf number value None) × (was ≡ Some value)
 
--- The pass has made the records that the deed asks for, since it knew `old`. It may make the deed's change by a store of what is raised
+-- The pass has made the records that the deed asks for. Once they are ready, it may make the deed's change by a store of the raised entry
 -- above the job's span.
 abbrev pub HasRaised : (table : TableView) → (old : Known) → (seat : SeatView) → (made : List Rec) → (job : Job) → (deed : Deed) →
     (raised : Raised) → Type 0
@@ -58,17 +58,17 @@ HasRaised table old seat made job deed raised =
     (change : Change) × (was : Option ℕ) × IsDeedChange old.pass deed job.key.now job.value job.found change was ×
     MayReplace table seat made job raised change was
 
--- Since the pass knew `old`, a record was wanted and none was free. The pass has those that it has made so far.
+-- A record was wanted since the pass knew `old`, and none was free. The pass has just the records that it has made so far.
 pub record HasNoneFree (table : TableView) (old : Known) (seat : SeatView) (made : List Rec) (job : Job) (full : Full) : Type 0 where
   pub not_made : HasNotMade table seat made
   pub few : length made ≤ 2 * locks_of job.span
   pub full_of : IsFull table.layout job.key.now old seat.known made full
 
--- The pass has made what the deed asks for, and linked none of it, or no record was free. The steps are no more than the deed's. `a` and
--- `b` are the seat, the gate and what is built, before and after.
-pub record CarriesOut {G : Type 0} (table : TableView) (becomes : G → Event → G → Type 0) (a b : (SeatView × G) × Build) (job : Job) (deed : Deed)
+-- The pass has made what the deed asks for, and linked none of it. Or a record was wanted, and none was free. The steps are no more than
+-- the deed's. Before and after are the seat, the gate and what is built.
+pub record CarriesOut {G : Type 0} (table : TableView) (becomes : G → Event → G → Type 0) (before after : (SeatView × G) × Build) (job : Job) (deed : Deed)
     (answer : Result Raised Full) : Type 0 where
-  pub goes : WorksOn table becomes a.0 b.0
-  pub raised : IfOk answer (HasRaised table a.0.0.known b.0.0 b.1.made.items job deed)
-  pub full : IfErr answer (HasNoneFree table a.0.0.known b.0.0 b.1.made.items job)
-  pub few : b.0.0.known.steps + spare_steps deed ≤ a.0.0.known.steps + deed_steps table.layout (locks_of job.span) answer
+  pub goes : WorksOn table becomes before.0 after.0
+  pub raised : IfOk answer (HasRaised table before.0.0.known after.0.0 after.1.made.items job deed)
+  pub full : IfErr answer (HasNoneFree table before.0.0.known after.0.0 after.1.made.items job)
+  pub few : after.0.0.known.steps + spare_steps deed ≤ before.0.0.known.steps + deed_steps table.layout (locks_of job.span) answer

@@ -1,4 +1,4 @@
--- A new leaf's way up, once its record is made.
+-- What a pass has before it adds a new leaf to the nodes of its span, once the leaf's record is made.
 use Rattle.std.specs.Prelude.{◌≡◌, ℕ, ◌*◌, ◌<◌, ◌≤◌, List, length, slice_get, Some}
 use Rattle.compound_node.specs.declared.entries.Entry.{Entry}
 use Rattle.compound_node.specs.declared.entries.Entry.TheVariants.{Leaf, Node}
@@ -17,13 +17,13 @@ use Rattle.rowex_writing.specs.declared.plan.job.Job.{Job}
 use Rattle.rowex_writing.specs.declared.build.remaking.NewLeaf.{NewLeaf}
 use Rattle.tries.specs.Content.{item}
 
--- the number of the entry's record has 32 bits
+-- the number of the entry's record fits into 32 bits
 abbrev pub HasNumber : Entry → Type 0
 HasNumber (Leaf number) = number < 4294967296
 HasNumber (Node number height) = number < 4294967296
 
--- The new leaf's record is made and no other, under the locks of the job's span. The leaf may rise from the lowest node of the span. What
--- has risen may stand at the spot above the span's topmost node.
+-- No record is made but the new leaf's. The job's span is locked, and its lowest node may get the leaf. The entry that then rises from the
+-- span's topmost node may stand in that node's place, at the spot above.
 pub record MayGrow (table : TableView) (seat : SeatView) (made : List Rec) (job : Job) (new : NewLeaf) : Type 0 where
   pub within : (job.span.end < job.span.len) × (job.span.len ≤ length job.way.now)
   pub depth : length job.way.now ≤ 9 * MAX_BYTES

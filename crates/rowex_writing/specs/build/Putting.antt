@@ -1,4 +1,4 @@
--- Where a new leaf, or what comes with it, is put, and what goes for it.
+-- Where a change stores the entry of what it has made, and which records it unlinks.
 use Rattle.std.specs.Prelude.{◌≡◌, ℕ, ◌-◌, ◌<◌, List, slice_get, Some, All, Bool, true, false, None, IsSome}
 use Rattle.insert_cases.specs.declared.choice.PathNode.{PathNode}
 use Rattle.rowex_core.specs.declared.event.Spot.{Spot}
@@ -11,8 +11,8 @@ use Rattle.rowex_core.specs.declared.known.Known.{Known}
 -- The spot above node `end` of the path: the root, or the slot that the search took in the node before.
 abbrev pub IsSpotAbove : (way : List PathNode) → (end : ℕ) → (spot : Spot) → Type 0
 IsSpotAbove way end Root = end ≡ 0
-IsSpotAbove way end (Value l) = ⊥
-IsSpotAbove way end (Slot n i) = (node : PathNode) × (0 < end) × (slice_get way (end - 1) ≡ Some node) × (n ≡ node.number) × (i ≡ node.slot)
+IsSpotAbove way end (Value leaf) = ⊥
+IsSpotAbove way end (Slot number slot) = (node : PathNode) × (0 < end) × (slice_get way (end - 1) ≡ Some node) × (number ≡ node.number) × (slot ≡ node.slot)
 
 -- the table has these records
 abbrev pub AreInTable : (layout : Layout) → (recs : List Rec) → Type 0

@@ -15,7 +15,7 @@ use Rattle.tries.specs.Affected.{subtrie_grown}
 use Rattle.tries.specs.Place.{spot, with_subtrie}
 use Rattle.tries.specs.Tree.{Subtrie, Tree, subtrie, IsTrie, IsBuilt}
 
--- some tree that is a bit trie of lawful nodes begins with this subtrie
+-- some tree begins with this subtrie, and is a bit trie of lawful nodes
 abbrev pub IsSubtrieOfTree : Subtrie → Type 0
 IsSubtrieOfTree shown = (tree : Tree) × (subtrie tree ≡ shown) × IsTrie tree × IsBuilt tree
 
@@ -23,28 +23,28 @@ IsSubtrieOfTree shown = (tree : Tree) × (subtrie tree ≡ shown) × IsTrie tree
 abbrev pub subtrie_with_leaf : NewLeaf → Subtrie → Subtrie
 subtrie_with_leaf new shown = subtrie_grown new.position new.key.now (Leaf new.number) shown
 
--- The words spell this node, and the leaf's key leads to the leaf's slot there. With the leaf in it, the node's subtrie is one that a tree
--- begins with.
+-- The words are those of this node, and the new leaf's key leads to the leaf's slot in it. With the leaf in it, the node's subtrie is one
+-- that a lawful tree begins with.
 pub record AwaitsLeaf (words : List ℕ) (node : NodeView) (new : NewLeaf) : Type 0 where
   pub is : IsNodeOf words node
   pub leads : spot new.key.now (piece node) ≡ new.slot
   pub tree : IsSubtrieOfTree (subtrie_with_leaf new (piece node))
 
--- the subtrie with the fork in place of the entry to which the fork's key leads
+-- the subtrie with the fork in place of one entry: the one on the path of the fork's key
 abbrev pub subtrie_with_fork : Fork → Subtrie → Subtrie
 subtrie_with_fork fork shown = with_subtrie fork.key.now (Branch fork.position (Place fork.zero) (Place fork.one)) shown
 
--- a half of a cut that is made anew has at most this height
+-- the half's entry has at most this height, unless the half is the old node
 abbrev pub IsLowHalf : (height : ℕ) → (half : Half) → Type 0
 IsLowHalf height (One entry) = height_of entry ≤ height
 IsLowHalf height (Many node) = node.height ≤ height
 IsLowHalf height Same = Unit {0}
 
--- each half of the cut that is made anew has at most this height
+-- of each half of the cut the entry has at most this height, unless the half is the old node
 abbrev pub AreNoHigher : (height : ℕ) → (cut : Cut) → Type 0
 AreNoHigher height cut = IsLowHalf height cut.zero × IsLowHalf height cut.one
 
--- what a node has grown to has at most this height, where it is made anew
+-- what a node has grown to has at most this height: the one node, or each half of the cut that is not the old node
 abbrev pub IsNoHigher : (height : ℕ) → (grown : Grown) → Type 0
 IsNoHigher height (Whole node) = node.height ≤ height
 IsNoHigher height (Two cut) = AreNoHigher height cut

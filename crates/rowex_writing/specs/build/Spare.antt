@@ -1,4 +1,4 @@
--- That a change leaves a node record outside the tree, in a table with one pass, and finds one for a removal.
+-- In a table with one pass: why a node record is outside the tree after a change, and when a removal finds one free.
 use Rattle.std.specs.Prelude.{◌≡◌, ◌≢◌, ℕ, List, [], Option, None}
 use Rattle.finite_map.specs.declared.Call.{Call}
 use Rattle.finite_map.specs.declared.Call.TheVariants.{Remove, RemoveIf}
@@ -13,18 +13,19 @@ use Rattle.rowex_writing.specs.build.Walks.{nodes_among}
 use Rattle.rowex_writing.specs.declared.plan.job.Job.{Job}
 use Rattle.rowex_writing.specs.declared.plan.job.Raised.{Raised}
 
--- Why a node record stands in no tree after a store that links the records `made` and unlinks `gone`. One is free before. Or a node is
--- unlinked. Or one stands in no tree before, and no node is linked.
+-- Why a node record is outside the tree after a store that links the records `made` and unlinks the records `gone`. Some node record is
+-- free before. Or a node is unlinked. Or one is outside the tree before, and no node is linked.
 pub data WillSpare (layout : Layout) (seat : SeatView) (made gone : List Rec) : Type 0 where
   by_free : HasFree layout seat → WillSpare layout seat made gone
-  by_gone : (n : ℕ) → IsOneOf (a_node n) gone → WillSpare layout seat made gone
+  by_gone : (number : ℕ) → IsOneOf (a_node number) gone → WillSpare layout seat made gone
   by_kept : HasSpare layout seat → nodes_among made ≡ [] → WillSpare layout seat made gone
 
--- after the store of a job, a node record stands in no tree
+-- after the store of the job's change, some node record is outside the tree
 abbrev pub WillSpareOne : (layout : Layout) → (seat : SeatView) → (made : List Rec) → (job : Job) → (raised : Raised) → Type 0
 WillSpareOne layout seat made job raised = WillSpare layout seat made (gone_of_span job.way.now job.span raised)
 
--- A claim that may try each node record finds one. The table must have one pass, which has no record, and a free node record.
+-- A claim that may try each node record finds one. For that the table must have one pass, which has no record, and some node record must be
+-- free.
 abbrev pub FindsOne : {X : Type 0} → (layout : Layout) → (left : ℕ) → (seat : SeatView) → (result : Option X) → Type 0
 FindsOne layout left seat result = left ≡ layout.nodes → seat.known.own ≡ [] → HasRoom layout seat → result ≢ None
 

@@ -1,4 +1,4 @@
--- What a pass knows of the leaf that it takes away.
+-- What a pass knows of the leaf that it removes, and of the nodes above that leaf.
 use Rattle.std.specs.Prelude.{◌≡◌, ℕ, ◌+◌, [], length, Some, None, get_or, ◌-◌, ◌<◌, List, ◌∷◌, ◌≤◌}
 use Rattle.compound_node.specs.declared.entries.Entry.TheVariants.{Leaf as LeafEntry, Node}
 use Rattle.tries.specs.Keys.{Key}
@@ -23,11 +23,11 @@ use Rattle.rowex_core.specs.Reading.{node_words_of}
 use Rattle.rowex_writing.specs.locks.Going.{HasLocked}
 use Rattle.compound_node.specs.declared.entries.Entry.{Entry}
 
--- since a version to which its pin goes back, the pass has read that the leaf has this key and value
+-- the pass has read that the leaf had this key and value in a version since its pin
 abbrev pub HasReadLeaf : Known → (number : ℕ) (key : Key) (value : ℕ) → Type 0
 HasReadLeaf known number key value = (since : ℕ) × IsPinnedSince known since × Sure known (λ past. IsRead past since number key value)
 
--- The leaf is all of the tree. The pass has locked the anchor, and has nothing else.
+-- The root is this leaf, which has this key and value. The pass has locked the anchor, and has no other lock and no record.
 pub record HasOnlyLeaf (table : TableView) (view : SeatView) (number : ℕ) (key : Key) (value : ℕ) : Type 0 where
   pub seat : IsSeatOf table view
   pub possible : IsPossible table.layout view.known
@@ -36,22 +36,22 @@ pub record HasOnlyLeaf (table : TableView) (view : SeatView) (number : ℕ) (key
   pub anchor : view.known.anchor ≡ Some (Some (LeafEntry number))
   pub read : HasReadLeaf view.known number key value
 
--- The pass has locked the last node of the job's path, which names the leaf, and what names that node.
+-- The job's span is the last node of its path, and that node names the leaf. The pass has locked the node, and what names it.
 pub record HasLeafBelow (table : TableView) (seat : SeatView) (version : ℕ) (job : Job) (number value : ℕ) : Type 0 where
   pub taken : HasTakenSpan table seat version job.key.now job.way.now (Leaf number value None) job.span
   pub is_found : job.found ≡ Leaf number value None
   pub len : job.span.len ≡ length job.way.now
   pub last : job.span.end + 1 ≡ job.span.len
 
--- a step that stands for none, behind the end of a path
+-- stands in place of a node where a path has none
 abbrev pub no_step : PathNode
 no_step = record { number = 0; height = 0; first_position = 0; count = 0; slot = 0 }
 
--- the last node of a job's path, which loses the leaf
+-- the last node of a job's path: it names the leaf to remove
 abbrev pub lower : Job → PathNode
 lower job = get_or job.way.now job.span.end no_step
 
--- the node above the last of a job's path
+-- the last node but one of a job's path: it names the last one
 abbrev pub upper : Job → PathNode
 upper job = get_or job.way.now (job.span.end - 1) no_step
 
@@ -65,29 +65,30 @@ pub record IsTaking (table : TableView) (job : Job) : Type 0 where
   pub below : HasLeafBelow table before since job number value
   pub some : 0 < job.span.end
 
--- The pass has gone on since it locked the last two nodes of the path. It has these locks, and the values that it had loaded.
+-- The pass has gone on since it locked the last two nodes of the path. It has the same locks, and the values that it had loaded.
 abbrev pub TakesOn : (table : TableView) → (seat : SeatView) → (job : Job) → Type 0
-TakesOn table seat job = (t : IsTaking table job) × IsSeatOf table seat × IsPossible table.layout seat.known × StaysLocked t.before.known seat.known
+TakesOn table seat job = (taking : IsTaking table job) × IsSeatOf table seat × IsPossible table.layout seat.known × StaysLocked taking.before.known seat.known
 
--- The pass has gone on since it locked the last two nodes of the path, with these locks. It may have lost values that it had loaded.
+-- The pass has gone on since it locked the last two nodes of the path. It has the same locks, but may have lost the values that it had
+-- loaded.
 abbrev pub TakesStill : (table : TableView) → (seat : SeatView) → (job : Job) → Type 0
-TakesStill table seat job = (t : IsTaking table job) × IsSeatOf table seat × IsPossible table.layout seat.known ×
-    IsLater t.before.known seat.known × (seat.known.locks ≡ t.before.known.locks) × (seat.known.anchor ≡ t.before.known.anchor)
+TakesStill table seat job = (taking : IsTaking table job) × IsSeatOf table seat × IsPossible table.layout seat.known ×
+    IsLater taking.before.known seat.known × (seat.known.locks ≡ taking.before.known.locks) × (seat.known.anchor ≡ taking.before.known.anchor)
 
--- The pass has claimed this node record, whatever its words, and has no other.
+-- The pass has claimed this node record, and has no other record. The words of the record are not yet filled.
 pub record HasClaimed (table : TableView) (known : Known) (number : ℕ) : Type 0 where
   pub low : number < table.layout.nodes
   pub words : List ℕ
   pub sized : length words ≡ word_count_of (a_node number)
   pub own : known.own ≡ record { rec = a_node number; holding = Held; words = words } ∷ []
 
--- Without the leaf of the job's key, the lower node is still a node, by the words under its lock. The words `left` spell what is left.
+-- Without the leaf of the job's key, what is left of the lower node is still a node. `left` are the words of that node.
 pub record IsLeftOfNode (known : Known) (job : Job) (left : List ℕ) : Type 0 where
   pub words : List ℕ
   pub has : HasLocked known (lower job).number words
   pub built : SpellBuilt left (subtrie_without job.key.now (node_words_of words).subtrie)
 
--- if the entry is a node's, the height fits into an entry's word
+-- a leaf, or a node whose height fits into the 16 bits that an entry word has for it
 abbrev pub HasHeight : Entry → Type 0
-HasHeight (LeafEntry n) = Unit {0}
+HasHeight (LeafEntry number) = Unit {0}
 HasHeight (Node number height) = (1 ≤ height) × (height < 65536)

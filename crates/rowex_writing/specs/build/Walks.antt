@@ -1,4 +1,4 @@
--- The walk of a change over the node records, with which its claims go on one after the other, and what they make.
+-- The walk of a change over the node records: each claim goes on where the one before it ended.
 use Rattle.std.specs.Prelude.{◌≡◌, ◌⊎◌, ℕ, ◌+◌, ◌*◌, ◌<◌, ◌≤◌, All, List, [], ◌∷◌, length, Contains, Bool, true, false, MatchOption, Option, Some, None}
 use Rattle.record_words.specs.declared.layout.Layout.{Layout}
 use Rattle.record_words.specs.declared.records.Rec.{Rec}
@@ -28,14 +28,14 @@ pub record IsClaimWalk (layout : Layout) (since : ℕ) (known : Known) (made : L
       HasMissedSince (IsAnothersBut layout known made) known.failed (a_node (wrapped layout.nodes begin i)) since ⊎
       Contains made (a_node (wrapped layout.nodes begin i))
 
--- since that step the pass has tried node records, as the build's walk of claims tells
+-- since step `since` the pass has tried node records, up to where the build goes on
 abbrev pub HasWalked : (layout : Layout) → (since : ℕ) → (known : Known) → (build : Build) → Type 0
 HasWalked layout since known build = IsClaimWalk layout since known build.made.items build.nodes.next build.left_nodes
 
--- how many steps a walk without a result adds: a look at each record made
+-- how many steps a walk adds if no record was free: a look at each record made
 abbrev pub looks_for : {X : Type 0} → Build → Option X → ℕ
 looks_for after None = length after.made.items
-looks_for after (Some x) = 0
+looks_for after (Some result) = 0
 
 -- how many steps a walk adds if its answer is no: a look at each record made
 abbrev pub looks_unless : (answer : Bool) → (after : Build) → ℕ
@@ -45,33 +45,33 @@ looks_unless true after = 0
 -- the node records among these
 abbrev pub nodes_among : (made : List Rec) → List Rec
 nodes_among [] = []
-nodes_among (a_node n ∷ made) = a_node n ∷ nodes_among made
-nodes_among (a_leaf n ∷ made) = nodes_among made
+nodes_among (a_node number ∷ made) = a_node number ∷ nodes_among made
+nodes_among (a_leaf number ∷ made) = nodes_among made
 
--- a record that was found not free is this pass's own
+-- the record was found to be this pass's own
 abbrev pub IsOwnOf : (pass : ℕ) → (rec : Rec) → (by : Option ℕ) → Type 0
 IsOwnOf pass rec by = by ≡ Some pass
 
--- By failed steps since `since` the pass has found each node record not free. None was its own but those in `made`. Each of these is listed
--- once, and was found to be its own.
+-- By failed steps since step `since` the pass has found each node record not free. None of them was its own but those in `made`. Each
+-- record in `made` is listed once, and was found to be the pass's own.
 pub record HasMissedEach (layout : Layout) (since : ℕ) (known : Known) (made : List Rec) : Type 0 where
   pub missed : AllMissed (IsAnothersBut layout known made) a_node layout.nodes known.failed since
-  pub own : All (λ r. HasMissedSince (IsOwnOf known.pass) known.failed r since) made
+  pub own : All (λ rec. HasMissedSince (IsOwnOf known.pass) known.failed rec since) made
   pub apart : AreApart made
 
--- 1 if there is no result, since a record is lacking then, and else 0
+-- 1 if there is no result, so that one record is lacking; else 0
 abbrev pub lacking : {X : Type 0} → Option X → ℕ
 lacking None = 1
-lacking (Some x) = 0
+lacking (Some result) = 0
 
--- The pass goes on under its locks and makes at most so many records. It makes at most so many steps, and two for each number that it tries
+-- The pass goes on under its locks, and makes at most `most` records. It makes at most `steps` steps, and two for each number that it tries
 -- on its walk. If there is no answer, each node record was found not free since the walk began (`HasMissedEach`). Before and after are the
 -- seat, the gate and what is built.
-pub record Makes {G X : Type 0} (most steps : ℕ) (table : TableView) (becomes : G → Event → G → Type 0) (a b : (SeatView × G) × Build)
+pub record Makes {G X : Type 0} (most steps : ℕ) (table : TableView) (becomes : G → Event → G → Type 0) (before after : (SeatView × G) × Build)
     (answer : Option X) : Type 0 where
-  pub goes : WorksOn table becomes a.0 b.0
-  pub more : length b.1.made.items ≤ length a.1.made.items + most
-  pub nodes : length (nodes_among b.1.made.items) + lacking answer ≤ length (nodes_among a.1.made.items) + most
-  pub walk : (since : ℕ) → HasWalked table.layout since a.0.0.known a.1 →
-      MatchOption answer (HasMissedEach table.layout since b.0.0.known b.1.made.items) (λ x. HasWalked table.layout since b.0.0.known b.1)
-  pub few : b.0.0.known.steps + 2 * b.1.left_nodes ≤ a.0.0.known.steps + 2 * a.1.left_nodes + steps + looks_for b.1 answer
+  pub goes : WorksOn table becomes before.0 after.0
+  pub more : length after.1.made.items ≤ length before.1.made.items + most
+  pub nodes : length (nodes_among after.1.made.items) + lacking answer ≤ length (nodes_among before.1.made.items) + most
+  pub walk : (since : ℕ) → HasWalked table.layout since before.0.0.known before.1 →
+      MatchOption answer (HasMissedEach table.layout since after.0.0.known after.1.made.items) (λ x. HasWalked table.layout since after.0.0.known after.1)
+  pub few : after.0.0.known.steps + 2 * after.1.left_nodes ≤ before.0.0.known.steps + 2 * before.1.left_nodes + steps + looks_for after.1 answer

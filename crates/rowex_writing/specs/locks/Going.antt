@@ -1,4 +1,4 @@
--- How a pass goes on under its locks.
+-- Which steps a pass makes under its locks, and what it keeps meanwhile.
 use Rattle.std.specs.Prelude.{◌≡◌, ℕ, List, All}
 use Rattle.compound_node.specs.Nodes.{NodeView, head_of, piece}
 use Rattle.record_words.specs.Node.{HasNodeWords, node_words}
@@ -15,42 +15,44 @@ use Rattle.rowex_table.specs.Seats.{TableView, SeatView}
 use Rattle.rowex_table.specs.Stays.{KeepsRecall}
 use Rattle.publish_laws.specs.Loops.{StaysLocked}
 
--- a step that tries no lock and gives no record back, after which the pass recalls all that it did
+-- the step is no try of a lock, no publish and no return of a record, and leaves the pin of its pass
 abbrev pub TriesNoLock : Act → Type 0
 TriesNoLock (Lock target found) = ⊥
-TriesNoLock (GiveBack r epoch found) = ⊥
+TriesNoLock (GiveBack rec epoch found) = ⊥
 TriesNoLock act = KeepsRecall act
 
--- The pass makes steps that try no lock, and the gate is told each. It recalls all that it did, and has the same locks.
+-- The pass makes steps that try no lock, and the gate is told each. The pass keeps its pin, its facts, its locks and the values that it had
+-- loaded.
 pub record WorksOn {G : Type 0} (table : TableView) (becomes : G → Event → G → Type 0) (old new : SeatView × G) : Type 0 where
   pub acts : List Act
   pub plain : All TriesNoLock acts
   pub steps : Runs table becomes acts old new
   pub stays : StaysLocked old.0.known new.0.known
 
--- The pass makes steps that try no lock, and the gate is told each. It has the same locks, and the same records.
+-- The pass makes steps that try no lock, and the gate is told each. The pass keeps its pin, its facts, its locks, the values that it had
+-- loaded, and its own records.
 pub record ReadsOn {G : Type 0} (table : TableView) (becomes : G → Event → G → Type 0) (old new : SeatView × G) : Type 0 where
   pub goes : WorksOn table becomes old new
   pub own : new.0.known.own ≡ old.0.known.own
 
--- the pass has locked the node of this number, which has these words
+-- the pass has locked node `number`, and knows that the node has these words
 abbrev pub HasLocked : (known : Known) → (number : ℕ) → (words : List ℕ) → Type 0
 HasLocked known number words = IsOneOf (record { node = number; words = words }) known.locks
 
--- in the locked node of this number, the key's search takes the entry in this slot
+-- if the pass has locked node `number`, the key's search takes this slot there, by the node's words
 abbrev pub LeadsLocked : (known : Known) → (number : ℕ) → (key : Key) → (slot : ℕ) → Type 0
 LeadsLocked known number key slot = (words : List ℕ) → HasLocked known number words → spot key (node_words_of words).subtrie ≡ slot
 
--- the pass has locked the node of this number
+-- the pass has locked node `number`
 abbrev pub IsLockedBy : (known : Known) → (number : ℕ) → Type 0
 IsLockedBy known number = (words : List ℕ) × HasLocked known number words
 
--- the words are those of this node
+-- The words are those of the node `view`, and show its head and its subtrie.
 pub record IsNodeOf (words : List ℕ) (view : NodeView) : Type 0 where
   pub has : HasNodeWords view
   pub spells : node_words view ≡ words
   pub shows : node_words_of words ≡ record { fixed = head_of view; subtrie = piece view }
 
--- the pass has locked the node of this number, whose words spell this node
+-- the pass has locked node `number`, whose words are those of the node `view`
 abbrev pub HasLockedNode : (known : Known) → (number : ℕ) → (view : NodeView) → Type 0
 HasLockedNode known number view = (words : List ℕ) × HasLocked known number words × IsNodeOf words view

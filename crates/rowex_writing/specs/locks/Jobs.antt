@@ -1,4 +1,4 @@
--- What a change is made by, and its locks.
+-- Where a job's search has gone, and the locks of its span.
 use Rattle.std.specs.Prelude.{ℕ, ◌≤◌, length}
 use Rattle.record_words.specs.declared.layout.Layout.{Layout}
 use Rattle.rowex_core.specs.declared.known.Known.{Known}
@@ -12,14 +12,14 @@ use Rattle.rowex_writing.specs.declared.plan.job.Job.{Job}
 abbrev pub IsWithinWay : Job → Type 0
 IsWithinWay job = (job.span.end ≤ job.span.len) × (job.span.len ≤ length job.way.now)
 
--- a search for the job's key, which loaded the root at this version, has taken the job's path and found its end
+-- a search for the job's key loaded the root at this version, took the job's path and found what the job says
 abbrev pub IsJobFrom : (layout : Layout) → (known : Known) → (version : ℕ) → (job : Job) → Type 0
 IsJobFrom layout known version job = IsWayOf layout known version job.key.now job.way.now job.found
 
--- The pass has locked the span of the job, on whose path it has searched.
+-- The pass has searched on the job's path, and has locked the job's span.
 pub record HoldsSpan (table : TableView) (view : SeatView) (job : Job) : Type 0 where
   pub seat : IsSeatOf table view
   pub possible : IsPossible table.layout view.known
   pub within : IsWithinWay job
-  pub from : (m : ℕ) × IsJobFrom table.layout view.known m job
+  pub from : (version : ℕ) × IsJobFrom table.layout view.known version job
   pub locked : HasLockedSpan view.known job.way.now job.span

@@ -1,4 +1,4 @@
--- The locks of a writer, and what it was refused them by.
+-- Which locks a writer tries and has, and why one was refused.
 use Rattle.std.specs.Prelude.{◌≡◌, ◌≢◌, ◌⊎◌, ℕ, ◌+◌, ◌-◌, ◌<◌, ◌≤◌, List, [], ◌∷◌, length, get_or, map, All, Contains, IsSome, Some, None, slice_range}
 use Rattle.finite_map.specs.declared.Change.{Change}
 use Rattle.insert_cases.specs.declared.choice.PathNode.{PathNode}
@@ -32,28 +32,28 @@ use Rattle.rowex_writing.specs.declared.plan.Span.{Span}
 
 -- the step neither sets nor clears the pin, and gives no record back
 abbrev pub IsOfAttempt : Act → Type 0
-IsOfAttempt (SetPin w) = ⊥
+IsOfAttempt (SetPin word) = ⊥
 IsOfAttempt ClearPin = ⊥
-IsOfAttempt (GiveBack r epoch found) = ⊥
+IsOfAttempt (GiveBack rec epoch found) = ⊥
 IsOfAttempt act = Unit {0}
 
--- a step that is no load of the root and gives no record back, after which the pass recalls all that it did
+-- the step is no load of the root, no publish and no return of a record, and leaves the pin of its pass
 abbrev pub LoadsNoRoot : Act → Type 0
-LoadsNoRoot (LoadRef Root w) = ⊥
-LoadsNoRoot (GiveBack r epoch found) = ⊥
+LoadsNoRoot (LoadRef Root word) = ⊥
+LoadsNoRoot (GiveBack rec epoch found) = ⊥
 LoadsNoRoot act = KeepsRecall act
 
--- what these acts try to lock, in their order
+-- the targets that these acts try to lock, in the order of the tries
 abbrev pub targets_of : List Act → List Target
 targets_of [] = []
 targets_of (Lock target found ∷ acts) = target ∷ targets_of acts
 targets_of (act ∷ acts) = targets_of acts
 
--- the acts try each lock once at most
+-- the acts try to lock no target twice
 abbrev pub TriesLocksOnce : List Act → Type 0
 TriesLocksOnce acts = AreApart (targets_of acts)
 
--- The pass makes steps of the kind `Is`, and the gate is told each. They try these locks.
+-- The pass makes steps of the kind `Is`, and the gate is told each. The steps try just the locks `tried`, in that order.
 pub record TriesBy {G : Type 0} (Is : Act → Type 0) (table : TableView) (becomes : G → Event → G → Type 0) (tried : List Target)
     (old new : SeatView × G) : Type 0 where
   pub acts : List Act
@@ -61,27 +61,27 @@ pub record TriesBy {G : Type 0} (Is : Act → Type 0) (table : TableView) (becom
   pub tried_are : targets_of acts ≡ tried
   pub steps : Runs table becomes acts old new
 
--- the pass makes steps of the kind `Is`, which try so many locks, each once
+-- the pass makes steps of the kind `Is`, which try `locks` different locks, each once
 abbrev pub TriesOnceBy : {G : Type 0} → (Is : Act → Type 0) → (table : TableView) → (becomes : G → Event → G → Type 0) → (locks : ℕ) →
     (old new : SeatView × G) → Type 0
 TriesOnceBy Is table becomes locks old new =
     (tried : List Target) × (run : TriesBy Is table becomes tried old new) × TriesLocksOnce run.acts × (length tried ≡ locks)
 
--- The pass makes steps that load no root, and recalls all that it did. They try these locks.
+-- The pass makes steps that load no root, publish nothing and leave its pin. The steps try just the locks `tried`, in that order.
 abbrev pub Tries : {G : Type 0} → (table : TableView) → (becomes : G → Event → G → Type 0) → (tried : List Target) →
     (old new : SeatView × G) → Type 0
 Tries table becomes tried old new = TriesBy LoadsNoRoot table becomes tried old new
 
--- The pass makes steps that load no root and try no lock, and recalls all that it did.
+-- The pass makes steps that load no root, try no lock, publish nothing and leave its pin.
 abbrev pub Works : {G : Type 0} → (table : TableView) → (becomes : G → Event → G → Type 0) → (old new : SeatView × G) → Type 0
 Works table becomes old new = Tries table becomes [] old new
 
--- The pass makes steps that load no root, and recalls all that it did. They try so many locks, each once.
+-- The pass makes steps that load no root, publish nothing and leave its pin. The steps try `locks` different locks, each once.
 abbrev pub TriesOnce : {G : Type 0} → (table : TableView) → (becomes : G → Event → G → Type 0) → (locks : ℕ) → (old new : SeatView × G) →
     Type 0
 TriesOnce table becomes locks old new = TriesOnceBy LoadsNoRoot table becomes locks old new
 
--- The pass makes steps of the kind `Is`. They try the locks of just these nodes, each once.
+-- The pass makes steps of the kind `Is`. The steps try the locks of just these nodes, each once.
 pub record TriesNodesBy {G : Type 0} (Is : Act → Type 0) (table : TableView) (becomes : G → Event → G → Type 0) (nodes : List ℕ)
     (old new : SeatView × G) : Type 0 where
   pub tried : List Target
@@ -90,12 +90,12 @@ pub record TriesNodesBy {G : Type 0} (Is : Act → Type 0) (table : TableView) (
   pub count : length tried ≡ length nodes
   pub among : (target : Target) → IsOneOf target tried → IsOneOf target (map NodeTarget nodes)
 
--- The pass makes steps that load no root. They try the locks of just these nodes, each once.
+-- The pass makes steps that load no root, publish nothing and leave its pin. The steps try the locks of just these nodes, each once.
 abbrev pub TriesNodes : {G : Type 0} → (table : TableView) → (becomes : G → Event → G → Type 0) → (nodes : List ℕ) →
     (old new : SeatView × G) → Type 0
 TriesNodes table becomes nodes old new = TriesNodesBy LoadsNoRoot table becomes nodes old new
 
--- the pass has locked no node, and not the anchor
+-- the pass has locked no node, nor the anchor
 abbrev pub HasNoLock : Known → Type 0
 HasNoLock known = (known.locks ≡ []) × (known.anchor ≡ None)
 
@@ -111,13 +111,13 @@ numbers_of steps = map (λ (node : PathNode). node.number) steps
 abbrev pub AreNodes : Layout → List PathNode → Type 0
 AreNodes layout steps = All (λ (node : PathNode). node.number < layout.nodes) steps
 
--- the pass was led to the node of this step, which the table has
+-- The table has the node of this step. The pass is sure that the node stood in the tree in a version since its pin.
 abbrev pub IsLedStep : (layout : Layout) → (known : Known) → (node : PathNode) → Type 0
 IsLedStep layout known node =
     (node.number < layout.nodes) ×
     ((since : ℕ) × (height : ℕ) × IsPinnedSince known since × IsSure known (λ past. EntryStoodSince past since (Node node.number height)))
 
--- the pass was led to each node of the path
+-- the pass was led to each node of the path, as `IsLedStep` says
 abbrev pub AreLed : (layout : Layout) → (known : Known) → (steps : List PathNode) → Type 0
 AreLed layout known steps = All (IsLedStep layout known) steps
 
@@ -125,11 +125,12 @@ AreLed layout known steps = All (IsLedStep layout known) steps
 abbrev pub span_numbers : List PathNode → Span → List ℕ
 span_numbers way span = numbers_of (slice_range way (span.end - 1) span.len)
 
--- how many locks a span takes, with the anchor's if it goes up to the root
+-- how many locks a span takes: one for each node, and one for the node above or the anchor
 abbrev pub locks_of : Span → ℕ
 locks_of span = span.len - span.end + 1
 
--- The pass has locked just the nodes of a span and the one above, or the anchor if the span goes up to the root.
+-- The pass has locked just the nodes of the span, and the node above them. If the span goes up to the root, it has locked the anchor in
+-- place of a node above.
 pub record HasLockedSpan (known : Known) (way : List PathNode) (span : Span) : Type 0 where
   pub nodes : HasJustLocked known (span_numbers way span)
   pub top : span.end ≡ 0 → IsSome known.anchor
@@ -139,8 +140,8 @@ pub record HasLockedSpan (known : Known) (way : List PathNode) (span : Span) : T
 abbrev pub IsTakenWord : (word : ℕ) → Type 0
 IsTakenWord word = (word ≡ state_word LockedTag) ⊎ ((epoch : ℕ) × (word ≡ state_word (Obsolete epoch)))
 
--- One of these failed steps of the pass, since step `since`, was a lock that found its target taken. Another pass of the index had locked
--- it, or had unlinked the node, if it was retired.
+-- One of the failed steps `tried`, since step `since`, was a try of a lock whose target was taken. Another pass of the index had locked
+-- that target, or had unlinked it, if it is a retired node.
 pub record HasMetTaken (layout : Layout) (pass since : ℕ) (tried : List Failed) : Type 0 where
   pub target : Target
   pub failed : Failed
@@ -153,13 +154,13 @@ pub record HasMetTaken (layout : Layout) (pass since : ℕ) (tried : List Failed
   pub word : IsTakenWord failed.word
   pub now : since ≤ failed.step
 
--- since the pass knew `old`, one of its locks has found its target taken by another pass
+-- since the pass knew `old`, it has tried a lock and found its target taken by another pass
 abbrev pub HasMetLock : (layout : Layout) → (old new : Known) → Type 0
 HasMetLock layout old new = HasMetTaken layout old.pass old.steps new.failed
 
--- from number `first` on, no change of the list is this pass's
+-- of the changes from number `first` on, none is by this pass
 abbrev pub NoChangeFrom : (pass first : ℕ) → (changes : List Change) → Type 0
-NoChangeFrom pass first changes = (i : ℕ) (change : Change) → first ≤ i → i < length changes → (get_or changes i change).pass ≢ pass
+NoChangeFrom pass first changes = (place : ℕ) (change : Change) → first ≤ place → place < length changes → (get_or changes place change).pass ≢ pass
 
 -- the pass has made no change since its pin
 abbrev pub HasMadeNoChange : Known → Type 0
@@ -167,14 +168,15 @@ HasMadeNoChange known = (pin : Pin) → known.pin ≡ Some pin → NoChangeFrom 
 
 -- The parts
 
--- the pass has locked one node more, listed in front of the others
+-- The pass has locked node `number`, which it had not locked before, and lists it in front of its other locks. Its own records and what it
+-- knows of the anchor are as before.
 abbrev pub LocksOne : (number : ℕ) → (old new : Known) → Type 0
 LocksOne number old new =
     ((words : List ℕ) × (new.locks ≡ record { node = number; words = words } ∷ old.locks)) × ¬ (IsOneOf number (nodes_of old.locks)) ×
     (new.own ≡ old.own) ×
     (new.anchor ≡ old.anchor)
 
--- the pass has locked the node, listed in front of these
+-- the pass has locked node `number`, which is not among the locks `held`, and lists it in front of these
 abbrev pub LocksLast : (number : ℕ) → (held : List Locked) → (known : Known) → Type 0
 LocksLast number held known = ((words : List ℕ) × (known.locks ≡ record { node = number; words = words } ∷ held)) × ¬ (IsOneOf number (nodes_of held))
 
@@ -186,19 +188,20 @@ LocksAnchor old new = IsSome new.anchor × (new.locks ≡ old.locks) × (new.own
 abbrev pub KeepsLocksAndRecords : (old new : Known) → Type 0
 KeepsLocksAndRecords old new = (new.locks ≡ old.locks) × (new.anchor ≡ old.anchor) × (new.own ≡ old.own)
 
--- The pass has gone on since it knew `old`, and has the same records. Its seat is one of the table's, and what it knows is possible.
+-- The pass has gone on since it knew `old`: it has the same pin, facts and own records. Its seat is one of the table's, and what it knows
+-- is true of some lawful core.
 abbrev pub KeepsRecords : (table : TableView) → (old : Known) → (seat : SeatView) → Type 0
 KeepsRecords table old seat = IsLater old seat.known × IsSeatOf table seat × IsPossible table.layout seat.known × (seat.known.own ≡ old.own)
 
--- The pass was led to the node since its pin, and has made no change since. It has no record, and has not locked the node. So only another
--- pass may be in the way of the lock.
-pub record HasNotLocked (known : Known) (n : ℕ) : Type 0 where
+-- The pass may try the lock of node `number`: it is sure that the node stood in the tree since its pin. It has no record, has not locked
+-- the node, and has made no change since its pin. So only another pass may be in the way of the lock.
+pub record HasNotLocked (known : Known) (number : ℕ) : Type 0 where
   pub since : ℕ
   pub height : ℕ
   pub pinned : IsPinnedSince known since
-  pub led : IsSure known (λ past. EntryStoodSince past since (Node n height))
+  pub led : IsSure known (λ past. EntryStoodSince past since (Node number height))
   pub own : known.own ≡ []
-  pub free : ¬ (IsOneOf n (nodes_of known.locks))
+  pub free : ¬ (IsOneOf number (nodes_of known.locks))
   pub quiet : HasMadeNoChange known
 
 -- a lock of the pass was refused, and the pass has the same locks and records as before
@@ -210,16 +213,16 @@ abbrev pub KnowsSameButLocks : (old new : Known) → Type 0
 KnowsSameButLocks old new =
     (new.own ≡ old.own) × (new.anchor ≡ old.anchor) × (new.front ≡ old.front) × (new.round ≡ old.round) × (new.failed ≡ old.failed)
 
--- The pass makes steps that neither set nor clear its pin and give no record back. They try these locks.
+-- The pass makes steps that neither set nor clear its pin and give no record back. The steps try just the locks `tried`, in that order.
 abbrev pub HasTried : {G : Type 0} → (table : TableView) → (becomes : G → Event → G → Type 0) → (tried : List Target) →
     (old new : SeatView × G) → Type 0
 HasTried table becomes tried old new = TriesBy IsOfAttempt table becomes tried old new
 
--- The pass makes steps that neither set nor clear its pin and give no record back. They try no lock.
+-- The pass makes steps that neither set nor clear its pin, give no record back, and try no lock.
 abbrev pub HasRun : {G : Type 0} → (table : TableView) → (becomes : G → Event → G → Type 0) → (old new : SeatView × G) → Type 0
 HasRun table becomes old new = HasTried table becomes [] old new
 
--- The pass makes steps that neither set nor clear its pin and give no record back. They try so many locks, each once.
+-- The pass makes steps that neither set nor clear its pin and give no record back. The steps try `locks` different locks, each once.
 abbrev pub HasTriedOnce : {G : Type 0} → (table : TableView) → (becomes : G → Event → G → Type 0) → (locks : ℕ) → (old new : SeatView × G) →
     Type 0
 HasTriedOnce table becomes locks old new = TriesOnceBy IsOfAttempt table becomes locks old new

@@ -32,10 +32,10 @@ pub record HasMetOther (layout : Layout) (first : ℕ) (old new : SeatView) : Ty
   pub below : by < layout.passes
   pub is : HoldsLock core by ⊎ HasMadeSince core first by
 
--- A lock of the pass was refused. At a moment another pass held a lock, or had made a change since the pin.
+-- A lock of the pass was refused. At some moment meanwhile another pass held a lock, or had made a change since the pin.
 abbrev pub IsBlocked : (layout : Layout) → (old new : SeatView) → Type 0
 IsBlocked layout old new = HasMetLock layout old.known new.known × HasMetOther layout (version_of old.known.pin) old new
 
--- At a moment another pass held a lock, or had made a change since the pin. Or the pass has seen such a change.
+-- At some moment meanwhile another pass held a lock, or had made a change since the pin. Or the pass has seen a change made since its pin.
 abbrev pub IsHindered : (layout : Layout) → (old new : SeatView) → Type 0
 IsHindered layout old new = HasMetOther layout (version_of old.known.pin) old new ⊎ (version_of old.known.pin < length new.known.front)

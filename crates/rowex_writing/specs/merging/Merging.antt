@@ -1,4 +1,4 @@
--- A removal after which what is left of the leaf's node and the node beside it are one node.
+-- A removal that makes one node of what is left of the leaf's node and of the node beside it.
 use Rattle.std.specs.Prelude.{◌≡◌, ◌≢◌, ◌⊎◌, ℕ, ◌+◌, ◌-◌, ◌*◌, ◌<◌, ◌≤◌, List, [], ◌∷◌, length, slice_get, Bool, true, Option, Some, None}
 use Rattle.compound_node.specs.Nodes.{StandsBelow}
 use Rattle.compound_node.specs.declared.entries.Entry.{Entry}
@@ -41,7 +41,8 @@ use Rattle.rowex_writing.specs.declared.plan.Span.{Span}
 
 -- ---- before the change
 
--- In the upper node, by the words under its lock, this one slot is beside that of the lower node. It names the node to merge with.
+-- In the upper node, by its words under the lock, the last fork on the key's path has just one slot on its other side. The entry in that
+-- slot names the node to merge with.
 pub record IsNeighbour (known : Known) (job : Job) (merge : Merge) : Type 0 where
   pub words : List ℕ
   pub has : HasLocked known (upper job).number words
@@ -49,35 +50,38 @@ pub record IsNeighbour (known : Known) (job : Job) (merge : Merge) : Type 0 wher
   pub height : ℕ
   pub sibling : subtrie_sibling job.key.now (node_words_of words).subtrie ≡ Some (merge.position, Place (Node merge.number height))
 
--- In the locked node of the fork, by its words, this one slot is beside the one that the key's search takes. The entry can stand in it.
+-- By the words of the fork's node under its lock, the key's search takes slot `fork.step.slot` there. The last fork on that path has just
+-- slot `fork.slot` on its other side. The entry that is to take the fork's place is low enough for the node.
 abbrev pub ClosesFork : (known : Known) → (key : Key) → (fork : ClosedFork) → Type 0
 ClosesFork known key fork = (words : List ℕ) → HasLocked known fork.step.number words → (spot key (node_words_of words).subtrie ≡ fork.step.slot) ×
     ((position : ℕ) × (beside fork.step.slot (node_words_of words).subtrie ≡ Some (fork.slot, position))) ×
     StandsBelow (node_words_of words).fixed.height fork.entry
 
--- What is left of a node and its sibling can't be one node. An entry alone is left, or they have more than 32 entries together.
+-- What is left of a node and its sibling can't be one node: just one entry is left, or the two have more than 32 entries together.
 abbrev pub AreNoNode : (left other : Subtrie) → Type 0
 AreNoNode left other = ((entry : Entry) × (left ≡ Place entry)) ⊎ (32 < size left + size other)
 
 -- ---- wider locks
 
--- the number is that of no node of the span, nor of the two above it
+-- the number is not that of a node of the span, nor of one of the two nodes above the span
 abbrev pub IsFarFromSpan : (way : List PathNode) → (span : Span) → (number : ℕ) → Type 0
-IsFarFromSpan way span number = (node : PathNode) (i : ℕ) → slice_get way i ≡ Some node → span.end ≤ i + 2 → i < span.len → number ≢ node.number
+IsFarFromSpan way span number =
+    (node : PathNode) (index : ℕ) → slice_get way index ≡ Some node → span.end ≤ index + 2 → index < span.len → number ≢ node.number
 
--- the target is what names node `end` of the path: the anchor, or the node before
+-- the target to lock is what names the node at index `end` of the path: the anchor, or the node before
 abbrev pub IsTargetAbove : (way : List PathNode) → (end : ℕ) → (target : Target) → Type 0
 IsTargetAbove way end Anchor = end ≡ 0
-IsTargetAbove way end (NodeTarget n) = (node : PathNode) × (0 < end) × (slice_get way (end - 1) ≡ Some node) × (n ≡ node.number)
+IsTargetAbove way end (NodeTarget number) = (node : PathNode) × (0 < end) × (slice_get way (end - 1) ≡ Some node) × (number ≡ node.number)
 
--- Beside these locks the pass has just the one above node `end` of the path. What that target names is what the search found there.
+-- Beside the locks `held` the pass has just one more. It is the lock of what names the node at index `end` of the path: the anchor, or the
+-- node before. That one still names what the search found there.
 pub data LocksAbove (held : List Locked) (key : Key) (way : List PathNode) (found : Found) (end : ℕ) (known : Known) : Type 0 where
   by_anchor : end ≡ 0 → known.locks ≡ held → known.anchor ≡ Some (named way found 0) → LocksAbove held key way found end known
   by_node : (node : PathNode) → 0 < end → slice_get way (end - 1) ≡ Some node → LocksLast node.number held known → known.anchor ≡ None →
       ((words : List ℕ) → HasLocked known node.number words → named way found end ≡ Some (seek key (node_words_of words).subtrie)) →
       LocksAbove held key way found end known
 
--- Beside the locks of its span the pass has locked the node beside the lower one, and what names the upper one.
+-- Beside the locks of its span, the pass has locked node `number`, which is beside the lower node, and what names the upper node.
 pub record HasWiderLocks (table : TableView) (view : SeatView) (job : Job) (number : ℕ) : Type 0 where
   pub taking : IsTaking table job
   pub seat : IsSeatOf table view
@@ -88,32 +92,32 @@ pub record HasWiderLocks (table : TableView) (view : SeatView) (job : Job) (numb
   pub low : number < table.layout.nodes
   pub above : LocksAbove (record { node = number; words = words } ∷ taking.before.known.locks) job.key.now job.way.now job.found (job.span.end - 1) view.known
 
--- If the pass had tried just the locks of these nodes, each once, it has tried at most two more, each once. It has tried two if `both` is
--- true.
+-- Let the pass have tried just the locks of these nodes, each once. Then it has now tried at most two more, each once. It has tried exactly
+-- two more if `both` is true.
 abbrev pub HasTriedUpToTwoMore : {G : Type 0} → (table : TableView) → (becomes : G → Event → G → Type 0) → (nodes : List ℕ) →
     (both : Bool) → (old new : SeatView × G) → Type 0
 HasTriedUpToTwoMore {G} table becomes nodes both old new = (first : SeatView × G) → TriesNodesBy IsOfAttempt table becomes nodes first old →
     (locks : ℕ) × HasTriedOnce table becomes locks first new × (length nodes ≤ locks) × (locks ≤ length nodes + 2) ×
     (both ≡ true → locks ≡ length nodes + 2)
 
--- If the pass had tried just the locks of these nodes, it has tried at most two more. Its steps since are bounded by the records that it
--- may still try, by these locks, and by `more`.
+-- Let the pass have tried just the locks of these nodes, each once, and then at most two more. This bounds its steps from `old` to `new`:
+-- two for each of the `left` records to try, those to remake a node for each further lock, and `more`.
 abbrev pub HasFewStepsAfterTries : {G : Type 0} → (table : TableView) → (becomes : G → Event → G → Type 0) → (nodes : List ℕ) →
     (left more : ℕ) → (old new : SeatView × G) → Type 0
 HasFewStepsAfterTries {G} table becomes nodes left more old new = (first : SeatView × G) → TriesNodesBy IsOfAttempt table becomes nodes first old →
     (locks : ℕ) × HasTriedOnce table becomes locks first new × (length nodes ≤ locks) × (locks ≤ length nodes + 2) ×
     (new.0.known.steps ≤ old.0.known.steps + 2 * left + (locks - length nodes) * level_steps + more)
 
--- If the pass had tried just the locks of these nodes, it has tried at most two more. Its steps since are those of a change under all these
--- locks, with room for so many more.
+-- Let the pass have tried just the locks of these nodes, each once, and then at most two more. Its steps from `old` to `new` are those of a
+-- change under all these locks, and at least `room` fewer.
 abbrev pub HasChangeStepsAfterTries : {G : Type 0} → (table : TableView) → (becomes : G → Event → G → Type 0) → (nodes : List ℕ) →
     (room : ℕ) → (old new : SeatView × G) → Type 0
 HasChangeStepsAfterTries {G} table becomes nodes room old new = (first : SeatView × G) → TriesNodesBy IsOfAttempt table becomes nodes first old →
     (locks : ℕ) × HasTriedOnce table becomes locks first new × (length nodes ≤ locks) × (locks ≤ length nodes + 2) ×
     (new.0.known.steps + room ≤ old.0.known.steps + change_steps table.layout locks)
 
--- The change takes no more steps than its locks allow, with room for so many more. It tries no lock beside those of its span. Or its span
--- is one node below the root's entry, and it tries at most two more.
+-- The steps from `old` to `new` are at least `room` fewer than those of a change under its locks. These are the locks of the span, and no
+-- lock is tried meanwhile. Or the span is one node below another, and at most two more locks are tried.
 abbrev pub EndsChange : {G : Type 0} → (table : TableView) → (becomes : G → Event → G → Type 0) → (job : Job) → (room : ℕ) →
     (old new : SeatView × G) → Type 0
 EndsChange {G} table becomes job room old new =
@@ -122,15 +126,15 @@ EndsChange {G} table becomes job room old new =
 
 -- ---- the store
 
--- the records that a merge unlinks: both nodes of the span, the one beside, and the leaf
+-- the records that a merge unlinks: the upper node, the lower node, the node `number` beside it, and the leaf
 abbrev pub merged_gone : Job → (number leaf : ℕ) → List Rec
 merged_gone job number leaf = a_node (upper job).number ∷ a_node (lower job).number ∷ a_node number ∷ a_leaf leaf ∷ []
 
--- just the records that a merge unlinks are listed, for the leaf that was found
+-- if the search found a leaf with the key, `gone` lists just the records that a merge unlinks
 abbrev pub HasListed : (gone : List Rec) → (job : Job) → (number : ℕ) → Type 0
 HasListed gone job number = (leaf value : ℕ) → job.found ≡ Leaf leaf value None → gone ≡ merged_gone job number leaf
 
--- Once the records that it has made are ready, the pass may make the removal by a store of the entry above the upper node.
+-- Once its new records are ready, the pass may make the removal by a store of this entry at the spot above the upper node.
 pub record MayMergeInto (table : TableView) (seat : SeatView) (made : List Rec) (job : Job) (number : ℕ) (entry : Entry) : Type 0 where
   pub change : Change
   pub was : Option ℕ

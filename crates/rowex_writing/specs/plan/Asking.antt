@@ -8,7 +8,7 @@ use Rattle.rowex_writing.specs.declared.plan.asking.Request.{Request}
 use Rattle.rowex_writing.specs.declared.plan.Aim.{Aim}
 use Rattle.rowex_writing.specs.declared.plan.Aim.TheVariants as aim
 
--- The value that a call gives its key, where `held` is the value that the key has, or none. It is 0 if the call gives it none.
+-- The value that a call gives its key, where `held` is the value that the key has, or none. If the call gives the key no value, this is 0.
 abbrev pub value_in : (call : Call) → (held : Option ℕ) → ℕ
 value_in (Insert key value) held = value
 value_in (Upsert key value) held = value
@@ -16,13 +16,13 @@ value_in (Exchange key expected value) held = value
 value_in (Add key delta) (Some had) = wrapped_sum had delta
 value_in call held = 0
 
--- the aim of a call that expects a value, if the value found is that one
+-- the aim, if the key was found with the expected value; else none
 abbrev pub aim_where : (expected : ℕ) → (found : Option ℕ) → (aim : Aim) → Option Aim
 aim_where expected None aim = None
 aim_where expected (Some held) aim = if nat_eq held expected then Some aim else None
 
--- What a call aims at whose key has this value, or none. An exchange and an addition may aim at what an upsert does. A call that only looks
--- aims at nothing.
+-- What a call aims at, by the value that its key has, or none. An exchange and an addition have the aim of an upsert, or none. A call that
+-- only looks has none.
 abbrev pub aim_of : (call : Call) → (held : Option ℕ) → Option Aim
 aim_of (Insert key value) held = Some aim.Insert
 aim_of (Upsert key value) held = Some aim.Upsert
@@ -33,10 +33,10 @@ aim_of (Get key) held = None
 aim_of (Remove key) held = Some aim.Remove
 aim_of (RemoveIf key expected) held = aim_where expected held aim.Remove
 
--- the request of a call whose key has this value, or none
+-- The request has the call's aim, and the value that the call gives its key. `held` is the value that the key has, or none.
 abbrev pub IsRequest : (call : Call) → (held : Option ℕ) → (request : Request) → Type 0
 IsRequest call held request = (aim_of call held ≡ Some request.aim) × (request.value ≡ value_in call held)
 
--- the reply to a call whose key has this value, or none, whatever else the map holds
+-- the map's reply to a call, by the value that its key has, or none
 abbrev pub reply_to : (call : Call) → (held : Option ℕ) → Reply
 reply_to call held = (step_where held [] call).1

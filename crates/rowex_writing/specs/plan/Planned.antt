@@ -21,21 +21,22 @@ pub record AffectsJust (key : Key) (position first last : ℕ) (shown : Subtrie)
   pub from : affected_first position (spot key shown) shown ≡ first
   pub upto : affected_count position (spot key shown) shown + first ≡ last + 1
 
--- Of the node that gets a new leaf, the entries in slots `first` to `last` are affected, by the forks that were read.
+-- Let the search have ended at a leaf with another key. Then a new leaf affects the entries in slots `first` to `last` of the node at its
+-- level. The pass has read the forks of that node.
 abbrev pub AreAffected : (known : Known) → (version : ℕ) → (key : Key) → (way : List PathNode) → (found : Found) → (first last : ℕ) → Type 0
 AreAffected known version key way (Leaf number value (Some position)) first last =
     (level : ℕ) (node : PathNode) → IsLevel way position level → slice_get way level ≡ Some node →
     (forks : Subtrie) × Sure known (λ past. HadShapeSince past version node.number forks) × AffectsJust key position first last forks
 AreAffected known version key way found first last = Unit {0}
 
--- the plan of a call, by what its search has found and read
+-- the plan for this aim, by the path and the end of the search, and by the forks that the pass has read
 abbrev pub IsPlanned : (known : Known) → (version : ℕ) → (key : Key) → (way : List PathNode) → (aim : Aim) → (found : Found) →
     (plan : Plan) → Type 0
 IsPlanned known version key way aim found plan =
     (first : ℕ) × (last : ℕ) × IsPlan way first last aim found plan × AreAffected known version key way found first last
 
--- Between these moments the pass has loaded the root. It had then seen all the changes that it knew of before, and it knows all of those
--- now.
+-- The pass has loaded the root between `before` and `later`. By that load it had seen all changes that it knew at `before`. At `later` it
+-- still knows all that it had seen by that load.
 pub record HasLoadedRoot (before later : Known) : Type 0 where
   pub from : before.steps ≤ later.fresh.step
   pub upto : later.fresh.step < later.steps

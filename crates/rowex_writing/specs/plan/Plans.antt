@@ -23,13 +23,13 @@ change len end deed = Change (record { len = len; end = end }) deed
 
 -- ---- a removal
 
--- the deed of a removal on this path
+-- the deed of a removal, by whether its path has no node, one, or more
 abbrev pub removal_deed : List PathNode → Deed
 removal_deed [] = Empty
 removal_deed (step ∷ []) = TakeTop
 removal_deed (step ∷ next ∷ way) = Take
 
--- the deed removes the found leaf
+-- the deed is that of a removal: it takes out the leaf that the search found
 abbrev pub TakesLeaf : Deed → Type 0
 TakesLeaf Take = Unit {0}
 TakesLeaf TakeTop = Unit {0}
@@ -38,17 +38,19 @@ TakesLeaf deed = ⊥
 
 -- ---- a new leaf beside affected entries
 
--- the plan for a new leaf in the chosen node, in this case of an insertion
+-- The plan for a new leaf in the chosen node, by the case of the insertion. An overflow remakes the nodes up to the end of its chain of
+-- pull ups.
 abbrev pub IsCase : (way : List PathNode) → (position : ℕ) → (chosen : Choice) → (kind : Case) → (plan : Plan) → Type 0
 IsCase way position chosen LeafPushdown plan = plan ≡ change (chosen.level + 1) (chosen.level + 1) (PushDown position)
 IsCase way position chosen NormalInsert plan = plan ≡ change (chosen.level + 1) chosen.level (Grow position)
 IsCase way position chosen Overflow plan = (end : ℕ) × IsChainEnd way chosen.level end × (plan ≡ change (chosen.level + 1) end (Grow position))
 
--- the plan for a new leaf that affects the entries in slots `first` to `last` at this level
+-- the plan for a new leaf that affects the entries in slots `first` to `last` of the node at this level of the path
 abbrev pub IsBeside : List PathNode → (position level first last : ℕ) → Plan → Type 0
 IsBeside way position level first last plan = (chosen : Choice) × IsChosen way level first last chosen × IsCase way position chosen chosen.case plan
 
--- the plan for a new leaf on this path; with no node on it, the found leaf is at the root
+-- The plan for a new leaf, whose key first differs from the found one at this position. If the path has no nodes, the found leaf is the
+-- root.
 abbrev pub IsNewLeafPlan : List PathNode → (position first last : ℕ) → Plan → Type 0
 IsNewLeafPlan [] position first last plan = plan ≡ change 0 0 (PushDown position)
 IsNewLeafPlan (step ∷ way) position first last plan =
@@ -74,17 +76,19 @@ IsPlan way first last Remove (Leaf number value None) plan = plan ≡ change (le
 
 -- ---- before the affected entries are known
 
--- The outline of a new leaf. Its plan asks for the affected entries if the path has nodes.
+-- The outline for a new leaf. Either it has the plan, whichever entries are affected. Or it names the level at which the affected entries
+-- are to be read, and a plan by these is one for the new leaf.
 abbrev pub IsBesideFound : (way : List PathNode) → (position : ℕ) → (outline : Outline) → Type 0
 IsBesideFound way position (Known plan) = (first last : ℕ) → IsNewLeafPlan way position first last plan
 IsBesideFound way position (Beside at level) = (at ≡ position) × IsLevel way position level ×
     ((first last : ℕ) (plan : Plan) → IsBeside way position level first last plan → IsNewLeafPlan way position first last plan)
 
--- the search ended at a leaf, whose key first differs at this position
+-- the search ended at a leaf with another key, and the two keys first differ at this position
 abbrev pub DiffersAt : (found : Found) → (position : ℕ) → Type 0
 DiffersAt found position = (number : ℕ) × (value : ℕ) × (found ≡ Leaf number value (Some position))
 
--- The outline of a call on this path. It is the plan, whichever entries are affected, or the level at which they are to be read.
+-- The outline of a call on this path. Either it has the plan, whichever entries are affected. Or it names the level at which the affected
+-- entries are to be read, and a plan by these is one for the call.
 abbrev pub IsOutline : (way : List PathNode) → (aim : Aim) → (found : Found) → (outline : Outline) → Type 0
 IsOutline way aim found (Known plan) = (first last : ℕ) → IsPlan way first last aim found plan
 IsOutline way aim found (Beside position level) = DiffersAt found position × IsLevel way position level ×

@@ -20,13 +20,13 @@ use Rattle.rowex_writing.specs.declared.build.kept.Build.{Build}
 use Rattle.rowex_core.specs.Events.{IsOfEntry}
 use Rattle.rowex_writing.specs.build.Putting.{AreInTable, IsAnchored}
 
--- The pass has published a change, and made no step since. It has unlinked just the records `gone`, and has locked just the nodes `kept`,
--- each listed once.
+-- The pass has published a change, and made no step since. Just the records `gone` were unlinked by the publish. Just the nodes `kept` are
+-- still locked, each listed once.
 abbrev pub HasJustPublished : (new : Known) → (gone : List Rec) → (kept : List ℕ) → Type 0
 HasJustPublished new gone kept = (old : Known) × (change : Change) × (was : Option ℕ) × HasPublished old new change was gone kept × AreApart kept
 
--- Just these records are the pass's own, each listed once. Each was unlinked before the pass last loaded the epoch, and that load found
--- this one.
+-- The pass's own records are just `recs`, each listed once, and are still to be marked. Each was unlinked before the pass last loaded the
+-- epoch, and that load found `epoch`.
 pub record HasToMark (known : Known) (epoch : ℕ) (recs : List Rec) : Type 0 where
   pub own : OwnsJust known.own (IsUnlinkedBefore known.round.version) recs
   pub apart : AreApart recs
@@ -39,14 +39,15 @@ KeepsLocks old new = (new.locks ≡ old.locks) × (new.anchor ≡ old.anchor) ×
 -- whether the spot is the root
 abbrev pub is_root : Spot → Bool
 is_root Root = true
-is_root (Slot n i) = false
-is_root (Value l) = false
+is_root (Slot number slot) = false
+is_root (Value leaf) = false
 
--- Once its records are ready, the pass may publish the change x by this store, which unlinks the records listed for it. Of the nodes that
--- the pass has locked just these are kept, each listed once. The anchor is locked exactly if the root is stored.
+-- Once its new records are ready, the pass may make this change by a store of the entry at the spot. The store unlinks the records that the
+-- build lists as gone. `kept` are the other nodes that the pass has locked, each listed once. The anchor is locked exactly if the spot is
+-- the root.
 pub record MayStore (table : TableView) (seat : SeatView) (build : Build) (kept : List PathNode) (spot : Spot) (entry : Option Entry)
-    (x : Change) (was : Option ℕ) : Type 0 where
-  pub ready : MayPublishOnceReady table seat build.made.items spot (entry_word entry) x was build.gone.items
+    (change : Change) (was : Option ℕ) : Type 0 where
+  pub ready : MayPublishOnceReady table seat build.made.items spot (entry_word entry) change was build.gone.items
   pub of_entry : IsOfEntry spot
   pub told : KnowsWas seat.known build.gone.items was
   pub there : HasSpot table.layout spot

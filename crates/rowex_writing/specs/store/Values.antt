@@ -1,4 +1,4 @@
--- The value of a leaf that a search has found, under the locks.
+-- The value that a found leaf has under the locks. It may be newer than the one that the search found.
 use Rattle.std.specs.Prelude.{ℕ, None, ◌≡◌, Some, ◌<◌, length, Option}
 use Rattle.rowex_reading.specs.declared.descent.Found.TheVariants.{Leaf}
 use Rattle.rowex_reading.specs.declared.descent.Found.{Found}
@@ -20,22 +20,23 @@ use Rattle.finite_map.specs.declared.Change.{Change}
 use Rattle.rowex_writing.specs.build.Changes.{HasChanged, IsDeedChange}
 use Rattle.rowex_writing.specs.declared.plan.Deed.{Deed}
 
--- the end of a search, with this value of the leaf that has the key
+-- what a search found, with `now` as the value of the leaf that has the key; any other end stays the same
 abbrev pub revalued : (found : Found) → (now : ℕ) → Found
 revalued (Leaf number value None) now = Leaf number now None
 revalued found now = found
 
--- Under its locks the pass has found what its search found, with the value that the leaf has then. The call has the same aim there.
+-- Under its locks the pass has found what its search found, but for the leaf's value, which may be newer. If the call had an aim by the old
+-- value, it has the same aim by the new one.
 pub record IsFoundAgain (call : Call) (found now : Found) : Type 0 where
   pub value : ℕ
   pub is : now ≡ revalued found value
   pub aims : (aim : Aim) → aim_of call (value_of found) ≡ Some aim → aim_of call (value_of now) ≡ Some aim
 
--- if the search found the key, it has this value after the changes that the pass has seen
+-- if the search found the key, the key has the value found, in the map after the changes that the pass has seen
 abbrev pub HoldsFound : (known : Known) → (key : Key) → (found : Found) → Type 0
 HoldsFound known key found = (number value : ℕ) → found ≡ Leaf number value None → value_at (map_of known.front) key ≡ Some value
 
--- Under its locks the pass has found the key with another value, at which the call has nothing to change. The key had it in a version
+-- Under its locks the pass has found another value of the key, by which the call has nothing to change. The key had that value in a version
 -- since the pass's last load of the root.
 pub record HasFoundOther (old new : Known) (call : Call) (key : Key) (now : Found) : Type 0 where
   pub later : IsLater old new
@@ -44,15 +45,15 @@ pub record HasFoundOther (old new : Known) (call : Call) (key : Key) (now : Foun
   pub held : HasFound new key (Some value)
   pub aimless : aim_of call (Some value) ≡ None
 
--- the pass has loaded the value of the leaf that its search found for the key, if any, since its last lock
+-- if the search found a leaf with the key, the pass has loaded that leaf's value since its last lock
 abbrev pub HasLoadedFound : Known → Found → Type 0
 HasLoadedFound known found = (number value : ℕ) → found ≡ Leaf number value None → HasLoaded known number value
 
--- another pass has made a change since the search of the job
+-- the pass has seen a change that was made after the job's search loaded the root
 abbrev pub HasMoved : (layout : Layout) → (job : Job) → (old new : Known) → Type 0
-HasMoved layout job old new = (m : ℕ) → IsJobFrom layout old m job → m < length new.front
+HasMoved layout job old new = (version : ℕ) → IsJobFrom layout old version job → version < length new.front
 
--- the pass has made the deed's change: the key has the value, or is absent
+-- the pass has made the change that the deed asks for: the key has this value, or is absent
 abbrev pub HasDoneDeed : (old new : Known) → (deed : Deed) → (key : Key) → (value : ℕ) → (found : Found) → Type 0
 HasDoneDeed old new deed key value found =
     (change : Change) × (was : Option ℕ) × IsDeedChange old.pass deed key value found change was × HasChanged old new change was

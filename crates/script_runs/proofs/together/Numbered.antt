@@ -2,7 +2,7 @@
 use Rattle.script_runs.proofs.Common.{◌≡◌, ℕ, suc, ◌+◌, List, [], ◌∷◌, ◌++◌, length, map, Some, refl, sym, ap, subst, ◌∙◌, arith, All, AllZip, slice_get, zip, All-nil, All-cons, All-head, All-tail, HandleView, handle_at, PassView, Owns, Event, TableView, Command}
 use Rattle.script_runs.specs.declared.answer.Done.{Done}
 use Rattle.script_runs.specs.declared.together.Order.{Order}
-use Rattle.script_runs.specs.Progress.{AllThree, AreAt, HasKept, IsDone, IsNewPassOf, IsOrderOf}
+use Rattle.script_runs.specs.Progress.{AllThree, AreAt, HasRunItsOrder, IsDone, IsNewPassOf, IsOrderOf}
 use Rattle.script_runs.specs.Scripts.{AllFrom}
 
 module _ {A : Type 0} (p : ℕ → A → Type 0) where
@@ -91,7 +91,7 @@ module _ {G : Type 0} (becomes : G → Event → G → Type 0) where
 
   -- what the threads did is what they were started for
   pub all_joined : (seats : List (HandleView × G)) (scripts : List (List Command)) (orders : List (Order G)) (done : List (Done × G))
-      → AllThree IsOrderOf seats scripts orders → AllZip (HasKept becomes) orders done → AllThree (IsDone becomes) seats scripts done
+      → AllThree IsOrderOf seats scripts orders → AllZip (HasRunItsOrder becomes) orders done → AllThree (IsDone becomes) seats scripts done
   all_joined [] [] [] [] h kept = tt
   all_joined [] [] [] (x ∷ done) h kept = absurd kept
   all_joined [] [] (x ∷ orders) done h kept = absurd h

@@ -1,13 +1,13 @@
 -- The four cases.
 use Rattle.compound_node.proofs.Common.{◌<◌, ◌≡◌, Option, ap₂, arith, length, subst, sym, ℕ, ◌∙◌, found, beside_by, by_before, by_next, by_several_before, by_several_next}
 use Rattle.compound_node.proofs.Beside.{told_beside}
-use Rattle.compound_node.specs.Beside.{AreRound, IsBesideIn, column_before}
+use Rattle.compound_node.specs.Beside.{AreRowsRound, IsBesideIn, column_before}
 use Rattle.compound_node.specs.Nodes.{IsLawfulNode, NodeView}
 use Rattle.compound_node.proofs.rows.find_sibling.Goals as goal
 
 -- from what the columns tell
 told_as : (at before own after after_next : ℕ) (result : Option (ℕ × ℕ)) → beside_by at (column_before before) (column_before own) (column_before after) (column_before after_next) ≡ result →
-    (node : NodeView) → IsLawfulNode node → at < length node.entries → AreRound node.rows at before own after after_next → IsBesideIn node at result
+    (node : NodeView) → IsLawfulNode node → at < length node.entries → AreRowsRound node.rows at before own after after_next → IsBesideIn node at result
 told_as at before own after after_next result e = λ node lawful l round. subst (IsBesideIn node at) e (told_beside node lawful at before own after after_next l round)
 
 pub returns-then-after-after_next : goal.returns-then-after-after_next

@@ -1,6 +1,6 @@
 -- Why `join_files` meets its contract.
 use Rattle.script_runs.proofs.Common.{◌≡◌, [], ◌∷◌, ◌++◌, map, append_assoc, append-nil, arith, AllZip, into_iter_items, nil_from_length}
-use Rattle.script_runs.specs.Progress.{HasKept}
+use Rattle.script_runs.specs.Progress.{HasRunItsOrder}
 use Rattle.script_runs.proofs.together.join_files.Goals as goal
 
 pub loop-thread-preserved : goal.loop-thread-preserved
@@ -9,7 +9,7 @@ loop-thread-preserved g c =
     let ran = c.in_ok-join.field-0 in
     let pushed : c.push.new.self.items ≡ c.loop-thread.done.items ++ ran ∷ [] = c.in_ok-push.ensures.items in
     λ rest others.
-    let whole : AllZip (HasKept g.G.Gate.becomes) (c.in-Some.thread.promise ∷ map (λ t. t.promise) (into_iter_items c.next.new.self)) (ran ∷ rest) =
+    let whole : AllZip (HasRunItsOrder g.G.Gate.becomes) (c.in-Some.thread.promise ∷ map (λ t. t.promise) (into_iter_items c.next.new.self)) (ran ∷ rest) =
     (c.in_ok-join.ensures, others) in
     rw (pushed, append_assoc) (c.loop-thread.invariant (ran ∷ rest) (rw left whole))
 
@@ -17,5 +17,5 @@ pub returns : goal.returns
 returns g c =
     let none : into_iter_items c.loop-thread.thread-iterator ≡ [] =
     nil_from_length _ (omega (arith, c.in-None.ensures.steps, c.loop-thread.thread-iterator.rest.ok)) in
-    let here : AllZip (HasKept g.G.Gate.becomes) [] [] = tt in
+    let here : AllZip (HasRunItsOrder g.G.Gate.becomes) [] [] = tt in
     rw append-nil at (c.loop-thread.invariant [] (rw none here))

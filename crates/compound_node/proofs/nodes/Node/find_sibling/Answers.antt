@@ -1,6 +1,6 @@
 -- The rows round the place tell it.
 use Rattle.std.proofs.Common.{◌≡◌, Some, ap, arith, get_or, subst, ◌∙◌}
-use Rattle.compound_node.specs.Beside.{AreRound, IsBesideIn}
+use Rattle.compound_node.specs.Beside.{AreRowsRound, IsBesideIn}
 use Rattle.compound_node.specs.Nodes.{IsLawfulNode, NodeView}
 use Rattle.compound_node.proofs.nodes.Node.find_sibling.Goals as goal
 use Rattle.compound_node.proofs.nodes.Node.find_sibling.Goals.{After-columns-columns, After-find_sibling, After-self}
@@ -17,7 +17,7 @@ overflow_add-slot-2 c = omega (arith, (lawful_self (goal.at.overflow_add-slot-2 
 pub find_sibling-requires : goal.find_sibling-requires
 find_sibling-requires c = omega (arith, (lawful_self (goal.at.find_sibling-requires c).After-self).room)
 
-round : (c : After-find_sibling) → AreRound c.args.self.now.rows c.args.slot c.row-before.result c.row-own.result c.row-after.result c.row-after_next.result
+round : (c : After-find_sibling) → AreRowsRound c.args.self.now.rows c.args.slot c.row-before.result c.row-own.result c.row-after.result c.row-after_next.result
 round c = record {
   before_is = c.row-before.ensures ∙ ap (λ k. get_or c.args.self.now.rows k 4294967295) c.saturating_sub.ensures;
   own_is = c.row-own.ensures;

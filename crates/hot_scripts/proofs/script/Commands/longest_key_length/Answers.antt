@@ -4,7 +4,7 @@ use Rattle.std.specs.Prelude.{length}
 use Rattle.hot_scripts.specs.declared.command.Command.{Command}
 use Rattle.hot_scripts.specs.declared.fault.Reason.{Reason}
 use Rattle.hot_scripts.specs.Grammar.{HasKeyUpTo, asked, called_key, reading_of}
-use Rattle.hot_scripts.specs.Words.{parts_left, text_len}
+use Rattle.hot_scripts.specs.Words.{parts_left, bytes_left}
 use Rattle.hot_scripts.proofs.script.Commands.longest_key_length.Goals as goal
 
 one_more : (most bound : ℕ) (reading : Result (Option Command) Reason) (command : Option Command) (rest : List (Result (Option Command) Reason))
@@ -24,7 +24,7 @@ loop-left-preserved c =
     let asks : reads line ≡ Ok c.in-Ok.command = sym c.in-Ok.ensures in
     record {
       bad = rw (parts, asks) at was.bad;
-      small = omega (arith, was.small, c.split_once.ensures.left, ap text_len c.in-Some.is);
+      small = omega (arith, was.small, c.split_once.ensures.left, ap bytes_left c.in-Some.is);
       few = c.larger_number-longest.ensures.few was.few c.key_length.ensures.few;
       keys = λ most above fits. was.keys most (omega (arith, above, c.larger_number-longest.ensures.bound))
           (rw parts (one_more most c.key_length.result (reads line) c.in-Ok.command (map reads rest) asks c.key_length.ensures.key (omega (arith, above, c.larger_number-longest.ensures.bound)) fits));
