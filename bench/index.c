@@ -406,7 +406,7 @@ static uint64_t measure_load(int kind, uint32_t count, double end)
     load load = { kind, count, order_of(count) };
     hot_stock stock, roomy;
     size_t longest = fit(&load, &stock), fitting, safe;
-    uint32_t repetition, repetitions = count > 1000000 ? 1 : count > 100000 ? 2000000 / count : 20;
+    uint32_t repetition, repetitions = count > 1000000 ? 1 : count > 100000 ? 3000000 / count : 20;
     uint64_t checksum = 0;
     report index;
     int place;
