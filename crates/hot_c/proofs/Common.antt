@@ -19,7 +19,7 @@ pub use Rattle.hot_index_calls.specs.Calls.{GetsOr, GetsOrCounts, HasCause, IsCo
 pub use Rattle.hot_index_calls.specs.Census.{HasCounted, loads_in}
 pub use Rattle.hot_index_calls.specs.Many.{AreNoted, HasMadeGetManySteps, gets}
 pub use Rattle.hot_index_calls.specs.Passes.{IsNewPass, Owns, PassView, pass_of}
-pub use Rattle.hot_index_calls.specs.Refusals.{IsToldAfter, as_tried, fault_in}
+pub use Rattle.hot_index_calls.specs.Refusals.{FollowsRefusal, as_tried, fault_in}
 pub use Rattle.hot_index_calls.specs.Traces.{HasMadeChangeSteps, HasMadeGetSteps, HasMadeScanSteps, HasRead, reading, untold}
 pub use Rattle.hot_index_calls.specs.declared.refusals.Refusal.{Refusal}
 pub use Rattle.hot_index_calls.specs.declared.refusals.Refusal.TheVariants.{Busy as IsBusy, Full as IsFull, HeldBack}

@@ -5,7 +5,7 @@ use Rattle.hot_c.proofs.Common.{◌≡◌, ℕ, ◌<◌, ◌≤◌, ◌^◌, Lis
 use Rattle.hot_index_calls.specs.Reverse.{IsReverseListed}
 use Rattle.hot_index.proofs.Reading.{range_whole}
 use Rattle.hot_c.specs.Calls.{FitsInKey, KeepsAll, StaysOpen}
-use Rattle.hot_c.specs.Orders.{Answer, IsFilledIn, IsListedIn, direction_of, in_order}
+use Rattle.hot_c.specs.Orders.{ScanClaim, IsFilledIn, IsListedIn, direction_of, in_order}
 use Rattle.hot_handles.specs.Owning.{heap}
 use Rattle.hot_c.specs.Packs.{IsListedByParts}
 use Rattle.hot_c.specs.Scans.{HasFilledList, ListsInto, ListsNothing}
@@ -98,7 +98,7 @@ module _ (from upto k l : List ℕ) (old new : Option Opened) (limit : ℕ) (s u
       }
 
 -- the scan has left this list, which was read and then emptied
-module _ {IsMade : Answer} {range : Range} {old mid : Option Opened} {count : ℕ} {is_more : Bool} (h : HasFilledList IsMade range old mid count is_more) (u : Opened) (is : mid ≡ Some u) where
+module _ {IsMade : ScanClaim} {range : Range} {old mid : Option Opened} {count : ℕ} {is_more : Bool} (h : HasFilledList IsMade range old mid count is_more) (u : Opened) (is : mid ≡ Some u) where
   pub count_here : count ≡ length u.list
   count_here = h.count_is ∙ ap (λ (x : Opened). length x.list) (same h.after u (sym h.is ∙ is))
 
@@ -135,9 +135,9 @@ module _ {IsMade : Answer} {range : Range} {old mid : Option Opened} {count : �
   pub not_closed : old ≡ None → ⊥
   not_closed none = none_is_some h.before (sym none ∙ h.was)
 
-module _ {Room : Type 0} {IsWritten : List (List ℕ × ℕ) → Bool → Room → Room → Type 0} {range : Range} {old new : Option Opened} {before after : Room} {status : ℕ} (IsTold : Answer) where
+module _ {Room : Type 0} {IsWritten : List (List ℕ × ℕ) → Bool → Room → Room → Type 0} {range : Range} {old new : Option Opened} {before after : Room} {status : ℕ} (IsTold : ScanClaim) where
   -- the pairs of the list were written
-  pub listed : {IsMade : Answer} {mid : Option Opened} {count : ℕ} {is_more : Bool} (h : HasFilledList IsMade range old mid count is_more) (u v : Opened) (pairs : List (List ℕ × ℕ))
+  pub listed : {IsMade : ScanClaim} {mid : Option Opened} {count : ℕ} {is_more : Bool} (h : HasFilledList IsMade range old mid count is_more) (u v : Opened) (pairs : List (List ℕ × ℕ))
       → mid ≡ Some u → new ≡ Some v → KeepsAll u v → status ≡ DONE
       → IsTold h.before.handle.index.layout h.before.handle.pass u.handle.pass range pairs is_more → IsWritten pairs is_more before after → ListsInto IsWritten IsTold range old new before after status
   listed h u v pairs is last kept done told written = record {

@@ -11,15 +11,15 @@ use Rattle.hot_c.specs.declared.pairs.Order.{Order}
 use Rattle.hot_c.specs.declared.pairs.Order.TheVariants.{Upwards, Downwards, LastUpwards}
 
 -- What may be said of a scan of a range, from its pairs and from whether there is a further pair.
-abbrev pub Answer : Type 1
-Answer = (layout : Layout) (old new : PassView) (range : Range) (pairs : List (List ℕ × ℕ)) (is_more : Bool) → Type 0
+abbrev pub ScanClaim : Type 1
+ScanClaim = (layout : Layout) (old new : PassView) (range : Range) (pairs : List (List ℕ × ℕ)) (is_more : Bool) → Type 0
 
 -- A scan of the last pairs of a range was answered with these pairs, in rising order. A scan downwards would list them from the last on.
-abbrev pub IsLastListed : Answer
+abbrev pub IsLastListed : ScanClaim
 IsLastListed layout old new range pairs is_more = IsReverseListed layout old new range (reverse pairs) is_more
 
 -- a scan was answered with these pairs, in this order
-abbrev pub IsListedIn : Order → Answer
+abbrev pub IsListedIn : Order → ScanClaim
 IsListedIn Upwards = IsListed
 IsListedIn Downwards = IsReverseListed
 IsListedIn LastUpwards = IsLastListed
@@ -37,7 +37,7 @@ direction_of Downwards = Falling
 direction_of LastUpwards = Falling
 
 -- A scan for this order was answered. Its pairs stand in the order in which it found them.
-abbrev pub IsFilledIn : Order → Answer
+abbrev pub IsFilledIn : Order → ScanClaim
 IsFilledIn Upwards = IsListed
 IsFilledIn Downwards = IsReverseListed
 IsFilledIn LastUpwards = IsReverseListed

@@ -9,7 +9,7 @@ use Rattle.version_laws.specs.Scan.{Range}
 use Rattle.hot_index_calls.specs.Answers.{IsListed, range_from}
 use Rattle.hot_index_calls.specs.Passes.{PassView}
 use Rattle.hot_index_calls.specs.Reverse.{IsReverseListed}
-use Rattle.hot_c.specs.Orders.{Answer}
+use Rattle.hot_c.specs.Orders.{ScanClaim}
 use Rattle.hot_c.specs.Scans.{ListsInto}
 use Rattle.hot_c.specs.declared.opened.Opened.{Opened}
 
@@ -38,12 +38,12 @@ pub record IsPackListed (pairs : List (List ℕ × ℕ)) (is_more : Bool) (befor
 
 -- A scan was answered with these pairs. If it is cut behind any of its first pairs, it is a scan with their number as its limit, and has
 -- more.
-pub record IsListedByParts (IsMade : Answer) (layout : Layout) (old new : PassView) (range : Range) (pairs : List (List ℕ × ℕ)) (is_more : Bool) : Type 0 where
+pub record IsListedByParts (IsMade : ScanClaim) (layout : Layout) (old new : PassView) (range : Range) (pairs : List (List ℕ × ℕ)) (is_more : Bool) : Type 0 where
   pub whole : IsMade layout old new range pairs is_more
   pub parts : (count : ℕ) → count < length pairs → IsMade layout old new (limited range count) (take count pairs) true
 
 -- a scan that packs its pairs, of at most as many pairs as C has room for heads
-abbrev pub ListsPackedBy : Answer → (from upto : List ℕ) → (old new : Option Opened) → (before after : Packing) → (status : ℕ) → Type 0
+abbrev pub ListsPackedBy : ScanClaim → (from upto : List ℕ) → (old new : Option Opened) → (before after : Packing) → (status : ℕ) → Type 0
 ListsPackedBy IsMade from upto old new before after status =
     ListsInto IsPackListed (IsListedByParts IsMade) (range_from from upto (length before.heads)) old new before after status
 

@@ -8,7 +8,7 @@ use Rattle.key_ranges.specs.Ranges.{HasPrefix}
 use Rattle.hot_index_calls.specs.Answers.{IsListed}
 use Rattle.hot_index_calls.specs.Reverse.{IsReverseListed}
 use Rattle.hot_c.specs.Calls.{FitsInKey}
-use Rattle.hot_c.specs.Orders.{Answer}
+use Rattle.hot_c.specs.Orders.{ScanClaim}
 use Rattle.hot_c.specs.Scans.{Listing, ListsBy}
 use Rattle.hot_c.specs.declared.opened.Opened.{Opened}
 use Rattle.hot_c.specs.declared.status.TheConstants.{CLOSED, KEY_TOO_LONG}
@@ -28,7 +28,7 @@ HasPrefixBelow prefix other key = HasPrefix prefix key × (key_order key other �
 -- A scan through a handle of the keys that have the prefix and are on one side of the key `other`, of which `IsInside` holds. If the handle
 -- is closed, or the prefix or the key `other` too long, the status says so, and nothing has changed. Else it is a scan of the range of just
 -- those keys.
-pub record ListsRest (IsMade : Answer) (IsInside : List ℕ → Type 0) (prefix other : List ℕ)
+pub record ListsRest (IsMade : ScanClaim) (IsInside : List ℕ → Type 0) (prefix other : List ℕ)
     (old new : Option Opened) (before after : Listing) (status : ℕ) : Type 0 where
   pub closed : old ≡ None → (status ≡ CLOSED) × (new ≡ old) × (after ≡ before)
   pub long : IsSome old → ¬ (FitsInKey prefix × FitsInKey other) → (status ≡ KEY_TOO_LONG) × (new ≡ old) × (after ≡ before)

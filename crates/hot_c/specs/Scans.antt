@@ -6,14 +6,14 @@ use Rattle.hot_index_calls.specs.Answers.{HasFoundPair, IsListed, IsUnnoted, ran
 use Rattle.hot_index_calls.specs.Reverse.{IsReverseListed}
 use Rattle.hot_index_calls.specs.Traces.{HasMadeScanSteps, untold}
 use Rattle.hot_c.specs.Calls.{FitsInKey, StaysOpen}
-use Rattle.hot_c.specs.Orders.{Answer, IsLastListed}
+use Rattle.hot_c.specs.Orders.{ScanClaim, IsLastListed}
 use Rattle.hot_c.specs.Pairs.{HoldPairs}
 use Rattle.hot_c.specs.declared.opened.Opened.{Opened}
 use Rattle.hot_c.specs.declared.pairs.Pair.{Pair}
 use Rattle.hot_c.specs.declared.status.TheConstants.{DONE, KEY_TOO_LONG, CLOSED, NO_MEMORY}
 
 -- A scan through a handle has filled the handle's list with `count` pairs. `is_more` says whether there is a further pair.
-pub record HasFilledList (IsMade : Answer) (range : Range) (old new : Option Opened) (count : ℕ) (is_more : Bool) : Type 0 where
+pub record HasFilledList (IsMade : ScanClaim) (range : Range) (old new : Option Opened) (count : ℕ) (is_more : Bool) : Type 0 where
   pub before : Opened
   pub after : Opened
   pub was : old ≡ Some before
@@ -39,7 +39,7 @@ pub record ListsNothing (range : Range) (old new : Option Opened) (status : ℕ)
 -- written where C has room for them (`IsWritten`). Or memory was refused for a pair that it had found, and nothing is written. Either way
 -- the number of its steps is bounded.
 pub record ListsInto {Room : Type 0} (IsWritten : List (List ℕ × ℕ) → Bool → Room → Room → Type 0)
-    (IsMade : Answer) (range : Range) (old new : Option Opened) (before after : Room) (status : ℕ) : Type 0 where
+    (IsMade : ScanClaim) (range : Range) (old new : Option Opened) (before after : Room) (status : ℕ) : Type 0 where
   pub closed : old ≡ None → (status ≡ CLOSED) × (new ≡ old) × (after ≡ before)
   pub long : IsSome old → ¬ (FitsInKey range.from × FitsInKey range.upto) → (status ≡ KEY_TOO_LONG) × (new ≡ old) × (after ≡ before)
   pub made : IsSome old → FitsInKey range.from → FitsInKey range.upto →
@@ -68,7 +68,7 @@ pub record IsArrayListed (pairs : List (List ℕ × ℕ)) (is_more : Bool) (befo
   pub more : after.more ≡ from_bool is_more
 
 -- a scan through a handle, of at most as many pairs as C's array has room for
-abbrev pub ListsBy : (IsMade : Answer) (from upto : List ℕ) (old new : Option Opened) (before after : Listing) (status : ℕ) → Type 0
+abbrev pub ListsBy : (IsMade : ScanClaim) (from upto : List ℕ) (old new : Option Opened) (before after : Listing) (status : ℕ) → Type 0
 ListsBy IsMade from upto old new before after status =
     ListsInto IsArrayListed IsMade (range_from from upto (length before.room)) old new before after status
 

@@ -56,14 +56,14 @@ abbrev pub FindsPast : (moment : ℕ) (old new : SectionView) → Type 0
 FindsPast moment old new = SeesOthers old new × IsPast moment new.known.run
 
 -- A look of the section's owner finds that the moment of this number is not past: an open section holds it.
-abbrev pub FindsHeld : (moment : ℕ) (old new : SectionView) → Type 0
-FindsHeld moment old new = SeesOthers old new × IsHeld moment new.known.run
+abbrev pub FindsNotPast : (moment : ℕ) (old new : SectionView) → Type 0
+FindsNotPast moment old new = SeesOthers old new × IsHeld moment new.known.run
 
 -- The status tells whether the moment of this number is past. If the handle is closed, the status says so, and nothing has changed.
 pub record TellsPast (moment : ℕ) (old new : Option OpenSection) (status : ℕ) : Type 0 where
   pub closed : old ≡ None → (status ≡ CLOSED) × (new ≡ old)
   pub told : IsSome old →
-      ((status ≡ DONE) × KeepsSection (FindsPast moment) old new) ⊎ ((status ≡ NOT_PAST) × KeepsSection (FindsHeld moment) old new)
+      ((status ≡ DONE) × KeepsSection (FindsPast moment) old new) ⊎ ((status ≡ NOT_PAST) × KeepsSection (FindsNotPast moment) old new)
 
 -- A handle was opened that has a section of a new table, and keeps `count` others for handles to come.
 abbrev pub HasOpenedSections : (count : ℕ) (new : Option OpenSection) → Type 0

@@ -25,7 +25,7 @@ pub use Rattle.hot_index_calls.specs.Census.{HasCounted, loads_in}
 pub use Rattle.hot_index_calls.specs.Many.{AreNoted, HasMadeGetManySteps, gets}
 pub use Rattle.hot_index_calls.specs.Noting.{change_notes, place_of}
 pub use Rattle.hot_index_calls.specs.Passes.{AreByPasses, IsNewPass, IsSettled, Owns, PassView, pass_of}
-pub use Rattle.hot_index_calls.specs.Refusals.{HasNodeLeft, IsCountTold, IsCountedAfter, as_tried}
+pub use Rattle.hot_index_calls.specs.Refusals.{HasNodeLeft, FollowsTry, IsCountedAfter, as_tried}
 pub use Rattle.hot_index_calls.specs.Traces.{HasCollected, HasMadeGetSteps, HasRead, reading}
 pub use Rattle.hot_index_calls.specs.declared.refusals.Refusal.{Refusal}
 pub use Rattle.key_bits.specs.Key.{IsKey}

@@ -1,5 +1,5 @@
 -- A call that is alone is not hindered: what no other pass had when it began, none has while it runs.
-use Rattle.hot_index.proofs.Common.{◌≡◌, ◌≢◌, ◌⊎◌, inl, inr, ⊎_elim, ℕ, ◌+◌, ◌<◌, ◌≤◌, List, [], ◌∷◌, ◌++◌, length, get_or, Bool, true, false, ◌&&◌, nat_eq, if◌then◌else◌, Option, Some, None, Result, Ok, Err, IsOk, refl, sym, ap, subst, ◌∙◌, arith, append-nil, append_assoc, length-append, All, ne_eqb, append_cancel_left, All-head, All-nil, All-tail, get_or_from_slice_get, slice_get_within, Call, Change, Added, Reply, BeginsWith, key_of, Key, Layout, Rec, a_node, IsLockable, ClearPin, Event, Known, Core, IsLawful, holder_of, IsFact, IsStillLoaded, Knows, opening, AreOthers, EventsLead, knows_all, SeatView, TableView, lead_layout, front_on, Full, TryFault, Busy, FullLeaves, FullNodes, NoChangeFrom, no_change_from_later, runs_begin, IsCause, MayTake, fault_of, AreTriesRefused, HasCause, IsResultOfLast, IsOutcome, IsTried, IsTriedAndCounted, MakesTries, loads_in, change_notes, IsCountTold, IsCountedAfter, as_tried, Refusal, IsNewPass, PassView, All-part, full_fault}
+use Rattle.hot_index.proofs.Common.{◌≡◌, ◌≢◌, ◌⊎◌, inl, inr, ⊎_elim, ℕ, ◌+◌, ◌<◌, ◌≤◌, List, [], ◌∷◌, ◌++◌, length, get_or, Bool, true, false, ◌&&◌, nat_eq, if◌then◌else◌, Option, Some, None, Result, Ok, Err, IsOk, refl, sym, ap, subst, ◌∙◌, arith, append-nil, append_assoc, length-append, All, ne_eqb, append_cancel_left, All-head, All-nil, All-tail, get_or_from_slice_get, slice_get_within, Call, Change, Added, Reply, BeginsWith, key_of, Key, Layout, Rec, a_node, IsLockable, ClearPin, Event, Known, Core, IsLawful, holder_of, IsFact, IsStillLoaded, Knows, opening, AreOthers, EventsLead, knows_all, SeatView, TableView, lead_layout, front_on, Full, TryFault, Busy, FullLeaves, FullNodes, NoChangeFrom, no_change_from_later, runs_begin, IsCause, MayTake, fault_of, AreTriesRefused, HasCause, IsResultOfLast, IsOutcome, IsTried, IsTriedAndCounted, MakesTries, loads_in, change_notes, FollowsTry, IsCountedAfter, as_tried, Refusal, IsNewPass, PassView, All-part, full_fault}
 use Rattle.std.specs.Prelude.{Contains}
 use Rattle.versions.specs.Core.{Fate, Free, Held, Ready, InTree, Unlinked, Marked}
 use Rattle.rowex_core.specs.declared.known.Holding.TheVariants.{Held as HeldRecord, Ready as ReadyRecord, Unlinked as UnlinkedRecord}
@@ -211,7 +211,7 @@ module _ {G : Type 0} (index : TableView) (becomes : G → Event → G → Type 
     ([], after.counted.front ∙ sym (append-nil m.0.front)),
   )
 
-  told_on : (call : Call) (r : Result Reply Refusal) (a m b : PassView × G) → IsCountTold call r index becomes a m b → GoneOn m b
+  told_on : (call : Call) (r : Result Reply Refusal) (a m b : PassView × G) → FollowsTry call r index becomes a m b → GoneOn m b
   told_on call (Ok reply) a m b told = on_same m b told
   told_on call (Err IsBusy) a m b told = on_same m b told
   told_on call (Err (HeldBack lacks)) a m b (inl told) = on_same m b told.1

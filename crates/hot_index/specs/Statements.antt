@@ -70,16 +70,16 @@ OnePassFullMeansTaken =
     (IsCause layout key old new FullNodes → ThirdIsTaken layout old new × AreTakenButOwn layout old new)
 
 -- the call may give its key a value: it is no removal
-abbrev pub GivesValue : Call → Type 0
-GivesValue (Remove key) = ⊥
-GivesValue (RemoveIf key expected) = ⊥
-GivesValue call = Unit {0}
+abbrev pub IsNoRemoval : Call → Type 0
+IsNoRemoval (Remove key) = ⊥
+IsNoRemoval (RemoveIf key expected) = ⊥
+IsNoRemoval call = Unit {0}
 
 -- A call that gives its key a value is never refused as full if the map had the key all the while. That is after each count of changes,
 -- from all that the pass had seen before the call to all at its end.
 abbrev pub HeldIsNeverFull : Type 0
 HeldIsNeverFull =
-    (layout : Layout) (call : Call) (old new : PassView) (fault : TryFault) → IsRefused layout call old new fault → GivesValue call →
+    (layout : Layout) (call : Call) (old new : PassView) (fault : TryFault) → IsRefused layout call old new fault → IsNoRemoval call →
     ((count : ℕ) → length old.front ≤ count → count ≤ length new.front → value_at (map_of (take count new.front)) (key_of call) ≢ None) → fault ≡ Busy
 
 -- A removal is never refused as full if its key was absent all the while. That is after each count of changes, from all that the pass had
@@ -94,7 +94,7 @@ abbrev pub OnePassRefusesOnlyNewKeys : Type 0
 OnePassRefusesOnlyNewKeys =
     (layout : Layout) (call : Call) (old new : PassView) (fault : TryFault) → layout.passes ≡ 1 → new.number < layout.passes →
     LegalCalls old.front old.number old.notes →
-    IsRefusedFor layout call old new fault → GivesValue call → value_at (map_of old.front) (key_of call) ≡ None
+    IsRefusedFor layout call old new fault → IsNoRemoval call → value_at (map_of old.front) (key_of call) ≡ None
 
 -- Let a call be answered, and let a stamp show all that its pass had seen by then. Let a pass have seen the stamp's changes before it
 -- begins a later call. The later call's place is no lower than the first call's, and behind the first call's change.
@@ -107,8 +107,8 @@ ReturnedBeforeBegun =
 
 -- The pass of this number has this count of keys. It is changing nothing: the changes of the front that it has not seen are by other
 -- passes.
-abbrev pub HasCount : (front : List Change) (number : ℕ) (count : KeyCount) → Type 0
-HasCount front number count =
+abbrev pub HasSettledCount : (front : List Change) (number : ℕ) (count : KeyCount) → Type 0
+HasSettledCount front number count =
     (pass : PassView) × (pass.number ≡ number) × LegalCalls pass.front pass.number pass.notes × OthersGoOn pass.number pass.front front ×
     IsCountOf pass.number pass.notes count
 
@@ -117,7 +117,7 @@ HasCount front number count =
 abbrev pub CountsAddUp : Type 0
 CountsAddUp =
     (layout : Layout) (front : List Change) (counts : List KeyCount) → LegalFront front → AreByPasses layout front → length counts ≡ layout.passes →
-    ((pass : ℕ) (count : KeyCount) → slice_get counts pass ≡ Some count → HasCount front pass count) → AreCounts front counts
+    ((pass : ℕ) (count : KeyCount) → slice_get counts pass ≡ Some count → HasSettledCount front pass count) → AreCounts front counts
 
 -- An index of one pass keeps a spare node record, which stands in no tree. So a removal is not refused for want of a node record. A new
 -- index has a spare one. Reads, rounds of collection, counts and showings leave one spare, if one was. So does each change (`LeavesRoom`).

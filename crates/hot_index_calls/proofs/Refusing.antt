@@ -6,7 +6,7 @@ use Rattle.hot_index_calls.specs.Calls.{IsTriedAndCounted}
 use Rattle.hot_index_calls.specs.Census.{CountsAll}
 use Rattle.hot_index_calls.specs.Passes.{PassView, pass_of}
 use Rattle.hot_index_calls.specs.Rooms.{IsEarly}
-use Rattle.hot_index_calls.specs.Refusals.{AreAllAtRest, HasNodeLeft, IsPassing, IsShortOf, IsToldAfter, Judges, NeedsBeside, fault_in}
+use Rattle.hot_index_calls.specs.Refusals.{AreAllAtRest, HasNodeLeft, IsPassing, IsShortOf, FollowsRefusal, IsRefusalByCounts, NeedsBeside, fault_in}
 use Rattle.hot_index_calls.specs.Traces.{HasStepped}
 use Rattle.hot_index_calls.specs.declared.census.RecordCounts.{RecordCounts}
 use Rattle.hot_index_calls.specs.declared.refusals.Refusal.{Refusal}
@@ -76,21 +76,21 @@ needed : (table : TableView) (made : List Rec) (lacks : Full) (s t : SeatView) (
 needed table made Nodes s t needs lacked is = (nodes_among made, lacked refl, omega (arith, is))
 needed table made Leaves s t needs lacked is = tt
 
-pub judged_fault : (passes : ℕ) (lacks : Full) (needs size : ℕ) (counts : RecordCounts) (refusal : Refusal) → Judges passes lacks needs size counts refusal → fault_in refusal ≡ fault_of lacks
+pub judged_fault : (passes : ℕ) (lacks : Full) (needs size : ℕ) (counts : RecordCounts) (refusal : Refusal) → IsRefusalByCounts passes lacks needs size counts refusal → fault_in refusal ≡ fault_of lacks
 judged_fault passes lacks needs size counts IsBusy j = absurd j
 judged_fault passes lacks needs size counts (HeldBack full) j = ap fault_of j.0
 judged_fault passes lacks needs size counts (IsFull full shown) j = ap fault_of j.0
 
 pub told_after : {G : Type 0} {table : TableView} {becomes : G → Event → G → Type 0} {counts : RecordCounts} {m b : SeatView × G} (all : CountsAll table becomes counts m b) (some : 1 ≤ table.layout.nodes) (call : Call) (s : SeatView) (g : G) (lacks : Full) (made : List Rec) (needs : ℕ) →
-    HasLacked table made (Err (fault_of lacks)) s m.0 → needs ≡ length (nodes_among made) + 1 → ¬ (HasNodeLeft table.layout.passes call) → (table.layout.passes ≡ 1 → IsEarly b.0 → AreAllAtRest counts × IsShortOf lacks needs (length (key_of call)) counts) → (refusal : Refusal) → Judges table.layout.passes lacks needs (length (key_of call)) counts refusal →
-    IsToldAfter call table becomes (pass_of s, g) (pass_of m.0, m.1) (pass_of b.0, b.1) refusal
+    HasLacked table made (Err (fault_of lacks)) s m.0 → needs ≡ length (nodes_among made) + 1 → ¬ (HasNodeLeft table.layout.passes call) → (table.layout.passes ≡ 1 → IsEarly b.0 → AreAllAtRest counts × IsShortOf lacks needs (length (key_of call)) counts) → (refusal : Refusal) → IsRefusalByCounts table.layout.passes lacks needs (length (key_of call)) counts refusal →
+    FollowsRefusal call table becomes (pass_of s, g) (pass_of m.0, m.1) (pass_of b.0, b.1) refusal
 told_after {table = table} all some call s g lacks made needs lacked is other rest IsBusy j = absurd j
 told_after {table = table} {becomes = becomes} {counts = counts} {m = m} {b = b} all some call s g lacks made needs lacked is other rest (HeldBack full) j = inr (record {
   needs = needs;
   needed = subst (λ z. NeedsBeside table.layout (pass_of s) (pass_of m.0) z needs) (sym j.0) (needed table made lacks s m.0 needs lacked is);
   counts = counts;
   counted = has_counted all some;
-  judged = subst (λ z. Judges table.layout.passes z needs (length (key_of call)) counts (HeldBack full)) (sym j.0) j;
+  judged = subst (λ z. IsRefusalByCounts table.layout.passes z needs (length (key_of call)) counts (HeldBack full)) (sym j.0) j;
   alone = λ one early. (rest one early).0;
   short = λ one early. subst (λ z. IsShortOf z needs (length (key_of call)) counts) (sym j.0) (rest one early).1;
 })
@@ -101,7 +101,7 @@ told_after {table = table} {becomes = becomes} {counts = counts} {m = m} {b = b}
     needed = subst (λ z. NeedsBeside table.layout (pass_of s) (pass_of m.0) z needs) (sym j.0) (needed table made lacks s m.0 needs lacked is);
     counts = counts;
     counted = has_counted all some;
-    judged = subst (λ z. Judges table.layout.passes z needs (length (key_of call)) counts (IsFull full shown)) (sym j.0) j;
+    judged = subst (λ z. IsRefusalByCounts table.layout.passes z needs (length (key_of call)) counts (IsFull full shown)) (sym j.0) j;
     alone = λ one early. (rest one early).0;
     short = λ one early. subst (λ z. IsShortOf z needs (length (key_of call)) counts) (sym j.0) (rest one early).1;
   },

@@ -21,7 +21,7 @@ use Rattle.tries.specs.Keys.{Key}
 use Rattle.version_laws.specs.Directions.{ScanLaw}
 use Rattle.hot_index_calls.specs.Answers.{AreValuesListed, AreValuesListedInPart, HasFoundPair, IsCause, IsListedBy, IsListedInPartBy, IsNoted, IsRangeCounted, IsRefused, IsScannedBy, IsUnnoted}
 use Rattle.hot_index_calls.specs.Asked.{last_try}
-use Rattle.hot_index_calls.specs.Refusals.{IsPassing, IsCountTold, HasNodeLeft, as_tried}
+use Rattle.hot_index_calls.specs.Refusals.{IsPassing, FollowsTry, HasNodeLeft, as_tried}
 use Rattle.hot_index_calls.specs.declared.census.RecordCounts.{RecordCounts}
 use Rattle.hot_index_calls.specs.declared.refusals.Refusal.{Refusal}
 use Rattle.hot_index_calls.specs.declared.refusals.Refusal.TheVariants.{Full as IsFull}
@@ -65,7 +65,7 @@ pub record IsTriedAndCounted {G : Type 0} (asked : Call) (result : Result Reply 
     (old new : PassView × G) : Type 0 where
   pub mid : PassView × G
   pub tried : IsTried asked (as_tried result) index becomes old mid
-  pub told : IsCountTold asked result index becomes old mid new
+  pub told : FollowsTry asked result index becomes old mid new
 
 -- Tries of the change were made, one after the other, and were refused as `refusals` says. None of these refusals is final.
 abbrev pub AreTriesRefused : {G : Type 0} → (asked : Call) (refusals : List Refusal) (index : TableView) (becomes : G → Event → G → Type 0)

@@ -64,10 +64,10 @@ IsFinal passes lacks needs length counts = (passes ≡ 1) ⊎ IsShortOf lacks ne
 
 -- The counts decide on the refusal of a change that lacks a record of the kind `lacks`. If the refusal would not be final, the call is held
 -- back.
-abbrev pub Judges : (passes : ℕ) (lacks : Full) (needs length : ℕ) (counts : RecordCounts) (refusal : Refusal) → Type 0
-Judges passes lacks needs length counts IsBusy = ⊥
-Judges passes lacks needs length counts (HeldBack full) = (full ≡ lacks) × ¬ (IsFinal passes lacks needs length counts)
-Judges passes lacks needs length counts (IsFull full shown) = (full ≡ lacks) × (shown ≡ counts) × IsFinal passes lacks needs length counts
+abbrev pub IsRefusalByCounts : (passes : ℕ) (lacks : Full) (needs length : ℕ) (counts : RecordCounts) (refusal : Refusal) → Type 0
+IsRefusalByCounts passes lacks needs length counts IsBusy = ⊥
+IsRefusalByCounts passes lacks needs length counts (HeldBack full) = (full ≡ lacks) × ¬ (IsFinal passes lacks needs length counts)
+IsRefusalByCounts passes lacks needs length counts (IsFull full shown) = (full ≡ lacks) × (shown ≡ counts) × IsFinal passes lacks needs length counts
 
 -- the refusal isn't final: it says busy, or held back
 abbrev pub IsPassing : Refusal → Type 0
@@ -100,7 +100,7 @@ pub record IsCountedAfter {G : Type 0} (call : Call) (lacks : Full) (refusal : R
   pub needed : NeedsBeside index.layout old.0 middle.0 lacks needs
   pub counts : RecordCounts
   pub counted : HasCounted index becomes middle new counts
-  pub judged : Judges index.layout.passes lacks needs (length (key_of call)) counts refusal
+  pub judged : IsRefusalByCounts index.layout.passes lacks needs (length (key_of call)) counts refusal
   pub alone : index.layout.passes ≡ 1 → IsEarly new.0.seat → AreAllAtRest counts
   pub short : index.layout.passes ≡ 1 → IsEarly new.0.seat → IsShortOf lacks needs (length (key_of call)) counts
 
@@ -111,16 +111,16 @@ HasNodeLeft passes call = (1 < passes) × IsRemoval call
 
 -- What follows a refused try, from `old` to `middle`. After a busy one nothing is counted. Nor is anything after a removal that is held
 -- back since it found no node record (`HasNodeLeft`). After any other refusal all records are counted.
-abbrev pub IsToldAfter : {G : Type 0} → (call : Call) (index : TableView) (becomes : G → Event → G → Type 0)
+abbrev pub FollowsRefusal : {G : Type 0} → (call : Call) (index : TableView) (becomes : G → Event → G → Type 0)
     (old middle new : PassView × G) (refusal : Refusal) → Type 0
-IsToldAfter call index becomes old middle new IsBusy = new ≡ middle
-IsToldAfter call index becomes old middle new (HeldBack lacks) =
+FollowsRefusal call index becomes old middle new IsBusy = new ≡ middle
+FollowsRefusal call index becomes old middle new (HeldBack lacks) =
     (HasNodeLeft index.layout.passes call × (new ≡ middle)) ⊎ IsCountedAfter call lacks (HeldBack lacks) index becomes old middle new
-IsToldAfter call index becomes old middle new (IsFull lacks counts) =
+FollowsRefusal call index becomes old middle new (IsFull lacks counts) =
     ¬ (HasNodeLeft index.layout.passes call) × IsCountedAfter call lacks (IsFull lacks counts) index becomes old middle new
 
 -- what follows a try, from `old` to `middle`: nothing if it was answered, and else what follows its refusal
-abbrev pub IsCountTold : {G : Type 0} → (call : Call) (result : Result Reply Refusal) (index : TableView)
+abbrev pub FollowsTry : {G : Type 0} → (call : Call) (result : Result Reply Refusal) (index : TableView)
     (becomes : G → Event → G → Type 0) (old middle new : PassView × G) → Type 0
-IsCountTold call (Ok reply) index becomes old middle new = new ≡ middle
-IsCountTold call (Err refusal) index becomes old middle new = IsToldAfter call index becomes old middle new refusal
+FollowsTry call (Ok reply) index becomes old middle new = new ≡ middle
+FollowsTry call (Err refusal) index becomes old middle new = FollowsRefusal call index becomes old middle new refusal

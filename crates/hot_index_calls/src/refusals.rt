@@ -4,7 +4,7 @@ ghost use Rattle.std.specs.Prelude.{◌≡◌, ◌↔◌, ◌∷◌, [], IfSome,
 ghost use Rattle.rowex_writing.specs.declared.attempts.TryFault.TheVariants.{Busy};
 ghost use Rattle.rowex_writing.specs.build.Walks.{nodes_among};
 ghost use Rattle.hot_index_calls.specs.Answers.{fault_of};
-ghost use Rattle.hot_index_calls.specs.Refusals.{AreShort, IsPassing, IsShortOf, Judges, OfLeaves};
+ghost use Rattle.hot_index_calls.specs.Refusals.{AreShort, IsPassing, IsShortOf, IsRefusalByCounts, OfLeaves};
 ghost use Rattle.hot_index_calls.specs.declared.census.RecordCounts.{RecordCounts as CountsView};
 ghost use Rattle.hot_index_calls.specs.declared.refusals.Refusal.TheVariants.{Full as IsFull};
 
@@ -37,7 +37,7 @@ pub(crate) fn judge_lack(
     size: usize,
     counts: RecordCounts,
 ) -> Refusal
-    ensures { Judges passes lacks needs size counts result }
+    ensures { IsRefusalByCounts passes lacks needs size counts result }
 {
     if passes == 1 || is_short_of(lacks, needs, size, &counts) {
         Refusal::Full(lacks, counts)

@@ -15,7 +15,7 @@ pub use Rattle.std.specs.Prelude.{All, slice_get}
 pub use Rattle.tries.proofs.Place.{spot_below}
 pub use Rattle.tries.proofs.Tree.{built_within, follows_if_has, has_first, rises, trie_within, within_child, within_trans}
 pub use Rattle.tries.proofs.Tree.Building.{bit_below, fork_of, greatest-append, size-piece}
-pub use Rattle.tries.specs.Affected.{IsPart, affected, subtrie_affected, subtrie_forked, subtrie_grown}
+pub use Rattle.tries.specs.Affected.{IsLeafOrFork, affected, subtrie_affected, subtrie_forked, subtrie_grown}
 pub use Rattle.tries.specs.Content.{first}
 pub use Rattle.tries.specs.Keys.{AgreeBelow, Key}
 unfoldable pub use Rattle.tries.specs.Keys.{bit}

@@ -1,6 +1,6 @@
 -- The chosen node is the affected one.
 pub mod Affecting
-use Rattle.insert_cases.proofs.Common.{◌≡◌, ◌≢◌, ◌⊎◌, inl, inr, ℕ, zero, suc, ◌+◌, ◌-◌, ◌<◌, ◌≤◌, List, [], ◌∷◌, length, Bool, true, false, if◌then◌else◌, nat_lt, ltb, refl, ap, sym, ◌∙◌, subst, arith, Some, None, MatchBool, slice_get, slice_get_within, ltb-true, le-ltb, false≢true, cases_lt, cases_order, size_pos, affected_first, affected_count, IsAffected, IsFresh, size, affected, IsPart, Key, bit, AgreeBelow, spot, Tree, leaf, node, fork, Fixed, subtrie, first_position, Has, IsTrie, IsBuilt, IsTip, IsFork, Within, here, inside, spot_below, first, has_first, within_trans, within_child, trie_within, built_within, follows_if_has, rises, fork_of}
+use Rattle.insert_cases.proofs.Common.{◌≡◌, ◌≢◌, ◌⊎◌, inl, inr, ℕ, zero, suc, ◌+◌, ◌-◌, ◌<◌, ◌≤◌, List, [], ◌∷◌, length, Bool, true, false, if◌then◌else◌, nat_lt, ltb, refl, ap, sym, ◌∙◌, subst, arith, Some, None, MatchBool, slice_get, slice_get_within, ltb-true, le-ltb, false≢true, cases_lt, cases_order, size_pos, affected_first, affected_count, IsAffected, IsFresh, size, affected, IsLeafOrFork, Key, bit, AgreeBelow, spot, Tree, leaf, node, fork, Fixed, subtrie, first_position, Has, IsTrie, IsBuilt, IsTip, IsFork, Within, here, inside, spot_below, first, has_first, within_trans, within_child, trie_within, built_within, follows_if_has, rises, fork_of}
 use Rattle.key_bits.specs.Bits.{IsFirstDifference}
 use Rattle.node_tries.proofs.Affected.{affected_again}
 use Rattle.tries.specs.Search.{child, found}
@@ -104,7 +104,7 @@ way_rises k t (s ∷ ss) w i (suc l) (suc j) h q a c in_j o =
     way_rises k (below k t) ss w.1 (trie_within (below_within k t) i) l j (omega arith) q a c in_j (omega arith)
 
 -- ---- the affected part
-pub part_of_two : (d : Tree) → 2 ≤ size (subtrie d) → IsPart d × (is_leaf d ≡ false)
+pub part_of_two : (d : Tree) → 2 ≤ size (subtrie d) → IsLeafOrFork d × (is_leaf d ≡ false)
 part_of_two (leaf n l v) h = absurd (omega arith)
 part_of_two (node n x b) h = absurd (omega arith)
 part_of_two (fork q a b) h = (tt, refl)
@@ -114,7 +114,7 @@ tip_of_one_place (leaf n l v) h = tt
 tip_of_one_place (node n x b) h = tt
 tip_of_one_place (fork q a b) h = absurd (omega (arith, size_pos (subtrie a), size_pos (subtrie b)))
 
-leaf_part : (d : Tree) → IsLeaf d → IsPart d × (is_leaf d ≡ true)
+leaf_part : (d : Tree) → IsLeaf d → IsLeafOrFork d × (is_leaf d ≡ true)
 leaf_part (leaf n l v) h = (tt, refl)
 leaf_part (node n x b) h = elim h [ ]
 leaf_part (fork q a b) h = elim h [ ]
@@ -157,11 +157,11 @@ module _ (k l : Key) (p : ℕ) (d : IsFirstDifference k l p) where
   differs = d.differ
 
   -- all keys of the affected part part from the new key at p
-  pub all_away : (b : Tree) → IsTrie b → Has (child k b) l → IsPart (affected p k b) → (y : Key) → Has (affected p k b) y → DifferFirstAt p k y
+  pub all_away : (b : Tree) → IsTrie b → Has (child k b) l → IsLeafOrFork (affected p k b) → (y : Key) → Has (affected p k b) y → DifferFirstAt p k y
   all_away b i h part y g =
       part_differs_first p k l agrees differs b i part (follows_if_has (child k b) (trie_within (within_child k b) i) l h) y g
 
-  pub root_fresh : (b : Tree) → IsTrie b → Has (child k b) l → IsPart (affected p k b) → FirstForkIsNot p (subtrie (affected p k b))
+  pub root_fresh : (b : Tree) → IsTrie b → Has (child k b) l → IsLeafOrFork (affected p k b) → FirstForkIsNot p (subtrie (affected p k b))
   root_fresh b i h part =
       first_fork_is_not p (if bit k p then false else true) (affected p k b) (trie_within (part_place p k b).0 i) (λ y g. (all_away b i h part y g).1)
 
@@ -169,7 +169,7 @@ pub size_affected : (k : Key) (p : ℕ) (b : Tree) → affected_count p (spot k 
 size_affected k p b = (key_part k p (subtrie b)).count ∙ ap size (sym (affected_subtrie p k b))
 
 -- the range that a position affects from the key's place on
-pub affected_range : (k l : Key) (p : ℕ) → IsFirstDifference k l p → (b : Tree) → IsTrie b → Has (child k b) l → IsPart (affected p k b) → (first last : ℕ) →
+pub affected_range : (k l : Key) (p : ℕ) → IsFirstDifference k l p → (b : Tree) → IsTrie b → Has (child k b) l → IsLeafOrFork (affected p k b) → (first last : ℕ) →
     affected_first p (spot k (subtrie b)) (subtrie b) ≡ first → affected_count p (spot k (subtrie b)) (subtrie b) + first ≡ last + 1 → IsAffected (subtrie b) p first last
 affected_range k l p d b trie has part first last from upto =
     let again = affected_again p (subtrie b) (spot k (subtrie b)) (spot_below k (subtrie b)) in
@@ -181,15 +181,15 @@ affected_range k l p d b trie has part first last from upto =
     }
 
 -- a body whose first fork is not before p is affected whole
-pub record MustSpellValue (k : Key) (p : ℕ) (b : Tree) : Type 0 where
+pub record IsPastFilling (k : Key) (p : ℕ) (b : Tree) : Type 0 where
   pub whole : affected p k b ≡ b
-  pub part : IsPart b
+  pub part : IsLeafOrFork b
   pub plain : is_leaf b ≡ false
   pub starts : (i : ℕ) → affected_first p i (subtrie b) ≡ 0
   pub counts : (i : ℕ) → affected_count p i (subtrie b) ≡ size (subtrie b)
   pub fresh : FirstForkIsNot p (subtrie b) → IsFresh p 0 (subtrie b)
 
-is_whole : (k : Key) (p : ℕ) (b : Tree) → IsFork b → p ≤ first_position (subtrie b) → MustSpellValue k p b
+is_whole : (k : Key) (p : ℕ) (b : Tree) → IsFork b → p ≤ first_position (subtrie b) → IsPastFilling k p b
 is_whole k p (leaf n l v) f h = elim f [ ]
 is_whole k p (node n x b) f h = elim f [ ]
 is_whole k p (fork q a c) f h =
@@ -234,14 +234,14 @@ module _ (k : Key) (t : Tree) (p : ℕ) (way : List PathNode) (trie : IsTrie t) 
   module _ (first last : ℕ) (from : affected_first p (spot k (subtrie (body (stage k t level)))) (subtrie (body (stage k t level))) ≡ first)
       (upto : affected_count p (spot k (subtrie (body (stage k t level)))) (subtrie (body (stage k t level))) + first ≡ last + 1) where
     -- the affected node is the one at the level
-    at_level : (s : PathNode) → slice_get way level ≡ Some s → (one : Bool) → (IsPart (affected p k (body (stage k t level))) × (is_leaf (affected p k (body (stage k t level))) ≡ one)) →
+    at_level : (s : PathNode) → slice_get way level ≡ Some s → (one : Bool) → (IsLeafOrFork (affected p k (body (stage k t level))) × (is_leaf (affected p k (body (stage k t level))) ≡ one)) →
         IsAffectedNode k p t (record { level = level; first = first; last = last; case = case_of s.height s.count one })
     at_level s e one part =
         let u = node_here level s e in
         let inner : body (stage k t level) ≡ u.inner = ap body u.is in
         let from' : affected_first p (spot k (subtrie u.inner)) (subtrie u.inner) ≡ first = subst (λ z. affected_first p (spot k (subtrie z)) (subtrie z) ≡ first) inner from in
         let upto' : affected_count p (spot k (subtrie u.inner)) (subtrie u.inner) + first ≡ last + 1 = subst (λ z. affected_count p (spot k (subtrie z)) (subtrie z) + first ≡ last + 1) inner upto in
-        let part' : IsPart (affected p k u.inner) = subst (λ z. IsPart (affected p k z)) inner part.0 in
+        let part' : IsLeafOrFork (affected p k u.inner) = subst (λ z. IsLeafOrFork (affected p k z)) inner part.0 in
         record {
           number = u.number;
           fixed = u.fixed;
@@ -266,7 +266,7 @@ module _ (k : Key) (t : Tree) (p : ℕ) (way : List PathNode) (trie : IsTrie t) 
         let high : p ≤ s.first_position = at.rest (level + 1) s (omega arith) e in
         let z = is_whole k p u.inner (built_here (level + 1) u.number u.fixed u.inner u.is).0 (omega (arith, u.step.first)) in
         let root = subst (λ y. FirstForkIsNot p (subtrie y)) z.whole
-        (root_fresh k (found k t).key p d u.inner (trie_here (level + 1) u.number u.fixed u.inner u.is) (has_here (level + 1) u.number u.fixed u.inner u.is) (subst IsPart (sym z.whole) z.part)) in
+        (root_fresh k (found k t).key p d u.inner (trie_here (level + 1) u.number u.fixed u.inner u.is) (has_here (level + 1) u.number u.fixed u.inner u.is) (subst IsLeafOrFork (sym z.whole) z.part)) in
         record {
           number = u.number;
           fixed = u.fixed;
@@ -276,7 +276,7 @@ module _ (k : Key) (t : Tree) (p : ℕ) (way : List PathNode) (trie : IsTrie t) 
             | inl q ↦ subst (λ j. WayBelow p k (body (stage k t j))) (sym q) tip.1
             | inr q ↦ elim q [ inl y ↦ above_level l y | inr y ↦ absurd (omega arith) ]
           ];
-          part = subst IsPart (sym z.whole) z.part;
+          part = subst IsLeafOrFork (sym z.whole) z.part;
           first = sym (z.starts (spot k (subtrie u.inner)));
           range = record {
             from = z.starts 0;

@@ -3,7 +3,7 @@ use Rattle.std.specs.Bool.{MatchBool}
 use Rattle.std.specs.Prelude.{◌≡◌, ℕ, zero, suc, ◌<◌, List, [], ◌∷◌, Bool, true, false, ◌&&◌, nat_lt, if◌then◌else◌}
 use Rattle.node_tries.specs.Piece.{size}
 use Rattle.node_tries.specs.Growth.{IsAffected, affected_first}
-use Rattle.tries.specs.Affected.{affected, IsPart}
+use Rattle.tries.specs.Affected.{affected, IsLeafOrFork}
 use Rattle.tries.specs.Keys.{Key, bit}
 use Rattle.tries.specs.Place.{spot}
 use Rattle.tries.specs.Search.{child}
@@ -80,7 +80,7 @@ pub record IsAffectedNode (key : Key) (position : ℕ) (tree : Tree) (choice : C
   pub inner : Tree
   pub is : stage key tree choice.level ≡ node number fixed inner
   pub above : (upper : ℕ) → upper < choice.level → WayBelow position key (body (stage key tree upper))
-  pub part : IsPart (affected position key inner)
+  pub part : IsLeafOrFork (affected position key inner)
   pub first : choice.first ≡ affected_first position (spot key (subtrie inner)) (subtrie inner)
   pub range : IsAffected (subtrie inner) position choice.first choice.last
   pub case : choice.case ≡ case_of fixed.height (size (subtrie inner)) (is_leaf (affected position key inner))

@@ -2,7 +2,7 @@
 use Rattle.linearizability.proofs.Common.{◌≡◌, ◌≢◌, ℕ, ◌≤◌, List, [], ◌∷◌, ◌++◌, length, true, cond, ◌&&◌, Option, Some, None, refl, sym, ap, subst, ◌∙◌, arith, ⊎_elim, append-nil, append_assoc, length-append, All, option_map, and_parts, cases_eq, cond_both, eq-eqb, eqb-true, ne_eqb, All-cons, All-nil, Call, Upsert, Remove, Change, Kind, Added, Replaced, Removed, Note, LegalCalls, change_of, effect_of, Fits, FitsKind, LegalFrom, changed, map_of, Map, key_of, key_order, reply_of, step_where, value_at, legal_front_push, map_of-push, same_from_at, legal_change, legal_longer, pass-change_of, call_of_kind}
 use Rattle.std.specs.Prelude.{fold, nat_eq}
 use Rattle.std.specs.BTreeMap.{is_at}
-use Rattle.linearizability.specs.Effects.{is_same_change, maker_note, maker_notes, same_kind}
+use Rattle.linearizability.specs.Effects.{has_same_effect, maker_note, maker_notes, same_kind}
 use Rattle.linearizability.specs.Histories.{replied}
 
 -- Which change
@@ -25,7 +25,7 @@ changes_same c x pass key value kind =
     ∙ ap (λ v. record { pass = x.pass; key = x.key; value = v; kind = c.kind }) value
     ∙ ap (λ k. record { pass = x.pass; key = x.key; value = x.value; kind = k }) kind
 
-this_is : (q : ℕ) (n : Note) (x : Change) → x.pass ≡ q → (o : Option Change) → change_of q n ≡ o → is_same_change x o ≡ true → o ≡ Some x
+this_is : (q : ℕ) (n : Note) (x : Change) → x.pass ≡ q → (o : Option Change) → change_of q n ≡ o → has_same_effect x o ≡ true → o ≡ Some x
 this_is q n x pass None e is = cc
 this_is q n x pass (Some c) e is =
     let parts = and_parts (same_kind c.kind x.kind) (nat_eq c.value x.value && is_at (key_order c.key) x.key) is in
@@ -70,7 +70,7 @@ maker_made q [] front x fits pass = record {
   reply = refl;
   change = makes_it q (map_of front) x.kind x.key x.value fits ∙ ap (λ p. Some (record { pass = p; key = x.key; value = x.value; kind = x.kind })) (sym pass);
 }
-maker_made q (call ∷ calls) front x fits pass = cond_both (is_same_change x (change_of q (replied front call))) (replied front call) (maker_note q calls front x) (Made q front x)
+maker_made q (call ∷ calls) front x fits pass = cond_both (has_same_effect x (change_of q (replied front call))) (replied front call) (maker_note q calls front x) (Made q front x)
     (λ is. record { place = refl; reply = refl; change = this_is q (replied front call) x pass (change_of q (replied front call)) refl is })
     (λ _. maker_made q calls front x fits pass)
 

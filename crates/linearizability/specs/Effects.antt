@@ -20,16 +20,16 @@ same_kind Removed Removed = true
 same_kind _ _ = false
 
 -- whether `found` is a change, and the same one as `change`
-abbrev pub is_same_change : (change : Change) (found : Option Change) → Bool
-is_same_change change None = false
-is_same_change change (Some found) = same_kind found.kind change.kind && (nat_eq found.value change.value && is_at (key_order found.key) change.key)
+abbrev pub has_same_effect : (change : Change) (found : Option Change) → Bool
+has_same_effect change None = false
+has_same_effect change (Some found) = same_kind found.kind change.kind && (nat_eq found.value change.value && is_at (key_order found.key) change.key)
 
 -- The note of the call by which the pass made this change behind the front. It is the first of `calls` that makes just this change of the
 -- front's map. If none does, it is an upsert or a removal that does.
 abbrev pub maker_note : (pass : ℕ) (calls : List Call) (front : List Change) (change : Change) → Note
 maker_note pass [] front change = replied front (call_of_change change)
 maker_note pass (call ∷ calls) front change =
-    if is_same_change change (change_of pass (replied front call)) then replied front call else maker_note pass calls front change
+    if has_same_effect change (change_of pass (replied front call)) then replied front call else maker_note pass calls front change
 
 -- the notes of the calls by which the pass made its own among these changes, the first of which stands right behind the front
 abbrev pub maker_notes : (pass : ℕ) (calls : List Call) (front changes : List Change) → List Note

@@ -1,11 +1,11 @@
 -- What is chosen at a node, and what follows from it.
-use Rattle.plain_trie_records.proofs.Common.{◌≡◌, ◌≢◌, ◌⊎◌, inl, inr, ℕ, zero, suc, ◌+◌, ◌<◌, ◌≤◌, max, Bool, true, false, List, length, nat_lt, refl, ap, ap₂, sym, ◌∙◌, subst, arith, Some, if◌then◌else◌, ◌↔◌, IsTrue, not, slice_get, slice_set, lt-ltb, le-ltb, cases_lt, false≢true, affected_first, affected_count, grown, grafted, Place, Fork, places, size, NodeView, piece, height_of, greatest_height, IsEntry, IsBuiltFrom, Entry, Leaf, Node, Risen, Whole, Split, subtrie_of, below, body, case_of, is_leaf, stage, IsAffectedNode, WayBelow, part_of_two, size_affected, tip_child, tip_of_one_place, affected, subtrie_forked, IsPart, Item, Key, bit, spot, child, seek, Subtrie, Fixed, Tree, leaf, node, fork, subtrie}
+use Rattle.plain_trie_records.proofs.Common.{◌≡◌, ◌≢◌, ◌⊎◌, inl, inr, ℕ, zero, suc, ◌+◌, ◌<◌, ◌≤◌, max, Bool, true, false, List, length, nat_lt, refl, ap, ap₂, sym, ◌∙◌, subst, arith, Some, if◌then◌else◌, ◌↔◌, IsTrue, not, slice_get, slice_set, lt-ltb, le-ltb, cases_lt, false≢true, affected_first, affected_count, grown, grafted, Place, Fork, places, size, NodeView, piece, height_of, greatest_height, IsEntry, IsBuiltFrom, Entry, Leaf, Node, Risen, Whole, Split, subtrie_of, below, body, case_of, is_leaf, stage, IsAffectedNode, WayBelow, part_of_two, size_affected, tip_child, tip_of_one_place, affected, subtrie_forked, IsLeafOrFork, Item, Key, bit, spot, child, seek, Subtrie, Fixed, Tree, leaf, node, fork, subtrie}
 use Rattle.std.specs.Prelude.{MatchBool}
 use Rattle.insert_cases.specs.declared.choice.Case.{Case}
 use Rattle.insert_cases.specs.declared.choice.Case.TheVariants.{LeafPushdown}
 use Rattle.plain_trie_records.specs.declared.leaf.LeafRecord.{LeafRecord}
 use Rattle.plain_trie_records.specs.Cases.{IsOneSide, IsByCase, AddsByCase, DoesLevel, DoesCase, IsNewNode, IsPutBetween, DoesLevels, TakesFork, is_overflow, is_split}
-use Rattle.plain_trie_records.specs.Rising.{IsAddable, NoNode}
+use Rattle.plain_trie_records.specs.Rising.{IsAddable, LacksNode}
 use Rattle.plain_trie_records.specs.Risen.{AllStay, OthersStay}
 use Rattle.plain_trie_records.proofs.rising.Rising.{IsHere, child_addable, part, range}
 
@@ -31,7 +31,7 @@ low_case m true = refl
 low_case m false = refl
 
 -- an entry of height 0 that a tree begins with is a leaf's
-low_leaf : (t : Tree) (e : Entry) → subtrie t ≡ Place e → IsEntry e → height_of e ≡ 0 → IsPart t × (is_leaf t ≡ true)
+low_leaf : (t : Tree) (e : Entry) → subtrie t ≡ Place e → IsEntry e → height_of e ≡ 0 → IsLeafOrFork t × (is_leaf t ≡ true)
 low_leaf (leaf n k v) e is i z = (tt, refl)
 low_leaf (node n x b) e is i z = let q : e ≡ Node n x.height = cc in absurd (let o = subst IsEntry q i in omega (arith, o.0, z, ap height_of q))
 low_leaf (fork p a b) e is i z = absurd cc
@@ -50,7 +50,7 @@ pair_low v b p l e low built = over ∙ low_pair b
 module _ {ns : List NodeView} {ls : List LeafRecord} {x : Item} {p n h : ℕ} {t : Tree} (i : IsAddable ns ls x p (Node n h) t) (u : IsHere ns ls x p n h t) (first last : ℕ)
     (from : affected_first p (spot x.key (subtrie u.body)) (subtrie u.body) ≡ first) (upto : affected_count p (spot x.key (subtrie u.body)) (subtrie u.body) + first ≡ last + 1) where
   -- the node is the affected one
-  at_here : IsPart (affected p x.key u.body) → (c : Case) → c ≡ case_of u.fixed.height (size (subtrie u.body)) (is_leaf (affected p x.key u.body)) →
+  at_here : IsLeafOrFork (affected p x.key u.body) → (c : Case) → c ≡ case_of u.fixed.height (size (subtrie u.body)) (is_leaf (affected p x.key u.body)) →
       IsAffectedNode x.key p (node n u.fixed u.body) (record { level = 0; first = first; last = last; case = c })
   at_here o c e = record {
     number = n;
@@ -95,7 +95,7 @@ module _ {ns : List NodeView} {ls : List LeafRecord} {x : Item} {p n h : ℕ} {t
       let low : put.view.height ≡ 1 = pair_low put.view b p x.number entry zero_high put.built in
       record {
         choice = record { level = 0; first = first; last = last; case = LeafPushdown };
-        affected = at_here (subst IsPart (sym tip.0) leafy.0) LeafPushdown (rw (single, tall_as) refl);
+        affected = at_here (subst IsLeafOrFork (sym tip.0) leafy.0) LeafPushdown (rw (single, tall_as) refl);
         view = u.shown.0.view;
         at = u.shown.0.at;
         does = (
@@ -128,23 +128,23 @@ pub new_node : (n m : ℕ) (e : Entry) → n ≤ m → IsNewNode m e → IsNewNo
 new_node n m (Leaf l) h i = elim i [ ]
 new_node n m (Node l g) h i = omega (arith, h, i)
 
-none_child : (n : ℕ) (k : Key) (b : Tree) → NoNode n b → NoNode n (child k b)
+none_child : (n : ℕ) (k : Key) (b : Tree) → LacksNode n b → LacksNode n (child k b)
 none_child n k (leaf m l v) none = none
 none_child n k (node m x d) none = none
 none_child n k (fork q a c) none =
-    elim (bit k q) as (λ o. NoNode n (if o then child k c else child k a)) [ true ↦ none_child n k c none.1 | false ↦ none_child n k a none.0 ]
+    elim (bit k q) as (λ o. LacksNode n (if o then child k c else child k a)) [ true ↦ none_child n k c none.1 | false ↦ none_child n k a none.0 ]
 
-none_below : (n : ℕ) (k : Key) (t : Tree) → NoNode n t → NoNode n (below k t)
+none_below : (n : ℕ) (k : Key) (t : Tree) → LacksNode n t → LacksNode n (below k t)
 none_below n k (leaf m l v) none = none
 none_below n k (node m x b) none = none_child n k b none.1
 none_below n k (fork q a c) none = none
 
-none_stage : (n : ℕ) (k : Key) (t : Tree) (l m : ℕ) (y : Fixed) (d : Tree) → NoNode n t → stage k t l ≡ node m y d → n ≢ m
-none_stage n k t zero m y d none e = (subst (NoNode n) e none).0
+none_stage : (n : ℕ) (k : Key) (t : Tree) (l m : ℕ) (y : Fixed) (d : Tree) → LacksNode n t → stage k t l ≡ node m y d → n ≢ m
+none_stage n k t zero m y d none e = (subst (LacksNode n) e none).0
 none_stage n k t (suc l) m y d none e = none_stage n k (below k t) l m y d (none_below n k t none) e
 
 -- what stays where another record is written
-others_rise : (ns ms us : List NodeView) (n : ℕ) → OthersStay ms us n → (k : Key) (l : ℕ) (t : Tree) (low up : Bool) → NoNode n t → DoesLevels ns ms k l t low up → DoesLevels ns us k l t low up
+others_rise : (ns ms us : List NodeView) (n : ℕ) → OthersStay ms us n → (k : Key) (l : ℕ) (t : Tree) (low up : Bool) → LacksNode n t → DoesLevels ns ms k l t low up → DoesLevels ns us k l t low up
 others_rise ns ms us n others k zero t low up none r = r
 others_rise ns ms us n others k (suc l) (leaf m j v) low up none r = elim r [ ]
 others_rise ns ms us n others k (suc l) (node m y b) low up none r = (
@@ -154,7 +154,7 @@ others_rise ns ms us n others k (suc l) (node m y b) low up none r = (
 )
 others_rise ns ms us n others k (suc l) (fork q a b) low up none r = elim r [ ]
 
-pub above_by_case : (ns ms us : List NodeView) (k : Key) (p l n : ℕ) (y : Fixed) (b : Tree) (rose up : Bool) → NoNode n b → WayBelow p k b → OthersStay ms us n →
+pub above_by_case : (ns ms us : List NodeView) (k : Key) (p l n : ℕ) (y : Fixed) (b : Tree) (rose up : Bool) → LacksNode n b → WayBelow p k b → OthersStay ms us n →
     DoesLevel ns us n (height_of (seek k (subtrie b))) (spot k (subtrie b)) rose up → IsByCase ns ms k p l (child k b) rose → IsByCase ns us k p l (node n y b) up
 above_by_case ns ms us k p l n y b rose up none way others does d = record {
   choice = record { level = suc d.choice.level; first = d.choice.first; last = d.choice.last; case = d.choice.case };

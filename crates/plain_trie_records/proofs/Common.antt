@@ -41,7 +41,7 @@ pub use Rattle.tries.proofs.Place.{leads_spot, spot_below, without_marks}
 pub use Rattle.tries.proofs.Tree.{built_within, has_first, has_within, rises, subtrie_child, trie_within, within_child}
 pub use Rattle.tries.proofs.Tree.Building.{body_bound, fork_of_two_places, greatest_if_lower, lower_by_greatest, node_built, node_built_from, size-piece}
 pub use Rattle.tries.proofs.Tree.Fitting.{lower_positive}
-pub use Rattle.tries.specs.Affected.{IsPart, affected, subtrie_forked, subtrie_grown}
+pub use Rattle.tries.specs.Affected.{IsLeafOrFork, affected, subtrie_forked, subtrie_grown}
 pub use Rattle.tries.specs.Changes.{IsAdded}
 pub use Rattle.tries.specs.Content.{IsIn, Item, first, item, items, pairs}
 pub use Rattle.tries.specs.Keys.{Key}

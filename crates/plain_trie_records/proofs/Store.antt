@@ -4,7 +4,7 @@ pub mod Reading
 pub mod Searching
 use Rattle.plain_trie_records.proofs.Common.{◌≡◌, inl, inr, ℕ, ◌≤◌, List, ap, ap₂, sym, ◌∙◌, subst, arith, Some, slice_get, Place, Fork, NodeView, piece, head_of, Leaf, Node, Subtrie, Fixed, Tree, leaf, node, fork, subtrie, Has, IsBuilt, IsLower, first, has_first, some_injective}
 use Rattle.plain_trie_records.specs.declared.leaf.LeafRecord.{LeafRecord}
-use Rattle.plain_trie_records.specs.Rising.{NoNode, StaysStored}
+use Rattle.plain_trie_records.specs.Rising.{LacksNode, StaysStored}
 use Rattle.plain_trie_records.specs.Risen.{OthersStay}
 use Rattle.plain_trie_records.specs.Store.{IsNodeStored, ShowsTree}
 
@@ -55,7 +55,7 @@ module _ (ns : List NodeView) where
       ap₂ (λ (u : Tree) (w : Tree). fork p u w) y z ∙ ap (λ r. fork r c d) x.0
 
   -- a node that the records show is in no tree that has none of its keys
-  pub no_node : (ls : List LeafRecord) (n : ℕ) (x : Fixed) (b s : Tree) → ShowsTree ns ls (node n x b) → ShowsTree ns ls s → IsApart (node n x b) s → NoNode n s
+  pub no_node : (ls : List LeafRecord) (n : ℕ) (x : Fixed) (b s : Tree) → ShowsTree ns ls (node n x b) → ShowsTree ns ls s → IsApart (node n x b) s → LacksNode n s
   no_node ls n x b (leaf m k v) i j a = tt
   no_node ls n x b (node m y d) i j a = (
     λ e.
@@ -72,7 +72,7 @@ module _ (ns : List NodeView) where
   lower_more h g (fork p a b) l e = (lower_more h g a l.0 e, lower_more h g b l.1 e)
 
   -- nor is it in a lower one
-  pub no_node_below : (ls : List LeafRecord) (n h : ℕ) (v : NodeView) (t : Tree) → slice_get ns n ≡ Some v → v.height ≡ h → IsLower h t → IsBuilt t → ShowsTree ns ls t → NoNode n t
+  pub no_node_below : (ls : List LeafRecord) (n h : ℕ) (v : NodeView) (t : Tree) → slice_get ns n ≡ Some v → v.height ≡ h → IsLower h t → IsBuilt t → ShowsTree ns ls t → LacksNode n t
   no_node_below ls n h v (leaf m k w) at e l b i = tt
   no_node_below ls n h v (node m x d) at e l b i = (
     λ same.
@@ -96,7 +96,7 @@ shown_kept ns ms ls s (fork p b d) c i j a = (
 )
 
 -- A tree without node n stays shown where that node alone changes.
-pub shown_but : (ns ms : List NodeView) (ls : List LeafRecord) (n : ℕ) (t : Tree) → OthersStay ns ms n → NoNode n t → ShowsTree ns ls t → ShowsTree ms ls t
+pub shown_but : (ns ms : List NodeView) (ls : List LeafRecord) (n : ℕ) (t : Tree) → OthersStay ns ms n → LacksNode n t → ShowsTree ns ls t → ShowsTree ms ls t
 shown_but ns ms ls n (leaf m k v) f none j = j
 shown_but ns ms ls n (node m x b) f none j = (
   record { view = j.0.view; at = f m j.0.view none.0 j.0.at; fixed = j.0.fixed; shows = j.0.shows },

@@ -16,14 +16,14 @@ use Rattle.plain_trie_records.specs.Store.{ShowsTree, item_record}
 use Rattle.insert_cases.specs.Ways.{WayBelow}
 
 -- no node of the tree has this number
-abbrev pub NoNode : (number : ℕ) → (tree : Tree) → Type 0
-NoNode sought (leaf number key value) = Unit {0}
-NoNode sought (node number fixed body) = (sought ≢ number) × NoNode sought body
-NoNode sought (fork position left right) = NoNode sought left × NoNode sought right
+abbrev pub LacksNode : (number : ℕ) → (tree : Tree) → Type 0
+LacksNode sought (leaf number key value) = Unit {0}
+LacksNode sought (node number fixed body) = (sought ≢ number) × LacksNode sought body
+LacksNode sought (fork position left right) = LacksNode sought left × LacksNode sought right
 
 -- each node record stays as it was whose number no node of the tree has
 abbrev pub StaysStored : (old new : List NodeView) → (tree : Tree) → Type 0
-StaysStored old new tree = (number : ℕ) (view : NodeView) → NoNode number tree → slice_get old number ≡ Some view → slice_get new number ≡ Some view
+StaysStored old new tree = (number : ℕ) (view : NodeView) → LacksNode number tree → slice_get old number ≡ Some view → slice_get new number ≡ Some view
 
 -- In place of the tree `below` the new records show a tree with one leaf more, behind a fork at this position. It begins with the subtrie
 -- `head`, and its entries are lower than `bound`. All node records but those of `below` are as they were.

@@ -16,7 +16,7 @@ pub use Rattle.rowex_core.proofs.Having.{locks_none, node_used, not_free, owned_
 pub use Rattle.rowex_core.proofs.Reading.{entry_of_word, node_is}
 pub use Rattle.rowex_core.proofs.Sharing.Owning.{knows_all, pin_is, recalls}
 pub use Rattle.rowex_core.proofs.Writers.{publish_is_legal, value_is_legal}
-pub use Rattle.rowex_core.specs.Cores.{Core, FitsIn, HasRecord, HasWord, IsLawful, MustSpellValue, bare, heap_of, holder_of}
+pub use Rattle.rowex_core.specs.Cores.{Core, FitsIn, HasRecord, HasWord, IsLawful, IsPastFilling, bare, heap_of, holder_of}
 pub use Rattle.rowex_core.specs.Events.{IsInTree, IsLockedAt, IsOfEntry, IsOffset, IsPackedAt, IsWordFor, Legal, after, anchored, claimed, given_back, loaded_tree, marked, next_tree, stored_root, stored_words}
 pub use Rattle.rowex_core.specs.Knowing.{IsEvent, IsPinnedSince, IsStillLoaded, Knows, Recalls, learned}
 pub use Rattle.rowex_core.specs.Reading.{node_words_of}
@@ -44,7 +44,7 @@ pub use Rattle.std.specs.Prelude.{All, Contains, not}
 pub use Rattle.tries.proofs.Place.{seek_spot, spot_below}
 pub use Rattle.tries.proofs.Tree.{built_within, trie_within, within_trans}
 pub use Rattle.tries.proofs.Tree.Building.{fork_of, fork_of_two_places, greatest-append, new_bound, size-piece}
-pub use Rattle.tries.specs.Affected.{FirstForkIsBefore, IsLowerSubtrie, IsPartSubtrie, IsTipSubtrie, subtrie_affected, subtrie_forked, subtrie_grown}
+pub use Rattle.tries.specs.Affected.{FirstForkIsBefore, IsLowerSubtrie, IsLeafOrForkSubtrie, IsTipSubtrie, subtrie_affected, subtrie_forked, subtrie_grown}
 pub use Rattle.tries.specs.Content.{Item, item}
 pub use Rattle.tries.specs.Keys.{AgreeBelow, Key, bit}
 pub use Rattle.tries.specs.Place.{fork_closed, spot, subtrie_collapsed, subtrie_sibling, subtrie_without, with_entry, with_subtrie}

@@ -1,6 +1,6 @@
 -- What has risen stays while the pass goes on, and grows by one step.
 pub mod Bounding
-use Rattle.publish_laws.proofs.Common.{◌≡◌, inl, ℕ, List, [], ◌∷◌, ◌++◌, refl, sym, ap, ap₂, subst, ◌∙◌, Rec, piece, NodeView, Entry, Node, Leaf, Place, Fork, Layout, bit, Subtrie, Tree, fork, subtrie, IsTrie, IsBuilt, with_subtrie, a_node, a_leaf, NodeWords, IsEntryFor, alone, in_node, IsNewSubtrie, IsRise, body, entry, grows, pulls, copies, halves, stays_whole, wraps, linked_for_entry, linked_by_rise, unlinked_by_rise, Side, Known, Locked, node_words_of, Core, bare, IsOwned, IsLocked, IsOneOf, of_left, of_right, fork_parts, subtrie_affected, subtrie_forked, subtrie_grown, IsPartSubtrie, FirstForkIsBefore, FirstForkIsFrom, IsWayBelow, IsFoundBelow, Newcomer, IsLater, Made, held_as, recs_of, recalls_before}
+use Rattle.publish_laws.proofs.Common.{◌≡◌, inl, ℕ, List, [], ◌∷◌, ◌++◌, refl, sym, ap, ap₂, subst, ◌∙◌, Rec, piece, NodeView, Entry, Node, Leaf, Place, Fork, Layout, bit, Subtrie, Tree, fork, subtrie, IsTrie, IsBuilt, with_subtrie, a_node, a_leaf, NodeWords, IsEntryFor, alone, in_node, IsNewSubtrie, IsRise, body, entry, grows, pulls, copies, halves, stays_whole, wraps, linked_for_entry, linked_by_rise, unlinked_by_rise, Side, Known, Locked, node_words_of, Core, bare, IsOwned, IsLocked, IsOneOf, of_left, of_right, fork_parts, subtrie_affected, subtrie_forked, subtrie_grown, IsLeafOrForkSubtrie, FirstForkIsBefore, FirstForkIsFrom, IsWayBelow, IsFoundBelow, Newcomer, IsLater, Made, held_as, recs_of, recalls_before}
 use Rattle.rowex_core.specs.declared.known.Holding.TheVariants.{Ready}
 use Rattle.version_laws.proofs.Statements.Upwards.{upper_goes_on}
 use Rattle.publish_laws.proofs.Rises.Bounding.{bound_of, tree_risen, bound_risen}
@@ -114,12 +114,12 @@ found_in layout k held news x n words f c stage =
 -- The lowest node gets the new leaf,
 pub rise_grows : (layout : Layout) (k : Known) (held : List Locked) (x : Newcomer) (fresh : List ℕ) (n : ℕ) (words : List ℕ) →
     HasFoundBelow k held x n words →
-    IsPartSubtrie (subtrie_affected x.mismatch x.item.key (node_words_of words).subtrie) →
+    IsLeafOrForkSubtrie (subtrie_affected x.mismatch x.item.key (node_words_of words).subtrie) →
     HasRisen layout k held (made_of_leaf x.item fresh ∷ []) x (body n) (subtrie_grown x.mismatch x.item.key (Leaf x.item.number) (node_words_of words).subtrie) []
 rise_grows layout k held x fresh n words f part c stage =
     let (found, same) = found_in layout k held (made_of_leaf x.item fresh ∷ []) x n words f c stage in
     subst (λ (z : NodeWords). (i : IsRise (bare c) k.pass x (body n) (subtrie_grown x.mismatch x.item.key (Leaf x.item.number) z.subtrie)) × (linked_by_rise i ≡ a_leaf x.item.number ∷ []) × (unlinked_by_rise i ≡ [])) same
-    (grows n found (subst (λ (z : NodeWords). IsPartSubtrie (subtrie_affected x.mismatch x.item.key z.subtrie)) (sym same) part), refl, refl)
+    (grows n found (subst (λ (z : NodeWords). IsLeafOrForkSubtrie (subtrie_affected x.mismatch x.item.key z.subtrie)) (sym same) part), refl, refl)
 
 -- or stays whole, and the new leaf stands beside it.
 pub rise_whole : (layout : Layout) (k : Known) (held : List Locked) (x : Newcomer) (fresh : List ℕ) (n : ℕ) (words : List ℕ) →

@@ -1,6 +1,6 @@
 -- What holds in each core in which a writer's records are made, from their words and those of its locks.
 pub mod Valuing
-use Rattle.publish_laws.proofs.Common.{◌≡◌, inl, inr, ℕ, ◌+◌, ◌-◌, ◌*◌, ◌<◌, ◌≤◌, List, length, set, Some, refl, sym, ap, ap₂, subst, ◌∙◌, arith, All, Entry, Leaf, Node, NodeView, StandsBelow, height_of, piece, MAX_BYTES, Place, Fork, size, places, Layout, HasEntryWord, entry_word, Key, Fixed, Subtrie, first_position, Item, spot, with_entry, subtrie_affected, IsLowerSubtrie, IsTipSubtrie, FirstForkIsBefore, seek, spot_below, a_node, a_leaf, NodeWords, IsNewLeaf, IsSubtrieStored, IsLockedNode, IsNewSubtrie, IsUpper, Slot, Known, Locked, node_words_of, leaf_of, IsPacked, Core, IsLawful, MustSpellValue, bare, heap_of, IsPackedAt, IsLockedAt, stored_words, IsLocked, IsOwned, Knows, knows_all, recalls, node_is, IsOneOf, of_left, of_right, all_of, map_of, node_used, Made, held_as, node_number, leaf_node, size-piece}
+use Rattle.publish_laws.proofs.Common.{◌≡◌, inl, inr, ℕ, ◌+◌, ◌-◌, ◌*◌, ◌<◌, ◌≤◌, List, length, set, Some, refl, sym, ap, ap₂, subst, ◌∙◌, arith, All, Entry, Leaf, Node, NodeView, StandsBelow, height_of, piece, MAX_BYTES, Place, Fork, size, places, Layout, HasEntryWord, entry_word, Key, Fixed, Subtrie, first_position, Item, spot, with_entry, subtrie_affected, IsLowerSubtrie, IsTipSubtrie, FirstForkIsBefore, seek, spot_below, a_node, a_leaf, NodeWords, IsNewLeaf, IsSubtrieStored, IsLockedNode, IsNewSubtrie, IsUpper, Slot, Known, Locked, node_words_of, leaf_of, IsPacked, Core, IsLawful, IsPastFilling, bare, heap_of, IsPackedAt, IsLockedAt, stored_words, IsLocked, IsOwned, Knows, knows_all, recalls, node_is, IsOneOf, of_left, of_right, all_of, map_of, node_used, Made, held_as, node_number, leaf_node, size-piece}
 use Rattle.partial_keys.specs.Shows.{ShowsPiece}
 use Rattle.record_words.specs.Node.{HasNodeWords, node_words}
 use Rattle.record_words.specs.Leaf.{up_to_key}
@@ -46,7 +46,7 @@ module _ (layout : Layout) (k : Known) (held : List Locked) (news : List Made) (
       let (lock, tree, same) = stage.locks (record { node = o; words = words }) h in
       let now : node_words_of (c.words (a_node o)) ≡ node_words_of words = ap node_words_of same in
       let sized = stage.lawful.records.sized (a_node o) in
-      let (view, has, spells) = stage.lawful.records.packed (a_node o) (subst MustSpellValue (sym tree.1) tt) in
+      let (view, has, spells) = stage.lawful.records.packed (a_node o) (subst IsPastFilling (sym tree.1) tt) in
       let is_node = node_is view (c.words (a_node o)) sized.1 has spells in
       let view_subtrie : (node_words_of words).subtrie ≡ piece view = ap (λ (z : NodeWords). z.subtrie) (sym now ∙ is_node) in
       let view_height : (node_words_of words).fixed.height ≡ view.height = ap (λ (z : NodeWords). z.fixed.height) (sym now ∙ is_node) in

@@ -8,7 +8,7 @@ use Rattle.record_words.specs.declared.layout.Layout.{Layout}
 use Rattle.tries.specs.Keys.{bit}
 use Rattle.tries.specs.Tree.{Subtrie}
 use Rattle.tries.specs.Place.{with_subtrie}
-use Rattle.tries.specs.Affected.{subtrie_affected, subtrie_forked, subtrie_grown, IsPartSubtrie}
+use Rattle.tries.specs.Affected.{subtrie_affected, subtrie_forked, subtrie_grown, IsLeafOrForkSubtrie}
 use Rattle.record_words.specs.declared.records.Rec.{Rec}
 use Rattle.record_words.specs.declared.records.Rec.TheVariants.{Node as a_node}
 use Rattle.versions.specs.State.{FirstForkIsFrom}
@@ -45,7 +45,7 @@ NormalInsert =
     HasReady known held (made_of_node new_node view ∷ made_of_leaf newcomer.item fresh ∷ []) → SpellsLeaf newcomer.item fresh →
     -- the search went through the old node, and the part affected in it is a leaf, or has two entries or more
     HasFoundBelow known held newcomer node words →
-    IsPartSubtrie (subtrie_affected newcomer.mismatch newcomer.item.key (node_words_of words).subtrie) →
+    IsLeafOrForkSubtrie (subtrie_affected newcomer.mismatch newcomer.item.key (node_words_of words).subtrie) →
     -- the new node shows the old one with the new leaf in it
     IsBuiltAnew view → piece view ≡ subtrie_grown newcomer.mismatch newcomer.item.key (Leaf newcomer.item.number) (node_words_of words).subtrie →
     -- the old node stands at the spot, where the new one may take its place; this is the word of the new one's entry
@@ -64,7 +64,7 @@ Overflow =
     SpellsLeaf newcomer.item fresh →
     -- the search went through the old node, and the part affected in it is a leaf, or has two entries or more
     HasFoundBelow known held newcomer node words →
-    IsPartSubtrie (subtrie_affected newcomer.mismatch newcomer.item.key (node_words_of words).subtrie) →
+    IsLeafOrForkSubtrie (subtrie_affected newcomer.mismatch newcomer.item.key (node_words_of words).subtrie) →
     -- with the new leaf in it, the old node has these two halves, each with its entry
     subtrie_grown newcomer.mismatch newcomer.item.key (Leaf newcomer.item.number) (node_words_of words).subtrie ≡ Fork position left right →
     IsSide left left_entry left_news →

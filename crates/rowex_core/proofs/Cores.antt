@@ -9,7 +9,7 @@ use Rattle.rowex_core.specs.declared.event.Act.{Act}
 use Rattle.rowex_core.specs.declared.event.Act.TheVariants.{Claim, Fill, Ready, Release, LoadRef, LoadFixed, Lock, Unlock, Publish, Mark, LoadEpoch, Advance, SetPin, ClearPin, LoadPin, LoadState, GiveBack, Load}
 use Rattle.rowex_core.specs.declared.event.Target.TheVariants.{Anchor, Node as NodeTarget}
 use Rattle.rowex_core.specs.Reading.{node_words_of, leaf_of, IsPacked}
-use Rattle.rowex_core.specs.Cores.{Core, IsLawful, bare, heap_of, HasRecord, HasWord, FitsIn, MustSpellValue, holder_of}
+use Rattle.rowex_core.specs.Cores.{Core, IsLawful, bare, heap_of, HasRecord, HasWord, FitsIn, IsPastFilling, holder_of}
 use Rattle.rowex_core.specs.Words.{tag_of}
 use Rattle.rowex_core.specs.Events.{Legal, IsOffset, after, with_word, claimed, marked, given_back, anchored, locked_where, advanced}
 use Rattle.rowex_core.proofs.Opening.{load_stays}
@@ -37,13 +37,13 @@ new_marked : (f : Fate) → IsNew f → (since last epoch : ℕ) → f ≡ Marke
 new_marked f n since last epoch e = subst IsNew e n
 
 fate_stays : (c : Core) (r : Rec) (f : Fate) → IsLawful c → IsLawfulCore (bare (record c { shared = with_fate c.shared r f })) → HasRecord c.layout r → IsNew f → ((q : ℕ) → holder_of f ≡ Some q → q < c.layout.passes) →
-    (MustSpellValue f → IsPacked r (c.words r) × FitsIn c.layout r (c.words r)) → IsLawful (record c { shared = with_fate c.shared r f })
+    (IsPastFilling f → IsPacked r (c.words r) × FitsIn c.layout r (c.words r)) → IsLawful (record c { shared = with_fate c.shared r f })
 fate_stays c r f law core has new by packed = record {
   core = core;
   records = record {
     sized = law.records.sized;
-    packed = fate_at c r f (λ i g. MustSpellValue g → IsPacked i (c.words i)) (λ w. (packed w).0) (λ i e. law.records.packed i);
-    fits = fate_at c r f (λ i g. MustSpellValue g → FitsIn c.layout i (c.words i)) (λ w. (packed w).1) (λ i e. law.records.fits i);
+    packed = fate_at c r f (λ i g. IsPastFilling g → IsPacked i (c.words i)) (λ w. (packed w).0) (λ i e. law.records.packed i);
+    fits = fate_at c r f (λ i g. IsPastFilling g → FitsIn c.layout i (c.words i)) (λ w. (packed w).1) (λ i e. law.records.fits i);
     retired = λ n since last q. fate_at c r f (λ i g. i ≡ a_node n → g ≡ Unlinked since last q → c.lock n ≡ Some q)
         (λ e x. absurd (new_unlinked f new since last q x)) (λ i e x y. law.records.retired n since last q (ap c.fate (sym x) ∙ y)) (a_node n) refl;
     used = fate_at c r f (λ i g. (g ≡ Free) ⊎ HasRecord c.layout i) (inr has) (λ i e. law.records.used i);
@@ -96,8 +96,8 @@ mark_stays c q r epoch since last law has same e late = record {
   core = subst (λ z. IsLawfulCore (bare (record c { shared = after_mark c.shared r since last z }))) (sym same) (step_lawful (bare c) q _ law.core (marks r since last e late));
   records = record {
     sized = law.records.sized;
-    packed = fate_at c r (Marked since last epoch) (λ i g. MustSpellValue g → IsPacked i (c.words i)) (λ w. law.records.packed r (subst MustSpellValue (sym e) tt)) (λ i x. law.records.packed i);
-    fits = fate_at c r (Marked since last epoch) (λ i g. MustSpellValue g → FitsIn c.layout i (c.words i)) (λ w. law.records.fits r (subst MustSpellValue (sym e) tt)) (λ i x. law.records.fits i);
+    packed = fate_at c r (Marked since last epoch) (λ i g. IsPastFilling g → IsPacked i (c.words i)) (λ w. law.records.packed r (subst IsPastFilling (sym e) tt)) (λ i x. law.records.packed i);
+    fits = fate_at c r (Marked since last epoch) (λ i g. IsPastFilling g → FitsIn c.layout i (c.words i)) (λ w. law.records.fits r (subst IsPastFilling (sym e) tt)) (λ i x. law.records.fits i);
     retired = λ n s l p. fate_at c r (Marked since last epoch) (λ i g. i ≡ a_node n → g ≡ Unlinked s l p → (unlocked c.shared r).lock n ≡ Some p)
         (λ x y. absurd cc) (λ i x y z. rw (subst (λ v. same_rec v r ≡ false) y x) (law.records.retired n s l p (ap c.fate (sym y) ∙ z))) (a_node n) refl;
     used = fate_at c r (Marked since last epoch) (λ i g. (g ≡ Free) ⊎ HasRecord c.layout i) (inr has) (λ i x. law.records.used i);
@@ -136,8 +136,8 @@ fill_stays c q r offset w law e at small there = record {
   }));
   records = record {
     sized = sized_after c.words r offset w small law.records.sized;
-    packed = word_at_record c.words r offset w (λ i words. MustSpellValue (c.fate i) → IsPacked i words) (λ x. absurd (subst MustSpellValue e x)) (λ i ne. law.records.packed i);
-    fits = word_at_record c.words r offset w (λ i words. MustSpellValue (c.fate i) → FitsIn c.layout i words) (λ x. absurd (subst MustSpellValue e x)) (λ i ne. law.records.fits i);
+    packed = word_at_record c.words r offset w (λ i words. IsPastFilling (c.fate i) → IsPacked i words) (λ x. absurd (subst IsPastFilling e x)) (λ i ne. law.records.packed i);
+    fits = word_at_record c.words r offset w (λ i words. IsPastFilling (c.fate i) → FitsIn c.layout i words) (λ x. absurd (subst IsPastFilling e x)) (λ i ne. law.records.fits i);
     retired = law.records.retired;
     used = law.records.used;
     holders = law.records.holders;

@@ -5,7 +5,7 @@ use Rattle.versions.proofs.Loads.{load_is_lawful, loaded_first}
 use Rattle.rowex_core.specs.declared.event.Spot.TheVariants.{Value}
 use Rattle.rowex_core.specs.declared.known.Known.{Known}
 use Rattle.rowex_core.specs.Reading.{IsPacked}
-use Rattle.rowex_core.specs.Cores.{Core, IsLawful, MustSpellValue, HasRecord, FitsIn, IsSized, fields_in, bare, heap_of, holder_of}
+use Rattle.rowex_core.specs.Cores.{Core, IsLawful, IsPastFilling, HasRecord, FitsIn, IsSized, fields_in, bare, heap_of, holder_of}
 use Rattle.rowex_core.specs.Events.{IsLoad, IsLockedAt, loaded_root, loaded_tree}
 use Rattle.rowex_core.specs.Frames.{IsFrame}
 use Rattle.rowex_core.specs.Opening.{opening}
@@ -57,8 +57,8 @@ module _ (layout : Layout) (q : ℕ) (b : List ℕ) where
   fates r = elim (linked_cases (loaded_tree layout b) r) [ inl x ↦ inl (x.0, rw x.1 refl) | inr x ↦ inr (rw x.1 refl) ]
 
   module _ (small : q < layout.passes) (h : IsLoad layout b) where
-    whole : (r : Rec) → MustSpellValue (loaded.fate r) → HasRecord layout r × IsPacked r (fields_in layout b r) × FitsIn layout r (fields_in layout b r)
-    whole r w = elim (fates r) [ inl x ↦ h.records r x.0 | inr x ↦ absurd (subst MustSpellValue x w) ]
+    whole : (r : Rec) → IsPastFilling (loaded.fate r) → HasRecord layout r × IsPacked r (fields_in layout b r) × FitsIn layout r (fields_in layout b r)
+    whole r w = elim (fates r) [ inl x ↦ h.records r x.0 | inr x ↦ absurd (subst IsPastFilling x w) ]
 
     no_fate : (P : Fate → Type 0) → (P (InTree last) → ⊥) → (P Free → ⊥) → (r : Rec) → P (loaded.fate r) → ⊥
     no_fate P in_tree free r p = elim (fates r) [ inl x ↦ in_tree (subst P x.1 p) | inr x ↦ free (subst P x p) ]

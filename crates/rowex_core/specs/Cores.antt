@@ -69,10 +69,10 @@ abbrev pub IsSized : Rec → List ℕ → Type 0
 IsSized rec words = (length words ≡ word_count_of rec) × All (λ word. word < 2 ^ 64) words
 
 -- A record of this fate is neither free nor held. So its words must encode a node or a leaf, as `IsPacked` says.
-abbrev pub MustSpellValue : Fate → Type 0
-MustSpellValue Free = ⊥
-MustSpellValue (Held pass) = ⊥
-MustSpellValue _ = Unit {0}
+abbrev pub IsPastFilling : Fate → Type 0
+IsPastFilling Free = ⊥
+IsPastFilling (Held pass) = ⊥
+IsPastFilling _ = Unit {0}
 
 -- The pass to which a record of this fate belongs. A free record, one in the tree and a marked one belong to none.
 abbrev pub holder_of : Fate → Option ℕ
@@ -87,9 +87,9 @@ holder_of (Marked since last epoch) = None
 pub record AreRecords (layout : Layout) (words : Rec → List ℕ) (fate : Rec → Fate) (lock : ℕ → Option ℕ) : Type 0 where
   -- each has its number of words; those of one that is neither free nor held encode a node or a leaf
   pub sized : (rec : Rec) → IsSized rec (words rec)
-  pub packed : (rec : Rec) → MustSpellValue (fate rec) → IsPacked rec (words rec)
+  pub packed : (rec : Rec) → IsPastFilling (fate rec) → IsPacked rec (words rec)
   -- the table has room for each leaf up to the end of its key
-  pub fits : (rec : Rec) → MustSpellValue (fate rec) → FitsIn layout rec (words rec)
+  pub fits : (rec : Rec) → IsPastFilling (fate rec) → FitsIn layout rec (words rec)
   -- an unlinked node stays locked until it is marked
   pub retired : (number since last pass : ℕ) → fate (a_node number) ≡ Unlinked since last pass → lock number ≡ Some pass
   -- only records of the table are used

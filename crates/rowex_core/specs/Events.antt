@@ -84,8 +84,8 @@ IsOfEntry (Value leaf) = ⊥
 IsOfEntry spot = Unit {0}
 
 -- leaves of the two lists with one number have one key and one value
-abbrev pub AreSame : (items others : List Item) → Type 0
-AreSame items others = (item other : Item) → IsIn item items → IsIn other others → item.number ≡ other.number → item ≡ other
+abbrev pub AgreeByNumber : (items others : List Item) → Type 0
+AgreeByNumber items others = (item other : Item) → IsIn item items → IsIn other others → item.number ≡ other.number → item ≡ other
 
 -- the tree that words show after a store to a spot
 abbrev pub next_tree : (core : Core) → (spot : Spot) → (word : ℕ) → Option Tree

@@ -35,7 +35,7 @@ pub use Rattle.record_words.specs.declared.records.Rec.TheVariants.{Leaf as a_le
 pub use Rattle.rowex_core.proofs.Cores.Loading.{view}
 pub use Rattle.rowex_core.proofs.Reading.{entry_of_word, head_is, node_is}
 pub use Rattle.rowex_core.proofs.Sharing.Owning.{pin_is, recalls}
-pub use Rattle.rowex_core.specs.Cores.{Core, FitsIn, HasRecord, IsLawful, IsSized, MustSpellValue, heap_of}
+pub use Rattle.rowex_core.specs.Cores.{Core, FitsIn, HasRecord, IsLawful, IsSized, IsPastFilling, heap_of}
 pub use Rattle.rowex_core.specs.Events.{IsFixedOffset, after}
 pub use Rattle.rowex_core.specs.Knowing.{HoldsIfStood, IsEvent, IsFact, IsPinnedSince, Knows, Recalls, StoodAs, StoodBetween, facts_with, learned, version_of}
 pub use Rattle.rowex_core.specs.Reading.{HasWordAt, entry_in, head_entry, head_value, root_of}

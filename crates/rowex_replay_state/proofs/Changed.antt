@@ -1,5 +1,5 @@
 -- The change between two lists of leaves is found.
-use Rattle.rowex_replay_state.proofs.Common.{◌≡◌, ◌≢◌, inl, inr, ℕ, zero, suc, ◌<◌, ◌≤◌, List, [], ◌∷◌, length, get_or, drop, map, true, false, Option, Some, None, eqb, refl, ap, ap₂, sym, ◌∙◌, subst, arith, eq-eqb, ne_eqb, get_or-map, length-map, Change, Added, Replaced, Removed, Item, IsMore, added, behind, IsExchange, exchanged, past_one, item_of, IsChanged, added_change, replaced_change, removed_change, AreSame, change_between, change_at}
+use Rattle.rowex_replay_state.proofs.Common.{◌≡◌, ◌≢◌, inl, inr, ℕ, zero, suc, ◌<◌, ◌≤◌, List, [], ◌∷◌, length, get_or, drop, map, true, false, Option, Some, None, eqb, refl, ap, ap₂, sym, ◌∙◌, subst, arith, eq-eqb, ne_eqb, get_or-map, length-map, Change, Added, Replaced, Removed, Item, IsMore, added, behind, IsExchange, exchanged, past_one, item_of, IsChanged, added_change, replaced_change, removed_change, AgreeByNumber, change_between, change_at}
 use Rattle.std.specs.declared.cmp.Ordering.{Ordering}
 use Rattle.finite_map.specs.declared.Kind.{Kind}
 use Rattle.finite_map.specs.Maps.{key_order}
@@ -9,7 +9,7 @@ use Rattle.rowex_replay_state.specs.Changed.{BeginApart, numbers, Changes, IsFou
 use Rattle.rowex_core.proofs.Cores.Publishing.{no_change}
 
 -- Lists of the same numbers are the same lists
-same_lists : (xs ys : List Item) → AreSame xs ys → numbers xs ≡ numbers ys → xs ≡ ys
+same_lists : (xs ys : List Item) → AgreeByNumber xs ys → numbers xs ≡ numbers ys → xs ≡ ys
 same_lists [] [] s e = refl
 same_lists [] (y ∷ ys) s e = absurd cc
 same_lists (x ∷ xs) [] s e = absurd cc
@@ -56,8 +56,8 @@ found_step q x xs ys None none =
 found_step q x xs ys (Some c) f = (f.0 ∙ sym (passed q x x xs ys refl), (f.1.0, changed_behind c.kind (item_of f.1.0 c) x xs ys f.1.1))
 
 -- What is found behind a common front is found of the whole lists.
-pub found_from : (q : ℕ) (xs ys : List Item) (n : ℕ) (o : Option Change) → AreSame xs ys → n ≤ length xs → n ≤ length ys →
-    ((k : ℕ) → k < n → get_or (numbers xs) k 0 ≡ get_or (numbers ys) k 0) → (AreSame (drop n xs) (drop n ys) → IsFoundChange q (drop n xs) (drop n ys) o) → IsFoundChange q xs ys o
+pub found_from : (q : ℕ) (xs ys : List Item) (n : ℕ) (o : Option Change) → AgreeByNumber xs ys → n ≤ length xs → n ≤ length ys →
+    ((k : ℕ) → k < n → get_or (numbers xs) k 0 ≡ get_or (numbers ys) k 0) → (AgreeByNumber (drop n xs) (drop n ys) → IsFoundChange q (drop n xs) (drop n ys) o) → IsFoundChange q xs ys o
 found_from q xs ys zero o s h g e f = f s
 found_from q [] ys (suc n) o s h g e f = absurd (omega arith)
 found_from q (x ∷ xs) [] (suc n) o s h g e f = absurd (omega arith)
@@ -81,14 +81,14 @@ rest_of_less : (z y : Item) (xs ys : List Item) → BeginApart xs (y ∷ ys) →
 rest_of_less z y xs ys a added = refl
 rest_of_less z y xs ys a (behind m) = absurd (a refl)
 
-pub removal_found : (q : ℕ) (x : Item) (xs ys : List Item) (o : Option Change) → BeginApart (x ∷ xs) ys → AreSame (x ∷ xs) ys → change_between q (x ∷ xs) ys ≡ removed_change q x →
+pub removal_found : (q : ℕ) (x : Item) (xs ys : List Item) (o : Option Change) → BeginApart (x ∷ xs) ys → AgreeByNumber (x ∷ xs) ys → change_between q (x ∷ xs) ys ≡ removed_change q x →
     IsMade xs ys (removed_change q x) o → IsFoundChange q (x ∷ xs) ys o
 removal_found q x xs ys o a s e made =
     made_found q (x ∷ xs) ys xs ys (removed_change q x) o e
     (λ i. (x.number, subst (λ z. IsMore x z (x ∷ xs)) (same_lists xs ys (λ u v h g. s u v (inr h) g) i) added))
     (λ m. ap numbers (sym (rest_of_more (item_of m.0 (removed_change q x)) x xs ys a m.1))) made
 
-pub addition_found : (q : ℕ) (y : Item) (xs ys : List Item) (o : Option Change) → BeginApart xs (y ∷ ys) → AreSame xs (y ∷ ys) → change_between q xs (y ∷ ys) ≡ added_change q y →
+pub addition_found : (q : ℕ) (y : Item) (xs ys : List Item) (o : Option Change) → BeginApart xs (y ∷ ys) → AgreeByNumber xs (y ∷ ys) → change_between q xs (y ∷ ys) ≡ added_change q y →
     IsMade xs ys (added_change q y) o → IsFoundChange q xs (y ∷ ys) o
 addition_found q y xs ys o a s e made =
     made_found q xs (y ∷ ys) xs ys (added_change q y) o e
@@ -99,7 +99,7 @@ rest_of_exchange : (w z x y : Item) (xs ys : List Item) → x.number ≢ y.numbe
 rest_of_exchange w z x y xs ys a exchanged = refl
 rest_of_exchange w z x y xs ys a (past_one m) = absurd (a refl)
 
-pub exchange_found : (q : ℕ) (x y : Item) (xs ys : List Item) (o : Option Change) → x.number ≢ y.number → AreSame (x ∷ xs) (y ∷ ys) → x.key ≡ y.key →
+pub exchange_found : (q : ℕ) (x y : Item) (xs ys : List Item) (o : Option Change) → x.number ≢ y.number → AgreeByNumber (x ∷ xs) (y ∷ ys) → x.key ≡ y.key →
     change_between q (x ∷ xs) (y ∷ ys) ≡ replaced_change q y → IsMade xs ys (replaced_change q y) o → IsFoundChange q (x ∷ xs) (y ∷ ys) o
 exchange_found q x y xs ys o a s k e made =
     made_found q (x ∷ xs) (y ∷ ys) xs ys (replaced_change q y) o e
@@ -134,11 +134,11 @@ other_number xs ys i x y n h g e = n (sym (number_at xs i x h) ∙ (e ∙ number
 
 -- what is found of lists is found of those that are the same
 pub found_at : (q : ℕ) (gone come xs ys : List ReadItem) (o : Option Change) → gone ≡ xs → come ≡ ys → BeginApart (map read_item gone) (map read_item come) →
-    (BeginApart (map read_item xs) (map read_item ys) → AreSame (map read_item xs) (map read_item ys) → IsFoundChange q (map read_item xs) (map read_item ys) o) →
-    AreSame (map read_item gone) (map read_item come) → IsFoundChange q (map read_item gone) (map read_item come) o
+    (BeginApart (map read_item xs) (map read_item ys) → AgreeByNumber (map read_item xs) (map read_item ys) → IsFoundChange q (map read_item xs) (map read_item ys) o) →
+    AgreeByNumber (map read_item gone) (map read_item come) → IsFoundChange q (map read_item gone) (map read_item come) o
 found_at q gone come xs ys o e f a k =
-    subst (λ u. BeginApart (map read_item u) (map read_item come) → AreSame (map read_item u) (map read_item come) → IsFoundChange q (map read_item u) (map read_item come) o) (sym e)
-    (subst (λ v. BeginApart (map read_item xs) (map read_item v) → AreSame (map read_item xs) (map read_item v) → IsFoundChange q (map read_item xs) (map read_item v) o) (sym f) k) a
+    subst (λ u. BeginApart (map read_item u) (map read_item come) → AgreeByNumber (map read_item u) (map read_item come) → IsFoundChange q (map read_item u) (map read_item come) o) (sym e)
+    (subst (λ v. BeginApart (map read_item xs) (map read_item v) → AgreeByNumber (map read_item xs) (map read_item v) → IsFoundChange q (map read_item xs) (map read_item v) o) (sym f) k) a
 
 pub no_items : (xs : List ReadItem) → length xs ≡ 0 → xs ≡ []
 no_items [] e = refl

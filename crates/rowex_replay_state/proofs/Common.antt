@@ -32,8 +32,8 @@ pub use Rattle.rowex_core.proofs.Events.Finding.{by_number, same_leaves, top_ite
 pub use Rattle.rowex_core.proofs.Reading.{entry_at_is, entry_of_word, entry_word_is, few_entries, node_is}
 pub use Rattle.rowex_core.proofs.Reading.Leafing.{leaf_is}
 pub use Rattle.rowex_core.proofs.Words.{free_tag, has_state_word}
-pub use Rattle.rowex_core.specs.Cores.{Core, FitsIn, HasRecord, HasWord as HasPlace, IsLawful, MustSpellValue, bare, heap_of, word_count_of}
-pub use Rattle.rowex_core.specs.Events.{AreSame, IsFixedOffset, IsInTree, IsLockedAt, IsOffset, LegalAct, after, change_at, change_between, claimed, given_back, marked, next_tree, stored_root, stored_words, tree_of}
+pub use Rattle.rowex_core.specs.Cores.{Core, FitsIn, HasRecord, HasWord as HasPlace, IsLawful, IsPastFilling, bare, heap_of, word_count_of}
+pub use Rattle.rowex_core.specs.Events.{AgreeByNumber, IsFixedOffset, IsInTree, IsLockedAt, IsOffset, LegalAct, after, change_at, change_between, claimed, given_back, marked, next_tree, stored_root, stored_words, tree_of}
 pub use Rattle.rowex_core.specs.Reading.{leaf_of, node_words_of}
 unfoldable pub use Rattle.rowex_core.specs.Reading.{IsPacked}
 pub use Rattle.rowex_core.specs.Words.{lock_of, pin_word, record_word, state_at, tag_of}

@@ -1,6 +1,6 @@
 -- The tree that words show is made the newest version.
 pub mod Stores
-use Rattle.rowex_replay_state.proofs.Common.{◌≡◌, ◌⊎◌, inl, inr, ℕ, suc, List, [], ◌∷◌, ◌++◌, length, map, get_or, slice_get, Option, Some, None, Bool, true, false, refl, sym, ap, ◌∙◌, subst, cases_Bool, false≢true, eq-eqb, get_or_from_slice_get, Entry, Change, Rec, a_node, a_leaf, IsLinked, items_of, Free, ReadyBy, InTreeSince, is_linked, next_fate, Core, HasRecord, heap_of, AreSame, IsInTree, tree_of, change_between}
+use Rattle.rowex_replay_state.proofs.Common.{◌≡◌, ◌⊎◌, inl, inr, ℕ, suc, List, [], ◌∷◌, ◌++◌, length, map, get_or, slice_get, Option, Some, None, Bool, true, false, refl, sym, ap, ◌∙◌, subst, cases_Bool, false≢true, eq-eqb, get_or_from_slice_get, Entry, Change, Rec, a_node, a_leaf, IsLinked, items_of, Free, ReadyBy, InTreeSince, is_linked, next_fate, Core, HasRecord, heap_of, AgreeByNumber, IsInTree, tree_of, change_between}
 use Rattle.rowex_replay_state.specs.Changed.{IsFoundChange}
 use Rattle.rowex_replay_state.specs.Versions.{AreWordsOf, IsVersion, IsReadVersion, Tells, read_item}
 use Rattle.rowex_replay_state.specs.declared.linked.Item.{Item as ReadItem}
@@ -56,13 +56,13 @@ module _ (s : StateView) (c : Core) (words : Rec → List ℕ) (q : ℕ) (root :
   }
 
   -- the change that is found is the one that the publish makes
-  pub found : (o : Option Change) → IsVersion (table_of s.records) words root → (AreSame (map read_item s.items) (map read_item linked.items.items) → IsFoundChange q (map read_item s.items) (map read_item linked.items.items) o) →
+  pub found : (o : Option Change) → IsVersion (table_of s.records) words root → (AgreeByNumber (map read_item s.items) (map read_item linked.items.items) → IsFoundChange q (map read_item s.items) (map read_item linked.items.items) o) →
       IsFoundChange q (items_of (c.past.version c.past.now)) (items_of (tree_of (heap_of words) root)) o
   found o version h =
       subst (λ xs. IsFoundChange q xs (items_of (tree_of (heap_of words) root)) o) (sym st.at.items)
       (subst (λ ys. IsFoundChange q (map read_item s.items) ys o) tells.items_are
-      (h (subst (λ xs. AreSame xs (map read_item linked.items.items)) st.at.items
-      (subst (λ ys. AreSame (items_of (c.past.version c.past.now)) ys) (sym tells.items_are) (same_leaves s c words root st version.top)))))
+      (h (subst (λ xs. AgreeByNumber xs (map read_item linked.items.items)) st.at.items
+      (subst (λ ys. AgreeByNumber (items_of (c.past.version c.past.now)) ys) (sym tells.items_are) (same_leaves s c words root st version.top)))))
 
   -- the records after it
   next_words : (t : RecordsView) → (t.nodes ≡ s.records.nodes) × (t.leaves ≡ s.records.leaves) → (r : Rec) (x : List ℕ) → words_in t r ≡ Some x → words r ≡ x
@@ -115,7 +115,7 @@ not_linked s q root linked read fails c words st packed may =
 
 pub not_changed : (s : StateView) (q : ℕ) (root : Option Entry) (linked : Linked) →
     ((words : Rec → List ℕ) → AreWordsOf (table_of s.records) words → IsReadVersion (table_of s.records) words root (Some linked)) →
-    (AreSame (map read_item s.items) (map read_item linked.items.items) → IsFoundChange q (map read_item s.items) (map read_item linked.items.items) None) →
+    (AgreeByNumber (map read_item s.items) (map read_item linked.items.items) → IsFoundChange q (map read_item s.items) (map read_item linked.items.items) None) →
     (c : Core) (words : Rec → List ℕ) → IsWordStored s c words → AreWordsPacked c words → ¬ (MayMakeVersion c q words root)
 not_changed s q root linked read none c words st packed may =
     let x = read words (words_read s.records c.layout words c.fate c.lock st.at.records) in
@@ -124,7 +124,7 @@ not_changed s q root linked read none c words st packed may =
 pub publishes : (s : StateView) (q : ℕ) (root : Option Entry) (linked : Linked) (x : Change) (now : ℕ) (t : RecordsView) →
     ((words : Rec → List ℕ) → AreWordsOf (table_of s.records) words → IsReadVersion (table_of s.records) words root (Some linked)) →
     MayPublishTree s.records q linked.nodes.items linked.leaves.items →
-    (AreSame (map read_item s.items) (map read_item linked.items.items) → IsFoundChange q (map read_item s.items) (map read_item linked.items.items) (Some x)) →
+    (AgreeByNumber (map read_item s.items) (map read_item linked.items.items) → IsFoundChange q (map read_item s.items) (map read_item linked.items.items) (Some x)) →
     now ≡ length s.changes → AreNextRecords now q linked.nodes.items linked.leaves.items s.records t → (c : Core) (words : Rec → List ℕ) → IsWordStored s c words →
     MayMakeVersion c q words root × IsStateOf (record s { records = t; root = root; changes = s.changes ++ x ∷ []; items = linked.items.items }) (published c q words root)
 publishes s q root linked x now t read m one same next c words st =
@@ -146,8 +146,8 @@ pub read_is : (a b x y : List (List ℕ)) (root : Option Entry) (o p : Option Li
     ((words : Rec → List ℕ) → AreWordsOf (record { nodes = a; leaves = b }) words → IsReadVersion (record { nodes = a; leaves = b }) words root o) → (words : Rec → List ℕ) → AreWordsOf (record { nodes = x; leaves = y }) words → IsReadVersion (record { nodes = x; leaves = y }) words root p
 read_is a b x y root o p e f g h = rw (← e, ← f, ← g) h
 
-pub found_is : (q : ℕ) (a b x y : List ReadItem) (o p : Option Change) → a ≡ x → b ≡ y → o ≡ p → (AreSame (map read_item a) (map read_item b) → IsFoundChange q (map read_item a) (map read_item b) o) →
-    AreSame (map read_item x) (map read_item y) → IsFoundChange q (map read_item x) (map read_item y) p
+pub found_is : (q : ℕ) (a b x y : List ReadItem) (o p : Option Change) → a ≡ x → b ≡ y → o ≡ p → (AgreeByNumber (map read_item a) (map read_item b) → IsFoundChange q (map read_item a) (map read_item b) o) →
+    AgreeByNumber (map read_item x) (map read_item y) → IsFoundChange q (map read_item x) (map read_item y) p
 found_is q a b x y o p e f g h = rw (← e, ← f, ← g) h
 
 pub next_of : (now q : ℕ) (a b x y : List Bool) (s t : RecordsView) → a ≡ x → b ≡ y → AreNextRecords now q a b s t → AreNextRecords now q x y s t

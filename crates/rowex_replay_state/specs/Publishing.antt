@@ -10,7 +10,7 @@ use Rattle.record_words.specs.declared.records.Rec.TheVariants.{Leaf as a_leaf}
 use Rattle.versions.specs.Steps.{IsNextVersion, published_by}
 use Rattle.versions.specs.Told.{items_of}
 use Rattle.rowex_core.specs.Reading.{IsPacked}
-use Rattle.rowex_core.specs.Cores.{Core, IsLawful, MustSpellValue, heap_of}
+use Rattle.rowex_core.specs.Cores.{Core, IsLawful, IsPastFilling, heap_of}
 use Rattle.rowex_core.specs.Events.{change_between, tree_of}
 use Rattle.rowex_replay_state.specs.States.{StateView, IsStateOf}
 
@@ -23,7 +23,7 @@ pub record IsWordStored (state : StateView) (core : Core) (words : Rec → List 
 
 -- the words of each record that is neither free nor held encode a node or a leaf
 abbrev pub AreWordsPacked : Core → (Rec → List ℕ) → Type 0
-AreWordsPacked core words = (rec : Rec) → MustSpellValue (core.fate rec) → IsPacked rec (words rec)
+AreWordsPacked core words = (rec : Rec) → IsPastFilling (core.fate rec) → IsPacked rec (words rec)
 
 -- the change that a publish by the pass makes, after which the words show the tree from this root
 abbrev pub change_to : (core : Core) → (pass : ℕ) → (words : Rec → List ℕ) → (root : Option Entry) → Change

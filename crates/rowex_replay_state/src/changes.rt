@@ -2,7 +2,7 @@
 
 ghost use Rattle.std.specs.Prelude.{ℕ, ◌≡◌, ◌<◌, ◌≤◌, Some, None, length, map, slice_index};
 ghost use Rattle.rowex_replay_state.specs.Versions.{read_item};
-ghost use Rattle.rowex_core.specs.Events.{AreSame};
+ghost use Rattle.rowex_core.specs.Events.{AgreeByNumber};
 ghost use Rattle.rowex_replay_state.specs.Changed.{BeginApart, IsFoundChange, IsMade, numbers};
 
 use crate::linked::Item;
@@ -13,7 +13,7 @@ use std::cmp::Ordering;
 /// `None` exactly if the two lists don't differ by such a change. Both lists are in the order of the keys, and leaves of one number are one
 /// leaf.
 pub fn change_between(pass: u16, before: &[Item], after: &[Item]) -> Option<Change>
-    ensures { AreSame (map read_item before.now) (map read_item after.now) → IsFoundChange pass (map read_item before.now) (map read_item after.now) result }
+    ensures { AgreeByNumber (map read_item before.now) (map read_item after.now) → IsFoundChange pass (map read_item before.now) (map read_item after.now) result }
 {
     let front = count_same_first_items(before, after);
     change_from_first_difference(pass, &before[front..], &after[front..])
@@ -23,7 +23,7 @@ pub fn change_between(pass: u16, before: &[Item], after: &[Item]) -> Option<Chan
 /// first leaf, these two leaves have different numbers.
 fn change_from_first_difference(pass: u16, gone: &[Item], come: &[Item]) -> Option<Change>
     requires { BeginApart (map read_item gone.now) (map read_item come.now) }
-    ensures { AreSame (map read_item gone.now) (map read_item come.now) → IsFoundChange pass (map read_item gone.now) (map read_item come.now) result }
+    ensures { AgreeByNumber (map read_item gone.now) (map read_item come.now) → IsFoundChange pass (map read_item gone.now) (map read_item come.now) result }
 {
     match (gone.split_first(), come.split_first()) {
         (None, None) => None,

@@ -15,7 +15,7 @@ use Rattle.rowex_scanning.specs.Counts.{AreWalkLoads, Scans, Walks, limit_by, sc
 use Rattle.rowex_scanning.specs.declared.ahead.TheConstants.{MOST_AHEAD}
 use Rattle.rowex_scanning.specs.Ahead.{HasPlaces, entries_ahead}
 use Rattle.rowex_scanning.specs.declared.ahead.Ahead.{Ahead}
-use Rattle.rowex_scanning.specs.Scanning.{ArePastKey, AreInside, HasTaken, IsBound, IsEntered, IsLeafTaken, IsPairTaken, IsReached, IsWalk, frame, frames_of}
+use Rattle.rowex_scanning.specs.Scanning.{ArePastKey, AreInside, HasTaken, IsBound, IsEntered, IsLeafJudged, IsPairJudged, IsReached, IsWalk, frame, frames_of}
 use Rattle.rowex_scanning.specs.Tallies.{AreTallied, IsKept, IsNone, IsOneMore, IsTalliedScan, Tally, tally_of_number}
 use Rattle.rowex_scanning.specs.declared.scan.Verdict.{Verdict}
 use Rattle.rowex_scanning.specs.declared.scan.Verdict.TheVariants.{Further, Past as IsPast, Full}
@@ -377,12 +377,12 @@ module _ {d : Direction} {k j : Known} {m : ℕ} {g : Range} {at : PathNode} {fr
 
 -- At a leaf, which was read.
 module _ {d : Direction} {k j : Known} {m : ℕ} {g : Range} {at : PathNode} {frames : List PathNode} {t u : Tally} {number : ℕ} (a : IsAtEntry d k m g at frames t (Leaf number)) (l : IsLater k j) {verdict : Verdict}
-    (p : IsLeafTaken k j (d, g) number t u verdict) where
+    (p : IsLeafJudged k j (d, g) number t u verdict) where
   read : Sure j (λ s. IsRead s m number p.key p.value)
   read = p.read m (entry_led a)
 
-  taken_as : {v : Verdict} → verdict ≡ v → IsPairTaken (d, g) t p.key p.value u v
-  taken_as e = subst (λ z. IsPairTaken (d, g) t p.key p.value u z) e p.taken
+  taken_as : {v : Verdict} → verdict ≡ v → IsPairJudged (d, g) t p.key p.value u v
+  taken_as e = subst (λ z. IsPairJudged (d, g) t p.key p.value u z) e p.taken
 
   pub walk_further : verdict ≡ Further → IsWalk j m (d, g) (record at { slot = gap_behind d at.slot }) frames u
   walk_further is = let (within, room, more) = taken_as is in walk_on a l u (λ c lawful recalls. (p.key, p.value, read c lawful recalls, within, more)) room
@@ -710,9 +710,9 @@ module _ (d : Direction) {k j : Known} (g : Range) {number : ℕ} {key : Key} {v
   pub leaf_early : (t : Tally) → IsNone t → IsEarlier d key (first_key d g) → HasTaken d j g t false
   leaf_early t none early = leaf_outside t none (out_first d g key early)
 
-  module _ (t u : Tally) (none : IsNone t) (verdict : Verdict) (p : IsPairTaken (d, g) t key value u verdict) where
-    became : {v : Verdict} → verdict ≡ v → IsPairTaken (d, g) t key value u v
-    became is = subst (λ z. IsPairTaken (d, g) t key value u z) is p
+  module _ (t u : Tally) (none : IsNone t) (verdict : Verdict) (p : IsPairJudged (d, g) t key value u verdict) where
+    became : {v : Verdict} → verdict ≡ v → IsPairJudged (d, g) t key value u v
+    became is = subst (λ z. IsPairJudged (d, g) t key value u z) is p
 
     still : IsKept t u → IsNone u
     still kept = (kept.0 ∙ none.0, kept.1 [] none.1)

@@ -73,10 +73,10 @@ pub record HavePassed (known : Known) (version : ℕ) (request : Request) (frame
   pub bound : IsBound request.0 known version (first_key request.0 request.1) (record top { slot = gap_after request.0 top.slot count }) frames
 
 -- What became of a scan at some leaves. It has passed all of them, or has ended at one, and there is a further key or not.
-abbrev pub AreTaken : (Passed : Type 0) → (Ended : Bool → Type 0) → (verdict : Verdict) → Type 0
-AreTaken Passed Ended Further = Passed
-AreTaken Passed Ended IsPast = Ended false
-AreTaken Passed Ended Full = Ended true
+abbrev pub AreJudged : (Passed : Type 0) → (Ended : Bool → Type 0) → (verdict : Verdict) → Type 0
+AreJudged Passed Ended Further = Passed
+AreJudged Passed Ended IsPast = Ended false
+AreJudged Passed Ended Full = Ended true
 
 -- A walk is at a gap of the node `top`, to which this path leads, and the tally tells its pairs so far. These leaves come next in the node.
 pub record AreNext (known : Known) (request : Request) (top : PathNode) (frames : List PathNode) (tally : Tally) (leaves : List ℕ) : Type 0 where
@@ -90,7 +90,7 @@ abbrev pub AreTakenOnWays : (old new : Known) → (request : Request) → (befor
     (verdict : Verdict) → Type 0
 AreTakenOnWays old new request before leaves later verdict =
     (top : PathNode) (frames : List PathNode) → AreNext old request top frames before leaves →
-    AreTaken (HavePassed new (since old) request frames top before.size (length leaves) later) (HasTaken request.0 new request.1 later) verdict
+    AreJudged (HavePassed new (since old) request frames top before.size (length leaves) later) (HasTaken request.0 new request.1 later) verdict
 
 -- These leaves come next at a gap of this node. What stands behind the gap comes later than the range's first key.
 pub record AreBehindGap (known : Known) (request : Request) (top : PathNode) (leaves : List ℕ) : Type 0 where

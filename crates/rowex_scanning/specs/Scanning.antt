@@ -66,17 +66,17 @@ HasScannedPart direction known range pairs = (length pairs < range.limit) × Has
 
 -- The verdict on a pair that does not come before the range. Further: the pair is in the range, and the tally tells it now. Past: the pair
 -- is past the range. Full: the pair is in the range, and the limit is reached.
-abbrev pub IsPairTaken : (request : Request) → (old : Tally) → (key : Key) → (value : ℕ) → (new : Tally) → (verdict : Verdict) → Type 0
-IsPairTaken (direction, range) old key value new Further = IsInRange range key × (old.size ≢ range.limit) × IsOneMore old key value new
-IsPairTaken (direction, range) old key value new IsPast = IsEarlier direction (last_key direction range) key × IsKept old new
-IsPairTaken (direction, range) old key value new Full = IsInRange range key × (old.size ≡ range.limit) × IsKept old new
+abbrev pub IsPairJudged : (request : Request) → (old : Tally) → (key : Key) → (value : ℕ) → (new : Tally) → (verdict : Verdict) → Type 0
+IsPairJudged (direction, range) old key value new Further = IsInRange range key × (old.size ≢ range.limit) × IsOneMore old key value new
+IsPairJudged (direction, range) old key value new IsPast = IsEarlier direction (last_key direction range) key × IsKept old new
+IsPairJudged (direction, range) old key value new Full = IsInRange range key × (old.size ≡ range.limit) × IsKept old new
 
 -- The leaf has been read, and its pair was taken or not as the verdict says.
-pub record IsLeafTaken (old new : Known) (request : Request) (number : ℕ) (before later : Tally) (verdict : Verdict) : Type 0 where
+pub record IsLeafJudged (old new : Known) (request : Request) (number : ℕ) (before later : Tally) (verdict : Verdict) : Type 0 where
   pub key : Key
   pub value : ℕ
   pub read : (version : ℕ) → IsLedTo old version (Leaf number) → Sure new (λ past. IsRead past version number key value)
-  pub taken : IsPairTaken request before key value later verdict
+  pub taken : IsPairJudged request before key value later verdict
 
 -- Memory was refused for a pair with this key, which belonged to the range. By the limit there was room for it.
 abbrev pub IsPairRefused : (range : Range) → (old : Tally) → (key : Key) → (new : Tally) → Type 0

@@ -9,7 +9,7 @@ ghost use Rattle.record_words.specs.declared.TheConstants.{LEAF_FIELDS};
 ghost use Rattle.rowex_reading.specs.Reads.{IsReader, Reads};
 ghost use Rattle.rowex_reading.specs.Seen.{IsLedTo, Sure, since};
 ghost use Rattle.rowex_scanning.specs.Ahead.{AreNext, LeavesBeginAt, AreTakenOnWays, HavePassed, IsLeafNotPast};
-ghost use Rattle.rowex_scanning.specs.Scanning.{HasTakenPart, IsLeafRefused, IsLeafTaken, IsPairRefused, IsPairTaken, IsReached, asked_range, first_key_of, request_of};
+ghost use Rattle.rowex_scanning.specs.Scanning.{HasTakenPart, IsLeafRefused, IsLeafJudged, IsPairRefused, IsPairJudged, IsReached, asked_range, first_key_of, request_of};
 ghost use Rattle.record_words.specs.declared.records.Rec.TheVariants.{Leaf as a_leaf};
 ghost use Rattle.rowex_table.specs.Rule.{IsStartOf};
 ghost use Rattle.version_laws.specs.Directions.{IsNoLater};
@@ -141,8 +141,8 @@ fn take_leaves_to_end<G: Gate, S: Tallies>(
     Ok(Verdict::Further)
 }
 
-/// Loads leaf `number`, to which the walk was led. Returns its key's length in bytes and its value. Writes the bytes of the key to the first
-/// of `places`.
+/// Loads leaf `number`, to which the walk was led. Returns its key's length in bytes and its value. Writes the bytes of the key to the
+/// first of `places`.
 #[inline(always)]
 pub(crate) fn load_scanned_leaf<G: Gate>(
     scan: &Scan,
@@ -205,7 +205,7 @@ pub(crate) fn take_leaf<G: Gate, S: Tallies>(
     requires few { (S.tally sink.old).size ≤ scan.now.range.now.limit }
     ensures reads { (n : ℕ) × (n ≤ LEAF_FIELDS) × Reads scan.now.table.now G.becomes 0 n (seat.old, gate.old) (seat.new, gate.new) }
     ensures more { (S.tally sink.old).size ≤ (S.tally sink.new).size }
-    ensures taken { IfOk result (IsLeafTaken seat.old.known seat.new.known (request_of scan.now.range.now) number (S.tally sink.old) (S.tally sink.new)) }
+    ensures taken { IfOk result (IsLeafJudged seat.old.known seat.new.known (request_of scan.now.range.now) number (S.tally sink.old) (S.tally sink.new)) }
     ensures refused { OnErr result (IsLeafRefused seat.old.known seat.new.known (asked_range scan.now.range.now) number (S.tally sink.old) (S.tally sink.new)) }
     ensures may { OnErr result S.may_refuse }
 {
@@ -213,10 +213,10 @@ pub(crate) fn take_leaf<G: Gate, S: Tallies>(
     take_pair_in_range(sink, scan.range, places, length, value)
 }
 
-/// Gives the pair of `value` and of the key in the first `length` bytes of `places` to `sink`, and returns `Further`. Gives none and returns
-/// `Past` where the key is past `range`, or `Full` where it is of the range and the limit is reached. An error, and none given, if memory
-/// is refused. The key does not come before the range. Inline, so that the key's bytes go at once from where they were read to their place
-/// among the pairs.
+/// Gives the pair of `value` and of the key in the first `length` bytes of `places` to `sink`, and returns `Further`. Gives none and
+/// returns `Past` where the key is past `range`, or `Full` where it is of the range and the limit is reached. An error, and none given, if
+/// memory is refused. The key does not come before the range. Inline, so that the key's bytes go at once from where they were read to their
+/// place among the pairs.
 #[inline(always)]
 pub(crate) fn take_pair_in_range<S: Tallies>(
     sink: &mut S,
@@ -230,7 +230,7 @@ pub(crate) fn take_pair_in_range<S: Tallies>(
     requires reached { IsNoLater range.now.direction (first_key_of range.now) (take length places.now) }
     requires few { (S.tally sink.old).size ≤ range.now.limit }
     ensures more { (S.tally sink.old).size ≤ (S.tally sink.new).size }
-    ensures taken { IfOk result (IsPairTaken (request_of range.now) (S.tally sink.old) (take length places.now) value (S.tally sink.new)) }
+    ensures taken { IfOk result (IsPairJudged (request_of range.now) (S.tally sink.old) (take length places.now) value (S.tally sink.new)) }
     ensures refused { OnErr result (IsPairRefused (asked_range range.now) (S.tally sink.old) (take length places.now) (S.tally sink.new)) }
     ensures may { OnErr result S.may_refuse }
 {

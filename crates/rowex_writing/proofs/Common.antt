@@ -65,7 +65,7 @@ pub use Rattle.rowex_core.proofs.Cores.Loading.{view}
 pub use Rattle.rowex_core.proofs.Having.{owned_used, owns_none}
 pub use Rattle.rowex_core.proofs.Reading.{entry_at_is, entry_of_word, node_is, place_is}
 pub use Rattle.rowex_core.proofs.Sharing.Owning.{knows_all, pin_is, recalls}
-pub use Rattle.rowex_core.specs.Cores.{Core, FitsIn, HasRecord, IsLawful, MustSpellValue, bare, heap_of, holder_of, word_count_of}
+pub use Rattle.rowex_core.specs.Cores.{Core, FitsIn, HasRecord, IsLawful, IsPastFilling, bare, heap_of, holder_of, word_count_of}
 pub use Rattle.rowex_core.specs.Events.{IsOfEntry, after, claimed, loaded_tree, next_change, target_word, word_of}
 pub use Rattle.rowex_core.specs.Having.{AreKept, IsUnlinked, IsUnlinkedBefore, LocksJust, OwnsJust}
 pub use Rattle.rowex_core.specs.Knowing.{IsEvent, IsPinnedSince, Knows, Recalls, anchor_learned, blocking_pass_at, blocking_pass_of, claim_learned, failed_with, learned, maker_of, node_learned, state_learned, version_of, without_lock}
@@ -132,7 +132,7 @@ pub use Rattle.tries.proofs.Place.{leads_spot, seek_spot, shape_tips, spot_below
 pub use Rattle.tries.proofs.Place.Spots.{collapsed_spot, grafted_spot, path_high, path_low, sibling_spot, without_spot}
 pub use Rattle.tries.proofs.Tree.{built_within, has_first, rises, trie_within}
 pub use Rattle.tries.proofs.Tree.Building.{bit_below, greatest-append, greatest_without, size-piece}
-pub use Rattle.tries.specs.Affected.{FirstForkIsBefore, IsLowerSubtrie, IsPartSubtrie, IsTipSubtrie, subtrie_affected, subtrie_forked, subtrie_grown}
+pub use Rattle.tries.specs.Affected.{FirstForkIsBefore, IsLowerSubtrie, IsLeafOrForkSubtrie, IsTipSubtrie, subtrie_affected, subtrie_forked, subtrie_grown}
 pub use Rattle.tries.specs.Content.{Item, first, item}
 pub use Rattle.tries.specs.Keys.{Key}
 unfoldable pub use Rattle.tries.specs.Keys.{bit}

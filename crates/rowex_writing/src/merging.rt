@@ -16,7 +16,7 @@ ghost use Rattle.rowex_table.specs.Seats.{IsSeatOf};
 ghost use Rattle.publish_laws.specs.Lone.{HasSpare, KeepsSpare};
 ghost use Rattle.rowex_writing.specs.store.Values.{HasDoneDeed, HasLoadedFound};
 ghost use Rattle.rowex_writing.specs.build.Building.{IsBuilding};
-ghost use Rattle.rowex_writing.specs.locks.Going.{HasLocked, HasLockedNode, IsLockedBy, ReadsOn, WorksOn};
+ghost use Rattle.rowex_writing.specs.locks.Going.{HasLocked, HasLockedNode, IsLockedBy, WorksOnKeepingRecords, WorksOn};
 ghost use Rattle.rowex_writing.specs.locks.Locks.{span_numbers, HasRun};
 ghost use Rattle.rowex_writing.specs.merging.Merging.{AreNoNode, ClosesFork, HasListed, IsNeighbour, HasWiderLocks, MayMergeInto, HasFewStepsAfterTries};
 ghost use Rattle.rowex_writing.specs.build.Taking.{HasClaimed, HasHeight, IsLeftOfNode, TakesOn, lower, upper};
@@ -103,7 +103,7 @@ pub(crate) fn find_merge<'a, G: Gate>(
     left: &'a Leftover,
 ) -> Option<Merge<'a>>
     requires takes { TakesOn table.now seat.old job.now }
-    ensures reads { ReadsOn table.now G.becomes (seat.old, gate.old) (seat.new, gate.new) }
+    ensures reads { WorksOnKeepingRecords table.now G.becomes (seat.old, gate.old) (seat.new, gate.new) }
     ensures beside { IfSome result (IsNeighbour seat.new.known job.now) }
     ensures left { IfSome result (λ merge. merge.left.now ≡ left.now) }
     ensures few { seat.new.known.steps ≤ seat.old.known.steps + 10 }
@@ -214,7 +214,7 @@ fn merge_siblings<G: Gate>(
     requires wide { HasWiderLocks table.now seat.old job.now merge.now.number }
     requires beside { IsNeighbour seat.old.known job.now merge.now }
     requires left { IsLeftOfNode seat.old.known job.now merge.now.left.now.words }
-    ensures reads { ReadsOn table.now G.becomes (seat.old, gate.old) (seat.new, gate.new) }
+    ensures reads { WorksOnKeepingRecords table.now G.becomes (seat.old, gate.old) (seat.new, gate.new) }
     ensures joined { (leaf : ℕ) (b : AreBeside seat.old.known.locks job.now.key.now (upper job.now).number (lower job.now).number merge.now.number leaf) →
         b.position ≡ merge.now.position → IfSome result (λ node. IsBuiltFrom node (merged b)) }
     ensures none { result ≡ None → (node other : NodeView) → HasLockedNode seat.old.known (lower job.now).number node →

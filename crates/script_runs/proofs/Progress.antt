@@ -15,7 +15,7 @@ use Rattle.script_runs.specs.declared.answer.Answer.TheVariants.{Reply, Full as 
 use Rattle.script_runs.specs.Answers.{Answered, called, refused, listed, answer_text, lines_of_answer, note_of}
 use Rattle.script_runs.specs.Progress.{HasAnsweredCommand, HasRunCommands, answered_as}
 use Rattle.script_runs.specs.Scripts.{StandFrom}
-use Rattle.script_runs.specs.Told.{AreTold, IsCalled, IsCommandTold, IsToldOf}
+use Rattle.script_runs.specs.Told.{AreTold, IsCalled, IsAnswerTold, IsToldOf}
 
 -- Fronts
 
@@ -64,7 +64,7 @@ module _ {G : Type 0} (index : TableView) (becomes : G → Event → G → Type 
         )
 
   -- the pass keeps its number
-  number_kept : (k j : PassView) (answer : Answered) → IsCommandTold index.layout k answer j → j.number ≡ k.number
+  number_kept : (k j : PassView) (answer : Answered) → IsAnswerTold index.layout k answer j → j.number ≡ k.number
   number_kept k j (called note) c = c.number
   number_kept k j (refused call full) (may, u) = u.refused.unnoted.number
   number_kept k j (listed range scan before after) (s, first, last) = s.on.number
@@ -103,7 +103,7 @@ module _ {G : Type 0} (index : TableView) (becomes : G → Event → G → Type 
 
   -- a call that was answered so
   pub HasAnsweredCommand-call : (a m : PassView × G) (call : Call) (answer : Answer) (place : ℕ) (before after : List ℕ)
-      → IsCommandTold index.layout a.0 (answered_as call answer place) m.0 → HasMadeCallSteps index becomes a m → after ≡ before ++ line (answer_text answer)
+      → IsAnswerTold index.layout a.0 (answered_as call answer place) m.0 → HasMadeCallSteps index becomes a m → after ≡ before ++ line (answer_text answer)
       → HasAnsweredCommand index becomes a (Asks call) m before after
   HasAnsweredCommand-call a m call (Reply reply) place before after told steps text = record {
     answer = called (record { place = place; call = call; reply = reply });

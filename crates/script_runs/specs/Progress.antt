@@ -17,7 +17,7 @@ use Rattle.script_runs.specs.declared.together.Order.{Order}
 use Rattle.script_runs.specs.declared.together.Results.{Results}
 use Rattle.script_runs.specs.Answers.{Answered, called, refused, answered_command, lines_of_answer}
 use Rattle.script_runs.specs.Scripts.{sections}
-use Rattle.script_runs.specs.Told.{AreTold, IsCommandTold}
+use Rattle.script_runs.specs.Told.{AreTold, IsAnswerTold}
 
 -- the call with its answer, as a command with its answer; the place is that of its note
 abbrev pub answered_as : (call : Call) (answer : Answer) (place : ℕ) → Answered
@@ -30,7 +30,7 @@ pub record HasAnsweredCommand {G : Type 0} (index : TableView) (becomes : G → 
     (old : PassView × G) (command : Command) (new : PassView × G) (before after : List ℕ) : Type 0 where
   pub answer : Answered
   pub command_is : answered_command answer ≡ command
-  pub told : IsCommandTold index.layout old.0 answer new.0
+  pub told : IsAnswerTold index.layout old.0 answer new.0
   pub steps : HasMadeCallSteps index becomes old new
   pub text_is : after ≡ before ++ lines_of_answer answer
 

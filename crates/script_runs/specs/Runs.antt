@@ -22,7 +22,7 @@ text_told pairs (refused call full ∷ answers) = line (full_text full) ++ text_
 text_told pairs (listed range scan before after ∷ answers) = scan_text pairs range ++ text_told pairs answers
 
 -- The text has the answers to the commands on a new index with one pass, `nodes` node records and `leaves` leaf records. Each answer is
--- that of the map that the earlier commands left. A command was refused only if its call found no record of a kind free (`IsCommandTold`).
+-- that of the map that the earlier commands left. A command was refused only if its call found no record of a kind free (`IsAnswerTold`).
 -- All steps of the calls stand in one run from the new table on.
 pub record AreAnswered (nodes leaves : ℕ) (commands : List Command) (text : List ℕ) : Type 0 where
   pub index : TableView

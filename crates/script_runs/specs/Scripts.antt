@@ -97,7 +97,7 @@ pub record LawfulAnswers (scripts : List (List Command)) (last : List Command) (
 
 -- The text has lawful answers, given on one index with `nodes` node records and `leaves` leaf records. Each file has a new pass, and its
 -- gate was told the steps of the pass's calls. `gates` has each gate as it was before and after. A command was refused only if its call
--- found no record of a kind free (`IsCommandTold`).
+-- found no record of a kind free (`IsAnswerTold`).
 pub record AreAllAnswered {G : Type 0} (nodes leaves : ℕ) (becomes : G → Event → G → Type 0) (gates : List (G × G))
     (scripts : List (List Command)) (last : List Command) (text : List ℕ) : Type 0 where
   pub lawful : LawfulAnswers scripts last text

@@ -29,10 +29,10 @@ pub record IsCalled (layout : Layout) (old new : PassView) (note : Note) : Type 
 
 -- The pass was told this answer to a command. A call was refused only if it found no node record free, or no leaf record with room for its
 -- key. A scan is lawful while the front grew from its length `before` to its length `after`.
-abbrev pub IsCommandTold : (layout : Layout) (old : PassView) (answer : Answered) (new : PassView) → Type 0
-IsCommandTold layout old (called note) new = IsCalled layout old new note
-IsCommandTold layout old (refused call full) new = MayLack call full × IsRefusedFor layout call old new (fault_of full)
-IsCommandTold layout old (listed range scan before after) new =
+abbrev pub IsAnswerTold : (layout : Layout) (old : PassView) (answer : Answered) (new : PassView) → Type 0
+IsAnswerTold layout old (called note) new = IsCalled layout old new note
+IsAnswerTold layout old (refused call full) new = MayLack call full × IsRefusedFor layout call old new (fault_of full)
+IsAnswerTold layout old (listed range scan before after) new =
     IsScanned layout old new (range_from range.from range.upto range.limit) scan × (before ≡ length new.fresh.front) × (after ≡ length new.front)
 
 -- The pass was told these answers, one after another. It has made the steps of each command, and no other. Its gate was told each step, in
@@ -41,7 +41,7 @@ abbrev pub AreTold : {G : Type 0} → (index : TableView) (becomes : G → Event
     (new : PassView × G) → Type 0
 AreTold index becomes old [] new = new ≡ old
 AreTold {G = G} index becomes old (answer ∷ answers) new =
-    (middle : PassView × G) × IsCommandTold index.layout old.0 answer middle.0 × HasMadeCallSteps index becomes old middle ×
+    (middle : PassView × G) × IsAnswerTold index.layout old.0 answer middle.0 × HasMadeCallSteps index becomes old middle ×
     AreTold index becomes middle answers new
 
 -- `gate` is a gate as it was before and after. Meanwhile it was told steps of the pass, one after another, and nothing else.

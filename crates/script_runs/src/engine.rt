@@ -5,7 +5,7 @@ ghost use Rattle.hot_index.specs.Handles.{Stays};
 ghost use Rattle.hot_scripts.specs.Parses.{script_commands};
 ghost use Rattle.hot_index_calls.specs.Traces.{HasMadeCallSteps};
 ghost use Rattle.script_runs.specs.Progress.{HasAnsweredCommand, HasRunCommands, answered_as};
-ghost use Rattle.script_runs.specs.Told.{IsCommandTold};
+ghost use Rattle.script_runs.specs.Told.{IsAnswerTold};
 
 use crate::answer::{Answer, push_answer};
 use crate::callers::Caller;
@@ -33,7 +33,7 @@ fn make_call<C: Caller, G: Gate>(
     gate: &mut G,
 ) -> Answer
     requires { C.fits caller.now handle.old.index }
-    ensures told { Stays (λ index k j. (place : ℕ) × IsCommandTold index.layout k (answered_as call.now result place) j) handle.old handle.new }
+    ensures told { Stays (λ index k j. (place : ℕ) × IsAnswerTold index.layout k (answered_as call.now result place) j) handle.old handle.new }
     ensures steps { HasMadeCallSteps handle.old.index G.becomes (handle.old.pass, gate.old) (handle.new.pass, gate.new) }
 {
     match caller.call(handle, call, gate) {

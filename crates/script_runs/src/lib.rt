@@ -21,7 +21,7 @@
 //!
 //! # What carries the proof
 //!
-//! What a pass goes through is said command by command (`IsCommandTold`). `run_one`: the only pass of an index made all changes, so by
+//! What a pass goes through is said command by command (`IsAnswerTold`). `run_one`: the only pass of an index made all changes, so by
 //! `lone_calls_are_a_run` and `still_scan_gives_first_pairs` its results are the map's (`IsAnsweredScript`). `run_scripts`: each thread
 //! promises what its pass did and what its gate was told (`Promise`). After the second meeting all calls are legal in one front
 //! (`LawfulScripts`, `script_runs/proofs/Scripts`).

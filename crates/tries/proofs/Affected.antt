@@ -6,7 +6,7 @@ use Rattle.tries.specs.Search.{Follows, child}
 use Rattle.tries.specs.Content.{Item, first}
 use Rattle.tries.proofs.Changes.{put, IsPathBelow, IsInOwnSubtrie}
 use Rattle.tries.proofs.Place.{grown}
-use Rattle.tries.specs.Affected.{affected, IsPart, subtrie_affected, subtrie_forked, subtrie_grown, IsPartSubtrie, IsLowerSubtrie}
+use Rattle.tries.specs.Affected.{affected, IsLeafOrFork, subtrie_affected, subtrie_forked, subtrie_grown, IsLeafOrForkSubtrie, IsLowerSubtrie}
 use Rattle.tries.proofs.Tree.{has_first, has_within, within_trans, within_child, rises}
 
 -- A key that follows a stem within a side agrees with the side's keys before the fork, and takes that side.
@@ -35,7 +35,7 @@ DifferFirstAt p k y = AgreeBelow p k y × (bit y p ≡ (if bit k p then false el
 pub differ_first_through : (p : ℕ) (k l y : Key) → AgreeBelow p k l → bit k p ≢ bit l p → AgreeBelow p l y → bit l p ≡ bit y p → DifferFirstAt p k y
 differ_first_through p k l y g d a e = ((λ q x. g q x ∙ a q x), sym e ∙ other (bit k p) (bit l p) d)
 
-pub part_differs_first : (p : ℕ) (k l : Key) → AgreeBelow p k l → bit k p ≢ bit l p → (b : Tree) → IsTrie b → IsPart (affected p k b) → Follows l (child k b) →
+pub part_differs_first : (p : ℕ) (k l : Key) → AgreeBelow p k l → bit k p ≢ bit l p → (b : Tree) → IsTrie b → IsLeafOrFork (affected p k b) → Follows l (child k b) →
     (y : Key) → Has (affected p k b) y → DifferFirstAt p k y
 part_differs_first p k l g d (leaf n m v) i h f y z =
     differ_first_through p k l y g d (λ q x. ap (λ o. bit o q) (f ∙ sym z)) (ap (λ o. bit o p) (f ∙ sym z))
@@ -61,16 +61,16 @@ part_differs_first p k l g d (fork q a b) i h f y z =
           | inr (inr o) ↦ absurd (omega arith)
         ]
 
-    down : (u : Bool) → (IsPart (affected p k a) → Follows l (child k a) → (y : Key) → Has (affected p k a) y → DifferFirstAt p k y) →
-        (IsPart (affected p k b) → Follows l (child k b) → (y : Key) → Has (affected p k b) y → DifferFirstAt p k y) →
-        IsPart (if u then affected p k b else affected p k a) → Follows l (if u then child k b else child k a) →
+    down : (u : Bool) → (IsLeafOrFork (affected p k a) → Follows l (child k a) → (y : Key) → Has (affected p k a) y → DifferFirstAt p k y) →
+        (IsLeafOrFork (affected p k b) → Follows l (child k b) → (y : Key) → Has (affected p k b) y → DifferFirstAt p k y) →
+        IsLeafOrFork (if u then affected p k b else affected p k a) → Follows l (if u then child k b else child k a) →
         Has (if u then affected p k b else affected p k a) y → DifferFirstAt p k y
     down true r s h f z = s h f y z
     down false r s h f z = r h f y z
 
-    go : (u : Bool) → ltb q p ≡ u → (IsPart (affected p k a) → Follows l (child k a) → (y : Key) → Has (affected p k a) y → DifferFirstAt p k y) →
-        (IsPart (affected p k b) → Follows l (child k b) → (y : Key) → Has (affected p k b) y → DifferFirstAt p k y) →
-        IsPart (if u then (if bit k q then affected p k b else affected p k a) else fork q a b) →
+    go : (u : Bool) → ltb q p ≡ u → (IsLeafOrFork (affected p k a) → Follows l (child k a) → (y : Key) → Has (affected p k a) y → DifferFirstAt p k y) →
+        (IsLeafOrFork (affected p k b) → Follows l (child k b) → (y : Key) → Has (affected p k b) y → DifferFirstAt p k y) →
+        IsLeafOrFork (if u then (if bit k q then affected p k b else affected p k a) else fork q a b) →
         Has (if u then (if bit k q then affected p k b else affected p k a) else fork q a b) y → DifferFirstAt p k y
     go true e r s h z = down (bit k q) r s h f z
     go false e r s h z = behind (ltb-false q p e) (bit k q) refl f z
@@ -113,7 +113,7 @@ affected_subtrie p k (fork q a b) = go (ltb q p) (bit k q) (affected_subtrie p k
     go true false e f = e
     go false o e f = refl
 
-pub part_subtrie : (u : Tree) → IsPartSubtrie (subtrie u) → IsPart u
+pub part_subtrie : (u : Tree) → IsLeafOrForkSubtrie (subtrie u) → IsLeafOrFork u
 part_subtrie (leaf n l v) i = tt
 part_subtrie (node n l v) i = i
 part_subtrie (fork n l v) i = tt

@@ -15,10 +15,10 @@ affected position key (fork fork_position left right) =
     if nat_lt fork_position position then (if bit key fork_position then affected position key right else affected position key left) else fork fork_position left right
 
 -- The part that an insertion affects is a leaf, or has two entries or more. It is not a single node.
-abbrev pub IsPart : Tree → Type 0
-IsPart (leaf number key value) = Unit {0}
-IsPart (node number fixed body) = ⊥
-IsPart (fork position left right) = Unit {0}
+abbrev pub IsLeafOrFork : Tree → Type 0
+IsLeafOrFork (leaf number key value) = Unit {0}
+IsLeafOrFork (node number fixed body) = ⊥
+IsLeafOrFork (fork position left right) = Unit {0}
 
 -- The part of a subtrie that an insertion of the key affects, as `affected` says of a body.
 abbrev pub subtrie_affected : (position : ℕ) → (key : Key) → (trie : Subtrie) → Subtrie
@@ -42,10 +42,10 @@ subtrie_grown position key entry (Fork fork_position left right) =
     else subtrie_forked (bit key position) position entry (Fork fork_position left right)
 
 -- the subtrie is a leaf, or has two entries or more; it is not a single node
-abbrev pub IsPartSubtrie : Subtrie → Type 0
-IsPartSubtrie (Place (Leaf number)) = Unit {0}
-IsPartSubtrie (Place (Node number height)) = ⊥
-IsPartSubtrie (Fork position left right) = Unit {0}
+abbrev pub IsLeafOrForkSubtrie : Subtrie → Type 0
+IsLeafOrForkSubtrie (Place (Leaf number)) = Unit {0}
+IsLeafOrForkSubtrie (Place (Node number height)) = ⊥
+IsLeafOrForkSubtrie (Fork position left right) = Unit {0}
 
 -- all entries of the subtrie have heights below this one, where a leaf has height 0
 abbrev pub IsLowerSubtrie : (height : ℕ) → (trie : Subtrie) → Type 0

@@ -23,7 +23,7 @@ pub use Rattle.tries.proofs.Place.Spots.{IsSpot, subtrie_spot, with_subtrie_entr
 pub use Rattle.tries.proofs.Read.{some_injective as some_same}
 pub use Rattle.tries.proofs.Tree.{between_high, between_low, between_mid, built_within, descend, follows_if_has, follows_kin, has_child, has_first, has_if_follows, has_under, has_within, kin_tips, parting, rises, same_key, subtrie_child, trie_within, under_below, within_child, within_trans}
 pub use Rattle.tries.proofs.Tree.Fitting.{fit_swap, lower_positive, lower_positive as some_height}
-pub use Rattle.tries.specs.Affected.{FirstForkIsBefore, IsLowerSubtrie, IsPart, IsPartSubtrie, IsTipSubtrie, affected, subtrie_affected, subtrie_forked, subtrie_grown}
+pub use Rattle.tries.specs.Affected.{FirstForkIsBefore, IsLowerSubtrie, IsLeafOrFork, IsLeafOrForkSubtrie, IsTipSubtrie, affected, subtrie_affected, subtrie_forked, subtrie_grown}
 pub use Rattle.tries.specs.Changes.{IsAdded}
 pub use Rattle.tries.specs.Content.{IsMore, Item, added, first, item, items}
 pub use Rattle.tries.specs.Keys.{AgreeBelow, IsAtMost, IsBefore, IsParted, Key, bit}

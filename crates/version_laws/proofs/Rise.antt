@@ -4,7 +4,7 @@ pub mod Insertions
 pub mod Merging
 pub mod Removal
 pub mod Taking
-use Rattle.version_laws.proofs.Common.{◌≡◌, ◌⊎◌, inl, inr, ℕ, List, [], ◌∷◌, ◌++◌, refl, ap, ap₂, sym, ◌∙◌, subst, arith, Some, le-ltb, Key, bit, Entry, Leaf, Node, Place, Fork, Fixed, Subtrie, Tree, leaf, node, fork, subtrie, Has, IsTrie, IsFork, Within, here, inside, IsFit, IsBuilt, child, put, IsPathBelow, IsInOwnSubtrie, with_subtrie, affected, IsPart, subtrie_affected, subtrie_forked, subtrie_grown, IsPartSubtrie, IsLowerSubtrie, FirstForkIsBefore, IsTipSubtrie, NodeWords, IsShown, FirstForkIsFrom, IsLawfulState, Links, BareCore, view, Ready, trie_within, built_within, within_trans, affected_subtrie, part_subtrie, part_place, lower_subtrie, place_subtrie, grown_subtrie, grown, shown_within, added_in_whole, IsSpot, subtrie_spot, a_node, a_leaf, IsOneOf, Rec, of_append, of_left, of_right}
+use Rattle.version_laws.proofs.Common.{◌≡◌, ◌⊎◌, inl, inr, ℕ, List, [], ◌∷◌, ◌++◌, refl, ap, ap₂, sym, ◌∙◌, subst, arith, Some, le-ltb, Key, bit, Entry, Leaf, Node, Place, Fork, Fixed, Subtrie, Tree, leaf, node, fork, subtrie, Has, IsTrie, IsFork, Within, here, inside, IsFit, IsBuilt, child, put, IsPathBelow, IsInOwnSubtrie, with_subtrie, affected, IsLeafOrFork, subtrie_affected, subtrie_forked, subtrie_grown, IsLeafOrForkSubtrie, IsLowerSubtrie, FirstForkIsBefore, IsTipSubtrie, NodeWords, IsShown, FirstForkIsFrom, IsLawfulState, Links, BareCore, view, Ready, trie_within, built_within, within_trans, affected_subtrie, part_subtrie, part_place, lower_subtrie, place_subtrie, grown_subtrie, grown, shown_within, added_in_whole, IsSpot, subtrie_spot, a_node, a_leaf, IsOneOf, Rec, of_append, of_left, of_right}
 use Rattle.version_laws.specs.Writer.{added_change, IsNewLeaf, IsFoundBelow, Newcomer}
 use Rattle.version_laws.specs.Rise.{IsNewSubtrie, IsEntryFor, alone, in_node, IsUpper, Side, body, entry, IsRise, grows, pulls, copies, halves, stays_whole, wraps, linked_for_entry, linked_by_rise, unlinked_by_rise}
 use Rattle.version_laws.proofs.Now.{built_now, shown_now, trie_now}
@@ -132,8 +132,8 @@ module _ (c : BareCore) (q : ℕ) (law : IsLawfulState (view c)) (t : Tree) (now
   subtrie_of : {n : ℕ} {y : Fixed} {b : Tree} → Within (node n y b) t → (c.heap.nodes n).subtrie ≡ subtrie b
   subtrie_of v = ap (λ (w : NodeWords). w.subtrie) (words_of v)
 
-  part_here : {n : ℕ} {y : Fixed} {b : Tree} → Within (node n y b) t → IsPartSubtrie (subtrie_affected x.mismatch x.item.key (c.heap.nodes n).subtrie) → IsPart (affected x.mismatch x.item.key b)
-  part_here {b = b} v i = part_subtrie (affected x.mismatch x.item.key b) (subst IsPartSubtrie (ap (subtrie_affected x.mismatch x.item.key) (subtrie_of v) ∙ sym (affected_subtrie x.mismatch x.item.key b)) i)
+  part_here : {n : ℕ} {y : Fixed} {b : Tree} → Within (node n y b) t → IsLeafOrForkSubtrie (subtrie_affected x.mismatch x.item.key (c.heap.nodes n).subtrie) → IsLeafOrFork (affected x.mismatch x.item.key b)
+  part_here {b = b} v i = part_subtrie (affected x.mismatch x.item.key b) (subst IsLeafOrForkSubtrie (ap (subtrie_affected x.mismatch x.item.key) (subtrie_of v) ∙ sym (affected_subtrie x.mismatch x.item.key b)) i)
 
   -- Node `n` as it stands in the body of the locked node `o` above it, and the way to it.
   abbrev IsChild : Tree → ℕ → Type 0
@@ -182,7 +182,7 @@ module _ (c : BareCore) (q : ℕ) (law : IsLawfulState (view c)) (t : Tree) (now
       IsTrade c q (affected x.mismatch x.item.key b) (grown (bit x.item.key x.mismatch) x.mismatch (affected x.mismatch x.item.key b) x.item) (a_leaf x.item.number ∷ []) []
   part_trade b v = grown_trade c q law t now x.item x.mismatch new (affected x.mismatch x.item.key b) (within_trans (part_place x.mismatch x.item.key b).0 (within_trans (inside here) v))
 
-  rise_grows : (n : ℕ) → IsFoundBelow c q x n → IsPartSubtrie (subtrie_affected x.mismatch x.item.key (c.heap.nodes n).subtrie) →
+  rise_grows : (n : ℕ) → IsFoundBelow c q x n → IsLeafOrForkSubtrie (subtrie_affected x.mismatch x.item.key (c.heap.nodes n).subtrie) →
       HasRisen (body n) (subtrie_grown x.mismatch x.item.key (Leaf x.item.number) (c.heap.nodes n).subtrie) (a_leaf x.item.number ∷ []) []
   rise_grows n found i y b v = (
     with_leaf x.item x.mismatch b,
@@ -241,7 +241,7 @@ module _ (c : BareCore) (q : ℕ) (law : IsLawfulState (view c)) (t : Tree) (now
       let height : y.height ≡ (c.heap.nodes n).fixed.height = ap (λ (w : NodeWords). w.fixed.height) (sym (words_of v)) in (
         grown (bit x.item.key x.mismatch) x.mismatch (node n y b) x.item,
         grown_subtrie (bit x.item.key x.mismatch) x.mismatch (node n y b) x.item ∙ ap (λ h. subtrie_forked (bit x.item.key x.mismatch) x.mismatch (Leaf x.item.number) (Place (Node n h))) height,
-        growth_beside c q law t now x new v found (subst IsPart (sym whole) (part_of b two)) v (λ k h. subst (λ u. Has u k) (sym whole) h),
+        growth_beside c q law t now x new v found (subst IsLeafOrFork (sym whole) (part_of b two)) v (λ k h. subst (λ u. Has u k) (sym whole) h),
         grown_trade c q law t now x.item x.mismatch new (node n y b) v,
       )
 

@@ -7,7 +7,7 @@ use Rattle.node_tries.specs.Piece.{Place, Fork}
 use Rattle.tries.specs.Tree.{Fixed, Subtrie, IsFit}
 use Rattle.tries.specs.Search.{seek}
 use Rattle.tries.specs.Place.{fork_of, subtrie_sibling, subtrie_without, with_subtrie}
-use Rattle.tries.specs.Affected.{subtrie_affected, subtrie_forked, subtrie_grown, IsPartSubtrie, IsLowerSubtrie, IsTipSubtrie}
+use Rattle.tries.specs.Affected.{subtrie_affected, subtrie_forked, subtrie_grown, IsLeafOrForkSubtrie, IsLowerSubtrie, IsTipSubtrie}
 use Rattle.versions.specs.State.{FirstForkIsFrom}
 use Rattle.record_words.specs.declared.records.Rec.{Rec}
 use Rattle.record_words.specs.declared.records.Rec.TheVariants.{Node as a_node, Leaf as a_leaf}
@@ -48,7 +48,7 @@ pub data Side : Type 0 where
 pub data IsRise (core : BareCore) (pass : ℕ) (newcomer : Newcomer) : Side → Subtrie → Type 0 where
   -- the lowest node gets the new leaf
   grows : (lowest : ℕ) → IsFoundBelow core pass newcomer lowest →
-      IsPartSubtrie (subtrie_affected newcomer.mismatch newcomer.item.key (core.heap.nodes lowest).subtrie) →
+      IsLeafOrForkSubtrie (subtrie_affected newcomer.mismatch newcomer.item.key (core.heap.nodes lowest).subtrie) →
       IsRise core pass newcomer (body lowest)
       (subtrie_grown newcomer.mismatch newcomer.item.key (Leaf newcomer.item.number) (core.heap.nodes lowest).subtrie)
   -- the node above gets what replaces the node below

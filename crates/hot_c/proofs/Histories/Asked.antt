@@ -1,5 +1,5 @@
 -- How a call for a key has ended: the steps of its pass, its response, and what was told of it.
-use Rattle.hot_c.proofs.Common.{◌≡◌, ◌≢◌, ⊎_elim, ℕ, List, [], ◌∷◌, ◌++◌, map, Option, None, Some, Result, Ok, Err, inl, inr, refl, sym, ap, subst, ◌∙◌, IsPermutation, option_to_list, cases_eq, IsPermutation-refl, Call, Add, Exchange, Get, Insert, Remove, RemoveIf, Upsert, Note, Reply, Absent, Differs, Exchanged, Exists, Inserted, New, Removed, Value, Was, Act, Known, Ends, Runs, silent, SeatView, TableView, Leaves, Nodes, IsNoted, IsRefused, IsRefusedFor, MayRefuse, GetsOr, GetsOrCounts, IsTriedAndCounted, HasCounted, loads_in, PassView, pass_of, IsToldAfter, fault_in, HasMadeChangeSteps, HasRead, reading, untold, Refusal, IsBusy, HeldBack, IsFull, notes_of_response, Happening, refuses, responds, HasEndedAs, answered, refused, silent_steps_end}
+use Rattle.hot_c.proofs.Common.{◌≡◌, ◌≢◌, ⊎_elim, ℕ, List, [], ◌∷◌, ◌++◌, map, Option, None, Some, Result, Ok, Err, inl, inr, refl, sym, ap, subst, ◌∙◌, IsPermutation, option_to_list, cases_eq, IsPermutation-refl, Call, Add, Exchange, Get, Insert, Remove, RemoveIf, Upsert, Note, Reply, Absent, Differs, Exchanged, Exists, Inserted, New, Removed, Value, Was, Act, Known, Ends, Runs, silent, SeatView, TableView, Leaves, Nodes, IsNoted, IsRefused, IsRefusedFor, MayRefuse, GetsOr, GetsOrCounts, IsTriedAndCounted, HasCounted, loads_in, PassView, pass_of, FollowsRefusal, fault_in, HasMadeChangeSteps, HasRead, reading, untold, Refusal, IsBusy, HeldBack, IsFull, notes_of_response, Happening, refuses, responds, HasEndedAs, answered, refused, silent_steps_end}
 use Rattle.rowex_core.specs.declared.event.Act.TheVariants.{ClearPin}
 use Rattle.rowex_table.proofs.Runs.{runs_append}
 use Rattle.rowex_writing.specs.attempts.Attempts.{LacksNoLeaf}
@@ -75,7 +75,7 @@ module _ (index : TableView) where
       record { acts = h.0; last = h.1; said = silent; seat = y.ends; ends = h.2 }
 
   told_made : {call : Call} {fault : TryFault} {k m j : PassView} (refusal : Refusal) → HasMadeChangeSteps index untold call (Err fault) (k, tt) (m, tt) →
-      IsToldAfter call index untold (k, tt) (m, tt) (j, tt) refusal → Made index k j
+      FollowsRefusal call index untold (k, tt) (m, tt) (j, tt) refusal → Made index k j
   told_made {k = k} IsBusy x same = subst (λ (z : PassView × Unit {0}). Made index k z.0) (sym same) (try_made x)
   told_made {k = k} (HeldBack lacks) x (inl (left, same)) = subst (λ (z : PassView × Unit {0}). Made index k z.0) (sym same) (try_made x)
   told_made (HeldBack lacks) x (inr y) = counted_made x y.counted

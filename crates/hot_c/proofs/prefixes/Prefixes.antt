@@ -5,7 +5,7 @@ use Rattle.std.specs.BTreeMap.Comparable.{le_lt_trans}
 use Rattle.key_ranges.proofs.Ranges.{between, not_below as not_over, not_over as not_under, prefix_is_range}
 use Rattle.key_ranges.proofs.Ranges.Above.{less_greater}
 use Rattle.hot_c.specs.Calls.{FitsInKey}
-use Rattle.hot_c.specs.Orders.{Answer}
+use Rattle.hot_c.specs.Orders.{ScanClaim}
 use Rattle.hot_c.specs.Prefixes.{HasPrefixAbove, HasPrefixBelow, IsRangeOf, ListsRest}
 use Rattle.hot_c.specs.Scans.{Listing, ListsBy}
 use Rattle.hot_c.specs.declared.opened.Opened.{Opened}
@@ -135,7 +135,7 @@ module _ (prefix : List ℕ) where
   )
 
 -- A scan of a range with exactly these keys is one of the rest.
-module _ {IsMade : Answer} (IsOnSide : List ℕ → List ℕ → List ℕ → Type 0) (prefix other from upto : List ℕ) {p o f u : List ℕ}
+module _ {IsMade : ScanClaim} (IsOnSide : List ℕ → List ℕ → List ℕ → Type 0) (prefix other from upto : List ℕ) {p o f u : List ℕ}
     {old new : Option Opened} {before after : Listing} {status : ℕ} where
   pub rest_listed : p ≡ prefix → o ≡ other → from ≡ f → upto ≡ u → FitsInKey prefix → FitsInKey other → IsRangeOf (IsOnSide p o) f u → FitsInKey f × FitsInKey u
       → ListsBy IsMade from upto old new before after status → ListsRest IsMade (IsOnSide prefix other) prefix other old new before after status

@@ -5,7 +5,7 @@ use Rattle.sections.specs.Sections.{Enters, IsInside, Leaves, SeesOthers, Sectio
 use Rattle.hot_handles.specs.SectionHandles.{HasOpenedSection, IsUnchangedSection}
 use Rattle.hot_handles.specs.declared.section.opened.OpenSection.{OpenSection as OpenSection}
 use Rattle.hot_c.specs.declared.status.TheConstants.{CLOSED, DONE, INSIDE, NO_HANDLE, NO_MEMORY, NOT_PAST, OUTSIDE}
-use Rattle.hot_c.specs.Sections.{EntersSection, FindsHeld, FindsPast, HoldsInside, HoldsOutside, KeepsSection, LeavesSection, OpensSection, TellsMoment, TellsPast}
+use Rattle.hot_c.specs.Sections.{EntersSection, FindsNotPast, FindsPast, HoldsInside, HoldsOutside, KeepsSection, LeavesSection, OpensSection, TellsMoment, TellsPast}
 
 -- the handle held o before the call, and p after it, of the same table and with the same kept ones
 module _ (old : Option OpenSection) (o p : OpenSection) (held : old ≡ Some o) where
@@ -60,7 +60,7 @@ module _ (old : Option OpenSection) (o p : OpenSection) (held : old ≡ Some o) 
     past moment looks is = record { closed = λ none. absurd (never none); told = λ some. inl (refl, keeps_as (FindsPast moment) (looks, is)) }
 
     pub not_past : (moment : ℕ) → SeesOthers o.section p.section → IsHeld moment p.section.known.run → TellsPast moment old (Some p) NOT_PAST
-    not_past moment looks is = record { closed = λ none. absurd (never none); told = λ some. inr (refl, keeps_as (FindsHeld moment) (looks, is)) }
+    not_past moment looks is = record { closed = λ none. absurd (never none); told = λ some. inr (refl, keeps_as (FindsNotPast moment) (looks, is)) }
 
   -- the handle that keeps sections held o before, and p after
 

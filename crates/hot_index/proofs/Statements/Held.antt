@@ -5,7 +5,7 @@ use Rattle.rowex_writing.specs.attempts.Attempts.{IsFullFault}
 use Rattle.rowex_writing.specs.build.Spare.{IsRemoval}
 use Rattle.rowex_writing.specs.declared.plan.Full.TheVariants.{Nodes, Leaves}
 use Rattle.hot_index_calls.proofs.Passes.Settled.{none_seen}
-use Rattle.hot_index.specs.Statements.{AbsentIsNeverFull, GivesValue, HeldIsNeverFull, OnePassRefusesOnlyNewKeys}
+use Rattle.hot_index.specs.Statements.{AbsentIsNeverFull, IsNoRemoval, HeldIsNeverFull, OnePassRefusesOnlyNewKeys}
 use Rattle.hot_index.proofs.Statements.Alone.{one_pass_is_never_busy}
 
 -- a refusal that can't be as full is a busy one
@@ -15,7 +15,7 @@ busy_unless_full FullNodes never = absurd (never tt)
 busy_unless_full FullLeaves never = absurd (never tt)
 
 -- one that may take a record, and is no removal, found its key absent
-takes_new : (call : Call) (k j : PassView) → GivesValue call → MayTake call k j → WasFound (key_of call) None k j
+takes_new : (call : Call) (k j : PassView) → IsNoRemoval call → MayTake call k j → WasFound (key_of call) None k j
 takes_new (Insert key value) k j gives was = was
 takes_new (Upsert key value) k j gives was = was
 takes_new (Exchange key expected value) k j gives was = absurd was

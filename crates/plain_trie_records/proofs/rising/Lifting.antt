@@ -4,7 +4,7 @@ use Rattle.key_bits.specs.Key.{IsKey}
 use Rattle.tries.proofs.Place.{grown}
 use Rattle.plain_trie_records.specs.declared.leaf.LeafRecord.{LeafRecord}
 use Rattle.plain_trie_records.specs.Risen.{RisenShows, OthersStay}
-use Rattle.plain_trie_records.specs.Rising.{NoNode, IsRaised}
+use Rattle.plain_trie_records.specs.Rising.{LacksNode, IsRaised}
 use Rattle.plain_trie_records.specs.Store.{ShowsTree}
 use Rattle.plain_trie_records.proofs.Store.{lower_more, no_node_below, shown_but}
 use Rattle.plain_trie_records.proofs.rising.Replacing.{risen_around, child_spot, put_kept, added_node}
@@ -22,7 +22,7 @@ lower_part h (inside w) f l = elim f [ ]
 lower_part h (zero_side w) f l = lower_part h w f l.0
 lower_part h (one_side w) f l = lower_part h w f l.1
 
-no_node_part : (n : ℕ) {s b : Tree} (w : Within s b) → IsInOwnSubtrie w → NoNode n b → NoNode n s
+no_node_part : (n : ℕ) {s b : Tree} (w : Within s b) → IsInOwnSubtrie w → LacksNode n b → LacksNode n s
 no_node_part n here f l = l
 no_node_part n (inside w) f l = elim f [ ]
 no_node_part n (zero_side w) f l = no_node_part n w f l.0
@@ -40,7 +40,7 @@ module _ (ns : List NodeView) (ls : List LeafRecord) (n : ℕ) (x : Fixed) (b : 
   bounded = let e = old_height in let f = ap first_position shown.0.shows in omega (arith, built.3.bound)
 
   -- the node is not below itself
-  pub not_below : NoNode n b
+  pub not_below : LacksNode n b
   not_below = no_node_below ns ls n x.height shown.0.view b shown.0.at old_height built.1 built.2 shown.1
 
   -- the new leaf in the node's own body

@@ -1,5 +1,5 @@
 -- The way up of a new leaf: at a leaf, at the affected node, at each node above it, and in a new node.
-use Rattle.plain_trie_records.proofs.Common.{◌≡◌, ◌⊎◌, inl, inr, ℕ, suc, ◌+◌, ◌<◌, ◌≤◌, Bool, true, false, List, refl, ap, sym, ◌∙◌, subst, arith, Some, length, get_or, slice_get_within, slice_get, cond, IsFirstDifference, bit_of, replaced, affected_first, affected_count, IsAffected, piece_grown, Place, Fork, places, size, leads_to, NodeView, piece, IsLawfulNode, IsBuiltFrom, StandsBelow, greatest_height, height_of, head_of, Entry, Leaf, Node, affected, IsPart, subtrie_grown, subtrie_forked, put, IsPathBelow, Item, first, bit, spot, child, seek, found, Subtrie, Fixed, Tree, leaf, node, fork, subtrie, Has, IsTrie, IsBuilt, IsLower, first_position, Within, here, inside, zero_side, one_side, added_here, grown_subtrie, part_place, lower_positive, leads_spot, spot_below, rises, trie_within, built_within, within_child, subtrie_child, Risen, grafted, IsAbovePath, subtrie_of, WayBelow, greatest_if_lower, node_built_from, tip_entry, tip_low, pair_of, IsPairOf, pair_facts, has_found, all_away, affected_range, part_of_two, tip_of_one_place, tip_child, size_affected, found_child}
+use Rattle.plain_trie_records.proofs.Common.{◌≡◌, ◌⊎◌, inl, inr, ℕ, suc, ◌+◌, ◌<◌, ◌≤◌, Bool, true, false, List, refl, ap, sym, ◌∙◌, subst, arith, Some, length, get_or, slice_get_within, slice_get, cond, IsFirstDifference, bit_of, replaced, affected_first, affected_count, IsAffected, piece_grown, Place, Fork, places, size, leads_to, NodeView, piece, IsLawfulNode, IsBuiltFrom, StandsBelow, greatest_height, height_of, head_of, Entry, Leaf, Node, affected, IsLeafOrFork, subtrie_grown, subtrie_forked, put, IsPathBelow, Item, first, bit, spot, child, seek, found, Subtrie, Fixed, Tree, leaf, node, fork, subtrie, Has, IsTrie, IsBuilt, IsLower, first_position, Within, here, inside, zero_side, one_side, added_here, grown_subtrie, part_place, lower_positive, leads_spot, spot_below, rises, trie_within, built_within, within_child, subtrie_child, Risen, grafted, IsAbovePath, subtrie_of, WayBelow, greatest_if_lower, node_built_from, tip_entry, tip_low, pair_of, IsPairOf, pair_facts, has_found, all_away, affected_range, part_of_two, tip_of_one_place, tip_child, size_affected, found_child}
 use Rattle.std.specs.Prelude.{nat_lt, ◌-◌}
 use Rattle.tries.proofs.Place.{grown}
 use Rattle.plain_trie_records.specs.declared.leaf.LeafRecord.{LeafRecord}
@@ -75,7 +75,7 @@ beside_raised ns ls x p n (fork q a b) i = absurd (let e = i.head in cc)
 
 -- ---- a node
 -- a part whose entries are leaves has no node for its head
-part_low : (d : Tree) → IsBuilt d → IsLower 1 d → IsPart d
+part_low : (d : Tree) → IsBuilt d → IsLower 1 d → IsLeafOrFork d
 part_low (leaf n k v) b l = tt
 part_low (node n x c) b l = let p = lower_positive x.height c b.1 in absurd (omega arith)
 part_low (fork q a c) b l = tt
@@ -110,16 +110,16 @@ node_here {ns} {ls} {x} {p} {n} {h} {t} i =
 module _ {ns : List NodeView} {ls : List LeafRecord} {x : Item} {p n h : ℕ} {t : Tree} (i : IsAddable ns ls x p (Node n h) t) (u : IsHere ns ls x p n h t) (first last : ℕ)
     (from : affected_first p (spot x.key (subtrie u.body)) (subtrie u.body) ≡ first) (upto : affected_count p (spot x.key (subtrie u.body)) (subtrie u.body) + first ≡ last + 1) where
   -- several entries are affected, or there are leaves alone: the new leaf belongs to the node
-  pub part : (first < last) ⊎ (h ≡ 1) → IsPart (affected p x.key u.body)
+  pub part : (first < last) ⊎ (h ≡ 1) → IsLeafOrFork (affected p x.key u.body)
   part (inl o) = (part_of_two (affected p x.key u.body) (omega (arith, upto, size_affected x.key p u.body))).0
   part (inr one) =
       let w = part_place p x.key u.body in
       part_low (affected p x.key u.body) (built_within w.0 u.built.2) (lower_part 1 w.0 w.1 (subst (λ g. IsLower g u.body) (u.high ∙ one) u.built.1))
 
-  pub range : IsPart (affected p x.key u.body) → IsAffected (subtrie u.body) p first last
+  pub range : IsLeafOrFork (affected p x.key u.body) → IsAffected (subtrie u.body) p first last
   range o = affected_range x.key (found x.key u.body).key p u.differ u.body u.trie u.has o first last from upto
 
-  pub here_raised : IsPart (affected p x.key u.body) → (ms : List NodeView) (risen : Risen) → OthersStay ns ms n →
+  pub here_raised : IsLeafOrFork (affected p x.key u.body) → (ms : List NodeView) (risen : Risen) → OthersStay ns ms n →
       RisenShows ms u.shown.0.view risen (piece_grown p (bit x.key p) (Leaf x.number) first (subtrie u.body)) → IsRaised ns ms ls x p t (suc h) (subtrie_of risen)
   here_raised o ms risen others shows =
       let away = all_away x.key (found x.key u.body).key p u.differ u.body u.trie u.has o in

@@ -2,7 +2,7 @@
 use Rattle.rowex_core.proofs.Common.{◌≡◌, ℕ, zero, suc, ◌+◌, ◌-◌, ◌<◌, ◌≤◌, length, get_or, Some, None, nat_lt, if◌then◌else◌, sym, ap, ◌∙◌, arith, le_refl, le_trans, piece, size, leaf_words, fixed_words, up_to_key_before, Tree, leaf, node, fork, subtrie, Subtrie, Fixed, entry_at, Rec, a_node, a_leaf, NodeWords, LeafWords, IsCopied, Stands, IsReach, last_of, Spans, IsRecord, State, Fate, Free, HeldBy, ReadyBy, InTree, UnlinkedBy, Marked, life_of, versions_of, spans_last, spans_ended, reach_later, entry_of, node_number, leaf_number}
 use Rattle.rowex_core.specs.declared.known.Fact.TheVariants.{Placed, Fixed as FixedWord, Valued}
 use Rattle.rowex_core.specs.Reading.{node_words_of, leaf_of, IsPacked, entry_in, head_value, HasWordAt}
-use Rattle.rowex_core.specs.Cores.{Core, IsLawful, MustSpellValue, heap_of, bare}
+use Rattle.rowex_core.specs.Cores.{Core, IsLawful, IsPastFilling, heap_of, bare}
 use Rattle.rowex_core.specs.Words.{record_word}
 use Rattle.rowex_core.specs.Events.{IsFixedOffset}
 use Rattle.rowex_core.specs.Knowing.{StoodBetween, IsFact}
@@ -24,7 +24,7 @@ pub record LastOf (c : Core) (since : ℕ) (r : Rec) : Type 0 where
   pub copied : IsCopied (heap_of c.words) tree
   pub packed : IsPacked r (c.words r)
 
-spanned_whole : (now : ℕ) (f : Fate) (n : ℕ) → Spans now (life_of f) n → MustSpellValue f
+spanned_whole : (now : ℕ) (f : Fate) (n : ℕ) → Spans now (life_of f) n → IsPastFilling f
 spanned_whole now Free n h = absurd h
 spanned_whole now (HeldBy q) n h = absurd h
 spanned_whole now (ReadyBy q) n h = tt

@@ -4,7 +4,7 @@ use Rattle.rowex_core.specs.declared.event.Act.TheVariants.{Publish}
 use Rattle.rowex_core.specs.declared.event.Spot.{Spot}
 use Rattle.rowex_core.specs.declared.event.Spot.TheVariants.{Root, Slot, Value}
 use Rattle.rowex_core.specs.Reading.{node_words_of, leaf_of, IsPacked}
-use Rattle.rowex_core.specs.Cores.{Core, IsLawful, bare, heap_of, HasRecord, IsSized, FitsIn, MustSpellValue, holder_of}
+use Rattle.rowex_core.specs.Cores.{Core, IsLawful, bare, heap_of, HasRecord, IsSized, FitsIn, IsPastFilling, holder_of}
 use Rattle.rowex_core.specs.Events.{after, stored_words, stored_root, next_tree, next_change, IsLegalPublish, IsWordFor, IsPackedAt, IsLockedAt}
 use Rattle.rowex_core.proofs.Frames.{next_change_pass}
 use Rattle.rowex_core.proofs.Events.Records.{sized_after, word_at_record}
@@ -13,7 +13,7 @@ use Rattle.rowex_core.proofs.Reading.Storing.{near_store}
 use Rattle.rowex_core.proofs.Cores.Valuing.{value_stored, packed_then}
 use Rattle.versions.proofs.Core.Pace.{next_marked}
 
-whole_before : (now q : ℕ) (b : Bool) (f : Fate) → MustSpellValue (next_fate now q b f) → MustSpellValue f
+whole_before : (now q : ℕ) (b : Bool) (f : Fate) → IsPastFilling (next_fate now q b f) → IsPastFilling f
 whole_before now q b Free h = h
 whole_before now q b (Held p) h = h
 whole_before now q true (ReadyBy p) h = tt
@@ -75,9 +75,9 @@ module _ (c : Core) (q : ℕ) (spot : Spot) (w : ℕ) (law : IsLawful c) (l : Is
     next = l.next;
   }
 
-  published_words : (s : Spot) → IsWordFor s w → IsPackedAt c s w → (r : Rec) → MustSpellValue (c.fate r) → IsPacked r (stored_words c s w r)
+  published_words : (s : Spot) → IsWordFor s w → IsPackedAt c s w → (r : Rec) → IsPastFilling (c.fate r) → IsPacked r (stored_words c s w r)
   published_words Root e p r h = law.records.packed r h
-  published_words (Value m) e p r h = word_at_record c.words (a_leaf m) 1 w (λ i words. MustSpellValue (c.fate i) → IsPacked i words)
+  published_words (Value m) e p r h = word_at_record c.words (a_leaf m) 1 w (λ i words. IsPastFilling (c.fate i) → IsPacked i words)
       (λ x. packed_then (c.words (a_leaf m)) w (law.records.sized (a_leaf m)).0 m e (law.records.packed (a_leaf m) x)) (λ i ne. law.records.packed i) r h
   published_words (Slot n j) y p r h = elim (cases_Bool (same_rec r (a_node n))) [ inl e ↦ subst (λ z. IsPacked z (stored_words c (Slot n j) w z)) (sym (same_rec_true r (a_node n) e)) p | inr e ↦ rw e (law.records.packed r h) ]
 
@@ -92,11 +92,11 @@ module _ (c : Core) (q : ℕ) (spot : Spot) (w : ℕ) (law : IsLawful c) (l : Is
   published_sizes (Value m) e r = sized_after c.words (a_leaf m) 1 w e law.records.sized r
 
   -- a leaf's words behind its value stay
-  published_fits : (s : Spot) (r : Rec) → MustSpellValue (c.fate r) → FitsIn c.layout r (stored_words c s w r)
+  published_fits : (s : Spot) (r : Rec) → IsPastFilling (c.fate r) → FitsIn c.layout r (stored_words c s w r)
   published_fits Root r h = law.records.fits r h
   published_fits (Slot n j) (a_node m) h = tt
   published_fits (Slot n j) (a_leaf m) h = law.records.fits (a_leaf m) h
-  published_fits (Value m) r h = word_at_record c.words (a_leaf m) 1 w (λ i words. MustSpellValue (c.fate i) → FitsIn c.layout i words)
+  published_fits (Value m) r h = word_at_record c.words (a_leaf m) 1 w (λ i words. IsPastFilling (c.fate i) → FitsIn c.layout i words)
       (λ x. rw (get_or-set_other (c.words (a_leaf m)) 0 1 w 0 (λ z. omega arith)) (law.records.fits (a_leaf m) x)) (λ i ne. law.records.fits i) r h
 
   published_root : (s : Spot) → IsWordFor s w → HasEntryWord (stored_root c s w)

@@ -4,7 +4,7 @@ use Rattle.tries.proofs.Content.Maps.{AreKeys, are_keys, before_less, before_gre
 use Rattle.rowex_core.specs.declared.event.Spot.{Spot}
 use Rattle.rowex_core.specs.declared.event.Spot.TheVariants.{Root, Slot, Value}
 use Rattle.rowex_core.specs.Cores.{Core, heap_of}
-use Rattle.rowex_core.specs.Events.{AreSame, IsOfEntry, change_between, stored_words, stored_root, next_tree, next_change}
+use Rattle.rowex_core.specs.Events.{AgreeByNumber, IsOfEntry, change_between, stored_words, stored_root, next_tree, next_change}
 use Rattle.rowex_core.specs.Statements.{FindsChange}
 
 -- ---- The number determines the leaf
@@ -24,7 +24,7 @@ top_items m None (Some t) h = absurd h
 top_items m (Some e) None h = absurd h
 top_items m (Some e) (Some t) h = shown_items m t h.1
 
-pub by_number : (m o : Heap) (xs ys : List Item) → ((n : ℕ) → m.leaves n ≡ o.leaves n) → Each (words_are m) xs → Each (words_are o) ys → AreSame xs ys
+pub by_number : (m o : Heap) (xs ys : List Item) → ((n : ℕ) → m.leaves n ≡ o.leaves n) → Each (words_are m) xs → Each (words_are o) ys → AgreeByNumber xs ys
 by_number m o xs ys same f g x y i j e =
     let one = each_in (words_are m) xs x f i in
     let other = each_in (words_are o) ys y g j in
@@ -41,38 +41,38 @@ past : (q : ℕ) (x : Item) (xs ys : List Item) → change_between q (x ∷ xs) 
 past q x xs ys = rw (eq-eqb x.number x.number refl) refl
 
 -- of two leaves of one number there is one
-apart : (xs ys : List Item) (x y : Item) → AreSame xs ys → IsIn x xs → IsIn y ys → x ≢ y → eqb x.number y.number ≡ false
+apart : (xs ys : List Item) (x y : Item) → AgreeByNumber xs ys → IsIn x xs → IsIn y ys → x ≢ y → eqb x.number y.number ≡ false
 apart xs ys x y d i j ne = elim (cases_Bool (eqb x.number y.number)) [
   | inl e ↦ absurd (ne (d x y i j (eqb-true x.number y.number e)))
   | inr e ↦ e
 ]
 
-behind_one : (x y : Item) (xs ys : List Item) → AreSame (x ∷ xs) (y ∷ ys) → AreSame xs ys
+behind_one : (x y : Item) (xs ys : List Item) → AgreeByNumber (x ∷ xs) (y ∷ ys) → AgreeByNumber xs ys
 behind_one x y xs ys d a b i j = d a b (inr i) (inr j)
 
 before_differ : (x y : Item) → IsBefore x.key y.key → x ≢ y
 before_differ x y b e = before_irrefl y.key (subst (λ (z : Item). IsBefore z.key y.key) e b)
 
-pub finds_added : (q : ℕ) (x : Item) (xs ys : List Item) → IsMore x xs ys → IsRising ys → AreKeys ys → AreSame xs ys → change_between q xs ys ≡ added_change q x
+pub finds_added : (q : ℕ) (x : Item) (xs ys : List Item) → IsMore x xs ys → IsRising ys → AreKeys ys → AgreeByNumber xs ys → change_between q xs ys ≡ added_change q x
 finds_added q x [] _ added r a d = refl
 finds_added q x (z ∷ zs) _ added r a d =
     rw (apart (z ∷ zs) (x ∷ z ∷ zs) z x d (inl refl) (inl refl) (λ e. before_differ x z r.0.0 (sym e)), before_greater x.key z.key a.0 a.1.0 r.0.0) refl
 finds_added q x _ _ (behind {y = y} {xs = xs} {ys = ys} m) r a d = past q y xs ys ∙ finds_added q x xs ys m r.1 a.1 (behind_one y y xs ys d)
 
-pub finds_removed : (q : ℕ) (x : Item) (xs ys : List Item) → IsMore x ys xs → IsRising xs → AreKeys xs → AreSame xs ys → change_between q xs ys ≡ removed_change q x
+pub finds_removed : (q : ℕ) (x : Item) (xs ys : List Item) → IsMore x ys xs → IsRising xs → AreKeys xs → AgreeByNumber xs ys → change_between q xs ys ≡ removed_change q x
 finds_removed q x _ [] added r a d = refl
 finds_removed q x _ (z ∷ zs) added r a d =
     rw (apart (x ∷ z ∷ zs) (z ∷ zs) x z d (inl refl) (inl refl) (before_differ x z r.0.0), before_less x.key z.key a.0 a.1.0 r.0.0) refl
 finds_removed q x _ _ (behind {y = y} {xs = ys} {ys = xs} m) r a d = past q y xs ys ∙ finds_removed q x xs ys m r.1 a.1 (behind_one y y xs ys d)
 
-pub finds_replaced : (q : ℕ) (y x : Item) (xs ys : List Item) → IsExchange y x xs ys → y.key ≡ x.key → xs ≢ ys → AreSame xs ys → change_between q xs ys ≡ replaced_change q x
+pub finds_replaced : (q : ℕ) (y x : Item) (xs ys : List Item) → IsExchange y x xs ys → y.key ≡ x.key → xs ≢ ys → AgreeByNumber xs ys → change_between q xs ys ≡ replaced_change q x
 finds_replaced q y x _ _ (exchanged {xs = xs}) e ne d =
     rw (apart (y ∷ xs) (x ∷ xs) y x d (inl refl) (inl refl) (λ s. ne (ap (λ z. z ∷ xs) s)), e, same_order x.key) refl
 finds_replaced q y x _ _ (past_one {z = z} {xs = xs} {ys = ys} m) e ne d =
     past q z xs ys ∙ finds_replaced q y x xs ys m e (λ s. ne (ap (λ l. z ∷ l) s)) (behind_one z z xs ys d)
 
 pub finds : (q : ℕ) (x : Change) (n : ℕ) (xs ys : List Item) → IsChanged x.kind (item_of n x) xs ys → x.pass ≡ q → xs ≢ ys →
-    IsRising xs → AreKeys xs → IsRising ys → AreKeys ys → AreSame xs ys → change_between q xs ys ≡ x
+    IsRising xs → AreKeys xs → IsRising ys → AreKeys ys → AgreeByNumber xs ys → change_between q xs ys ≡ x
 finds q x n xs ys m p ne r a s b d = of_kind x.kind refl m
   where
     named : (k : Kind) → x.kind ≡ k → record { pass = q; key = x.key; value = x.value; kind = k } ≡ x

@@ -1,5 +1,5 @@
 -- What a lawful core says of a record to which a pass was led.
-use Rattle.rowex_reading.proofs.Common.{◌≡◌, ◌≢◌, inl, inr, ◌⊎◌, ℕ, suc, ◌+◌, ◌-◌, ◌<◌, ◌≤◌, ◌++◌, get_or, Option, refl, ap, sym, ◌∙◌, subst, arith, le_trans, slice_get, get_or-append-add, Entry, head_of, Layout, HasEntryWord, entry_word, head_words, entry_words, length-head_words, Tree, Rec, a_node, Stands, IsReach, rec_of, Fate, Free, Held, InTree, Unlinked, Marked, pin_version, reach_later, Known, Core, IsLawful, MustSpellValue, HasRecord, FitsIn, IsFixedOffset, Recalls, IsPinnedSince, recalls, IsPacked, HasWordAt, record_word, EntryStoodSince, view}
+use Rattle.rowex_reading.proofs.Common.{◌≡◌, ◌≢◌, inl, inr, ◌⊎◌, ℕ, suc, ◌+◌, ◌-◌, ◌<◌, ◌≤◌, ◌++◌, get_or, Option, refl, ap, sym, ◌∙◌, subst, arith, le_trans, slice_get, get_or-append-add, Entry, head_of, Layout, HasEntryWord, entry_word, head_words, entry_words, length-head_words, Tree, Rec, a_node, Stands, IsReach, rec_of, Fate, Free, Held, InTree, Unlinked, Marked, pin_version, reach_later, Known, Core, IsLawful, IsPastFilling, HasRecord, FitsIn, IsFixedOffset, Recalls, IsPinnedSince, recalls, IsPacked, HasWordAt, record_word, EntryStoodSince, view}
 use Rattle.record_words.proofs.Entries.{entry_words_at}
 use Rattle.versions.specs.Core.{Ready}
 use Rattle.rowex_core.proofs.Statements.Promises.{in_reach}
@@ -7,7 +7,7 @@ use Rattle.rowex_reading.specs.Possible.{IsPossible}
 use Rattle.rowex_reading.specs.Seen.{seen, IsLedTo}
 use Rattle.rowex_reading.proofs.Seen.{seen_within, stands_in}
 
-whole : (f : Fate) → f ≢ Free → ((o : ℕ) → f ≢ Held o) → MustSpellValue f
+whole : (f : Fate) → f ≢ Free → ((o : ℕ) → f ≢ Held o) → IsPastFilling f
 whole Free a b = absurd (a refl)
 whole (Held q) a b = absurd (b q refl)
 whole (Ready q) a b = tt

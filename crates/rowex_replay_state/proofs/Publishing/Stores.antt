@@ -1,5 +1,5 @@
 -- What a publish stores, and what it puts back.
-use Rattle.rowex_replay_state.proofs.Common.{◌≡◌, ◌⊎◌, inl, inr, ◌+◌, ◌-◌, ◌<◌, ℕ, List, set, slice_get, Option, Some, Bool, true, false, if◌then◌else◌, refl, sym, ap, ◌∙◌, subst, arith, cases_Bool, set-set, set-get_or, get_or_from_slice_get, Entry, HasEntryWord, entry_word, Rec, a_node, same_rec, same_rec_refl, same_rec_true, Publish, Root, Slot, entry_of, IsPacked, Core, IsLawful, MustSpellValue, LegalAct, after, stored_words, entry_of_word}
+use Rattle.rowex_replay_state.proofs.Common.{◌≡◌, ◌⊎◌, inl, inr, ◌+◌, ◌-◌, ◌<◌, ℕ, List, set, slice_get, Option, Some, Bool, true, false, if◌then◌else◌, refl, sym, ap, ◌∙◌, subst, arith, cases_Bool, set-set, set-get_or, get_or_from_slice_get, Entry, HasEntryWord, entry_word, Rec, a_node, same_rec, same_rec_refl, same_rec_true, Publish, Root, Slot, entry_of, IsPacked, Core, IsLawful, IsPastFilling, LegalAct, after, stored_words, entry_of_word}
 use Rattle.rowex_replay_state.specs.Records.{RecordsView, AreRecordsOf, lock_in, with_words_in}
 use Rattle.rowex_replay_state.specs.States.{StateView, IsStateOf, IsStepped}
 use Rattle.rowex_replay_state.specs.Publishing.{IsWordStored, AreWordsPacked, MayMakeVersion, IsPublishJudged, published}
@@ -42,7 +42,7 @@ entry_packed : (s : StateView) (c : Core) (n j w : ℕ) (x y : List ℕ) → IsL
     AreWordsPacked c (stored_words c (Slot n j) w)
 entry_packed s c n j w x y lawful h at is packed = λ r whole. go r whole (cases_Bool (same_rec r (a_node n)))
   where
-    go : (r : Rec) → MustSpellValue (c.fate r) → ((same_rec r (a_node n) ≡ true) ⊎ (same_rec r (a_node n) ≡ false)) → IsPacked r (stored_words c (Slot n j) w r)
+    go : (r : Rec) → IsPastFilling (c.fate r) → ((same_rec r (a_node n) ≡ true) ⊎ (same_rec r (a_node n) ≡ false)) → IsPacked r (stored_words c (Slot n j) w r)
     go r whole (inl e) = subst (λ z. IsPacked z (stored_words c (Slot n j) w z)) (sym (same_rec_true r (a_node n) e))
         (subst (IsPacked (a_node n)) (sym (stored_here c n j w x y (h.records.words_are (a_node n) x at) is)) packed)
     go r whole (inr e) = rw e (lawful.records.packed r whole)

@@ -1,5 +1,5 @@
 -- A value is stored: by whom it may be, and what the state is then.
-use Rattle.rowex_replay_state.proofs.Common.{All, ◌≡◌, ◌⊎◌, inl, inr, ◌+◌, ◌<◌, ◌^◌, ℕ, suc, List, [], ◌∷◌, ◌++◌, map, set, get_or, Some, None, true, false, if◌then◌else◌, nat_lt, refl, sym, ap, ap₂, ◌∙◌, subst, arith, props, ∥∥₁_elim, cases_lt, lt-ltb, le-ltb, eq-eqb, map-append, same_Some, get_or_from_slice_get, Leaf, NodeView, piece, Change, Replaced, size, entry_word, HasNodeWords, node_words, items, Tree, leaf, node, fork, Rec, a_node, a_leaf, Free, InTree, NodeWords, is_linked, next_fate, HasLockedNamer, in_root, in_node, items_of, Publish, Value, entry_of, leaf_of, node_words_of, IsPacked, Core, IsLawful, MustSpellValue, HasRecord, bare, IsLockedAt, after, next_tree, stored_words, entry_of_word, entry_at_is, entry_word_is, few_entries, node_is}
+use Rattle.rowex_replay_state.proofs.Common.{All, ◌≡◌, ◌⊎◌, inl, inr, ◌+◌, ◌<◌, ◌^◌, ℕ, suc, List, [], ◌∷◌, ◌++◌, map, set, get_or, Some, None, true, false, if◌then◌else◌, nat_lt, refl, sym, ap, ap₂, ◌∙◌, subst, arith, props, ∥∥₁_elim, cases_lt, lt-ltb, le-ltb, eq-eqb, map-append, same_Some, get_or_from_slice_get, Leaf, NodeView, piece, Change, Replaced, size, entry_word, HasNodeWords, node_words, items, Tree, leaf, node, fork, Rec, a_node, a_leaf, Free, InTree, NodeWords, is_linked, next_fate, HasLockedNamer, in_root, in_node, items_of, Publish, Value, entry_of, leaf_of, node_words_of, IsPacked, Core, IsLawful, IsPastFilling, HasRecord, bare, IsLockedAt, after, next_tree, stored_words, entry_of_word, entry_at_is, entry_word_is, few_entries, node_is}
 use Rattle.std.specs.Prelude.{◌≤◌}
 use Rattle.tries.specs.Place.{entry_at}
 use Rattle.versions.proofs.Heap.Revalued.{revalued}
@@ -62,7 +62,7 @@ namer_at s c q l lawful h fits (inr (n, low, (lock, (since, fate), (j, few, (wor
     let in_tree : c.fate (a_node n) ≡ InTree since = h.records.fates_are (a_node n) (IsTree since) fate in
     let is : get_or (c.words (a_node n)) (25 + j) 0 ≡ entry_word (Some (Leaf l)) = ap (λ z. get_or z (25 + j) 0) (h.records.words_are (a_node n) words there) ∙ get_or_from_slice_get words (25 + j) (entry_word (Some (Leaf l))) 0 at in
     let named : Names (c.words (a_node n)) l j =
-    ∥∥₁_elim lawful (names-prop (c.words (a_node n)) l j) (λ law. named_by_word n (c.words (a_node n)) (law.records.sized (a_node n)).1 (law.records.packed (a_node n) (subst MustSpellValue (sym in_tree) tt)) l j fits few is) in
+    ∥∥₁_elim lawful (names-prop (c.words (a_node n)) l j) (λ law. named_by_word n (c.words (a_node n)) (law.records.sized (a_node n)).1 (law.records.packed (a_node n) (subst IsPastFilling (sym in_tree) tt)) l j fits few is) in
     in_node n since j (h.records.locks_are n (Some q) lock) in_tree named.0 named.1
 
 -- and what a core says, of its state
@@ -70,7 +70,7 @@ pub namer_from : (s : StateView) (c : Core) (q l : ℕ) → IsLawful c → IsSta
 namer_from s c q l law h (in_root anchor root) = inl (sym h.anchor ∙ anchor, sym h.root ∙ root)
 namer_from s c q l law h (in_node n since place lock fate low names) =
     let there : HasRecord c.layout (a_node n) = used c (a_node n) ∣ law ∣₁ (λ e. let x : Free ≡ InTree since = sym e ∙ fate in cc) in
-    let word = word_by_name n (c.words (a_node n)) (law.records.sized (a_node n)).1 (law.records.packed (a_node n) (subst MustSpellValue (sym fate) tt)) l place (low, names) in
+    let word = word_by_name n (c.words (a_node n)) (law.records.sized (a_node n)).1 (law.records.packed (a_node n) (subst IsPastFilling (sym fate) tt)) l place (low, names) in
     inr (
       n,
       subst (λ (z : Rattle.record_words.specs.declared.layout.Layout.Layout). n < z.nodes) (sym h.records.layout_is) there,
@@ -84,7 +84,7 @@ namer_from s c q l law h (in_node n since place lock fate low names) =
 -- a leaf that is named so has words that spell it
 pub named_spelled : (s : StateView) (c : Core) (q l : ℕ) → IsLawful c → IsStateOf s c → IsLockedAt c q (Value l) → IsEncodedIn s.records (a_leaf l)
 named_spelled s c q l law h named =
-    (c.words (a_leaf l), words_from s c h (a_leaf l) named.0, law.records.packed (a_leaf l) (subst MustSpellValue (sym (valued_in_tree c q l 0 law named).1) tt))
+    (c.words (a_leaf l), words_from s c h (a_leaf l) named.0, law.records.packed (a_leaf l) (subst IsPastFilling (sym (valued_in_tree c q l 0 law named).1) tt))
 
 -- ---- the leaves with the value
 

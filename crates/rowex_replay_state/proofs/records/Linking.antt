@@ -1,5 +1,5 @@
 -- What a publish asks of the records and makes of them.
-use Rattle.rowex_replay_state.proofs.Common.{◌≡◌, ◌≢◌, ◌↔◌, ◌⊎◌, inl, inr, ◌<◌, ℕ, List, [], get_or, Option, Bool, true, false, sym, ap, ◌∙◌, subst, props, ∥∥₁_elim, cases_Bool, false≢true, slice_get-get_or, Entry, Layout, Tree, Item, Rec, a_node, a_leaf, IsTop, IsLinked, items_of, Fate, Free, Held, ReadyBy, InTreeSince, Unlinked, Marked, is_linked, linked_cases, leaf_of, Core, HasRecord, MustSpellValue, heap_of, AreSame, tree_of, by_number, top_items}
+use Rattle.rowex_replay_state.proofs.Common.{◌≡◌, ◌≢◌, ◌↔◌, ◌⊎◌, inl, inr, ◌<◌, ℕ, List, [], get_or, Option, Bool, true, false, sym, ap, ◌∙◌, subst, props, ∥∥₁_elim, cases_Bool, false≢true, slice_get-get_or, Entry, Layout, Tree, Item, Rec, a_node, a_leaf, IsTop, IsLinked, items_of, Fate, Free, Held, ReadyBy, InTreeSince, Unlinked, Marked, is_linked, linked_cases, leaf_of, Core, HasRecord, IsPastFilling, heap_of, AgreeByNumber, tree_of, by_number, top_items}
 use Rattle.rowex_replay_state.specs.Versions.{AreWordsOf, HasRecordIn, IsVersion, Tells, Table}
 use Rattle.rowex_replay_state.specs.declared.linked.Linked.{Linked}
 use Rattle.rowex_replay_state.specs.declared.fate.Fate.{Fate as Stored}
@@ -42,7 +42,7 @@ of_table s layout words fate lock a (a_node n) h = subst (λ z. n < z) a.node_co
 of_table s layout words fate lock a (a_leaf n) h = subst (λ z. n < z) a.leaf_count.0 h
 
 -- what is in the tree or made ready is whole and used
-whole : (q : ℕ) (f : Fate) → ((since : ℕ) × (f ≡ InTreeSince since)) ⊎ (f ≡ ReadyBy q) → MustSpellValue f × (f ≢ Free)
+whole : (q : ℕ) (f : Fate) → ((since : ℕ) × (f ≡ InTreeSince since)) ⊎ (f ≡ ReadyBy q) → IsPastFilling f × (f ≢ Free)
 whole q f (inl (since, e)) = rw e (tt, λ x. cc)
 whole q f (inr e) = rw e (tt, λ x. cc)
 
@@ -61,7 +61,7 @@ item-set : IsSet Item
 item-set = Prim.hlevel props
 
 pub same_leaves : (s : StateView) (c : Core) (words : Rec → List ℕ) (root : Option Entry) → IsWordStored s c words → IsTop (heap_of words) root (tree_of (heap_of words) root) →
-    AreSame (items_of (c.past.version c.past.now)) (items_of (tree_of (heap_of words) root))
+    AgreeByNumber (items_of (c.past.version c.past.now)) (items_of (tree_of (heap_of words) root))
 same_leaves s c words root st top = λ x y i j e. ∥∥₁_elim st.lawful (item-set x y) (λ lawful.
     by_number (heap_of c.words) (heap_of words) _ _ (λ n. ap leaf_of (sym (st.leaves n)))
     (top_items (heap_of c.words) c.root (c.past.version c.past.now) lawful.core.state.top) (top_items (heap_of words) root (tree_of (heap_of words) root) top) x y i j e)

@@ -1,7 +1,7 @@
 -- A scan for which memory was refused, as one that was cut at the number of its pairs.
 use Rattle.rowex_scanning.proofs.Common.{◌≡◌, ◌<◌, ◌≤◌, ◌∷◌, refl, sym, subst, arith, true, ℕ, Leaf, PathNode, Key, Known, IsLater, before, Range, seen, since, Direction}
 use Rattle.std.specs.Prelude.{List}
-use Rattle.rowex_scanning.specs.Scanning.{HasTaken, HasTakenPart, IsLeafRefused, IsLeafTaken, IsPairRefused, limited}
+use Rattle.rowex_scanning.specs.Scanning.{HasTaken, HasTakenPart, IsLeafRefused, IsLeafJudged, IsPairRefused, limited}
 use Rattle.rowex_scanning.specs.Tallies.{IsNone, IsKept, Tally}
 use Rattle.rowex_scanning.specs.declared.scan.Verdict.TheVariants.{Full}
 use Rattle.rowex_scanning.proofs.direction.Directed.{scan_limited}
@@ -28,7 +28,7 @@ module _ (g : Range) (key : Key) (t u : Tally) (r : IsPairRefused g t key u) (sh
 pub walk_part : {d : Direction} {k j : Known} {m : ℕ} {g : Range} {at : PathNode} {frames : List PathNode} {t u : Tally} {number : ℕ} → IsLater k j → IsLeafRefused k j g number t u → t.size ≤ g.limit →
     since j ≡ m → IsAtEntry d k m g at frames t (Leaf number) → HasTakenPart d j g u
 walk_part {d} {k} {j} {g = g} {t = t} {u = u} {number = number} l r short same a =
-    let cut : IsLeafTaken k j (d, (limited g t.size)) number t u Full = record { key = r.key; value = r.value; read = r.read; taken = (r.refused.0, refl, r.refused.2) } in
+    let cut : IsLeafJudged k j (d, (limited g t.size)) number t u Full = record { key = r.key; value = r.value; read = r.read; taken = (r.refused.0, refl, r.refused.2) } in
     part_is t u r.refused.2 (has_room g r.key t u r.refused short) (walk_full (record { walk = before_limited a.walk; placed = a.placed }) l cut same refl)
 
 -- At the leaf that is the root.

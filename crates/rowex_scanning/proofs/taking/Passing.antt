@@ -2,8 +2,8 @@
 use Rattle.rowex_scanning.proofs.Common.{◌≡◌, ℕ, ◌+◌, ◌<◌, ◌≤◌, List, length, Bool, false, get_or, set, take, ap, sym, ◌∙◌, subst, arith, ⊎_elim, cases_lt, get_or-set_other, length-take-le, height_of, Entry, Leaf, Node, PathNode, Layout, a_leaf, Known, IsLater, IsStartOf, Range, EntryStoodSince, IsPlaced, HasPlace, HasMorePlaces, IsLedTo, Sure, since, placed_stable, room_stable, seen_stable, since_later, sure_later, first_key, gap_after, gap_before, gap_behind, place_ahead, to_come, Direction}
 use Rattle.std.proofs.lemmas.List.{get_or-take}
 use Rattle.std.proofs.lemmas.Grind.{get_or-set_at}
-use Rattle.rowex_scanning.specs.Ahead.{AreAhead, AreNext, LeavesBeginAt, FirstLeavesBeginAt, AreTaken, HasPlaces, HavePassed, IsNodeAhead}
-use Rattle.rowex_scanning.specs.Scanning.{IsBound, IsLeafTaken, IsReached, IsWalk, Request}
+use Rattle.rowex_scanning.specs.Ahead.{AreAhead, AreNext, LeavesBeginAt, FirstLeavesBeginAt, AreJudged, HasPlaces, HavePassed, IsNodeAhead}
+use Rattle.rowex_scanning.specs.Scanning.{IsBound, IsLeafJudged, IsReached, IsWalk, Request}
 use Rattle.rowex_scanning.specs.Tallies.{IsKept, Tally}
 use Rattle.rowex_scanning.specs.declared.scan.Verdict.{Verdict}
 use Rattle.rowex_scanning.specs.declared.scan.Verdict.TheVariants.{Further, Past as IsPast}
@@ -103,16 +103,16 @@ module _ {d : Direction} {k : Known} {m : ℕ} {g : Range} {top : PathNode} {fra
   }
 
   -- and which was taken
-  pub passed_more : {j : Known} {u : Tally} {verdict : Verdict} → IsLater k j → IsLeafTaken k j (d, g) number t u verdict → verdict ≡ Further → HavePassed j m (d, g) frames top size (i + 1) u
+  pub passed_more : {j : Known} {u : Tally} {verdict : Verdict} → IsLater k j → IsLeafJudged k j (d, g) number t u verdict → verdict ≡ Further → HavePassed j m (d, g) frames top size (i + 1) u
   passed_more l a is = passed_on l (taken_more leaf_at l a is) (walk_further leaf_at l a is)
 
 -- All were taken.
-pub taken_all : (Passed : Type 0) (Ended : Bool → Type 0) {verdict : Verdict} → AreTaken Passed Ended verdict → verdict ≡ Further → Passed
-taken_all Passed Ended taken is = subst (λ z. AreTaken Passed Ended z) is taken
+pub taken_all : (Passed : Type 0) (Ended : Bool → Type 0) {verdict : Verdict} → AreJudged Passed Ended verdict → verdict ≡ Further → Passed
+taken_all Passed Ended taken is = subst (λ z. AreJudged Passed Ended z) is taken
 
 -- The scan has ended at one.
-pub taken_past : (Passed : Type 0) (Ended : Bool → Type 0) {verdict : Verdict} → AreTaken Passed Ended verdict → verdict ≡ IsPast → Ended false
-taken_past Passed Ended taken is = subst (λ z. AreTaken Passed Ended z) is taken
+pub taken_past : (Passed : Type 0) (Ended : Bool → Type 0) {verdict : Verdict} → AreJudged Passed Ended verdict → verdict ≡ IsPast → Ended false
+taken_past Passed Ended taken is = subst (λ z. AreJudged Passed Ended z) is taken
 
 -- After more loads.
 pub passed_later : {k j : Known} {m : ℕ} {r : Request} {frames : List PathNode} {top : PathNode} {size count : ℕ} {t : Tally} → IsLater k j → HavePassed k m r frames top size count t → HavePassed j m r frames top size count t

@@ -13,7 +13,7 @@ use Rattle.rowex_writing.proofs.locks.Tried.{once_after, targets_append, nodes_t
 use Rattle.rowex_writing.proofs.store.Values.{job_later}
 use Rattle.rowex_writing.specs.declared.attempts.TryFault.{TryFault}
 use Rattle.rowex_writing.specs.declared.attempts.TryFault.TheVariants.{Busy, FullNodes, FullLeaves}
-use Rattle.rowex_writing.specs.locks.Going.{ReadsOn}
+use Rattle.rowex_writing.specs.locks.Going.{WorksOnKeepingRecords}
 use Rattle.rowex_writing.specs.build.Changes.{HasNoRoom}
 use Rattle.rowex_writing.specs.declared.plan.Full.{Full}
 use Rattle.rowex_writing.specs.declared.plan.Full.TheVariants.{Nodes, Leaves}
@@ -160,7 +160,7 @@ busy_roomy (Err FullNodes) P h = absurd (let z = h.0 in cc)
 busy_roomy (Err FullLeaves) P h = λ e. cc
 
 -- the load before it has room
-pub ends_after : {G : Type 0} (table : TableView) (becomes : G → Event → G → Type 0) (job : Job) (room : ℕ) (m b c : SeatView × G) → ReadsOn table becomes m b → b.0.known.steps ≤ m.0.known.steps + room →
+pub ends_after : {G : Type 0} (table : TableView) (becomes : G → Event → G → Type 0) (job : Job) (room : ℕ) (m b c : SeatView × G) → WorksOnKeepingRecords table becomes m b → b.0.known.steps ≤ m.0.known.steps + room →
     EndsChange table becomes job room b c → EndsChange table becomes job 0 m c
 ends_after table becomes job room m b c reads few (inl (run, count)) =
     inl (runs_trans table becomes m b c (goes_run table becomes m b reads.goes) run, omega (arith, few, count))

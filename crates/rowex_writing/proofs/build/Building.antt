@@ -4,48 +4,48 @@ use Rattle.rowex_core.proofs.Reading.Leafing.{leaf_size_is}
 use Rattle.rowex_records.proofs.Records.{leaf_stored, left_beside}
 use Rattle.rowex_writing.proofs.locks.Onward.{runs_possible}
 use Rattle.rowex_writing.specs.build.Building.{IsBuilding, IsHalfMade, HasLeafMade, HasNotMade}
-use Rattle.rowex_writing.specs.locks.Going.{WorksOn, TriesNoLock}
+use Rattle.rowex_writing.specs.locks.Going.{WorksOn, IsStepUnderLocks}
 use Rattle.rowex_writing.proofs.locks.Going.{goes_none, goes_more}
 
 -- ---- steps that change what the pass owns
 -- steps in turn, each part of which is plain
-pub in_turn_plain : (Parts : ℕ → List Act → Type 0) → ((i : ℕ) (acts : List Act) → Parts i acts → All TriesNoLock acts) → (n : ℕ) (acts : List Act) → InTurn Parts n acts → All TriesNoLock acts
-in_turn_plain Parts each zero acts none = subst (All TriesNoLock) (sym none) (λ i d low. absurd (omega arith))
+pub in_turn_plain : (Parts : ℕ → List Act → Type 0) → ((i : ℕ) (acts : List Act) → Parts i acts → All IsStepUnderLocks acts) → (n : ℕ) (acts : List Act) → InTurn Parts n acts → All IsStepUnderLocks acts
+in_turn_plain Parts each zero acts none = subst (All IsStepUnderLocks) (sym none) (λ i d low. absurd (omega arith))
 in_turn_plain Parts each (suc n) acts (before, last, first, second, is) =
-    subst (All TriesNoLock) (sym is) (All-append TriesNoLock before last (in_turn_plain Parts each n before first) (each n last second))
+    subst (All IsStepUnderLocks) (sym is) (All-append IsStepUnderLocks before last (in_turn_plain Parts each n before first) (each n last second))
 
 -- a load of a state, and a claim after it
-look_plain : (r : Rec) (word : ℕ) → All TriesNoLock (LoadState r word ∷ [])
-look_plain r word = All-cons TriesNoLock (LoadState r word) [] tt (λ i d low. absurd (omega arith))
+look_plain : (r : Rec) (word : ℕ) → All IsStepUnderLocks (LoadState r word ∷ [])
+look_plain r word = All-cons IsStepUnderLocks (LoadState r word) [] tt (λ i d low. absurd (omega arith))
 
 own_looked : (r : Rec) (word : ℕ) (free : Bool) (by : Option ℕ) (k j : Known) → j ≡ counted k (if free then k else failed_with k (a_load by) (word_of r 0) word) → j.own ≡ k.own
 own_looked r word true by k j e = ap (λ (z : Known). z.own) e
 own_looked r word false by k j e = ap (λ (z : Known). z.own) e
 
-try_plain : (r : Rec) (word : ℕ) → All TriesNoLock (LoadState r 0 ∷ Claim r word ∷ [])
-try_plain r word = All-cons TriesNoLock (LoadState r 0) (Claim r word ∷ []) tt (All-cons TriesNoLock (Claim r word) [] tt (λ i d low. absurd (omega arith)))
+try_plain : (r : Rec) (word : ℕ) → All IsStepUnderLocks (LoadState r 0 ∷ Claim r word ∷ [])
+try_plain r word = All-cons IsStepUnderLocks (LoadState r 0) (Claim r word ∷ []) tt (All-cons IsStepUnderLocks (Claim r word) [] tt (λ i d low. absurd (omega arith)))
 
-miss_plain : (r : Rec) (acts : List Act) → Misses r acts → All TriesNoLock acts
-miss_plain r acts (word, low, inl is) = subst (All TriesNoLock) (sym is) (look_plain r word)
-miss_plain r acts (word, low, inr is) = subst (All TriesNoLock) (sym is) (try_plain r word)
+miss_plain : (r : Rec) (acts : List Act) → Misses r acts → All IsStepUnderLocks acts
+miss_plain r acts (word, low, inl is) = subst (All IsStepUnderLocks) (sym is) (look_plain r word)
+miss_plain r acts (word, low, inr is) = subst (All IsStepUnderLocks) (sym is) (try_plain r word)
 
-misses_plain : (kind : ℕ → Rec) (n from m : ℕ) (acts : List Act) → InTurn (λ i. Misses (kind (wrapped n from i))) m acts → All TriesNoLock acts
+misses_plain : (kind : ℕ → Rec) (n from m : ℕ) (acts : List Act) → InTurn (λ i. Misses (kind (wrapped n from i))) m acts → All IsStepUnderLocks acts
 misses_plain kind n from m acts turn = in_turn_plain (λ i. Misses (kind (wrapped n from i))) (λ i. miss_plain (kind (wrapped n from i))) m acts turn
 
-sets_plain : (r : Rec) (words : List ℕ) (n : ℕ) (acts : List Act) → InTurn (λ i. StoresWord r (i + 1) (get_or words i 0)) n acts → All TriesNoLock acts
+sets_plain : (r : Rec) (words : List ℕ) (n : ℕ) (acts : List Act) → InTurn (λ i. StoresWord r (i + 1) (get_or words i 0)) n acts → All IsStepUnderLocks acts
 sets_plain r words n acts turn = in_turn_plain (λ i. StoresWord r (i + 1) (get_or words i 0)) (λ i. stored (i + 1) (get_or words i 0)) n acts turn
   where
-    stored : (offset word : ℕ) (acts : List Act) → StoresWord r offset word acts → All TriesNoLock acts
-    stored offset word acts is = subst (All TriesNoLock) (sym is) (All-cons TriesNoLock (Fill r offset word) [] tt (λ i d low. absurd (omega arith)))
+    stored : (offset word : ℕ) (acts : List Act) → StoresWord r offset word acts → All IsStepUnderLocks acts
+    stored offset word acts is = subst (All IsStepUnderLocks) (sym is) (All-cons IsStepUnderLocks (Fill r offset word) [] tt (λ i d low. absurd (omega arith)))
 
 module _ {G : Type 0} (table : TableView) (becomes : G → Event → G → Type 0) where
-  stays_on : {j : Known} (acts : List Act) (a b : SeatView × G) → All TriesNoLock acts → Runs table becomes acts a b → b.0.known ≡ j → StaysLocked a.0.known j → WorksOn table becomes a b
+  stays_on : {j : Known} (acts : List Act) (a b : SeatView × G) → All IsStepUnderLocks acts → Runs table becomes acts a b → b.0.known ≡ j → StaysLocked a.0.known j → WorksOn table becomes a b
   stays_on acts a b plain steps is stays = record { acts = acts; plain = plain; steps = steps; stays = subst (StaysLocked a.0.known) (sym is) stays }
 
-  pub claims_on : (acts : List Act) (a b : SeatView × G) → All TriesNoLock acts → Does table becomes claiming acts a b → WorksOn table becomes a b
+  pub claims_on : (acts : List Act) (a b : SeatView × G) → All IsStepUnderLocks acts → Does table becomes claiming acts a b → WorksOn table becomes a b
   claims_on acts a b plain does = stays_on acts a b plain does.steps does.rest (same_later a.0.known _ refl refl refl refl, refl, refl, λ leaf value h. h)
 
-  pub owns_on : (acts : List Act) (a b : SeatView × G) → All TriesNoLock acts → Does table becomes owning acts a b → WorksOn table becomes a b
+  pub owns_on : (acts : List Act) (a b : SeatView × G) → All IsStepUnderLocks acts → Does table becomes owning acts a b → WorksOn table becomes a b
   owns_on acts a b plain does = stays_on acts a b plain does.steps does.rest (same_later a.0.known _ refl refl refl refl, refl, refl, λ leaf value h. h)
 
   -- what a pass knows stays possible

@@ -8,7 +8,7 @@ use Rattle.publish_laws.specs.Lone.{HasFree, HasRoom, HasSpare, IsLone, LeavesTr
 use Rattle.publish_laws.proofs.Lone.Published.{gone_out, publish_free, publish_spare}
 use Rattle.rowex_writing.specs.build.Building.{IsBuilding}
 use Rattle.rowex_writing.specs.build.Deeds.{gone_of_span, leaf_gone}
-use Rattle.rowex_writing.specs.locks.Going.{TriesNoLock, WorksOn}
+use Rattle.rowex_writing.specs.locks.Going.{IsStepUnderLocks, WorksOn}
 use Rattle.rowex_writing.specs.locks.Locks.{LoadsNoRoot, Tries}
 use Rattle.rowex_writing.specs.build.Taking.{no_step}
 use Rattle.rowex_writing.specs.build.Putting.{AreInTable}
@@ -33,8 +33,8 @@ below_unpublished (Publish spot w) t = absurd t
 below_unpublished (Load words) t = absurd t
 below_unpublished _ t = tt
 
-goes_plain : (acts : List Act) → All TriesNoLock acts → All LeavesTree acts
-goes_plain acts plain = All-weaker TriesNoLock LeavesTree (λ act t. recalls_unpublished act (quiet_recalls act t)) acts plain
+goes_plain : (acts : List Act) → All IsStepUnderLocks acts → All LeavesTree acts
+goes_plain acts plain = All-weaker IsStepUnderLocks LeavesTree (λ act t. recalls_unpublished act (quiet_recalls act t)) acts plain
 
 works_plain : (acts : List Act) → All LoadsNoRoot acts → All LeavesTree acts
 works_plain acts plain = All-weaker LoadsNoRoot LeavesTree (λ act t. recalls_unpublished act (plain_recalls act t)) acts plain

@@ -3,7 +3,7 @@ use Rattle.rowex_writing.proofs.Common.{◌≡◌, ◌≢◌, inl, inr, ◌⊎�
 use Rattle.versions.specs.declared.Pin.{Pin}
 use Rattle.rowex_reading.proofs.Possible.Rooting.{root_fresh}
 use Rattle.rowex_writing.specs.locks.Checks.{EntriesStand}
-use Rattle.rowex_writing.specs.locks.Going.{HasLocked, IsLockedBy, ReadsOn, TriesNoLock}
+use Rattle.rowex_writing.specs.locks.Going.{HasLocked, IsLockedBy, WorksOnKeepingRecords, IsStepUnderLocks}
 use Rattle.rowex_writing.specs.locks.Locks.{HasLockedSpan, span_numbers}
 use Rattle.rowex_writing.specs.declared.plan.Span.{Span}
 use Rattle.rowex_writing.proofs.locks.Going.{locked_spells}
@@ -62,11 +62,11 @@ module _ {layout : Layout} {k j : Known} (n i w : ℕ) (e : IsEvent layout (Load
 
 -- ---- a load of the root
 module _ {G : Type 0} (table : TableView) (becomes : G → Event → G → Type 0) where
-  pub reads_root : (a b : SeatView × G) → ReadsRoot table becomes a b → ReadsOn table becomes a b
+  pub reads_root : (a b : SeatView × G) → ReadsRoot table becomes a b → WorksOnKeepingRecords table becomes a b
   reads_root a b (w, s) = record {
     goes = record {
       acts = LoadRef Root w ∷ [];
-      plain = All-cons TriesNoLock (LoadRef Root w) [] tt (All-nil TriesNoLock);
+      plain = All-cons IsStepUnderLocks (LoadRef Root w) [] tt (All-nil IsStepUnderLocks);
       steps = runs_one table becomes (LoadRef Root w) a b s;
       stays = still_locked table.layout a.0.known b.0.known (LoadRef Root w) tt tt tt tt s.event;
     };

@@ -1,9 +1,9 @@
 -- Loads under a lock, and steps one after the other.
-use Rattle.rowex_writing.proofs.Common.{◌≡◌, ℕ, ◌+◌, ◌-◌, ◌^◌, ◌<◌, ◌≤◌, List, [], ◌∷◌, ◌++◌, length, get_or, set, replicate, refl, sym, ap, subst, ◌∙◌, arith, add-one, inl, inr, ◌⊎◌, ⊎_elim, cases_lt, All-append, All-cons, ext_get_or, get_or-set_same, get_or-set_other, length-replicate, length-set, Layout, NodeView, head_of, head_size, kind_in, kind_of, head_words, node_is, length-node_words, a_node, Act, LoadRef, LoadFixed, Event, Slot, Known, MustSpellValue, IsEvent, IsPacked, node_words_of, IsLocked, knows_all, Steps, silent, TableView, SeatView, IsSeatOf, runs_one, runs_append, runs_same, IsOneOf, entry_of_locked, fixed_of_locked, still_locked, stays_on, locked_same, all_of, IsPossible}
+use Rattle.rowex_writing.proofs.Common.{◌≡◌, ℕ, ◌+◌, ◌-◌, ◌^◌, ◌<◌, ◌≤◌, List, [], ◌∷◌, ◌++◌, length, get_or, set, replicate, refl, sym, ap, subst, ◌∙◌, arith, add-one, inl, inr, ◌⊎◌, ⊎_elim, cases_lt, All-append, All-cons, ext_get_or, get_or-set_same, get_or-set_other, length-replicate, length-set, Layout, NodeView, head_of, head_size, kind_in, kind_of, head_words, node_is, length-node_words, a_node, Act, LoadRef, LoadFixed, Event, Slot, Known, IsPastFilling, IsEvent, IsPacked, node_words_of, IsLocked, knows_all, Steps, silent, TableView, SeatView, IsSeatOf, runs_one, runs_append, runs_same, IsOneOf, entry_of_locked, fixed_of_locked, still_locked, stays_on, locked_same, all_of, IsPossible}
 use Rattle.record_words.proofs.HeadParts.{past_kind, told}
 use Rattle.record_words.proofs.Unused.{zero_in}
 use Rattle.record_words.proofs.Written.{no_entry_word}
-use Rattle.rowex_writing.specs.locks.Going.{WorksOn, ReadsOn, HasLocked, IsNodeOf, TriesNoLock}
+use Rattle.rowex_writing.specs.locks.Going.{WorksOn, WorksOnKeepingRecords, HasLocked, IsNodeOf, IsStepUnderLocks}
 use Rattle.rowex_writing.specs.locks.Loads.{AreRead, AreThose}
 use Rattle.rowex_writing.proofs.locks.Loads.{head_word}
 
@@ -15,7 +15,7 @@ module _ {G : Type 0} (table : TableView) (becomes : G → Event → G → Type 
   pub goes_more : (a m b : SeatView × G) → WorksOn table becomes a m → WorksOn table becomes m b → WorksOn table becomes a b
   goes_more a m b first second = record {
     acts = first.acts ++ second.acts;
-    plain = All-append TriesNoLock first.acts second.acts first.plain second.plain;
+    plain = All-append IsStepUnderLocks first.acts second.acts first.plain second.plain;
     steps = runs_append table becomes first.acts second.acts a m b first.steps second.steps;
     stays = stays_on a.0.known m.0.known b.0.known first.stays second.stays;
   }
@@ -24,29 +24,29 @@ module _ {G : Type 0} (table : TableView) (becomes : G → Event → G → Type 
   pub seat_of : (a b : SeatView × G) → WorksOn table becomes a b → IsSeatOf table a.0 → IsSeatOf table b.0
   seat_of a b goes is = (runs_same table becomes goes.acts a b goes.steps).0 ∙ is
 
-  pub reads_none : (a : SeatView × G) → ReadsOn table becomes a a
+  pub reads_none : (a : SeatView × G) → WorksOnKeepingRecords table becomes a a
   reads_none a = record { goes = goes_none a; own = refl }
 
-  pub reads_more : (a m b : SeatView × G) → ReadsOn table becomes a m → ReadsOn table becomes m b → ReadsOn table becomes a b
+  pub reads_more : (a m b : SeatView × G) → WorksOnKeepingRecords table becomes a m → WorksOnKeepingRecords table becomes m b → WorksOnKeepingRecords table becomes a b
   reads_more a m b first second = record { goes = goes_more a m b first.goes second.goes; own = second.own ∙ first.own }
 
   -- ---- loads of a locked node
-  pub reads_fixed : (n offset w : ℕ) (a b : SeatView × G) → Steps table becomes (LoadFixed (a_node n) offset w) a b → ReadsOn table becomes a b
+  pub reads_fixed : (n offset w : ℕ) (a b : SeatView × G) → Steps table becomes (LoadFixed (a_node n) offset w) a b → WorksOnKeepingRecords table becomes a b
   reads_fixed n offset w a b s = record {
     goes = record {
       acts = LoadFixed (a_node n) offset w ∷ [];
-      plain = All-cons TriesNoLock (LoadFixed (a_node n) offset w) [] tt (λ i d low. absurd (omega arith));
+      plain = All-cons IsStepUnderLocks (LoadFixed (a_node n) offset w) [] tt (λ i d low. absurd (omega arith));
       steps = runs_one table becomes (LoadFixed (a_node n) offset w) a b s;
       stays = still_locked table.layout a.0.known b.0.known (LoadFixed (a_node n) offset w) tt tt tt tt s.event;
     };
     own = ap (λ (z : Known). z.own) s.event.learned_is;
   }
 
-  pub reads_entry : (n i w : ℕ) (a b : SeatView × G) → Steps table becomes (LoadRef (Slot n i) w) a b → ReadsOn table becomes a b
+  pub reads_entry : (n i w : ℕ) (a b : SeatView × G) → Steps table becomes (LoadRef (Slot n i) w) a b → WorksOnKeepingRecords table becomes a b
   reads_entry n i w a b s = record {
     goes = record {
       acts = LoadRef (Slot n i) w ∷ [];
-      plain = All-cons TriesNoLock (LoadRef (Slot n i) w) [] tt (λ i d low. absurd (omega arith));
+      plain = All-cons IsStepUnderLocks (LoadRef (Slot n i) w) [] tt (λ i d low. absurd (omega arith));
       steps = runs_one table becomes (LoadRef (Slot n i) w) a b s;
       stays = still_locked table.layout a.0.known b.0.known (LoadRef (Slot n i) w) tt tt tt tt s.event;
     };
@@ -59,7 +59,7 @@ module _ {layout : Layout} {act : Act} {k j : Known} (e : IsEvent layout act sil
   unfolding IsPacked
   locked_spells n words h =
       let (lock, tree, same) = all_of (IsLocked k.pass e.core) (record { node = n; words = words }) k.locks (knows_all e.core k e.knows).locks h in
-      let (view, has, spells) = e.lawful.records.packed (a_node n) (subst MustSpellValue (sym tree.1) tt) in
+      let (view, has, spells) = e.lawful.records.packed (a_node n) (subst IsPastFilling (sym tree.1) tt) in
       let shows = node_is view (e.core.words (a_node n)) (e.lawful.records.sized (a_node n)).1 has spells in
       (view, record { has = has; spells = spells ∙ same; shows = ap node_words_of (sym same) ∙ shows })
 
@@ -100,7 +100,7 @@ module _ {G : Type 0} (table : TableView) (becomes : G → Event → G → Type 
     few = omega arith;
   }
 
-  pub one_read : (b c : SeatView × G) (number : ℕ) (loaded : List ℕ) (n w : ℕ) → AreRead table becomes a b number loaded n → n < 57 → ReadsOn table becomes b c →
+  pub one_read : (b c : SeatView × G) (number : ℕ) (loaded : List ℕ) (n w : ℕ) → AreRead table becomes a b number loaded n → n < 57 → WorksOnKeepingRecords table becomes b c →
       ((words : List ℕ) → HasLocked b.0.known number words → w ≡ get_or words n 0) → ((words : List ℕ) → HasLocked b.0.known number words → (view : NodeView) × IsNodeOf words view) →
       c.0.known.steps ≤ b.0.known.steps + 1 → AreRead table becomes a c number (set loaded n w) (n + 1)
   one_read b c number loaded n w i low reads word spelled few = record {
@@ -144,6 +144,6 @@ unfolding IsPacked
 locked_node layout k n words possible h =
     let c = possible.core in
     let (lock, tree, same) = all_of (IsLocked k.pass c) (record { node = n; words = words }) k.locks (knows_all c k possible.knows).locks h in
-    let (view, has, spells) = possible.lawful.records.packed (a_node n) (subst MustSpellValue (sym tree.1) tt) in
+    let (view, has, spells) = possible.lawful.records.packed (a_node n) (subst IsPastFilling (sym tree.1) tt) in
     let shows = node_is view (c.words (a_node n)) (possible.lawful.records.sized (a_node n)).1 has spells in
     (view, record { has = has; spells = spells ∙ same; shows = ap node_words_of (sym same) ∙ shows })

@@ -1,7 +1,7 @@
 -- What steps of a pass leave of what it knew: reads as parts of a run, and that it may read on.
 use Rattle.rowex_writing.proofs.Common.{ℕ, ◌≤◌, List, [], ◌∷◌, sym, ap, subst, ◌∙◌, arith, length-append, All-cons, All-weaker, Act, LoadRef, LoadFixed, Event, Root, Slot, Value, Target, Known, IsPossible, IsBelowRoot, Looks, Reads, event_possible, later_trans, Runs, TableView, SeatView, IsSeatOf, runs_same, IsLater}
 use Rattle.std.specs.Prelude.{length}
-use Rattle.rowex_writing.specs.locks.Going.{TriesNoLock, WorksOn}
+use Rattle.rowex_writing.specs.locks.Going.{IsStepUnderLocks, WorksOn}
 use Rattle.rowex_writing.specs.locks.Locks.{IsOfAttempt, Tries, Works, HasRun, HasTried}
 use Rattle.rowex_writing.proofs.locks.Runs.{goes_run, works_run}
 use Rattle.rowex_writing.proofs.locks.Tried.{no_lock_is_tried, tries_more}
@@ -16,7 +16,7 @@ below_pin (LoadFixed r offset w) below = tt
 below_pin _ below = absurd below
 
 -- and tries no lock
-below_tries_no_lock : (act : Act) → IsBelowRoot act → TriesNoLock act
+below_tries_no_lock : (act : Act) → IsBelowRoot act → IsStepUnderLocks act
 below_tries_no_lock (LoadRef Root w) below = absurd below
 below_tries_no_lock (LoadRef (Slot n i) w) below = tt
 below_tries_no_lock (LoadRef (Value l) w) below = tt
@@ -31,13 +31,13 @@ module _ {G : Type 0} (table : TableView) (becomes : G → Event → G → Type 
 
   -- ---- runs
   pub reads_run : (e n : ℕ) (a b : SeatView × G) → Reads table becomes e n a b → HasRun table becomes a b
-  reads_run e n a b r = record { acts = r.acts; each = All-weaker IsBelowRoot IsOfAttempt below_pin r.acts r.below; tried_are = no_lock_is_tried r.acts (All-weaker IsBelowRoot TriesNoLock below_tries_no_lock r.acts r.below); steps = r.steps }
+  reads_run e n a b r = record { acts = r.acts; each = All-weaker IsBelowRoot IsOfAttempt below_pin r.acts r.below; tried_are = no_lock_is_tried r.acts (All-weaker IsBelowRoot IsStepUnderLocks below_tries_no_lock r.acts r.below); steps = r.steps }
 
   pub looks_run : (e n : ℕ) (a b : SeatView × G) → Looks table becomes e n a b → HasRun table becomes a b
   looks_run e n a b l = record {
     acts = LoadRef Root l.root.0 ∷ l.rest.acts;
     each = All-cons IsOfAttempt (LoadRef Root l.root.0) l.rest.acts tt (All-weaker IsBelowRoot IsOfAttempt below_pin l.rest.acts l.rest.below);
-    tried_are = no_lock_is_tried l.rest.acts (All-weaker IsBelowRoot TriesNoLock below_tries_no_lock l.rest.acts l.rest.below);
+    tried_are = no_lock_is_tried l.rest.acts (All-weaker IsBelowRoot IsStepUnderLocks below_tries_no_lock l.rest.acts l.rest.below);
     steps = (l.at, l.root.1, l.rest.steps);
   }
 

@@ -2,7 +2,7 @@
 use Rattle.rowex_writing.proofs.Common.{◌≡◌, ◌≤◌, ℕ, List, [], ◌∷◌, ◌++◌, map, refl, sym, ap, subst, ◌∙◌, arith, ◌<◌, ◌+◌, All, All-head, All-tail, All-weaker, BeginsWith, begins_itself, begins_on, begins_push, Layout, AreApart, Act, Claim, Fill, Ready, Release, LoadRef, LoadFixed, Lock, Unlock, Publish, Mark, LoadEpoch, Advance, SetPin, ClearPin, LoadPin, LoadState, GiveBack, Load, Event, Root, Slot, Value, Target, Fresh, Known, items_of, loaded_tree, next_change, IsEvent, version_of, Runs, Steps, silent, TableView, SeatView, KeepsRecall, LeavesFresh, LeavesFront, LeavesPin, act_leaves}
 use Rattle.versions.specs.Told.{added_change}
 use Rattle.rowex_writing.specs.plan.Planned.{HasLoadedRoot}
-use Rattle.rowex_writing.specs.locks.Going.{TriesNoLock, WorksOn}
+use Rattle.rowex_writing.specs.locks.Going.{IsStepUnderLocks, WorksOn}
 use Rattle.rowex_writing.specs.locks.Locks.{IsOfAttempt, LoadsNoRoot, Tries, TriesNodes, TriesNodesBy, TriesOnce, Works, targets_of, HasRun, HasTried, HasTriedOnce}
 use Rattle.rowex_writing.proofs.locks.Tried.{once_then, then_once, no_lock_is_tried, tries_more, tries_none, tries_one}
 
@@ -23,7 +23,7 @@ plain_of ClearPin t = absurd t
 plain_of (GiveBack r epoch found) t = absurd t
 plain_of _ t = tt
 
-pub quiet_of : (act : Act) → TriesNoLock act → IsOfAttempt act
+pub quiet_of : (act : Act) → IsStepUnderLocks act → IsOfAttempt act
 quiet_of (SetPin w) t = absurd t
 quiet_of ClearPin t = absurd t
 quiet_of (GiveBack r epoch found) t = absurd t
@@ -34,7 +34,7 @@ of_attempt_pin (SetPin w) t = absurd t
 of_attempt_pin ClearPin t = absurd t
 of_attempt_pin _ t = tt
 
-pub quiet_recalls : (act : Act) → TriesNoLock act → KeepsRecall act
+pub quiet_recalls : (act : Act) → IsStepUnderLocks act → KeepsRecall act
 quiet_recalls (Lock target found) t = absurd t
 quiet_recalls (GiveBack r epoch found) t = absurd t
 quiet_recalls _ t = t
@@ -179,7 +179,7 @@ module _ {G : Type 0} (table : TableView) (becomes : G → Event → G → Type 
   nodes_run nodes a b h = record { tried = h.tried; run = works_run a b h.run; once = h.once; count = h.count; among = h.among }
 
   pub goes_run : (a b : SeatView × G) → WorksOn table becomes a b → HasRun table becomes a b
-  goes_run a b w = record { acts = w.acts; each = All-weaker TriesNoLock IsOfAttempt quiet_of w.acts w.plain; tried_are = no_lock_is_tried w.acts w.plain; steps = w.steps }
+  goes_run a b w = record { acts = w.acts; each = All-weaker IsStepUnderLocks IsOfAttempt quiet_of w.acts w.plain; tried_are = no_lock_is_tried w.acts w.plain; steps = w.steps }
 
   -- what they leave
   pub works_fresh : (a b : SeatView × G) → Works table becomes a b → b.0.known.fresh ≡ a.0.known.fresh

@@ -1,6 +1,6 @@
 -- The locks that steps try: each once at most.
 use Rattle.rowex_writing.proofs.Common.{◌≡◌, inl, inr, ℕ, zero, suc, ◌+◌, ◌-◌, ◌<◌, ◌≤◌, List, [], ◌∷◌, ◌++◌, length, get_or, take, drop, map, refl, sym, ap, subst, ◌∙◌, arith, All, slice_range, append-nil, length-append, All-append, All-cons, All-head, All-nil, All-tail, PathNode, AreApart, IsOneOf, of_append, of_map, Act, Lock, Event, Target, Anchor, NodeTarget, Steps, TableView, SeatView, runs_append, runs_one}
-use Rattle.rowex_writing.specs.locks.Going.{TriesNoLock}
+use Rattle.rowex_writing.specs.locks.Going.{IsStepUnderLocks}
 use Rattle.rowex_writing.specs.locks.Locks.{TriesBy, TriesNodesBy, TriesOnceBy, TriesLocksOnce, numbers_of, targets_of}
 use Rattle.rowex_writing.proofs.locks.Spans.{slice_more}
 
@@ -18,10 +18,10 @@ once_before xs ys once none = subst AreApart (sym (targets_append xs ys ∙ (ap 
 pub once_after : (xs ys : List Act) → targets_of xs ≡ [] → TriesLocksOnce ys → TriesLocksOnce (xs ++ ys)
 once_after xs ys none once = subst AreApart (sym (targets_append xs ys ∙ ap (λ z. z ++ targets_of ys) none)) once
 
-pub no_lock_is_tried : (acts : List Act) → All TriesNoLock acts → targets_of acts ≡ []
+pub no_lock_is_tried : (acts : List Act) → All IsStepUnderLocks acts → targets_of acts ≡ []
 no_lock_is_tried [] all = refl
-no_lock_is_tried (Lock target found ∷ acts) all = absurd (All-head TriesNoLock (Lock target found) acts all)
-no_lock_is_tried (act ∷ acts) all = no_lock_is_tried acts (All-tail TriesNoLock act acts all)
+no_lock_is_tried (Lock target found ∷ acts) all = absurd (All-head IsStepUnderLocks (Lock target found) acts all)
+no_lock_is_tried (act ∷ acts) all = no_lock_is_tried acts (All-tail IsStepUnderLocks act acts all)
 
 -- ---- lists in which none stands twice
 apart_end : {X : Type 0} (x : X) (xs : List X) → AreApart xs → (IsOneOf x xs → ⊥) → AreApart (xs ++ x ∷ [])

@@ -6,7 +6,7 @@ use Rattle.rowex_writing.specs.store.Values.{HasLoadedFound, revalued}
 use Rattle.rowex_writing.specs.build.Changes.{HasChanged}
 use Rattle.rowex_writing.specs.locks.Checks.{HasTakenSpan}
 use Rattle.rowex_writing.specs.plan.Counts.{held_loads}
-use Rattle.rowex_writing.specs.locks.Going.{ReadsOn, TriesNoLock}
+use Rattle.rowex_writing.specs.locks.Going.{WorksOnKeepingRecords, IsStepUnderLocks}
 use Rattle.rowex_writing.specs.locks.Jobs.{IsJobFrom, HoldsSpan}
 use Rattle.rowex_writing.specs.declared.plan.job.Job.{Job}
 use Rattle.rowex_writing.specs.declared.plan.Span.{Span}
@@ -81,11 +81,11 @@ pub of_leaf : {G : Type 0} {table : TableView} {becomes : G → Event → G → 
     Steps table becomes (LoadRef (Value (record_number r)) w) a b → Steps table becomes (LoadRef (Value n) w) a b
 of_leaf {table = table} {becomes = becomes} {w = w} {a = a} {b = b} is steps = subst (λ z. Steps table becomes (LoadRef (Value z) w) a b) (ap record_number is) steps
 
-pub value_reads : {G : Type 0} (table : TableView) (becomes : G → Event → G → Type 0) (n w : ℕ) (a b : SeatView × G) → Steps table becomes (LoadRef (Value n) w) a b → ReadsOn table becomes a b
+pub value_reads : {G : Type 0} (table : TableView) (becomes : G → Event → G → Type 0) (n w : ℕ) (a b : SeatView × G) → Steps table becomes (LoadRef (Value n) w) a b → WorksOnKeepingRecords table becomes a b
 value_reads table becomes n w a b s = record {
   goes = record {
     acts = LoadRef (Value n) w ∷ [];
-    plain = All-cons TriesNoLock (LoadRef (Value n) w) [] tt (λ i d low. absurd (omega arith));
+    plain = All-cons IsStepUnderLocks (LoadRef (Value n) w) [] tt (λ i d low. absurd (omega arith));
     steps = runs_one table becomes (LoadRef (Value n) w) a b s;
     stays = still_locked table.layout a.0.known b.0.known (LoadRef (Value n) w) tt tt tt tt s.event;
   };
@@ -116,7 +116,7 @@ way_again layout k m key way found value w found_at = record {
 
 -- the span is taken still
 pub taken_again : {G : Type 0} (table : TableView) (becomes : G → Event → G → Type 0) (a b : SeatView × G) (m : ℕ) (key : Key) (way : List PathNode) (found : Found) (value : ℕ) (span : Span) →
-    HasTakenSpan table a.0 m key way found span → ReadsOn table becomes a b → IsFoundAt b.0.known m key (revalued found value) → HasTakenSpan table b.0 m key way (revalued found value) span
+    HasTakenSpan table a.0 m key way found span → WorksOnKeepingRecords table becomes a b → IsFoundAt b.0.known m key (revalued found value) → HasTakenSpan table b.0 m key way (revalued found value) span
 taken_again table becomes a b m key way found value span t reads found_at = record {
   seat = seat_of table becomes a b reads.goes t.seat;
   possible = goes_possible table becomes a b reads.goes t.possible;
@@ -141,7 +141,7 @@ replaced_made table a made job raised x was low may = let (spot, over) = some_sp
 pub job_later : (layout : Layout) (k j : Known) (m : ℕ) (job : Job) → IsLater k j → IsJobFrom layout k m job → IsJobFrom layout j m job
 job_later layout k j m job later w = way_later layout k j m job.key.now job.way.now job.found later w
 
-pub holds_reads : {G : Type 0} (table : TableView) (becomes : G → Event → G → Type 0) (a b : SeatView × G) (job : Job) → ReadsOn table becomes a b → HoldsSpan table a.0 job → HoldsSpan table b.0 job
+pub holds_reads : {G : Type 0} (table : TableView) (becomes : G → Event → G → Type 0) (a b : SeatView × G) (job : Job) → WorksOnKeepingRecords table becomes a b → HoldsSpan table a.0 job → HoldsSpan table b.0 job
 holds_reads table becomes a b job reads held = record {
   seat = seat_of table becomes a b reads.goes held.seat;
   possible = goes_possible table becomes a b reads.goes held.possible;

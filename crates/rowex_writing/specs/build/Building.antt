@@ -20,7 +20,7 @@ use Rattle.rowex_core.specs.declared.known.Locked.{Locked}
 use Rattle.record_words.specs.declared.layout.Layout.{Layout}
 use Rattle.record_words.specs.Node.{HasNodeWords}
 use Rattle.tries.specs.Content.{Item}
-use Rattle.tries.specs.Affected.{subtrie_affected, IsPartSubtrie}
+use Rattle.tries.specs.Affected.{subtrie_affected, IsLeafOrForkSubtrie}
 use Rattle.tries.specs.Keys.{Key}
 use Rattle.tries.specs.Place.{spot}
 use Rattle.tries.specs.Tree.{Subtrie}
@@ -182,7 +182,7 @@ pub record GetsLeaf (table : TableView) (seat : SeatView) (made : List Rec) (num
   pub leaf_is : new.number ≡ item.number
   pub made_leaf : HasLeafMade table seat made item
   pub found : HasFoundBelow seat.known seat.known.locks (record { since = since; item = item; mismatch = new.position; like = like }) number words
-  pub part : IsPartSubtrie (subtrie_affected new.position item.key (node_words_of words).subtrie)
+  pub part : IsLeafOrForkSubtrie (subtrie_affected new.position item.key (node_words_of words).subtrie)
   pub leads : spot item.key (node_words_of words).subtrie ≡ new.slot
 
 -- the newcomer that the leaf of `GetsLeaf` is, with what the search for its key found

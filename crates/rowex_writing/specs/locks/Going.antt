@@ -16,22 +16,22 @@ use Rattle.rowex_table.specs.Stays.{KeepsRecall}
 use Rattle.publish_laws.specs.Loops.{StaysLocked}
 
 -- the step is no try of a lock, no publish and no return of a record, and leaves the pin of its pass
-abbrev pub TriesNoLock : Act → Type 0
-TriesNoLock (Lock target found) = ⊥
-TriesNoLock (GiveBack rec epoch found) = ⊥
-TriesNoLock act = KeepsRecall act
+abbrev pub IsStepUnderLocks : Act → Type 0
+IsStepUnderLocks (Lock target found) = ⊥
+IsStepUnderLocks (GiveBack rec epoch found) = ⊥
+IsStepUnderLocks act = KeepsRecall act
 
 -- The pass makes steps that try no lock, and the gate is told each. The pass keeps its pin, its facts, its locks and the values that it had
 -- loaded.
 pub record WorksOn {G : Type 0} (table : TableView) (becomes : G → Event → G → Type 0) (old new : SeatView × G) : Type 0 where
   pub acts : List Act
-  pub plain : All TriesNoLock acts
+  pub plain : All IsStepUnderLocks acts
   pub steps : Runs table becomes acts old new
   pub stays : StaysLocked old.0.known new.0.known
 
 -- The pass makes steps that try no lock, and the gate is told each. The pass keeps its pin, its facts, its locks, the values that it had
 -- loaded, and its own records.
-pub record ReadsOn {G : Type 0} (table : TableView) (becomes : G → Event → G → Type 0) (old new : SeatView × G) : Type 0 where
+pub record WorksOnKeepingRecords {G : Type 0} (table : TableView) (becomes : G → Event → G → Type 0) (old new : SeatView × G) : Type 0 where
   pub goes : WorksOn table becomes old new
   pub own : new.0.known.own ≡ old.0.known.own
 

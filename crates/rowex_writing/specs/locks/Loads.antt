@@ -6,7 +6,7 @@ use Rattle.record_words.specs.declared.TheConstants.{HEAD_WORDS, SLOT_GROUP}
 use Rattle.rowex_core.specs.declared.event.Event.{Event}
 use Rattle.rowex_table.specs.Rule.{record_number}
 use Rattle.rowex_table.specs.Seats.{TableView, SeatView, IsSeatOf}
-use Rattle.rowex_writing.specs.locks.Going.{HasLocked, IsNodeOf, ReadsOn}
+use Rattle.rowex_writing.specs.locks.Going.{HasLocked, IsNodeOf, WorksOnKeepingRecords}
 use Rattle.rowex_writing.specs.declared.locks.locked.NodeLoads.{NodeLoads}
 
 -- The first `count` loaded words are those that the pass knows of the locked node. If one was loaded, the known words are those of a node.
@@ -19,7 +19,7 @@ pub record AreThose (loaded words : List ℕ) (count : ℕ) : Type 0 where
 pub record AreRead {G : Type 0} (table : TableView) (becomes : G → Event → G → Type 0) (old new : SeatView × G) (number : ℕ)
     (loaded : List ℕ) (count : ℕ) : Type 0 where
   pub own : IsSeatOf table new.0
-  pub reads : ReadsOn table becomes old new
+  pub reads : WorksOnKeepingRecords table becomes old new
   pub long : length loaded ≡ 57
   pub rest : (index : ℕ) → count ≤ index → get_or loaded index 0 ≡ 0
   pub those : (words : List ℕ) → HasLocked old.0.known number words → AreThose loaded words count

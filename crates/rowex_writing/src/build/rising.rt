@@ -6,7 +6,7 @@ ghost use Rattle.rowex_table.specs.Made.{Made};
 ghost use Rattle.publish_laws.specs.Rises.{IsSide};
 ghost use Rattle.rowex_writing.specs.build.Spare.{FindsOne};
 ghost use Rattle.rowex_writing.specs.build.Building.{IsBuilding, IsGrowing, IsLevelRisen, IsLowRisen, IsAtMostOneHigher, IsRaising, IsRisenAt, IsSplit, MakesGrown, newcomer_of, Rises, GetsFork, GetsLeaf, FitsAbove, FitsOnWay, HasNotMade, HasRisenTo, gone_unless_whole, gone_with_way, levels_above};
-ghost use Rattle.rowex_writing.specs.locks.Going.{HasLocked, IsLockedBy, LeadsLocked, ReadsOn};
+ghost use Rattle.rowex_writing.specs.locks.Going.{HasLocked, IsLockedBy, LeadsLocked, WorksOnKeepingRecords};
 ghost use Rattle.rowex_writing.specs.build.Remaking.{AwaitsLeaf};
 ghost use Rattle.compound_node.specs.Nodes.{NodeView};
 ghost use Rattle.record_words.specs.Node.{SpellLeft};
@@ -337,7 +337,7 @@ pub(crate) fn load_without_leaf<G: Gate>(
     requires locked { IsLockedBy seat.old.known step.number }
     requires place { (key : KeyValue) × LeadsLocked seat.old.known step.number key step.slot }
     requires empty { words.old ≡ replicate NODE_FIELDS 0 }
-    ensures reads { ReadsOn table.now G.becomes (seat.old, gate.old) (seat.new, gate.new) }
+    ensures reads { WorksOnKeepingRecords table.now G.becomes (seat.old, gate.old) (seat.new, gate.new) }
     ensures left { (key : KeyValue) (shown : List ℕ) → LeadsLocked seat.old.known step.number key step.slot → HasLocked seat.old.known step.number shown →
         SpellLeft words.new result (subtrie_without key (node_words_of shown).subtrie) }
     ensures few { seat.new.known.steps ≤ seat.old.known.steps + NODE_FIELDS }

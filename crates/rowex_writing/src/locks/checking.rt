@@ -10,7 +10,7 @@ ghost use Rattle.rowex_table.specs.Seats.{IsSeatOf};
 ghost use Rattle.rowex_reading.specs.Possible.{IsPossible};
 ghost use Rattle.rowex_reading.specs.Seen.{HasPlace, Sure};
 ghost use Rattle.rowex_writing.specs.locks.Checks.{EntriesStand, IsChecked};
-ghost use Rattle.rowex_writing.specs.locks.Going.{HasLocked, IsLockedBy, ReadsOn};
+ghost use Rattle.rowex_writing.specs.locks.Going.{HasLocked, IsLockedBy, WorksOnKeepingRecords};
 ghost use Rattle.rowex_writing.specs.locks.Locks.{locks_of};
 ghost use Rattle.rowex_writing.specs.locks.Jobs.{HoldsSpan, IsJobFrom};
 ghost use Rattle.rowex_reading.specs.Ways.{RootWas, named};
@@ -33,7 +33,7 @@ pub(crate) fn check_span<G: Gate>(
     job: &Job<'_>,
 ) -> bool
     requires held { HoldsSpan table.now seat.old job.now }
-    ensures reads { ReadsOn table.now G.becomes (seat.old, gate.old) (seat.new, gate.new) }
+    ensures reads { WorksOnKeepingRecords table.now G.becomes (seat.old, gate.old) (seat.new, gate.new) }
     ensures possible { IsPossible table.now.layout seat.new.known }
     ensures checked { result ≡ true → IsChecked seat.new.known job.now.key.now job.now.way.now job.now.found job.now.span }
     ensures changed { (m : ℕ) → IsJobFrom table.now.layout seat.old.known m job.now → result ≡ false → m < length seat.new.known.front }
@@ -76,7 +76,7 @@ pub(crate) fn root_stands<G: Gate>(
     requires own { IsSeatOf table.now seat.old }
     requires pinned { IsSome seat.old.known.pin }
     requires locked { IsSome seat.old.known.anchor }
-    ensures reads { ReadsOn table.now G.becomes (seat.old, gate.old) (seat.new, gate.new) }
+    ensures reads { WorksOnKeepingRecords table.now G.becomes (seat.old, gate.old) (seat.new, gate.new) }
     ensures possible { IsPossible table.now.layout seat.new.known }
     ensures same { result ≡ true → seat.new.known.anchor ≡ Some root }
     ensures changed { (m : ℕ) → RootWas seat.old.known m root → result ≡ false → m < length seat.new.known.front }
@@ -95,7 +95,7 @@ fn entries_stand<G: Gate>(
     job: &Job<'_>,
 ) -> bool
     requires held { HoldsSpan table.now seat.old job.now }
-    ensures reads { ReadsOn table.now G.becomes (seat.old, gate.old) (seat.new, gate.new) }
+    ensures reads { WorksOnKeepingRecords table.now G.becomes (seat.old, gate.old) (seat.new, gate.new) }
     ensures possible { IsPossible table.now.layout seat.new.known }
     ensures stand { (m : ℕ) → IsJobFrom table.now.layout seat.old.known m job.now → result ≡ true →
         EntriesStand seat.new.known job.now.key.now job.now.way.now job.now.found job.now.span }
@@ -123,7 +123,7 @@ pub(crate) fn entry_stands<G: Gate>(
     requires possible { IsPossible table.now.layout seat.old.known }
     requires place { (m h : ℕ) × HasPlace seat.old.known m step.number h step.slot }
     requires locked { IsLockedBy seat.old.known step.number }
-    ensures reads { ReadsOn table.now G.becomes (seat.old, gate.old) (seat.new, gate.new) }
+    ensures reads { WorksOnKeepingRecords table.now G.becomes (seat.old, gate.old) (seat.new, gate.new) }
     ensures possible { IsPossible table.now.layout seat.new.known }
     ensures same { result ≡ true → (words : List ℕ) → HasLocked seat.old.known step.number words → entry ≡ Some (entry_at (node_words_of words).subtrie step.slot) }
     ensures changed { (m h : ℕ) (e : EntryValue) → HasPlace seat.old.known m step.number h step.slot → entry ≡ Some e →

@@ -11,7 +11,7 @@ ghost use Rattle.rowex_reading.specs.Possible.{IsPossible};
 ghost use Rattle.rowex_reading.specs.Seen.{HasPlace};
 ghost use Rattle.rowex_table.specs.Rule.{IsNodeRecordAt, record_number};
 ghost use Rattle.rowex_table.specs.Seats.{IsSeatOf};
-ghost use Rattle.rowex_writing.specs.locks.Going.{ReadsOn, HasLocked, IsLockedBy, HasLockedNode, IsNodeOf};
+ghost use Rattle.rowex_writing.specs.locks.Going.{WorksOnKeepingRecords, HasLocked, IsLockedBy, HasLockedNode, IsNodeOf};
 ghost use Rattle.rowex_writing.specs.locks.Loads.{AreRead, ReadsGroup, ReadsRest};
 
 use compound_node::{Entry, Node, find_sibling};
@@ -44,7 +44,7 @@ pub(crate) fn load_locked_node_words<G: Gate>(
     requires range { number < table.now.layout.nodes }
     requires locked { IsLockedBy seat.old.known number }
     requires empty { words.old ≡ replicate NODE_FIELDS 0 }
-    ensures reads { ReadsOn table.now G.becomes (seat.old, gate.old) (seat.new, gate.new) }
+    ensures reads { WorksOnKeepingRecords table.now G.becomes (seat.old, gate.old) (seat.new, gate.new) }
     ensures words { (those : List ℕ) → HasLocked seat.old.known number those → words.new ≡ those }
     ensures node { (view : NodeView) × IsNodeOf words.new view }
     ensures few { seat.new.known.steps ≤ seat.old.known.steps + NODE_FIELDS }
@@ -117,7 +117,7 @@ fn load_numbers<G: Gate>(
     requires own { IsSeatOf table.now seat.old }
     requires node { IsNodeRecordAt table.now.layout node }
     ensures own { IsSeatOf table.now seat.new }
-    ensures reads { ReadsOn table.now G.becomes (seat.old, gate.old) (seat.new, gate.new) }
+    ensures reads { WorksOnKeepingRecords table.now G.becomes (seat.old, gate.old) (seat.new, gate.new) }
     ensures numbers { (view : NodeView) → HasLockedNode seat.old.known (record_number node.rec) view → AreNumbersOf result view }
     ensures few { seat.new.known.steps ≤ seat.old.known.steps + 1 }
 {
@@ -137,7 +137,7 @@ fn load_row<G: Gate>(
     requires own { IsSeatOf table.now seat.old }
     requires node { IsNodeRecordAt table.now.layout loads.node }
     ensures own { IsSeatOf table.now seat.new }
-    ensures reads { ReadsOn table.now G.becomes (seat.old, gate.old) (seat.new, gate.new) }
+    ensures reads { WorksOnKeepingRecords table.now G.becomes (seat.old, gate.old) (seat.new, gate.new) }
     ensures row { (view : NodeView) → HasLockedNode seat.old.known (record_number loads.node.rec) view → AreNumbersOf loads.numbers view →
         result ≡ row_at view.rows slot }
     ensures few { seat.new.known.steps ≤ seat.old.known.steps + 1 }
@@ -162,7 +162,7 @@ pub(crate) fn load_sibling<G: Gate>(
     requires own { IsSeatOf table.now seat.old }
     requires range { number < table.now.layout.nodes }
     requires place { slot < MAX_ENTRIES }
-    ensures reads { ReadsOn table.now G.becomes (seat.old, gate.old) (seat.new, gate.new) }
+    ensures reads { WorksOnKeepingRecords table.now G.becomes (seat.old, gate.old) (seat.new, gate.new) }
     ensures beside { (node : NodeView) → HasLockedNode seat.old.known number node → slot < length node.entries → IsBesideIn node slot result }
     ensures few { seat.new.known.steps ≤ seat.old.known.steps + 5 }
 {
@@ -189,7 +189,7 @@ fn load_rows_beside<G: Gate>(
     requires own { IsSeatOf table.now seat.old }
     requires node { IsNodeRecordAt table.now.layout loads.node }
     requires place { slot < MAX_ENTRIES }
-    ensures reads { ReadsOn table.now G.becomes (seat.old, gate.old) (seat.new, gate.new) }
+    ensures reads { WorksOnKeepingRecords table.now G.becomes (seat.old, gate.old) (seat.new, gate.new) }
     ensures beside { (node : NodeView) → HasLockedNode seat.old.known (record_number loads.node.rec) node → AreNumbersOf loads.numbers node →
         slot < length node.entries → IsBesideIn node slot result }
     ensures few { seat.new.known.steps ≤ seat.old.known.steps + 4 }
@@ -212,7 +212,7 @@ pub(crate) fn load_position<G: Gate>(
     requires own { IsSeatOf table.now seat.old }
     requires range { number < table.now.layout.nodes }
     requires column { column < 31 }
-    ensures reads { ReadsOn table.now G.becomes (seat.old, gate.old) (seat.new, gate.new) }
+    ensures reads { WorksOnKeepingRecords table.now G.becomes (seat.old, gate.old) (seat.new, gate.new) }
     ensures position { (node : NodeView) → HasLockedNode seat.old.known number node → result ≡ position_at node.columns column }
     ensures few { seat.new.known.steps ≤ seat.old.known.steps + 3 }
 {
@@ -237,7 +237,7 @@ pub(crate) fn load_locked_entry<G: Gate>(
     requires possible { IsPossible table.now.layout seat.old.known }
     requires place { (m h : ℕ) × HasPlace seat.old.known m number h slot }
     requires locked { IsLockedBy seat.old.known number }
-    ensures reads { ReadsOn table.now G.becomes (seat.old, gate.old) (seat.new, gate.new) }
+    ensures reads { WorksOnKeepingRecords table.now G.becomes (seat.old, gate.old) (seat.new, gate.new) }
     ensures entry { (words : List ℕ) → HasLocked seat.old.known number words → result ≡ entry_at (node_words_of words).subtrie slot }
     ensures few { seat.new.known.steps ≤ seat.old.known.steps + 1 }
 {
@@ -281,7 +281,7 @@ pub(crate) fn read_locked_node<G: Gate>(
     requires own { IsSeatOf table.now seat.old }
     requires range { number < table.now.layout.nodes }
     requires locked { IsLockedBy seat.old.known number }
-    ensures reads { ReadsOn table.now G.becomes (seat.old, gate.old) (seat.new, gate.new) }
+    ensures reads { WorksOnKeepingRecords table.now G.becomes (seat.old, gate.old) (seat.new, gate.new) }
     ensures node { (words : List ℕ) → HasLocked seat.old.known number words → IsNodeOf words result }
     ensures few { seat.new.known.steps ≤ seat.old.known.steps + NODE_FIELDS }
 {
@@ -303,7 +303,7 @@ fn load_locked_word<G: Gate>(
     requires own { IsSeatOf table.now seat.old }
     requires node { IsNodeRecordAt table.now.layout node }
     requires index { index < NODE_FIELDS }
-    ensures reads { ReadsOn table.now G.becomes (seat.old, gate.old) (seat.new, gate.new) }
+    ensures reads { WorksOnKeepingRecords table.now G.becomes (seat.old, gate.old) (seat.new, gate.new) }
     ensures word { (words : List ℕ) → HasLocked seat.old.known (record_number node.rec) words → result ≡ get_or words index 0 }
     ensures spelled { (words : List ℕ) → HasLocked seat.old.known (record_number node.rec) words → (view : NodeView) × IsNodeOf words view }
     ensures few { seat.new.known.steps ≤ seat.old.known.steps + 1 }

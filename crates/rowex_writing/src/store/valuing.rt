@@ -9,7 +9,7 @@ ghost use Rattle.publish_laws.specs.Lone.{KeepsSpare};
 ghost use Rattle.rowex_writing.specs.store.Values.{HasDoneDeed, HasLoadedFound, HasMoved, HoldsFound, revalued};
 ghost use Rattle.rowex_writing.specs.locks.Checks.{HasTakenPlan};
 ghost use Rattle.rowex_writing.specs.plan.Counts.{held_loads};
-ghost use Rattle.rowex_writing.specs.locks.Going.{ReadsOn};
+ghost use Rattle.rowex_writing.specs.locks.Going.{WorksOnKeepingRecords};
 ghost use Rattle.rowex_writing.specs.locks.Jobs.{IsJobFrom};
 ghost use Rattle.rowex_writing.specs.locks.Locks.{locks_of, HasRun};
 ghost use Rattle.rowex_writing.specs.declared.plan.Deed.{Deed};
@@ -30,7 +30,7 @@ pub(crate) fn load_found_again<G: Gate>(
     job: &Job<'_>,
 ) -> Found
     requires taken { (deed : Deed) × HasTakenPlan table.now seat.old job.now deed }
-    ensures reads { ReadsOn table.now G.becomes (seat.old, gate.old) (seat.new, gate.new) }
+    ensures reads { WorksOnKeepingRecords table.now G.becomes (seat.old, gate.old) (seat.new, gate.new) }
     ensures again { (value : ℕ) × (result ≡ revalued job.now.found value) }
     ensures loaded { HasLoadedFound seat.new.known result }
     ensures held { HoldsFound seat.new.known job.now.key.now result }
@@ -64,7 +64,7 @@ pub(crate) fn is_unchanged<G: Gate>(
     requires own { IsSeatOf table.now seat.old }
     requires possible { IsPossible table.now.layout seat.old.known }
     requires from { (m : ℕ) × IsJobFrom table.now.layout seat.old.known m job.now }
-    ensures reads { ReadsOn table.now G.becomes (seat.old, gate.old) (seat.new, gate.new) }
+    ensures reads { WorksOnKeepingRecords table.now G.becomes (seat.old, gate.old) (seat.new, gate.new) }
     ensures same { result ≡ true → HasLoadedFound seat.new.known job.now.found }
     ensures moved { result ≡ false → HasMoved table.now.layout job.now seat.old.known seat.new.known }
     ensures few { seat.new.known.steps ≤ seat.old.known.steps + held_loads job.now.found }

@@ -1,5 +1,5 @@
 -- Each insertion is a chain of a few steps, from the lowest locked node up to the entry that is stored.
-use Rattle.version_laws.proofs.Common.{◌≡◌, ◌⊎◌, inl, inr, ℕ, refl, ap, ap₂, ◌∙◌, Some, Key, bit, Fixed, Tree, node, fork, Has, IsTrie, IsBuilt, Within, here, inside, IsShown, Links, IsLawfulState, Rec, a_node, Ready, BareCore, view, Item, put, IsPathBelow, IsInOwnSubtrie, affected, IsPart, trie_within, built_within, within_trans, shown_within, grown, without_marks, added_in_whole, added_without_marks, added_here}
+use Rattle.version_laws.proofs.Common.{◌≡◌, ◌⊎◌, inl, inr, ℕ, refl, ap, ap₂, ◌∙◌, Some, Key, bit, Fixed, Tree, node, fork, Has, IsTrie, IsBuilt, Within, here, inside, IsShown, Links, IsLawfulState, Rec, a_node, Ready, BareCore, view, Item, put, IsPathBelow, IsInOwnSubtrie, affected, IsLeafOrFork, trie_within, built_within, within_trans, shown_within, grown, without_marks, added_in_whole, added_without_marks, added_here}
 use Rattle.version_laws.specs.Writer.{IsNewLeaf, IsFoundBelow, Newcomer}
 use Rattle.version_laws.proofs.Now.{built_now, shown_now, trie_now}
 use Rattle.version_laws.proofs.Writer.Hands.{hand_stay, hand_around, hand_open, hand_put, hand_grown, added_around, added_open}
@@ -70,7 +70,7 @@ module _ (c : BareCore) (q : ℕ) (x : Item) (p : ℕ) where
 module _ (c : BareCore) (q : ℕ) (law : IsLawfulState (view c)) (t : Tree) (now : c.past.version c.past.now ≡ Some t) (x : Newcomer)
     (new : IsNewLeaf c q x.item) where
   -- The start: the lowest locked node's body with the new leaf.
-  pub growth_leaf : {n : ℕ} {y : Fixed} {b : Tree} → Within (node n y b) t → IsFoundBelow c q x n → IsPart (affected x.mismatch x.item.key b) →
+  pub growth_leaf : {n : ℕ} {y : Fixed} {b : Tree} → Within (node n y b) t → IsFoundBelow c q x n → IsLeafOrFork (affected x.mismatch x.item.key b) →
       IsGrowth c q x.item x.mismatch b (with_leaf x.item x.mismatch b)
   growth_leaf {b = b} v f is_part = record {
     hand = hand_leaf_in c q law t now v x.mismatch x.item new;
@@ -78,7 +78,7 @@ module _ (c : BareCore) (q : ℕ) (law : IsLawfulState (view c)) (t : Tree) (now
   }
 
   -- Or the affected part alone with the new leaf beside it: of a full node that stays whole.
-  pub growth_beside : {n : ℕ} {y : Fixed} {b s : Tree} → Within (node n y b) t → IsFoundBelow c q x n → IsPart (affected x.mismatch x.item.key b) →
+  pub growth_beside : {n : ℕ} {y : Fixed} {b s : Tree} → Within (node n y b) t → IsFoundBelow c q x n → IsLeafOrFork (affected x.mismatch x.item.key b) →
       Within s t → ((k : Key) → Has s k → Has (affected x.mismatch x.item.key b) k) → IsGrowth c q x.item x.mismatch s (grown (bit x.item.key x.mismatch) x.mismatch s x.item)
   growth_beside {b = b} {s = s} v f is_part w keys = record {
     hand = hand_grown c q (bit x.item.key x.mismatch) x.mismatch s s x.item (hand_stay c q s (built_within w (built_now c law t now)) (shown_within c.heap w (shown_now c law t now))) new.fate new.words;

@@ -1,5 +1,5 @@
 -- The insertion cases.
-use Rattle.version_laws.proofs.Common.{◌≡◌, inr, ℕ, refl, ap, sym, ◌∙◌, subst, Some, None, Key, bit, Fixed, Tree, leaf, node, fork, Has, IsTrie, IsFork, IsBuilt, Within, here, inside, Leaf, Follows, child, IsLawfulState, BareCore, view, IsVersionPublish, Item, added, IsAdded, put, IsChange, affected, IsPart, trie_within, built_within, within_trans, shown_within, grown, without_marks, in_tree_now, added_at, DifferFirstAt, part_differs_first, part_place, some_same, none-some}
+use Rattle.version_laws.proofs.Common.{◌≡◌, inr, ℕ, refl, ap, sym, ◌∙◌, subst, Some, None, Key, bit, Fixed, Tree, leaf, node, fork, Has, IsTrie, IsFork, IsBuilt, Within, here, inside, Leaf, Follows, child, IsLawfulState, BareCore, view, IsVersionPublish, Item, added, IsAdded, put, IsChange, affected, IsLeafOrFork, trie_within, built_within, within_trans, shown_within, grown, without_marks, in_tree_now, added_at, DifferFirstAt, part_differs_first, part_place, some_same, none-some}
 use Rattle.version_laws.specs.Writer.{added_change, IsNewLeaf, IsFoundBelow, Newcomer}
 use Rattle.version_laws.proofs.Now.{built_now, shown_now, trie_now}
 use Rattle.version_laws.proofs.Ways.Descent.{way_follows}
@@ -11,7 +11,7 @@ use Rattle.version_laws.proofs.Replaced.{root_publish}
 abbrev pub with_leaf : Item → ℕ → Tree → Tree
 with_leaf x p b = put (part_place p x.key b).0 (grown (bit x.key p) p (affected p x.key b) x)
 
-pub part_of : (b : Tree) → IsFork b → IsPart b
+pub part_of : (b : Tree) → IsFork b → IsLeafOrFork b
 part_of (leaf n k v) f = tt
 part_of (node n k v) f = elim f [ ]
 part_of (fork n k v) f = tt
@@ -23,13 +23,13 @@ module _ (c : BareCore) (q : ℕ) (law : IsLawfulState (view c)) (t : Tree) (now
 
   -- All keys of the affected part agree with the new key before `p` and have the other bit there.
   pub found_away : {n : ℕ} {y : Fixed} {b : Tree} → Within (node n y b) t → (x : Newcomer) → IsFoundBelow c q x n →
-      IsPart (affected x.mismatch x.item.key b) → (k : Key) → Has (affected x.mismatch x.item.key b) k → DifferFirstAt x.mismatch x.item.key k
+      IsLeafOrFork (affected x.mismatch x.item.key b) → (k : Key) → Has (affected x.mismatch x.item.key b) k → DifferFirstAt x.mismatch x.item.key k
   found_away {b = b} v x f is_part =
       part_differs_first x.mismatch x.item.key x.like f.agree f.differ b (trie_within (within_trans (inside here) v) (trie_now c law t now)) is_part (found_follows v x f)
 
   -- So the node's body with the new leaf has one leaf more.
   pub found_added : {n : ℕ} {y : Fixed} {b : Tree} → Within (node n y b) t → (x : Newcomer) → IsFoundBelow c q x n →
-      IsPart (affected x.mismatch x.item.key b) → (r : Tree) → without_marks r ≡ without_marks (with_leaf x.item x.mismatch b) → IsAdded x.item x.mismatch b r
+      IsLeafOrFork (affected x.mismatch x.item.key b) → (r : Tree) → without_marks r ≡ without_marks (with_leaf x.item x.mismatch b) → IsAdded x.item x.mismatch b r
   found_added {b = b} v x f is_part r e =
       added_at (part_place x.mismatch x.item.key b).0 x.item x.mismatch r (trie_within (within_trans (inside here) v) (trie_now c law t now)) f.key (part_place x.mismatch x.item.key b).2 (found_away v x f is_part) e
 

@@ -6,7 +6,7 @@ use Rattle.hot_index_calls.specs.Asked.{HasAsked, HasLacked, HasReplied}
 use Rattle.hot_index_calls.specs.Calls.{IsTried}
 use Rattle.hot_index_calls.specs.Census.{loads_in}
 use Rattle.hot_index_calls.specs.Passes.{pass_of}
-use Rattle.hot_index_calls.specs.Refusals.{AreAllAtRest, HasNodeLeft, IsShortOf, Judges, fault_in}
+use Rattle.hot_index_calls.specs.Refusals.{AreAllAtRest, HasNodeLeft, IsShortOf, IsRefusalByCounts, fault_in}
 use Rattle.hot_index_calls.specs.Rooms.{FindsRoom, IsEarly}
 use Rattle.hot_index_calls.specs.Traces.{AreAttempts, is_full}
 use Rattle.hot_index_calls.proofs.changing.Resting.{lacked_full}
@@ -94,9 +94,9 @@ returns-else-has_node_left-clause-tried g c =
     let fault = fault_of c.in-Some.lacks in
     let asked = subst (λ (f : TryFault). HasAsked table g.G.Gate.becomes (AreAttempts table g.G.Gate.becomes call (Err f)) call (Err f) (c.args.seat.now, c.args.gate.now) (c.try_change.new.seat, c.try_change.new.gate)) c.in-Some.ensures.some c.in-Err.ensures.asked in
     let lacked = subst (λ (f : TryFault). HasLacked table c.try_change.new.scratch.build.made.items (Err f) c.args.seat.now c.try_change.new.seat) c.in-Some.ensures.some c.in-Err.ensures.lacks in
-    let judged : Judges table.layout.passes c.in-Some.lacks c.saturating_add-needs.result (length (key_of call)) c.count_records-counts.result c.judge_lack.result =
-    subst (λ (l : Layout). Judges l.passes c.in-Some.lacks c.saturating_add-needs.result (length (key_of call)) c.count_records-counts.result c.judge_lack.result) c.layout-passes.ensures
-    (subst (λ (k : List ℕ). Judges c.layout-passes.result.passes c.in-Some.lacks c.saturating_add-needs.result (length k) c.count_records-counts.result c.judge_lack.result) (c.as_bytes-size.ensures.bytes ∙ c.key.ensures) c.judge_lack.ensures) in
+    let judged : IsRefusalByCounts table.layout.passes c.in-Some.lacks c.saturating_add-needs.result (length (key_of call)) c.count_records-counts.result c.judge_lack.result =
+    subst (λ (l : Layout). IsRefusalByCounts l.passes c.in-Some.lacks c.saturating_add-needs.result (length (key_of call)) c.count_records-counts.result c.judge_lack.result) c.layout-passes.ensures
+    (subst (λ (k : List ℕ). IsRefusalByCounts c.layout-passes.result.passes c.in-Some.lacks c.saturating_add-needs.result (length k) c.count_records-counts.result c.judge_lack.result) (c.as_bytes-size.ensures.bytes ∙ c.key.ensures) c.judge_lack.ensures) in
     let needs : c.saturating_add-needs.result ≡ length (nodes_among c.try_change.new.scratch.build.made.items) + 1 =
     omega (arith, c.saturating_add-needs.ensures, c.count_node_records.ensures, ap (λ (l : List Rec). length (nodes_among l)) c.as_slice.ensures.value, nodes_most c.as_slice.result.now, c.as_slice.ensures.fits) in
     let steps = c.count_records-counts.ensures.steps in

@@ -1,5 +1,5 @@
 -- Behind the common front the first leaves differ.
-use Rattle.rowex_replay_state.proofs.Common.{ℕ, ◌-◌, List, length, take, drop, map, sym, ◌∙◌, ap, subst, ◌≡◌, arith, length-map, drop-map, take_rest, AreSame}
+use Rattle.rowex_replay_state.proofs.Common.{ℕ, ◌-◌, List, length, take, drop, map, sym, ◌∙◌, ap, subst, ◌≡◌, arith, length-map, drop-map, take_rest, AgreeByNumber}
 use Rattle.rowex_replay_state.specs.Versions.{read_item}
 use Rattle.rowex_replay_state.specs.declared.linked.Item.{Item}
 use Rattle.rowex_replay_state.specs.Changed.{BeginApart, IsFoundChange}
@@ -26,6 +26,6 @@ returns c s =
     let r = length-map c.args.after.now read_item in
     found_from c.args.pass (map read_item c.args.before.now) (map read_item c.args.after.now) n c.change_from_first_difference.result s
     (omega (arith, c.count_same_first_items-front.ensures.within)) (omega (arith, c.count_same_first_items-front.ensures.within_both)) c.count_same_first_items-front.ensures.same
-    (subst (λ x. AreSame x (drop n (map read_item c.args.after.now)) → IsFoundChange c.args.pass x (drop n (map read_item c.args.after.now)) c.change_from_first_difference.result) (sym (rest_is c.args.before.now n))
-    (subst (λ y. AreSame (map read_item (take (length c.args.before.now - n) (drop n c.args.before.now))) y → IsFoundChange c.args.pass (map read_item (take (length c.args.before.now - n) (drop n c.args.before.now))) y c.change_from_first_difference.result) (sym (rest_is c.args.after.now n))
+    (subst (λ x. AgreeByNumber x (drop n (map read_item c.args.after.now)) → IsFoundChange c.args.pass x (drop n (map read_item c.args.after.now)) c.change_from_first_difference.result) (sym (rest_is c.args.before.now n))
+    (subst (λ y. AgreeByNumber (map read_item (take (length c.args.before.now - n) (drop n c.args.before.now))) y → IsFoundChange c.args.pass (map read_item (take (length c.args.before.now - n) (drop n c.args.before.now))) y c.change_from_first_difference.result) (sym (rest_is c.args.after.now n))
     c.change_from_first_difference.ensures))

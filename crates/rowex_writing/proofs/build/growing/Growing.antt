@@ -1,5 +1,5 @@
 -- From what a pass knows under its locks to the way up of a new leaf.
-use Rattle.rowex_writing.proofs.Common.{◌≡◌, inl, inr, ◌⊎◌, ⊎_elim, ℕ, zero, suc, ◌+◌, ◌-◌, ◌<◌, ◌≤◌, Bool, true, false, List, [], ◌∷◌, length, refl, sym, ap, subst, ◌∙◌, arith, le_trans, if◌then◌else◌, nat_lt, ◌&&◌, Some, None, slice_get, cases_lt, le-ltb, ltb-true, piece, height_of, Entry, LeafEntry, Node, IsLevel, IsChosen, IsChainEnd, case_of, Case, LeafPushdown, NormalInsert, Overflow, Choice, PathNode, key_part, some_injective, some_at, NodeWords, Past, a_node, all_of, size_pos, Place, Fork, size, HasLeafWords, Layout, MustSpellValue, IsPinnedSince, IsPacked, node_words_of, IsLocked, Spot, Known, knows_all, node_is, IsPossible, Sure, IsSpotOf, HasFoundBelow, IsLockedAbove, IsSure, above_goes_on, descent_begins, descent_ends, descent_finds, descent_goes_on, seen_is_sure, EntryStoodSince, IsPlaced, HadShapeSince, IsRead, way_of_leaf, subtrie_affected, FirstForkIsBefore, IsPartSubtrie, IsTipSubtrie, Key, bit, seek, Subtrie, first_position, size-piece, IsWayNode, IsWayOf, end_of, named, named_at, named_end, Found, Nothing, Leaf, item, spot}
+use Rattle.rowex_writing.proofs.Common.{◌≡◌, inl, inr, ◌⊎◌, ⊎_elim, ℕ, zero, suc, ◌+◌, ◌-◌, ◌<◌, ◌≤◌, Bool, true, false, List, [], ◌∷◌, length, refl, sym, ap, subst, ◌∙◌, arith, le_trans, if◌then◌else◌, nat_lt, ◌&&◌, Some, None, slice_get, cases_lt, le-ltb, ltb-true, piece, height_of, Entry, LeafEntry, Node, IsLevel, IsChosen, IsChainEnd, case_of, Case, LeafPushdown, NormalInsert, Overflow, Choice, PathNode, key_part, some_injective, some_at, NodeWords, Past, a_node, all_of, size_pos, Place, Fork, size, HasLeafWords, Layout, IsPastFilling, IsPinnedSince, IsPacked, node_words_of, IsLocked, Spot, Known, knows_all, node_is, IsPossible, Sure, IsSpotOf, HasFoundBelow, IsLockedAbove, IsSure, above_goes_on, descent_begins, descent_ends, descent_finds, descent_goes_on, seen_is_sure, EntryStoodSince, IsPlaced, HadShapeSince, IsRead, way_of_leaf, subtrie_affected, FirstForkIsBefore, IsLeafOrForkSubtrie, IsTipSubtrie, Key, bit, seek, Subtrie, first_position, size-piece, IsWayNode, IsWayOf, end_of, named, named_at, named_end, Found, Nothing, Leaf, item, spot}
 use Rattle.versions.specs.Frames.{IsGrown}
 use Rattle.version_laws.specs.Ways.{IsOnWay, IsWayFrom}
 use Rattle.version_laws.proofs.Scan.Persist.{placed_grown, shaped_grown, read_grown}
@@ -156,7 +156,7 @@ module _ (k : Known) (m : ℕ) (key : Key) (way : List PathNode) (len end positi
 
 -- ---- the affected part
 -- more than one entry
-part_of_two : (y : Subtrie) → 1 < size y → IsPartSubtrie y
+part_of_two : (y : Subtrie) → 1 < size y → IsLeafOrForkSubtrie y
 part_of_two (Place e) h = absurd (omega arith)
 part_of_two (Fork q a b) h = tt
 
@@ -189,7 +189,7 @@ forked_big : (x : Subtrie) → 2 ≤ size x → IsForked x
 forked_big (Place e) h = absurd (omega arith)
 forked_big (Fork q a b) h = tt
 
-whole_part : (key : Key) (p : ℕ) (x : Subtrie) → IsForked x → p ≤ first_position x → IsPartSubtrie (subtrie_affected p key x)
+whole_part : (key : Key) (p : ℕ) (x : Subtrie) → IsForked x → p ≤ first_position x → IsLeafOrForkSubtrie (subtrie_affected p key x)
 whole_part key p (Place e) f h = elim f [ ]
 whole_part key p (Fork q a b) f h = let e : nat_lt q p ≡ false = le-ltb q p h in rw e tt
 
@@ -252,7 +252,7 @@ module _ (layout : Layout) (k : Known) (m : ℕ) (key : Key) (way : List PathNod
   unfolding IsPacked
   forked n words h =
       let (lock, tree, same) = all_of (IsLocked k.pass possible.core) (record { node = n; words = words }) k.locks (knows_all possible.core k possible.knows).locks h in
-      let (view, has, spells) = possible.lawful.records.packed (a_node n) (subst MustSpellValue (sym tree.1) tt) in
+      let (view, has, spells) = possible.lawful.records.packed (a_node n) (subst IsPastFilling (sym tree.1) tt) in
       let shows = node_is view (possible.core.words (a_node n)) (possible.lawful.records.sized (a_node n)).1 has spells in
       let subtrie_is : (node_words_of words).subtrie ≡ piece view = ap (λ (z : NodeWords). z.subtrie) (ap node_words_of (sym same) ∙ shows) in
       forked_big (node_words_of words).subtrie (let e = ap size subtrie_is ∙ size-piece view has.lawful in let l = has.lawful.several in omega (arith, e))
@@ -303,7 +303,7 @@ module _ (layout : Layout) (k : Known) (m : ℕ) (key : Key) (way : List PathNod
   tip_at few s at words h = let count = size_affected key position plan.low plan.high (node_words_of words).subtrie (affected_at s at words h) in tip_of_one_place (subtrie_affected position key (node_words_of words).subtrie) (omega (arith, count))
 
   -- the chosen node's affected part
-  pub part_at : (s : PathNode) → slice_get way top ≡ Some s → (words : List ℕ) → HasLocked k s.number words → IsPartSubtrie (subtrie_affected position key (node_words_of words).subtrie)
+  pub part_at : (s : PathNode) → slice_get way top ≡ Some s → (words : List ℕ) → HasLocked k s.number words → IsLeafOrForkSubtrie (subtrie_affected position key (node_words_of words).subtrie)
   part_at s at words h = elim (chosen_is way plan.level plan.low plan.high plan.chosen plan.is_level.within plan.is_chosen) [
     | inl (several, u, there, is) ↦
         let here : slice_get way plan.level ≡ Some s = ap (slice_get way) (sym (ap (λ (c : Choice). c.level) is)) ∙ at in
@@ -322,7 +322,7 @@ module _ (layout : Layout) (k : Known) (m : ℕ) (key : Key) (way : List PathNod
           let on : subtrie_affected position key (node_words_of words).subtrie ≡ Place (seek key (node_words_of words).subtrie) = tip_seek position key (node_words_of words).subtrie tip in
           let named_is = checked.entries plan.level s (let u = plan.chain.upto in omega (arith, level_is)) (omega (arith, level_is, top_below)) here words h in
           let leaf : seek key (node_words_of words).subtrie ≡ LeafEntry plan.number = some_injective (sym named_is ∙ (named_end way found (plan.level + 1) past ∙ ap end_of plan.found_is)) in
-          subst IsPartSubtrie (sym (on ∙ ap (λ e. let z : Subtrie = Place e in z) leaf)) tt
+          subst IsLeafOrForkSubtrie (sym (on ∙ ap (λ e. let z : Subtrie = Place e in z) leaf)) tt
     ]
   ]
 

@@ -3,7 +3,7 @@ use Rattle.rowex_writing.proofs.Common.{◌≡◌, ℕ, ◌<◌, ◌≤◌, ◌+
 use Rattle.std.specs.Prelude.{length, map, drop, take}
 use Rattle.compound_node.specs.declared.entries.Entry.TheVariants.{Leaf}
 use Rattle.rowex_writing.specs.build.Building.{IsBuilding, IsHalfMade, IsMadeFrom, IsRaising, GetsFork, IsLevelRisen, GetsLeaf, IsLowRisen, IsAtMostOneHigher, IsRisenAt, IsSingle, IsSplit, FitsAbove, IsLockedSpan, Rises, IsGrowing, IsGrownFrom, HasNotMade, HasRisenTo, gone_unless_whole, gone_with_way, newcomer_of}
-use Rattle.rowex_writing.specs.locks.Going.{WorksOn, ReadsOn, HasLocked, IsNodeOf}
+use Rattle.rowex_writing.specs.locks.Going.{WorksOn, WorksOnKeepingRecords, HasLocked, IsNodeOf}
 use Rattle.rowex_writing.specs.build.Taking.{no_step}
 use Rattle.rowex_writing.specs.build.Remaking.{AwaitsLeaf, IsSubtrieOfTree, IsLowHalf, IsNoHigher, subtrie_with_fork, subtrie_with_leaf}
 use Rattle.rowex_writing.specs.declared.plan.Span.{Span}
@@ -43,7 +43,7 @@ module _ {G : Type 0} (table : TableView) (becomes : G → Event → G → Type 
       subst (λ held. HasRisen table.layout m.0.known held news x d r gone) (sym goes.stays.1)
       (risen_stays table.layout a.0.known m.0.known goes.stays.0 a.0.known.locks news gone x d r risen)
 
-  abbrev pub raising_on : (a m : SeatView × G) (made : List Rec) (gone : List Rec) (x : Newcomer) (d : Side) (r : Subtrie) → ReadsOn table becomes a m → IsRaising table a.0 made gone x d r → IsRaising table m.0 made gone x d r
+  abbrev pub raising_on : (a m : SeatView × G) (made : List Rec) (gone : List Rec) (x : Newcomer) (d : Side) (r : Subtrie) → WorksOnKeepingRecords table becomes a m → IsRaising table a.0 made gone x d r → IsRaising table m.0 made gone x d r
   raising_on a m made gone x d r reads i = record {
     news = i.news;
     building = building_on table becomes a m made i.news reads.goes reads.own i.building;
@@ -52,7 +52,7 @@ module _ {G : Type 0} (table : TableView) (becomes : G → Event → G → Type 
   }
 
   -- ---- a fork in the node above
-  module _ {a m : SeatView × G} {made : List Rec} {above : ℕ} {fork : NewFork} {node : NodeView} (reads : ReadsOn table becomes a m) (b : GetsFork table a.0 made above fork) (shown : (words : List ℕ) → HasLocked a.0.known above words → IsNodeOf words node) where
+  module _ {a m : SeatView × G} {made : List Rec} {above : ℕ} {fork : NewFork} {node : NodeView} (reads : WorksOnKeepingRecords table becomes a m) (b : GetsFork table a.0 made above fork) (shown : (words : List ℕ) → HasLocked a.0.known above words → IsNodeOf words node) where
     is_node : IsNodeOf b.over.upper node
     is_node = shown b.over.upper b.over.has_upper
 
@@ -123,7 +123,7 @@ kept_or_not true = inl refl
 kept_or_not false = inr refl
 
 module _ {G : Type 0} (table : TableView) (becomes : G → Event → G → Type 0) {a m : SeatView × G} {made : List Rec} {number : ℕ} {new : NewLeaf} {node : NodeView}
-    (reads : ReadsOn table becomes a m) (b : GetsLeaf table a.0 made number new) (shown : (words : List ℕ) → HasLocked a.0.known number words → IsNodeOf words node) where
+    (reads : WorksOnKeepingRecords table becomes a m) (b : GetsLeaf table a.0 made number new) (shown : (words : List ℕ) → HasLocked a.0.known number words → IsNodeOf words node) where
   low_node : IsNodeOf b.words node
   low_node = shown b.words b.found.locked
 

@@ -1,7 +1,7 @@
 -- The records that a pass has made, made ready one after the other; the publish, and what it leaves with its end.
 use Rattle.rowex_writing.proofs.Common.{◌≡◌, ℕ, zero, suc, ◌+◌, ◌-◌, ◌<◌, ◌≤◌, List, [], ◌∷◌, ◌++◌, length, get_or, take, drop, map, reverse, refl, sym, ap, subst, ◌∙◌, arith, inl, Contains, append-nil, drop_all, drop_more, get_or-map, get_or-reverse, length-map, length-reverse, take_all, take_more, All-cons, Contains-append_right, Layout, Rec, IsOneOf, all_of, of_right, Ready, Event, Held, IsReady, Known, FitsIn, HasRecord, IsEvent, IsPacked, IsOwned, owned_used, knows_all, Made, held_as, recs_of, HasReadied, silent, TableView, SeatView, IsFilled, Readies, HasReady, ready_next, IsPossible}
 use Rattle.rowex_writing.specs.build.Building.{AreMadePacked, IsBuilding}
-use Rattle.rowex_writing.specs.locks.Going.{WorksOn, TriesNoLock}
+use Rattle.rowex_writing.specs.locks.Going.{WorksOn, IsStepUnderLocks}
 use Rattle.rowex_writing.proofs.locks.Going.{goes_more}
 use Rattle.rowex_writing.proofs.build.Building.{goes_possible, owns_on}
 
@@ -72,7 +72,7 @@ module _ {G : Type 0} (table : TableView) (becomes : G → Event → G → Type 
     -- it is made ready
     module _ (e : SeatView × G) (made_ready : Readies table becomes (get_or made (left - 1) d) b e) where
       pub readied_goes : WorksOn table becomes a e
-      readied_goes = goes_more table becomes a b e goes (owns_on table becomes (Ready (get_or made (left - 1) d) ∷ []) b e (All-cons TriesNoLock (Ready (get_or made (left - 1) d)) [] tt (λ i d low. absurd (omega arith))) made_ready.does)
+      readied_goes = goes_more table becomes a b e goes (owns_on table becomes (Ready (get_or made (left - 1) d) ∷ []) b e (All-cons IsStepUnderLocks (Ready (get_or made (left - 1) d)) [] tt (λ i d low. absurd (omega arith))) made_ready.does)
 
       pub readied_more : AreReadied a.0 e.0 made (left - 1)
       readied_more news i =
