@@ -5,7 +5,8 @@ use Rattle.partial_keys.specs.Spread.{forked_rows, spread_row}
 use Rattle.node_tries.specs.Growth.{edited}
 use Rattle.node_tries.specs.Positions.{front_below, has, with_position}
 
--- The head with a new fork at the position, over the rows from `first` to `last`, and with this height. `bit` is that of the new entry.
+-- The head with this height and one row more, parted from the rows `first` to `last` by a new fork at the position. `bit` is the new
+-- entry's bit there. If no column has the position yet, each old row gets 0 in a new one.
 abbrev pub forked_head : (height position first last : ℕ) → Bool → HeadView → HeadView
 forked_head height position first last bit head =
     let at = front_below position head.columns in

@@ -45,7 +45,8 @@ pub record NodeView : Type 0 where
 abbrev pub piece : NodeView → Piece Entry
 piece node = piece_of (Leaf 0) node.columns node.rows node.entries
 
--- the columns, rows and entries are those of a lawful node, whatever its height
+-- The columns, rows and entries are those of a lawful node, whatever its height: 2 to 32 entries that may stand in nodes, as many rows, and
+-- lawful columns. The rows show a piece with these entries over the columns.
 pub record FitTogether (columns rows : List ℕ) (entries : List Entry) : Type 0 where
   pub several : 2 ≤ length entries
   pub room : length entries ≤ 32
@@ -54,7 +55,8 @@ pub record FitTogether (columns rows : List ℕ) (entries : List Entry) : Type 0
   pub shows : ShowsPiece columns rows entries (piece_of (Leaf 0) columns rows entries)
   pub children : All IsEntry entries
 
--- A lawful node. It has 2 to 32 entries, which are lower than the node, and rows that show a piece over its columns.
+-- A lawful node. It has 2 to 32 entries, which may stand in nodes and are lower than this one. Its columns are lawful, and its rows show a
+-- piece over them. Its height is at most 65,535.
 pub record IsLawfulNode (node : NodeView) : Type 0 where
   pub several : 2 ≤ length node.entries
   pub room : length node.entries ≤ 32
@@ -64,7 +66,7 @@ pub record IsLawfulNode (node : NodeView) : Type 0 where
   pub above : All (λ entry. height_of entry < node.height) node.entries
   pub bound : node.height ≤ 65535
 
--- The node was built anew to show this piece. So its height is one above the greatest of its entries.
+-- The node is lawful, and was built anew to show this piece. So its height is one above the greatest of its entries'.
 pub record IsBuiltFrom (node : NodeView) (shown : Piece Entry) : Type 0 where
   pub lawful : IsLawfulNode node
   pub shows_it : piece node ≡ shown
@@ -109,17 +111,18 @@ node_of head entries = record { height = head.height; columns = head.columns; ro
 abbrev pub IsHead : (count height : ℕ) → (columns padded_rows : List ℕ) → Type 0
 IsHead count height columns padded_rows = (entries : List Entry) × (length entries ≡ count) × IsNode height columns padded_rows entries
 
--- so many entries, each a leaf of number 0, where the entries of a node don't matter
+-- so many entries, each of them leaf 0, where the entries of a node don't matter
 abbrev pub leaves : ℕ → List Entry
 leaves count = replicate count (Leaf 0)
 
--- The fields of the head fit together: a lawful node of `count` leaves has them. `padded_rows` are its rows, filled up by unused ones.
+-- A lawful node of `count` leaves has this head. `padded_rows` are the head's rows, filled up by unused ones.
 pub record FitsHead (count : ℕ) (padded_rows : List ℕ) (head : HeadView) : Type 0 where
   pub padded : padded_rows ≡ with_unused head.rows
   pub counted : length head.rows ≡ count
   pub lawful : IsLawfulNode (node_of head (leaves count))
 
--- These are the columns, and the rows filled up by unused ones, of a head for `count` entries, whatever its height.
+-- Some head for `count` entries, 2 to 32, has these columns and rows, whatever its height. The rows are filled up by unused ones, and those
+-- used are of a piece that uses each column.
 pub record FitsWords (count : ℕ) (columns padded_rows : List ℕ) : Type 0 where
   pub several : 2 ≤ count
   pub room : count ≤ 32

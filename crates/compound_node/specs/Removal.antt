@@ -5,8 +5,8 @@ use Rattle.std.specs.Prelude.{ℕ, ◌+◌, ◌-◌, bit_and, cond, nat_eq, nat_
 abbrev pub lowest : ℕ → ℕ
 lowest row = row - bit_and row (row - 1)
 
--- The bit that the rows behind a slot lose when the slot is taken out. The last fork on the slot's path goes then, which is the later of
--- the two beside the slot. The bit is that fork's if the slot is its 0 side. It is 0 if the slot is its 1 side.
+-- The bit that rows behind a slot lose when the slot is taken out, or 0 for none. With the slot goes the last fork on its path. If the slot
+-- is that fork's 0 side, the rows of the fork's 1 side lose its bit. Else no row loses a bit.
 abbrev pub bit_after : (slot : ℕ) → (rows : List ℕ) → ℕ
 bit_after slot rows =
     let next = slice_index rows (slot + 1) in

@@ -22,7 +22,7 @@ impl Default for Entry {
 
     ghost is_default = { λ entry. entry ≡ LeafEntry 0 };
 
-    /// Returns the leaf of record 0. It fills a list behind its last entry.
+    /// Returns the leaf of record 0, which fills a list behind its last entry.
     fn default() -> Self {
         Entry::Leaf(0)
     }
@@ -55,8 +55,8 @@ pub(crate) fn height_over_entries(entries: &[Entry]) -> u16
     1 + greatest
 }
 
-/// Returns the height of a node to which `entry` was added: one above the greatest of `entries`, all that it has now. `height` is the
-/// height before. If it is 1, the other entries are leaves, and `entry` alone is looked at.
+/// Returns the height of a node of `entries`, of which `entry` was just added: one above the greatest of theirs. `height` is the node's
+/// height before. If that is 1, all others are leaves, so `entry` alone is looked at.
 pub(crate) fn height_with_added_entry(entries: &[Entry], entry: Entry, height: u16) -> u16
     requires children { All IsEntry entries.now }
     requires leaves { height ≡ 1 → greatest_height entries.now ≡ height_of entry }
@@ -101,7 +101,7 @@ pub(crate) fn list_items<T: Copy + Default + Drop>(items: &[T]) -> ArrayVec<T, M
     list
 }
 
-/// Puts `entry` into `entries`: straight after slot `last` if `bit` is true, else straight before slot `first`.
+/// Puts `entry` into `entries`, fewer than 32: straight after slot `last` if `bit` is true, else straight before slot `first`.
 pub(crate) fn insert_entry_beside(
     entries: &mut ArrayVec<Entry, MAX_ENTRIES>,
     first: usize,

@@ -58,7 +58,8 @@ fn make_half(
     Half::Many(build_node(used_columns, rows.as_slice(), entries))
 }
 
-/// Returns the two sides of the node of `columns`, `rows` and `entries`, cut at its root fork as by `Node::cut`. Neither side is `Same`.
+/// Returns the two sides of the node of `columns`, `rows` and `entries`, cut at its root fork. Each side is one entry, or a new node of
+/// several, and neither is `Same`.
 pub(crate) fn make_cut(columns: &Columns, rows: &[u32], entries: &[Entry]) -> Cut
     requires { FitTogether columns.now rows.now entries.now }
     ensures { CutShows result (piece_of (LeafEntry 0) columns.now rows.now entries.now) }
@@ -78,8 +79,8 @@ pub(crate) fn make_cut(columns: &Columns, rows: &[u32], entries: &[Entry]) -> Cu
     }
 }
 
-/// Returns what is left of the node of `columns`, `rows` and `entries` without the entry in `slot`. The last fork on the path to `slot`
-/// goes, too. The result is never `Same`.
+/// Returns what is left of the node of `columns`, `rows` and `entries` without the entry in `slot`: one entry, or a new node of several.
+/// The last fork on the path to `slot` goes, too, and its other side takes its place. The result is never `Same`.
 pub(crate) fn make_rest(columns: &Columns, rows: &[u32], entries: &[Entry], slot: usize) -> Half
     requires fit { FitTogether columns.now rows.now entries.now }
     requires in_range { slot < length entries.now }

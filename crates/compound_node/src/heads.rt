@@ -145,8 +145,9 @@ impl Head {
         }
     }
 
-    /// Adds a new fork at `position` over the slots from `first` to `last`, and a row for one more entry. The new entry's slot is straight
-    /// behind these if `bit` is true, else straight before them. The stored height becomes `height`. Some node has the head that results.
+    /// Adds a new fork at `position` over the slots from `first` to `last`, and a row for one more entry, for which there is room. The new
+    /// entry's slot is straight behind these if `bit` is true, else straight before them. The stored height becomes `height`. Some node has
+    /// the head that results.
     pub(crate) fn add_fork(
         &mut self,
         height: u16,
@@ -213,8 +214,8 @@ impl Head {
     }
 }
 
-/// Adds a column at `position`, in which the first `count` of `rows` get 0. If there is one already, nothing changes. Returns the column's
-/// index.
+/// Adds a column at `position`, for which there is room. In it the first `count` of `rows` get 0. If `position` is a column already,
+/// nothing changes. Returns the column's index.
 pub(crate) fn ensure_column(
     columns: &mut Columns,
     rows: &mut [u32; MAX_ENTRIES],

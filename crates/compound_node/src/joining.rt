@@ -11,8 +11,8 @@ use arrayvec::ArrayVec;
 use partial_keys::{Columns, MAX_ENTRIES};
 use std::simd::prelude::*;
 
-/// Adds `position` and each of `others` to `columns`, unless it is one already. In a new column each of `rows` gets 0. `columns` have room
-/// for all.
+/// Adds to `columns` a column at `position` and one at each of `others`, wherever there is none yet. Each of `rows` gets 0 in a new column,
+/// so that the rows show the same piece as before. There is room: `columns` and `others` are fewer than 31 together.
 pub(crate) fn ensure_columns(
     columns: &mut Columns,
     rows: &mut [u32; MAX_ENTRIES],

@@ -182,8 +182,8 @@ impl Node {
     }
 
     /// Returns a copy of the node with one entry more, for which there is room. A new fork at `position` parts `entry` from the affected
-    /// slots `first` to `last`; no fork above these has that position. `entry` stands straight behind them if `bit` is true, else straight
-    /// before. The height is one above the greatest of the entries'.
+    /// slots `first` to `last`. No fork between these slots has that position yet. `entry` stands straight behind them if `bit` is true,
+    /// else straight before. The height is one above the greatest of the entries'.
     pub fn insert(&self, first: u8, last: u8, position: u16, bit: bool, entry: Entry) -> Node
         requires room { length self.now.entries < 32 }
         requires range { IsAffected (piece self.now) position first last }
@@ -196,8 +196,9 @@ impl Node {
         node
     }
 
-    /// Adds `entry` to this node, as `insert` does to a copy. A new fork at `position` parts `entry` from the affected slots `first` to
-    /// `last`. `entry` stands straight behind them if `bit` is true, else straight before.
+    /// Adds `entry` to this node, which has room for it. A new fork at `position` parts `entry` from the affected slots `first` to `last`.
+    /// No fork between these slots has that position yet. `entry` stands straight behind them if `bit` is true, else straight before. The
+    /// height becomes one above the greatest of the entries'.
     pub fn add_entry(&mut self, first: u8, last: u8, position: u16, bit: bool, entry: Entry)
         requires room { length self.old.entries < 32 }
         requires range { IsAffected (piece self.old) position first last }
@@ -234,7 +235,7 @@ impl Node {
         node
     }
 
-    /// Puts `entry` into `slot` of this node, as `replace` does in a copy.
+    /// Puts `entry`, which is lower than this node, into its slot `slot`. The stored height and all else stay.
     pub fn set_entry(&mut self, slot: u8, entry: Entry)
         requires in_range { slot < length self.old.entries }
         requires stands { StandsBelow self.old.height entry }

@@ -138,9 +138,9 @@ fn fork_rows_before(rows: u32x32, first: u32, end: u32, bits: u32) -> u32x32
         .select(rows, moved)
 }
 
-/// Returns `rows` with one row more, parted from the rows `first` to `last` by a new fork. If `bit` is true, the new row stands straight
-/// behind these, and has `weight`, the bit of the fork's column. Else it stands straight before them, and they have `weight`. The last of
-/// the 32 rows is lost.
+/// Returns `rows` with one row more, parted from the rows `first` to `last` by a new fork. The new row is a copy of row `first`. If `bit`
+/// is true, it stands straight behind row `last`, and gets `weight`, the bit of the fork's column. Else it stands straight before row
+/// `first`, and the rows `first` to `last` get `weight`. The last of the 32 rows is lost.
 #[inline(always)]
 pub fn fork_rows(rows: u32x32, first: usize, last: usize, weight: u32, bit: bool) -> u32x32
     requires range { first ≤ last }
@@ -166,8 +166,8 @@ fn rows_agree(a: u32, b: u32, columns: usize) -> bool
     columns == 0 || a >> (32 - columns) == b >> (32 - columns)
 }
 
-/// Returns the index of the first row of a run: consecutive rows, with row `slot` among them, that agree with it in their first `columns`
-/// columns.
+/// Returns the index of the first row of the run round row `slot`. The run is as many consecutive rows, row `slot` among them, as agree
+/// with row `slot` in their first `columns` columns.
 pub(crate) fn first_of_run(rows: &[u32], columns: usize, slot: usize) -> usize
     requires few { columns ≤ 31 }
     requires in_range { slot < length rows.now }
@@ -181,8 +181,8 @@ pub(crate) fn first_of_run(rows: &[u32], columns: usize, slot: usize) -> usize
     0
 }
 
-/// Returns the index of the last row of a run: consecutive rows, with row `slot` among them, that agree with it in their first `columns`
-/// columns.
+/// Returns the index of the last row of the run round row `slot`. The run is as many consecutive rows, row `slot` among them, as agree with
+/// row `slot` in their first `columns` columns.
 pub(crate) fn last_of_run(rows: &[u32], columns: usize, slot: usize) -> usize
     requires few { columns ≤ 31 }
     requires in_range { slot < length rows.now }
@@ -232,7 +232,7 @@ fn close_column(row: u32, column: u8) -> u32
     row & !low | (row & low >> 1) << 1
 }
 
-/// Takes the column with the index `column`, 0 to 31, out of each of `rows`, as `close_column` does.
+/// Takes the column with the index `column`, 0 to 31, out of each of `rows`. The columns behind it move forward by one.
 fn close_column_of_rows(rows: &mut [u32], column: u8)
     requires { column ≤ 31 }
     ensures { rows.new ≡ map (closed_row column) rows.old }
@@ -242,7 +242,8 @@ fn close_column_of_rows(rows: &mut [u32], column: u8)
     }
 }
 
-/// Takes the columns in which `used` has 0 out of each of `rows`. The rows have `columns` columns.
+/// Takes the columns in which `used` has 0 out of each of `rows`. The columns behind these move forward. Neither `used` nor a row has a 1
+/// behind the first `columns` columns.
 pub(crate) fn squeeze_rows(rows: &mut [u32], used: u32, columns: u8)
     requires few { columns ≤ 31 }
     requires used { IsRowOver columns used }
@@ -266,8 +267,8 @@ fn lowest_bit(row: u32) -> u32
     row - (row & (row - 1))
 }
 
-/// Returns the bit that rows lose when row `slot` is taken out: a mask of the column of the last fork on the path to it. The rows of the
-/// fork's 1 side lose that bit if row `slot` is the fork's 0 side. Else the result is 0.
+/// Returns the bit that rows lose when row `slot` is taken out, as a mask; 0 if none does. With the row goes the last fork on the path to
+/// it. If the row is that fork's 0 side, the rows of the 1 side lose the fork's bit.
 fn bit_lost_without_row(rows: &[u32], slot: usize) -> u32
     requires ladder { IsLadder rows.now }
     requires in_range { slot < length rows.now }
@@ -313,8 +314,8 @@ pub(crate) fn without_row(rows: &[u32], slot: usize) -> ArrayVec<u32, MAX_ENTRIE
     out
 }
 
-/// Returns the index of the first of `rows`, from `first` on and before `end`, that has 0 at `bit`, a mask of one bit or none. `end` if
-/// there is none.
+/// Returns the index of the first of `rows`, from `first` on and before `end`, that has 0 at `bit`; `end` if there is none. `bit` is a mask
+/// of one bit or none.
 #[inline(always)]
 fn first_row_without(rows: u32x32, first: u32, end: u32, bit: u32) -> u32
     requires ordered { first ≤ end }
@@ -347,8 +348,9 @@ fn lower_rows(rows: u32x32, count: u32, slot: u32, end: u32, bit: u32) -> u32x32
     indexes.simd_lt(u32x32::splat(slot)).select(rows, left)
 }
 
-/// Returns `rows` without row `slot`, one of the first `count`, as `without_row` does. The rows behind the first `count` are 4,294,967,295,
-/// and the result has one more of these at its end.
+/// Returns `rows` without row `slot`, one of the first `count`. If that row is the 0 side of its last fork, the rows of the 1 side lose the
+/// fork's bit. The rows behind row `slot` move forward by one. Each row behind the first `count` is 4,294,967,295. In the result each one
+/// behind the first `count - 1` is.
 #[inline(always)]
 pub fn remove_row(rows: u32x32, count: usize, slot: usize) -> u32x32
     requires ladder { IsLadder (take count rows) }
@@ -384,8 +386,8 @@ fn or_lanes(rows: u32x16) -> u32
     lanes[0] | lanes[1] | lanes[2] | lanes[3]
 }
 
-/// Returns `rows` without the columns in which `used` has 0, as `squeeze_rows` leaves them. The rows have `columns` columns. What a row
-/// with a bit behind its columns becomes means nothing.
+/// Returns `rows` without the columns in which `used` has 0. The columns behind these move forward. `used` has no 1 behind the first
+/// `columns` columns. The result means nothing from the first row on that has a 1 there.
 #[inline(always)]
 pub fn squeeze_lanes(rows: u32x32, used: u32, columns: u8) -> u32x32
     requires few { columns ≤ 31 }

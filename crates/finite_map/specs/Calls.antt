@@ -11,7 +11,8 @@ use Rattle.finite_map.specs.declared.Note.{Note}
 use Rattle.finite_map.specs.Maps.{Map, key_of, reply_of, replies_of, map_after_all, wrapped_sum}
 use Rattle.finite_map.specs.Fronts.{map_of, LegalFront}
 
--- what a call with this reply did to its key, if it changed the map: the kind and the value of its change
+-- What a call with this reply did to its key: the kind and the value of its change. There is none if it changed nothing, or has a reply of
+-- another kind of call.
 abbrev pub effect_of : Call → Reply → Option (Kind × ℕ)
 effect_of (Insert key value) Inserted = Some (Added, value)
 effect_of (Upsert key value) New = Some (Added, value)
@@ -35,8 +36,8 @@ change_of pass note =
 abbrev pub place_after : Note → ℕ
 place_after note = if is_change note then note.place + 1 else note.place
 
--- The note stands in the front. Its place is one of the front, and its reply is the map's after the first `place` changes. Where its call
--- changed the map, that is the change of number `place`.
+-- The note stands in the front. Its place is one of the front, and its reply is the map's after the first `place` changes. If its call
+-- changed the map, the front's change of number `place` is the one that the call made.
 pub record StandsIn (front : List Change) (pass : ℕ) (note : Note) : Type 0 where
   pub place : note.place ≤ length front
   pub reply : note.reply ≡ reply_of (map_of (take note.place front)) note.call
@@ -66,7 +67,8 @@ pub record LegalCalls (front : List Change) (pass : ℕ) (notes : List Note) : T
   -- the pass's changes are those of its calls, in order, each once
   pub own : own_changes pass front ≡ changes_of pass notes
 
--- Made one after the other, the first on the map `before`, the calls of the notes get the notes' replies. They make it the map `after`.
+-- The calls of the notes are made one after the other, the first on the map `before`. They get the notes' replies, and lead to the map
+-- `after`.
 pub record IsRun (before : Map) (notes : List Note) (after : Map) : Type 0 where
   pub replies : map (λ note. note.reply) notes ≡ replies_of before (map (λ note. note.call) notes)
   pub map : after ≡ map_after_all before (map (λ note. note.call) notes)

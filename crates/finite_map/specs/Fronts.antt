@@ -5,7 +5,7 @@ use Rattle.finite_map.specs.declared.Kind.{Kind}
 use Rattle.finite_map.specs.declared.Kind.TheVariants.{Added, Replaced, Removed}
 use Rattle.finite_map.specs.Maps.{Map, value_at, with_value, without}
 
--- what a change of this kind makes of a map
+-- what a change of this kind makes of a map: the key has the value, or is absent after a removal
 abbrev pub changed_by : (kind : Kind) → (pairs : Map) → (key : List ℕ) → (value : ℕ) → Map
 changed_by Added pairs key value = with_value pairs key value
 changed_by Replaced pairs key value = with_value pairs key value
@@ -19,8 +19,8 @@ changed pairs change = changed_by change.kind pairs change.key change.value
 abbrev pub map_of : List Change → Map
 map_of front = fold changed [] front
 
--- A change of this kind is legal on a map that holds this value for the key, or none. Only an absent key is added, a held one is replaced,
--- and the held value is removed.
+-- A change of this kind is legal on a map that holds the value `held` for the key, or none. A key is added only if it is absent, and
+-- replaced only if it is held. A removal tells the value that the key held.
 abbrev pub FitsKind : (kind : Kind) → (held : Option ℕ) → (value : ℕ) → Type 0
 FitsKind Added held value = held ≡ None
 FitsKind Replaced held value = IsSome held

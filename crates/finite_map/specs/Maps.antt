@@ -15,7 +15,7 @@ use Rattle.finite_map.specs.declared.Reply.TheVariants.{Inserted, Exists, New, W
 abbrev pub key_order : (first second : List ℕ) → Ordering
 key_order = slice_cmp nat_cmp
 
--- a map: its keys with their values, in the order of the keys
+-- a map as the list of its keys with their values; that they stand in the order of the keys, `IsRising` says
 abbrev pub Map : Type 0
 Map = List (List ℕ × ℕ)
 
@@ -23,15 +23,15 @@ Map = List (List ℕ × ℕ)
 abbrev pub IsRising : Map → Type 0
 IsRising pairs = IsStrictlySortedBy key_order (keys_of pairs)
 
--- the value that the map holds for the key
+-- the value that the map holds for the key; none if the key is absent
 abbrev pub value_at : Map → List ℕ → Option ℕ
 value_at pairs key = lookup (is_at (key_order key)) pairs
 
--- the map in which the key has the value
+-- the map in which the key has the value, and all other keys what they have in `pairs`
 abbrev pub with_value : (pairs : Map) → (key : List ℕ) → (value : ℕ) → Map
 with_value pairs key value = insert_entry key_order pairs key value
 
--- the map in which the key is absent
+-- the map in which the key is absent, and all other keys have what they have in the map
 abbrev pub without : Map → List ℕ → Map
 without pairs key = remove_entry (is_at (key_order key)) pairs
 
@@ -49,8 +49,8 @@ key_of (RemoveIf key expected) = key
 abbrev pub wrapped_sum : (held delta : ℕ) → ℕ
 wrapped_sum held delta = (held + delta) % 2 ^ 64
 
--- Of a call that acts only if its key has the expected value: the map after it, and its reply. If the key has that value, these are
--- `expected`. Else the map stays, and the reply tells the value `held`.
+-- The map after a call that acts only if its key has an expected value, and its reply. If the key has that value (`is_expected`), they are
+-- those of the pair `expected`. Else the map stays, and the reply tells the value `held` that the key has.
 abbrev pub step_if : (is_expected : Bool) → (pairs : Map) → (held : ℕ) → (expected : Map × Reply) → Map × Reply
 step_if true pairs held expected = expected
 step_if false pairs held expected = (pairs, Differs held)

@@ -10,7 +10,7 @@ use Rattle.finite_map.specs.declared.Scan.{Scan}
 use Rattle.finite_map.specs.Maps.{Map, key_order, IsRising, value_at}
 use Rattle.finite_map.specs.Fronts.{map_of, BeginsWith}
 
--- whether the key is neither below `from` nor above `upto`
+-- whether the key is in the range from `from` to `upto`, both included
 abbrev pub is_within : (from upto key : List ℕ) → Bool
 is_within from upto key = range_contains key_order (Included from) (Included upto) key
 

@@ -25,25 +25,26 @@ changing_at place notes = filter (λ note. nat_eq note.place place && is_change 
 abbrev pub calls_of : List Note → List Event
 calls_of notes = map (λ note. answered note.call note.reply) notes
 
--- What stands in the woven history for a change. `notes` are those of its place whose calls changed the map. It is the call that they tell,
--- or without one the change alone.
+-- What stands in the woven history for a change. It is the calls of `notes`, which are those of its place whose calls changed the map.
+-- Without a note it is the change alone.
 abbrev pub made_by : Change → List Note → List Event
 made_by change [] = only change ∷ []
 made_by change (note ∷ notes) = calls_of (note ∷ notes)
 
--- The history of the changes of `front`, where the first of them is number `place`. Before each change stand the calls of its place that
--- changed nothing.
+-- The history of the changes of `front`, where the first of them is number `place`. Before each change, and at the end, stand the calls of
+-- that place that changed nothing. What stands for a change, `made_by` says.
 abbrev pub weave_from : (place : ℕ) → (front : List Change) → (notes : List Note) → List Event
 weave_from place [] notes = calls_of (quiet_at place notes)
 weave_from place (change ∷ changes) notes =
     calls_of (quiet_at place notes) ++ (made_by change (changing_at place notes) ++ weave_from (place + 1) changes notes)
 
--- The front as a history, with the calls of these notes in it. A call that changed nothing stands between the changes of numbers place - 1
--- and place. Calls of one place stand in the order of the notes. A call that changed the map stands in place of its change.
+-- The front as a history, with the calls of these notes in it. A call that changed the map stands in place of its change. A call of place n
+-- that changed nothing stands after the first n changes and before the next. Calls of one place stand in the order of the notes.
 abbrev pub weave : List Change → List Note → List Event
 weave front notes = weave_from 0 front notes
 
--- each call of the history has the reply of the map at its turn, where the first meets the map `pairs`
+-- Each call of the history has the reply of the map at its turn, where the first meets the map `pairs`. A change that stands alone is only
+-- applied.
 abbrev pub LegalHistoryFrom : Map → List Event → Type 0
 LegalHistoryFrom pairs [] = Unit {0}
 LegalHistoryFrom pairs (answered call reply ∷ events) = (reply ≡ reply_of pairs call) × LegalHistoryFrom (map_after pairs call) events

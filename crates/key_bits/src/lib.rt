@@ -108,7 +108,7 @@ impl Key {
         Key { count, bytes }
     }
 
-    /// Returns the key's bytes.
+    /// Returns the key's bytes, at most `MAX_BYTES`.
     pub fn as_bytes(&self) -> &[u8]
         ensures bytes { result.now ≡ self.now }
         ensures key { IsKey self.now }
@@ -264,6 +264,7 @@ pub fn mismatch(a: &Key, b: &Key) -> Option<u16>
 }
 
 /// Returns the first position at which the keys of the bytes `xs` and `ys` differ, below `9 * MAX_BYTES`; `None` exactly for equal keys.
+/// The key with 0 there is the smaller one. Both have at most `MAX_BYTES` bytes.
 pub fn mismatch_of_bytes(xs: &[u8], ys: &[u8]) -> Option<u16>
     requires { IsKey xs.now × IsKey ys.now }
     ensures none { IsNone result ↔ (xs.now ≡ ys.now) }
@@ -312,7 +313,8 @@ fn eight_bytes_at(bytes: &[u8], j: usize) -> u64
     u64::from_be_bytes(eight)
 }
 
-/// Returns how many bits, from the highest on, stand before the first in which the bytes `x` and `y` differ: 0 to 7. The two differ.
+/// Returns how many bits, from the highest on, stand before the first in which the bytes `x` and `y` differ: 0 to 7. The two differ, and
+/// the smaller one has 0 there.
 fn byte_mismatch(x: u8, y: u8) -> u32
     requires { x ≢ y }
     ensures bound { result < 8 }

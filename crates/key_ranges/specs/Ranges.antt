@@ -25,6 +25,6 @@ pub record IsPreviousKey (key previous : List ℕ) : Type 0 where
 abbrev pub HasPrefix : (prefix key : List ℕ) → Type 0
 HasPrefix prefix key = (rest : List ℕ) × (key ≡ prefix ++ rest)
 
--- the last of the keys that begin with the prefix
+-- the last of the keys that begin with the prefix: behind it are bytes of 255, up to MAX_BYTES bytes in all
 abbrev pub last_with : List ℕ → List ℕ
 last_with prefix = prefix ++ replicate (MAX_BYTES - length prefix) 255

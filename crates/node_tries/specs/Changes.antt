@@ -2,7 +2,8 @@
 use Rattle.std.specs.Prelude.{Bool, Option, None, Some, cond, false, nat_lt, true, ℕ, ◌+◌, ◌-◌}
 use Rattle.node_tries.specs.Piece.{Piece, Place, Fork, size}
 
--- the place that was found, moved `more` places on, with the fork's position that was found with it
+-- A found place moved `more` places on, with the position of a fork that was found with it; none stays none. So a place of a fork's right
+-- side is told as one of the whole piece.
 abbrev pub moved_by : (more : ℕ) → (found : Option (ℕ × ℕ)) → Option (ℕ × ℕ)
 moved_by more None = None
 moved_by more (Some place) = Some (more + place.0, place.1)
@@ -41,7 +42,7 @@ module _ {A : Type 0} where
       cond (nat_lt place (size left)) (cond (is_place left) (Place element) (Fork fork (collapsed place element left) right))
       (cond (is_place right) (Place element) (Fork fork left (collapsed (place - size left) element right)))
 
-  -- The place beside this one, and the position of the last fork on the path to this one. There is none if the fork's other side has
+  -- The one place on the other side of the last fork on the path to this place, and that fork's position. There is none if that side has
   -- several places, or the piece has no fork.
   abbrev pub beside : (place : ℕ) → (piece : Piece A) → Option (ℕ × ℕ)
   beside place (Place element) = None

@@ -4,15 +4,16 @@ use Rattle.std.specs.Prelude.{Bool, List, [], cond, drop, nat_lt, take, ℕ, ◌
 use Rattle.node_tries.specs.Piece.{Piece, Place, Fork, size}
 
 module _ {A : Type 0} where
-  -- The first place of the affected part of a piece, for a new fork at this position. The part is what stands on the path to the place
-  -- below all forks with a position below the new one.
+  -- The first place of the part of a piece that a new fork at this position affects. The part is what is left on the path to the place
+  -- behind all forks with a lower position.
   abbrev pub affected_first : (position place : ℕ) → (piece : Piece A) → ℕ
   affected_first position place (Place element) = 0
   affected_first position place (Fork fork left right) =
       cond (nat_lt fork position)
       (cond (nat_lt place (size left)) (affected_first position place left) (size left + affected_first position (place - size left) right)) 0
 
-  -- how many places the affected part of a piece has, for a new fork at this position on the path to the place
+  -- How many places the part of a piece has that a new fork at this position affects. The part is what is left on the path to the place
+  -- behind all forks with a lower position.
   abbrev pub affected_count : (position place : ℕ) → (piece : Piece A) → ℕ
   affected_count position place (Place element) = 1
   affected_count position place (Fork fork left right) =
@@ -26,13 +27,14 @@ module _ {A : Type 0} where
       MatchBool (nat_lt fork position)
       (MatchBool (nat_lt place (size left)) (IsFresh position place left) (IsFresh position (place - size left) right)) (fork ≢ position)
 
-  -- The places from `first` to `last` are those of the affected part of the piece, for a new fork at this position. No fork there has it.
+  -- The places from `first` to `last` are those of the part of the piece that a new fork at this position affects. The part does not begin
+  -- with a fork at this position.
   pub record IsAffected (piece : Piece A) (position first last : ℕ) : Type 0 where
     pub from : affected_first position first piece ≡ first
     pub upto : affected_count position first piece + first ≡ last + 1
     pub fresh : IsFresh position first piece
 
-  -- a new fork over the affected part, whose other side is the place of a new element: the 1 side if the bit is 1
+  -- a new fork over the affected part and a new element, which is its 1 side if the bit is 1, else its 0 side
   abbrev pub forked : (position : ℕ) → (bit : Bool) → (element : A) → (part : Piece A) → Piece A
   forked position bit element part = cond bit (Fork position part (Place element)) (Fork position (Place element) part)
 
@@ -45,7 +47,7 @@ module _ {A : Type 0} where
       (cond (nat_lt place (size left)) (Fork fork (grown position bit element place left) right) (Fork fork left (grown position bit element (place - size left) right)))
       (forked position bit element (Fork fork left right))
 
--- the list, where `change` has made other elements of the `count` ones from index `from` on
+-- the list, where `change` is made of the `count` elements from index `from` on; it may make more or fewer of them
 abbrev pub edited : {X : Type 0} → (from count : ℕ) → (change : List X → List X) → (list : List X) → List X
 edited from count change list = take from list ++ (change (take count (drop from list)) ++ drop (from + count) list)
 

@@ -9,7 +9,7 @@ abbrev pub unpacked : List PairHead → List ℕ → List (List ℕ × ℕ)
 unpacked [] bytes = []
 unpacked (head ∷ heads) bytes = (take head.count bytes, head.value) ∷ unpacked heads (drop head.count bytes)
 
--- the bytes are just those of the keys whose lengths these heads tell, one after another
+-- the bytes are just those of lawful keys with the lengths that these heads tell, one after another
 abbrev pub ArePacked : List PairHead → List ℕ → Type 0
 ArePacked [] bytes = bytes ≡ []
 ArePacked (head ∷ heads) bytes = (head.count ≤ length bytes) × IsKey (take head.count bytes) × ArePacked heads (drop head.count bytes)

@@ -96,7 +96,8 @@ impl Filling {
         self.count = 0;
     }
 
-    /// Makes room for `count` more pairs, at most 32. `AllocError` if memory is refused; the pairs stay then.
+    /// Makes room for `count` more pairs, at most 32, and for no others. `AllocError` if memory is refused, which is asked for only if
+    /// `count` isn't 0. The pairs stay in any case.
     #[inline(always)]
     pub fn reserve(&mut self, count: usize) -> Result<(), AllocError>
         requires { count ≤ 32 }
@@ -129,7 +130,8 @@ impl Filling {
         Ok(())
     }
 
-    /// Adds a pair at the end, for which there is room. Its key has the first `length` bytes of `places`, and its value is `value`.
+    /// Adds a pair at the end. There is room for it, and for one pair less afterwards. Its key has the first `length` bytes of `places`,
+    /// and its value is `value`.
     #[inline(always)]
     pub fn push(&mut self, places: &[u8; MAX_BYTES], length: usize, value: u64)
         requires key { IsKey (take length places.now) }
@@ -164,8 +166,8 @@ fn add_heads_room(mut heads: Vec<PairHead>, used: usize, count: usize) -> (Vec<P
     (heads, has_room)
 }
 
-/// Returns `bytes` with room for `count` more behind the first `used`, which stay, and whether memory was there for it. Never inline, and
-/// by value, as [`add_heads_room`] is.
+/// Returns `bytes` with room for `count` more behind the first `used`, which stay, and whether memory was there for it. Never inline, so
+/// that callers have less code; and by value, so that a caller's list still lies in registers.
 #[inline(never)]
 fn add_bytes_room(mut bytes: Vec<u8>, used: usize, count: usize) -> (Vec<u8>, bool)
     requires { used ≤ length bytes.items }

@@ -39,7 +39,7 @@ impl Heads {
         }
     }
 
-    /// Returns how many heads there are.
+    /// Returns how many heads there are, fewer than 2^63.
     #[inline(always)]
     pub(crate) fn len(&self) -> usize
         ensures count { result ≡ length self.now }

@@ -94,7 +94,8 @@ impl KeyBytes {
     }
 }
 
-/// Copies the first `size` bytes of `places` to `bytes`, from byte `used` on. All before it stay.
+/// Copies the first `size` bytes of `places` to `bytes`, from byte `used` on, where there is room for `MAX_BYTES` bytes. All bytes before
+/// stay.
 ///
 /// A copy whose length is known when it is compiled needs no call. So eight bytes are copied for a key of eight, and 64 for another of up
 /// to 64.
@@ -115,8 +116,8 @@ pub(crate) fn copy_key(bytes: &mut Vec<u8>, used: usize, places: &[u8; MAX_BYTES
     }
 }
 
-/// Copies the first N bytes of `places` to the front of `room`, for a key of `size` bytes, no more than N. The array between the two needs
-/// no test whether they overlap.
+/// Copies the first N bytes of `places` to the front of `room`, for a key of `size` bytes, no more than N. An array between the two spares
+/// a test whether they overlap.
 #[inline(always)]
 fn copy_first<const N: usize>(room: &mut [u8], places: &[u8; MAX_BYTES], size: usize)
     requires room { MAX_BYTES ≤ length room.old }

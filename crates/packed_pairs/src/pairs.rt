@@ -42,7 +42,7 @@ impl Pairs {
         }
     }
 
-    /// Returns how many pairs the list has.
+    /// Returns how many pairs the list has, fewer than 2^63.
     pub fn len(&self) -> usize
         ensures count { result ≡ length self.now }
         ensures short { length self.now < 2 ^ 63 }
@@ -77,7 +77,7 @@ impl Pairs {
         Some(key_from_bytes(key))
     }
 
-    /// Returns an iterator over the pairs, from the first one on.
+    /// Returns an iterator over the pairs, from the first one on. Each pair's key is lawful.
     pub fn iter(&self) -> Iter<'_>
         ensures pairs { result ≡ self.now }
         ensures keys { All (λ pair. IsKey pair.0) self.now }

@@ -13,13 +13,13 @@ pub record IsColumns (positions : List ℕ) : Type 0 where
 abbrev pub with_free : List ℕ → List ℕ
 with_free positions = positions ++ replicate (31 - length positions) 65535
 
--- The first `count` of these 31 numbers are the columns of a node, and the others are unused.
+-- The first `count` of these 31 numbers are the columns of a node, and all behind them are 65,535.
 pub record HoldsColumns (places : List ℕ) (count : ℕ) : Type 0 where
   pub columns : IsColumns (take count places)
   pub counted : length (take count places) ≡ count
   pub filled : with_free (take count places) ≡ places
 
--- The first `count` of these 32 lanes are the columns of a node, and the others are unused.
+-- The first `count` of these 32 lanes are the columns of a node, and all behind them are 65,535.
 pub record AreColumnLanes (lanes : List ℕ) (count : ℕ) : Type 0 where
   pub columns : IsColumns (take count lanes)
   pub counted : length (take count lanes) ≡ count

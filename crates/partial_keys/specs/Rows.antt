@@ -31,6 +31,6 @@ pub record IsHighest (rows : List ℕ) (dense row : ℕ) : Type 0 where
 abbrev pub with_unused : List ℕ → List ℕ
 with_unused rows = rows ++ replicate (32 - length rows) 4294967295
 
--- the bit of the dense key at a position: for column j it is bit 31 - j
+-- the bit of the dense key at a position: for column j it is bit 31 - j, and for a position that is no column the bit of the next column
 abbrev pub dense_bit : (columns : List ℕ) → (dense position : ℕ) → Bool
 dense_bit columns dense position = eqb (bit_at dense (31 - front_below position columns)) 1

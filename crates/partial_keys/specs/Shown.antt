@@ -4,8 +4,8 @@ use Rattle.node_tries.specs.Piece.{Piece, Place, Fork}
 use Rattle.node_tries.specs.Positions.{front_below}
 
 -- The piece that rows and entries show, where the first of the remaining columns is bit `width` - 1 of each row. If no row has a 1 there,
--- it is what the other columns show. If some row has, it is a fork: the rows with 0 show its 0 side, and the others its 1 side. Without
--- entries it is the entry `alone`.
+-- the other columns alone decide. If some row has, the piece is a fork: the rows with 0 show its 0 side, and the others its 1 side. When no
+-- column is left, the piece is the first entry, or `alone` without entries.
 abbrev pub shown : {A : Type 0} → (alone : A) → (width : ℕ) → (columns rows : List ℕ) → (entries : List A) → Piece A
 shown alone width [] rows entries = Place (slice_index_or entries 0 alone)
 shown alone zero (column ∷ columns) rows entries = Place (slice_index_or entries 0 alone)

@@ -4,7 +4,8 @@ use Rattle.partial_keys.specs.Rows.{rows_of}
 use Rattle.node_tries.specs.Piece.{Piece, places, RisesFrom, UsesOnly, uses}
 use Rattle.node_tries.specs.Positions.{all, Ascends}
 
--- The rows over these columns show the piece. Each column is that of a fork. The entries stand at the piece's places, in order.
+-- The rows over these columns show the piece. The columns rise and are at most 31, and they are just the positions of the piece's forks.
+-- Positions rise along each path. Each row is that of a place's path, and the entries stand at the places, in order.
 pub record ShowsPiece {A : Type 0} (columns rows : List ℕ) (entries : List A) (piece : Piece A) : Type 0 where
   pub few : length columns ≤ 31
   pub columns_rise : Ascends 0 columns

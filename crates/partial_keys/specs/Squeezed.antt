@@ -13,7 +13,7 @@ bits_of (suc width) number = eqb (bit_at number width) 1 ∷ bits_of width numbe
 unfoldable pub used_bits : ℕ → List Bool
 used_bits used = bits_of 32 used
 
--- the row without the bits of those columns whose bit in `used` is 0
+-- the row without the bits of those columns whose bit in `used` is 0; the bits left move up together
 abbrev pub squeezed : (used row : ℕ) → ℕ
 squeezed used row = code 32 (kept (bits_of 32 used) (bits_of 32 row))
 

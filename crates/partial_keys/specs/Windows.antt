@@ -3,7 +3,7 @@ use Rattle.std.specs.Prelude.{ℕ, List, Bool, min, bit_and, bit_or, nat_le, nat
 use Rattle.key_bits.specs.Bits.{bit_of}
 use Rattle.partial_keys.specs.declared.gathering.TheConstants.{MASKS}
 
--- the index of the byte that has the position, if it is a position of a key; else a greater number
+-- the index of the byte that has the position; for a position of no key, a number that is no byte's index in a key
 abbrev pub byte_lane : ℕ → ℕ
 byte_lane position = min (position * 7282 / 65536) 255
 
@@ -11,7 +11,8 @@ byte_lane position = min (position * 7282 / 65536) 255
 abbrev pub mask_lane : ℕ → ℕ
 mask_lane position = slice_index MASKS (position * 7282 % 65536 / 4096)
 
--- what a lane misses: its mask if the key's bit is 0, and some bits if its byte is past the window
+-- What a lane misses: its mask if the byte in the window lacks that bit, and some bits if its byte is behind byte `last`. The window has
+-- sixteen bytes of a key from byte `first` on, once for each half of the lanes.
 abbrev pub missed_lane : (window : List ℕ) → (first last lane byte mask : ℕ) → ℕ
 missed_lane window first last lane byte mask =
     bit_or (bit_and mask (255 - slice_index window (16 * (lane / 16) + (byte + 256 - first) % 16))) (byte - last)

@@ -16,7 +16,7 @@ use std::simd::prelude::*;
 const MASKS: [u8; 16] = [0, 128, 0, 64, 0, 32, 0, 16, 8, 8, 4, 0, 2, 0, 1, 0];
 
 /// Returns for each of `positions` the index of the byte of a key that has its bit. Where no key has such a byte, the index is at least
-/// `MAX_BYTES`. The bit of a position p is in byte p/9, and p*7282/65536 is p/9 as long as p is below 9 * 3640.
+/// `MAX_BYTES`. The bit of a position p is in byte p/9. As long as p is below 9 * 3640, as all positions of keys are, p*7282/65536 is p/9.
 #[inline(always)]
 fn bytes_at(positions: u16x32) -> u8x32
     ensures { result ≡ map byte_lane positions }
@@ -79,8 +79,7 @@ fn mark_zeros(lanes: u8x32) -> u32
 }
 
 /// Returns the dense key of `key` for the columns in the first `count` of `lanes`: bit 31-j has the key's bit at column j, and all other
-/// bits are 0. The lanes behind these are 65,535. Mostly sixteen bytes of the key have all its bits at columns, and then they are read at
-/// once.
+/// bits are 0. The lanes behind these are 65,535. Mostly the bits at all columns are in sixteen bytes, which are read at once.
 #[inline(always)]
 pub fn extract_dense_key_by_lanes(lanes: u16x32, count: u8, key: &Key) -> u32
     requires { AreColumnLanes lanes count }
@@ -97,9 +96,9 @@ pub fn extract_dense_key_by_lanes(lanes: u16x32, count: u8, key: &Key) -> u32
     }
 }
 
-/// Returns whether the sixteen bytes from byte `first` on have all bits at columns that a key of `key_length` bytes has. `bytes` says in
-/// which byte each column has its bit, never in one before `first`. `false`, too, for an empty key, and where the sixteen bytes would end
-/// behind `MAX_BYTES`.
+/// Returns `true` only if the sixteen bytes from byte `first` on have all bits at columns that a key of `key_length` bytes has. The key is
+/// not empty then, and the sixteen bytes end within `MAX_BYTES`. `bytes` says in which byte each column has its bit. `false` promises
+/// nothing, since it leads to a slower way that is always right.
 #[inline(always)]
 fn window_has_all_bits(bytes: u8x32, first: usize, key_length: usize) -> bool
     requires lanes { length bytes ≡ 32 }
@@ -113,7 +112,7 @@ fn window_has_all_bits(bytes: u8x32, first: usize, key_length: usize) -> bool
             || has_no_byte_between(bytes, first as u8 + 16, key_length as u8))
 }
 
-/// Returns whether each of `bytes` is below `from`, or not below `to`.
+/// Returns `true` only if each of `bytes` is below `from`, or not below `to`.
 #[inline(always)]
 fn has_no_byte_between(bytes: u8x32, from: u8, to: u8) -> bool
     requires lanes { length bytes ≡ 32 }
@@ -126,8 +125,8 @@ fn has_no_byte_between(bytes: u8x32, from: u8, to: u8) -> bool
         == 0
 }
 
-/// Returns the dense key that `extract_dense_key_by_lanes` returns, from sixteen bytes of the key at a time. Never inline: so the lanes go
-/// into memory only where columns are far apart.
+/// Returns the dense key of `key` for the columns in the first `count` of `lanes`, as `extract_dense_key_by_lanes` does. It reads sixteen
+/// bytes of the key at a time. Never inline: so the lanes go into memory only where columns are far apart.
 #[inline(never)]
 fn extract_by_windows(lanes: u16x32, count: u8, key: &Key) -> u32
     requires { AreColumnLanes lanes count }

@@ -28,7 +28,7 @@ use std::simd::prelude::*;
 /// How many columns a compound node has at most.
 pub const MAX_COLUMNS: usize = 31;
 
-/// How many entries a compound node has at most, one more than columns: so many parts have as many forks between them. There is a row for
+/// How many entries a compound node has at most: one more than columns, since 32 entries have 31 forks between them. There is a row for
 /// each.
 pub const MAX_ENTRIES: usize = MAX_COLUMNS + 1;
 
@@ -246,8 +246,8 @@ fn keep_used_positions(positions: &mut [u16; MAX_COLUMNS], count: usize, used: u
     found
 }
 
-/// Returns the highest index i at which row `padded_rows[i]` complies with the dense key: it has no bit that `dense` lacks. The first row
-/// is 0, so there is one.
+/// Returns the highest index i at which row `padded_rows[i]` complies with the dense key: it has no bit that `dense` lacks. That is the
+/// slot to which a key with these bits leads in a node with these rows. The first row is 0, so there is one.
 pub fn search_plain(padded_rows: &[u32; MAX_ENTRIES], dense: u32) -> u8
     requires { slice_index padded_rows.now 0 ≡ 0 }
     ensures { IsFound padded_rows.now dense result }
@@ -261,7 +261,8 @@ pub fn search_plain(padded_rows: &[u32; MAX_ENTRIES], dense: u32) -> u8
     best
 }
 
-/// Returns the index that `search_plain` returns, by one comparison of all 32 rows as lanes of a vector.
+/// Returns the highest index of a row that complies with the dense key `dense`, as `search_plain` does. It compares all 32 rows at once, as
+/// lanes of a vector. The first row is 0, so there is one.
 pub fn search_lanes(padded_rows: &[u32; MAX_ENTRIES], dense: u32) -> u8
     requires { slice_index padded_rows.now 0 ≡ 0 }
     ensures { IsFound padded_rows.now dense result }
@@ -269,7 +270,8 @@ pub fn search_lanes(padded_rows: &[u32; MAX_ENTRIES], dense: u32) -> u8
     search_rows(u32x32::from_array(*padded_rows), dense)
 }
 
-/// Returns the index that `search_plain` returns, where the rows are lanes already.
+/// Returns the highest index of a row that complies with the dense key `dense`, as `search_plain` does, where the rows are lanes already.
+/// The first row is 0, so there is one.
 #[inline(always)]
 pub fn search_rows(padded_rows: u32x32, dense: u32) -> u8
     requires { slice_index padded_rows 0 ≡ 0 }

@@ -17,31 +17,34 @@ LegalCallsStayLegal =
     (front later : List Change) (pass : ℕ) (notes : List Note) → LegalCalls front pass notes → OthersGoOn pass front later → LegalFront later →
     LegalCalls later pass notes
 
--- Let the calls of each pass be legal in one front. Then all are answered as by a finite map in one sequential history: the weave of all
--- their notes into the front.
+-- Let the calls of passes of different numbers each be legal in one front. Then all have the replies of a finite map in one sequential
+-- history: the weave of all their notes into the front.
 abbrev pub WeaveIsLegal : Type 0
 WeaveIsLegal = (front : List Change) (passes : List (ℕ × List Note)) → AllLegal front passes → LegalHistory (weave front (notes_of passes))
 
--- Let the calls of two passes be legal in one front. The weave of the notes of both into the front is a legal history.
+-- Let the calls of two different passes be legal in one front. The weave of the notes of both into the front is a legal history.
 abbrev pub WeaveOfTwoIsLegal : Type 0
 WeaveOfTwoIsLegal =
     (front : List Change) (pass other : ℕ) (notes other_notes : List Note) → pass ≢ other → LegalCalls front pass notes →
     LegalCalls front other other_notes →
     LegalHistory (weave front (notes ++ other_notes))
 
--- The weave of the calls of several passes has each call once. Those of each pass stand in the order in which it made them.
+-- Let the calls of passes of different numbers each be legal in one front. Their weave has each call once. Those of each pass stand in the
+-- order in which it made them.
 abbrev pub WeaveOfPassesKeepsCalls : Type 0
 WeaveOfPassesKeepsCalls =
     (front : List Change) (passes : List (ℕ × List Note)) → AllLegal front passes → CallsAreWoven passes (calls_in (weave front (notes_of passes)))
 
--- The weave of the calls of two passes has each call once. Those of each pass stand in the order in which it made them.
+-- Let the calls of two passes each be legal in one front. Their weave has each call once. Those of each pass stand in the order in which it
+-- made them.
 abbrev pub WeaveOfTwoKeepsCalls : Type 0
 WeaveOfTwoKeepsCalls =
     (front : List Change) (pass other : ℕ) (notes other_notes : List Note) → LegalCalls front pass notes → LegalCalls front other other_notes →
     AreWoven (calls_of notes) (calls_of other_notes) (calls_in (weave front (notes ++ other_notes)))
 
--- Let calls of passes, each legal in one front, be listed in an order that breaks no known order in time. Let their places fit it. The
--- weave of the list is a legal history in which each call stands once. None stands before one that is known to have returned when it began.
+-- Take the calls of passes, all legal in one front, in a list. Let none stand in it before one that is known to have returned first
+-- (`IsInTime`). Let their places fit what is known of time (`FitsPlaces`). The weave of the list is a legal history of just these calls,
+-- each once. There, too, none stands before one that is known to have returned first.
 abbrev pub WeavePutsReturnedFirst : Type 0
 WeavePutsReturnedFirst =
     (front : List Change) (passes : List (ℕ × List Note)) (before : ℕ → ℕ → Bool) (listed : List (ℕ × Note)) → AllLegal front passes →
@@ -65,7 +68,7 @@ StillScanGivesFirstPairs =
     (front : List Change) (from upto : List ℕ) (limit : ℕ) (scan : Scan) → IsLawfulScan front front from upto limit scan →
     IsScanOf (map_of front) from upto limit scan
 
--- If a pass made all changes of the front, its legal calls are a run of the finite map, from the empty map on.
+-- Let a pass have made all changes of the front. Its legal calls are a run of the finite map, from the empty map to the front's map.
 abbrev pub LoneCallsAreARun : Type 0
 LoneCallsAreARun =
     (front : List Change) (pass : ℕ) (notes : List Note) → LegalCalls front pass notes → All (λ change. change.pass ≡ pass) front →

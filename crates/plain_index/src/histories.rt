@@ -9,8 +9,8 @@ use finite_map::{Call, Change, Kind, Note, Reply};
 use key_bits::Key;
 
 /// Returns whether `front` is legal, and `notes` are legal in it as the calls of pass `pass`. Then each note has the map's reply at its
-/// place, and the places never fall. The changes of the pass in `front` are just those that the notes tell of. The time rises with the
-/// square of the lengths.
+/// place. The places never fall, and rise after a change of the pass. The changes of the pass in `front` are just those that the notes tell
+/// of. The time rises with the square of the lengths.
 pub fn are_legal(front: &[Change], pass: u16, notes: &[Note]) -> bool
     ensures { IsTrue result ↔ LegalCalls front.now pass notes.now }
 {
@@ -127,7 +127,8 @@ fn note_fits_front(front: &[Change], pass: u16, note: &Note) -> bool
     note.reply == note.call.reply(held) && names_change(front, pass, note)
 }
 
-/// Returns whether the places of `notes` begin at `low` or later, never fall, and rise behind each note that tells of a change.
+/// Returns whether the places of `notes` begin at `low` or later, never fall, and rise behind each note that tells of a change. `low` has
+/// 128 bits, since a place behind the greatest of 64 bits may be asked for.
 fn places_rise_from(low: u128, notes: &[Note]) -> bool
     ensures { IsTrue result ↔ RisesFrom low notes.now }
 {

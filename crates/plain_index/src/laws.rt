@@ -6,21 +6,22 @@ pub fn legal_calls_stay_legal_in_longer_fronts()
     ensures { LegalCallsStayLegal }
 {}
 
-/// If the calls of passes of different numbers are each legal in one front, the weave of all their notes into it is a legal history.
+/// Let the calls of passes of different numbers each be legal in one front. The weave of all their notes into the front is a legal history.
 pub fn weave_of_legal_calls_is_legal()
     ensures any { WeaveIsLegal }
     ensures two { WeaveOfTwoIsLegal }
 {}
 
-/// Let the calls of several passes each be legal in one front. Their weave has just these calls, each once, and those of a pass in order.
+/// Let the calls of passes of different numbers each be legal in one front. Their weave has just these calls, each once, and those of a
+/// pass in the order in which it made them. Two passes alone may have the same number.
 pub fn weave_of_passes_keeps_calls()
     ensures any { WeaveOfPassesKeepsCalls }
     ensures two { WeaveOfTwoKeepsCalls }
 {}
 
-/// Take the calls of passes, all legal in one front, and a list of them. Let neither the places nor the list put a call before one that is
-/// known to have returned when it began. Then the list's weave is a legal history, with each call once. It puts no call before one that is
-/// known to have returned when it began, either.
+/// Take the calls of passes, all legal in one front, and a list of them. Let neither their places nor the list put a call before one that
+/// is known to have returned first. Then the list's weave is a legal history with each call once, and puts no call before one that is known
+/// to have returned first.
 pub fn weave_puts_returned_calls_first()
     ensures { WeavePutsReturnedFirst }
 {}
@@ -36,7 +37,7 @@ pub fn still_scan_gives_first_pairs()
     ensures { StillScanGivesFirstPairs }
 {}
 
-/// Take a key of a lawful scan's range. At some moment between the scan's fronts it has the value that is listed, or none if none is
+/// Take a key of a lawful scan's range. At some moment between the scan's fronts the key has the value that is listed, or none if none is
 /// listed. If the scan has `more`, that holds of the keys up to that of its last pair.
 pub fn scan_agrees_with_gets()
     ensures { ScanIsGets }
@@ -48,7 +49,7 @@ pub fn lone_calls_are_a_run()
     ensures { LoneCallsAreARun }
 {}
 
-/// The weave of one pass's calls, legal in a front, has just these calls, each once and in the order in which the pass made them.
+/// The weave of one pass's calls, legal in a front, has just these calls, each once, in the order in which the pass made them.
 pub fn weave_keeps_calls()
     ensures { WeaveKeepsCalls }
 {}

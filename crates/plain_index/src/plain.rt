@@ -66,8 +66,8 @@ impl PlainIndex {
         }
     }
 
-    /// Gives `key` the value `value` if it has the value `expected`, and returns `Exchanged`. Else nothing changes, and it returns
-    /// `Differs` with the key's value, or `Absent`. There is never an error.
+    /// Gives `key` the value `value` if it has the value `expected`, and returns `Exchanged`. Else nothing changes. It returns `Differs`
+    /// with the key's value then, or `Absent` if the key is absent. There is never an error.
     fn exchange_value(&mut self, key: Key, expected: u64, value: u64) -> Result<Reply, AllocError>
         ensures reply { IfOk result (λ reply. reply ≡ reply_of self.old (Exchange key expected value)) }
         ensures map { OnOk result (self.new ≡ map_after self.old (Exchange key expected value)) }
@@ -98,8 +98,8 @@ impl PlainIndex {
         Ok(Reply::Was(had))
     }
 
-    /// Removes `key` if it has the value `expected`, and returns `Removed` with that value. Else nothing changes, and it returns `Differs`
-    /// with the key's value, or `Absent`.
+    /// Removes `key` if it has the value `expected`, and returns `Removed` with that value. Else nothing changes. It returns `Differs` with
+    /// the key's value then, or `Absent` if the key is absent.
     fn remove_if(&mut self, key: &Key, expected: u64) -> Reply
         ensures reply { result ≡ reply_of self.old (RemoveIf key.now expected) }
         ensures map { self.new ≡ map_after self.old (RemoveIf key.now expected) }

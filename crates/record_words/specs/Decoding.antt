@@ -15,7 +15,8 @@ use Rattle.record_words.specs.declared.TheConstants.{FIRST_KEY_WORD, FIRST_MIDDL
 
 -- ---- an entry word
 
--- the entry that a word encodes; none for the word of no entry
+-- The entry that a word encodes; none for 0, the word of no entry. A word that encodes nothing gives some entry, too: a leaf if its
+-- remainder by 4 is 1, else a node.
 unfoldable pub entry_of : ℕ → Option Entry
 entry_of word =
     if nat_eq word (entry_word None) then None else
@@ -47,8 +48,8 @@ numbers_in head = get_or head NUMBERS_INDEX 0
 abbrev pub column_byte : (column word : ℕ) → ℕ
 column_byte column word = word / 2 ^ (8 * (7 - column % 8)) % 2 ^ 8
 
--- The position of the column of this number in a narrow or middle head. It follows from the index of the column's byte and the mask of its
--- bit.
+-- The position of the column of this number in a narrow or middle head. Its byte is counted from the head's first byte, and the mask tells
+-- which of the eight bits there.
 abbrev pub near_column_in : (kind : HeadKind) → (head : List ℕ) → (column : ℕ) → ℕ
 near_column_in kind head column =
     9 * (first_byte_in (numbers_in head) + column_byte column (get_or head (position_index kind column) 0)) +
@@ -77,13 +78,13 @@ rows_in head = map (row_in (kind_in (numbers_in head)) head) (range_with_len 0 (
 
 -- ---- the words of entries
 
--- the first `count` entries that the words of a node's entries encode
+-- The first `count` entries that the words of a node's entries encode. A word of no entry counts as leaf 0.
 abbrev pub entries_of : (count : ℕ) → (tail : List ℕ) → List Entry
 entries_of count tail = take count (map (λ word. unwrap_or (entry_of word) (Leaf 0)) tail)
 
 -- ---- the words of a leaf
 
--- the bytes in the words of a key: eight in each word, the first in its highest bits
+-- MAX_BYTES bytes from the words of a key: eight from each word, the first from its highest bits, and 0 where there is no word
 abbrev pub bytes_in : List ℕ → List ℕ
 bytes_in words = map (λ index. get_or (to_be_bytes w64 (get_or words (index / 8) 0)) (index % 8) 0) (range_with_len 0 MAX_BYTES)
 
@@ -95,6 +96,6 @@ leaf_value_in words = get_or words VALUE_INDEX 0
 abbrev pub key_length_in : List ℕ → ℕ
 key_length_in words = get_or words LENGTH_INDEX 0
 
--- the key in the words of a leaf
+-- the key in the words of a leaf: as many of its bytes as its length says
 abbrev pub leaf_key_in : List ℕ → List ℕ
 leaf_key_in words = take (key_length_in words) (bytes_in (drop FIRST_KEY_WORD words))

@@ -9,15 +9,16 @@ use Rattle.node_tries.specs.Kept.{kept}
 use Rattle.record_words.specs.Node.{HasHead, head_words}
 use Rattle.record_words.specs.declared.TheConstants.{HEAD_WORDS}
 
--- The words begin with the head of this node, which is to lose the row of slot `at`. The node has an entry there, and two others at least.
+-- The words begin with the head of this lawful node, which is to lose the row of slot `at`. The node has an entry there, and two others at
+-- least.
 pub record CanDropAt (words : List ℕ) (node : NodeView) (at : ℕ) : Type 0 where
   pub lawful : IsLawfulNode node
   pub begins : head_words (head_of node) ≡ take HEAD_WORDS words
   pub in_range : at < length node.entries
   pub several : 2 < length node.entries
 
--- The words begin with the head of this node, which is to keep only those columns that have a bit in `used`. The rows, and `used`, are over
--- the node's columns.
+-- The words begin with the head of this lawful node, which is to keep only those columns that have a bit in `used`. The columns kept are
+-- lawful (`IsColumns`). The rows, and `used`, have no bits beyond the node's columns.
 pub record CanDropColumns (words : List ℕ) (node : NodeView) (rows : List ℕ) (used : ℕ) : Type 0 where
   pub lawful : IsLawfulNode node
   pub begins : head_words (head_of node) ≡ take HEAD_WORDS words

@@ -8,11 +8,11 @@ use Rattle.record_words.specs.declared.kind.HeadKind.TheVariants.{Wide}
 use Rattle.record_words.specs.declared.numbers.HeadNumbers.{HeadNumbers}
 use Rattle.record_words.specs.declared.TheConstants.{FIRST_ROWS, MIDDLE_HEAD_WORDS, NARROW_HEAD_WORDS}
 
--- the head is that of some node, and is of this kind
+-- the head is that of some lawful node, and its columns take this kind
 abbrev pub HasHeadOf : HeadKind → HeadView → Type 0
 HasHeadOf kind head = HasHeadWords head × (kind_of head.columns ≡ kind)
 
--- `IsSo` holds of each node whose head is of this kind and has these words in this part
+-- `IsSo` holds of each lawful node whose head is of this kind and has the words `words` in the part `part`
 abbrev pub InNodesOfKind : (kind : HeadKind) → (part : HeadView → List ℕ) → (words : List ℕ) → (IsSo : NodeView → Type 0) → Type 0
 InNodesOfKind kind part words IsSo = (node : NodeView) → IsLawfulNode node → kind_of node.columns ≡ kind → part (head_of node) ≡ words → IsSo node
 
@@ -32,7 +32,7 @@ narrow_words head = take NARROW_HEAD_WORDS (head_words head)
 abbrev pub middle_words : HeadView → List ℕ
 middle_words head = take MIDDLE_HEAD_WORDS (head_words head)
 
--- The numbers are those in the first word of the node's head. Only a narrow or middle head tells its first byte.
+-- The numbers are those that the first word of the node's head tells. The first byte is told only by a narrow or middle head.
 pub record AreNumbersOf (numbers : HeadNumbers) (node : NodeView) : Type 0 where
   pub count_is : numbers.count ≡ length node.entries
   pub columns_are : numbers.columns ≡ length node.columns
@@ -40,7 +40,7 @@ pub record AreNumbersOf (numbers : HeadNumbers) (node : NodeView) : Type 0 where
   pub kind_is : numbers.kind ≡ kind_of node.columns
   pub first_is : numbers.kind ≢ Wide → numbers.first_byte ≡ first_byte node.columns
 
--- `IsSo` holds of each node whose head has these numbers, and this word at this index
+-- `IsSo` holds of each lawful node whose head has these numbers, and the word `word` at this index
 abbrev pub InNodesWith : HeadNumbers → (index word : ℕ) → (NodeView → Type 0) → Type 0
 InNodesWith numbers index word IsSo =
     (node : NodeView) → IsLawfulNode node → AreNumbersOf numbers node → slice_index (head_words (head_of node)) index ≡ word → IsSo node

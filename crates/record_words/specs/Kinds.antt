@@ -13,15 +13,17 @@ use Rattle.record_words.specs.declared.TheConstants.{FIRST_MIDDLE_ROWS, FIRST_NA
 abbrev pub first_byte : List ℕ → ℕ
 first_byte columns = slice_index columns 0 / 9
 
--- whether the position is that of a bit in one of the sixteen bytes from `first_byte` on, and not of the 1 before a byte
+-- Whether the position is before the end of the sixteen bytes from `first_byte` on, and not that of the 1 before a byte. It has no lower
+-- bound, since columns rise from the first one, which is in byte `first_byte`.
 abbrev pub is_near : (first_byte position : ℕ) → Bool
 is_near first position = not (eqb (position % 9) 0) && nat_lt (position / 9) (first + WINDOW_BYTES)
 
--- whether the bits at all columns are in sixteen bytes that lie within the first MAX_BYTES bytes of a key
+-- Whether the bits at all columns are in sixteen bytes, which lie within the first MAX_BYTES bytes of a key. None may be the 1 before a
+-- byte.
 abbrev pub are_near : List ℕ → Bool
 are_near columns = nat_le (first_byte columns + WINDOW_BYTES) MAX_BYTES && all (is_near (first_byte columns)) columns
 
--- the smallest kind of head that can encode the columns: narrow or middle for few near ones, and else wide
+-- the smallest kind of head that can encode the columns: for near ones narrow up to 8 and middle up to 16, and else wide
 abbrev pub kind_of : List ℕ → HeadKind
 kind_of columns = cond (are_near columns && nat_le (length columns) MIDDLE_COLUMNS) (cond (nat_le (length columns) NARROW_COLUMNS) Narrow Middle) Wide
 
@@ -53,13 +55,14 @@ kind_part Middle columns = 2 ^ 41 + 2 ^ 32 * first_byte columns
 abbrev pub kind_in : ℕ → HeadKind
 kind_in word = cond (eqb (word / 2 ^ 40) 1) Narrow (cond (eqb (word / 2 ^ 40) 2) Middle Wide)
 
--- The index of the word that tells a column. In a wide head it has the column's position, and in the others the index of the column's byte.
+-- The index of the word that tells a column. That word has the column's position in a wide head, and the index of the column's byte in the
+-- others.
 abbrev pub position_index : (kind : HeadKind) → (column : ℕ) → ℕ
 position_index Wide column = FIRST_POSITIONS + column / 4
 position_index Narrow column = FIRST_POSITIONS
 position_index Middle column = cond (nat_lt column 8) (FIRST_POSITIONS + 1) FIRST_POSITIONS
 
--- The index of the word that has the mask of a column. In a wide head it is that of the column's position.
+-- The index of the word that has the mask of a column's bit. A wide head has no masks: there it is the index of the position's word.
 abbrev pub mask_index : (kind : HeadKind) → (column : ℕ) → ℕ
 mask_index Wide column = position_index Wide column
 mask_index Narrow column = position_index Narrow column + 1
@@ -86,11 +89,11 @@ index_lanes columns = map (λ lane. near_position columns lane / 9 - first_byte 
 abbrev pub mask_lanes : List ℕ → List ℕ
 mask_lanes columns = map (λ lane. bit_mask (near_position columns lane)) (range_with_len 0 16)
 
--- How far a position is behind the first position of the byte `first_byte`, in 16 bits. It is 0 for 65,535, which is no position.
+-- How far a position is behind the first position of the byte `first_byte`, modulo 2 ^ 16. It is 0 for 65,535, which is no position.
 abbrev pub distance_from : (first_byte position : ℕ) → ℕ
 distance_from first position = cond (eqb position 65535) 0 ((position + (2 ^ 16 - 9 * first % 2 ^ 16)) % 2 ^ 16)
 
--- The columns can be encoded by the lanes of a narrow or middle head.
+-- The columns can be encoded by the lanes of a narrow or middle head: they are lawful, at most 16, and all near.
 pub record HasNearLanes (columns : List ℕ) : Type 0 where
   pub positions : IsColumns columns
   pub few : length columns ≤ MIDDLE_COLUMNS

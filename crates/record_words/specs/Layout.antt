@@ -60,8 +60,8 @@ abbrev pub stock_for : (count bytes : ℕ) → Stock
 stock_for count bytes =
     stock_of (count / KEYS_A_NODE + spare_for count) (class_for bytes) (min (count + count / KEYS_A_SPARE_LEAF + spare_for count) (2 ^ 32 - 1))
 
--- How many node records a change claims at most, if no key has more bytes than this. They are two for each node on its path, and one above.
--- Each node of a path has a fork, at one of nine positions for each byte.
+-- How many node records a change claims at most, if no key has more bytes than this: two for each node on the key's path, and one above.
+-- Each node of a path has a first fork at another position, of which a key has nine for each byte.
 abbrev pub most_claims : ℕ → ℕ
 most_claims bytes = 18 * min bytes MAX_BYTES + 1
 

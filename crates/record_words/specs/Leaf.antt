@@ -28,18 +28,19 @@ leaf_word (key, value) offset =
 unfoldable pub leaf_words : List ℕ × ℕ → List ℕ
 leaf_words leaf = map (leaf_word leaf) (range_with_len FIELDS_OFFSET LEAF_FIELDS)
 
--- The words of a leaf record without its state, where all words behind the end of the key count as 0.
+-- The words of a leaf record without its state, where all words behind the end of the key count as 0. A record that was used before may
+-- have others there.
 unfoldable pub up_to_key : List ℕ → List ℕ
 up_to_key words =
     map (λ index. if nat_lt index (FIRST_KEY_WORD + words_of_key (key_length_in words)) then get_or words index 0 else 0)
     (range_with_len 0 LEAF_FIELDS)
 
--- The leaf can be encoded: its key is one, and its value has 64 bits.
+-- The leaf can be encoded: its key is lawful, and its value has 64 bits.
 pub record HasLeafWords (leaf : List ℕ × ℕ) : Type 0 where
   pub key : IsKey leaf.0
   pub value : leaf.1 < 2 ^ 64
 
--- These are the bytes of the words of a key, MAX_BYTES of them.
+-- The bytes are MAX_BYTES in number, and the words of a key, eight bytes each, spell them.
 pub record IsBytesOf (bytes words : List ℕ) : Type 0 where
   pub count : length bytes ≡ MAX_BYTES
   pub words_are : (index : ℕ) → index < KEY_WORDS → key_word bytes index ≡ slice_index words index

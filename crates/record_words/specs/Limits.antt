@@ -2,22 +2,22 @@
 use Rattle.std.specs.Prelude.{ℕ, ◌≤◌, ◌<◌, ◌^◌}
 use Rattle.record_words.specs.declared.TheConstants.{MAX_PASSES, MAX_STOCK_PASSES, MAX_NODES, MAX_LEAVES}
 
--- an index that is made by numbers of passes, nodes and leaves may have so many passes
+-- a table of `Layout::of` may have so many passes
 abbrev pub IsPassCount : ℕ → Type 0
 IsPassCount passes = (1 ≤ passes) × (passes ≤ MAX_PASSES)
 
--- an index that is made by numbers of passes, nodes and leaves may have so many node records
+-- a table of `Layout::of` may have so many node records
 abbrev pub IsNodeCount : ℕ → Type 0
 IsNodeCount nodes = (1 ≤ nodes) × (nodes ≤ MAX_NODES)
 
--- an index that is made by numbers of passes, nodes and leaves may have so many leaf records
+-- a table of `Layout::of` may have so many leaf records
 abbrev pub IsLeafCount : ℕ → Type 0
 IsLeafCount leaves = (1 ≤ leaves) × (leaves ≤ MAX_LEAVES)
 
--- the layout of a table may have so many passes
+-- a table of any layout may have so many passes
 abbrev pub IsStockPassCount : ℕ → Type 0
 IsStockPassCount passes = (1 ≤ passes) × (passes ≤ MAX_STOCK_PASSES)
 
--- a table may have so many records of a kind, since an entry word has 32 bits for a number
+-- A table of any layout may have so many records of a kind, nodes or leaves. An entry word has 32 bits for a number.
 abbrev pub IsRecordCount : ℕ → Type 0
 IsRecordCount records = (1 ≤ records) × (records < 2 ^ 32)

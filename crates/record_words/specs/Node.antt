@@ -36,7 +36,7 @@ pub record HaveEntryWords (entries : List Entry) : Type 0 where
 abbrev pub node_words : NodeView → List ℕ
 node_words node = head_words (head_of node) ++ entry_words node.entries
 
--- The node can be encoded: it is lawful, and so can each of its entries.
+-- The node can be encoded: it is lawful, and each of its entries has a word.
 pub record HasNodeWords (node : NodeView) : Type 0 where
   pub lawful : IsLawfulNode node
   pub entries : HaveEntryWords node.entries
@@ -47,15 +47,15 @@ pub record HasNodeWords (node : NodeView) : Type 0 where
 abbrev pub CanTakeLeaf : NodeView → Type 0
 CanTakeLeaf node = (node.height ≡ 1) × (length node.entries < MAX_ENTRIES)
 
--- The words encode the node, which can take one leaf more. A fork at `position` will part this leaf from the entries in slots `first` to
--- `last`.
+-- The words encode the node, which has leaves alone and room for one more. A fork at `position` will part the new leaf from the entries in
+-- slots `first` to `last`, which are those affected.
 pub record CanGrowAt (words : List ℕ) (node : NodeView) (position first last : ℕ) : Type 0 where
   pub has : HasNodeWords node
   pub spells : node_words node ≡ words
   pub takes : CanTakeLeaf node
   pub range : IsAffected (piece node) position first last
 
--- The new words begin with those of this head. Behind the head they are the old ones.
+-- The new words begin with those of this head. Behind the head they are the old ones, so the entries stay.
 abbrev pub HasHead : (old new : List ℕ) → HeadView → Type 0
 HasHead old new head = new ≡ head_words head ++ drop HEAD_WORDS old
 
@@ -74,8 +74,8 @@ pub record SpellEntries (height : ℕ) (words : List ℕ) (entries : List Entry)
   pub each : All (λ entry. HasEntryWord (Some entry)) entries
   pub stand : All (StandsBelow height) entries
 
--- The words encode the node, which is to lose the entry in slot `at`. The slot `sibling` is the one beside it, and `entry` can stand in the
--- node.
+-- The words encode the node, which is to lose the entry in slot `at`. The entry in slot `sibling` alone is on the other side of the last
+-- fork on the path to slot `at`, which stands at `position`. `entry`, which is to take that fork's place, may stand in the node.
 pub record CanCloseAt (words : List ℕ) (node : NodeView) (at sibling : ℕ) (entry : Entry) : Type 0 where
   pub has : HasNodeWords node
   pub spells : node_words node ≡ words

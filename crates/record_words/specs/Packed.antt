@@ -7,7 +7,7 @@ use Rattle.record_words.specs.declared.kind.HeadKind.TheVariants.{Wide, Narrow, 
 use Rattle.partial_keys.specs.declared.TheConstants.{MAX_ENTRIES}
 use Rattle.record_words.specs.declared.TheConstants.{HEAD_WORDS}
 
--- The numbers of a head in one word: of entries, of columns, and the stored height.
+-- The numbers of a head in one word, from its lowest bits up: of entries and of columns in a byte each, then the height.
 abbrev pub meta_word : (count columns height : ℕ) → ℕ
 meta_word count columns height = count + 256 * columns + 65536 * height
 
@@ -39,13 +39,14 @@ column_words Middle columns = lane_words 8 2 (index_lanes columns) ++ lane_words
 abbrev pub row_lanes : (low : ℕ) → (rows : List ℕ) → List ℕ
 row_lanes low rows = map (λ row. row_at rows row / 2 ^ low) (range_with_len 0 MAX_ENTRIES)
 
--- the words of a head's rows, by its kind
+-- the words of a head's rows, by its kind: all 32 bits of a row in a wide head, the highest 8 in a narrow one, and the highest 16 in a
+-- middle one
 abbrev pub row_words : HeadKind → List ℕ → List ℕ
 row_words Wide rows = map (row_word rows) (range_with_len 0 16)
 row_words Narrow rows = lane_words 8 4 (row_lanes 24 rows)
 row_words Middle rows = lane_words 16 8 (row_lanes 16 rows)
 
--- the first word of a head of this kind: its numbers, and what tells its kind
+-- the first word of a head of this kind: its numbers, its kind, and the first byte unless it is wide
 abbrev pub numbers_word : HeadKind → (count height : ℕ) → List ℕ → ℕ
 numbers_word kind count height columns = meta_word count (length columns) height + kind_part kind columns
 

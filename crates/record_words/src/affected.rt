@@ -13,9 +13,9 @@ use crate::search::{positions_in, rows_in};
 use partial_keys::count_below;
 use std::simd::prelude::*;
 
-/// Returns the first and the last slot that `position` affects, seen from `slot`, in each node whose head has `words`. From the first to
-/// the last stand just the entries whose rows agree with that of `slot` in all columns below `position`. They follow each other, since rows
-/// rise. The words are compared as vectors, and no head is made.
+/// Returns the first and the last slot that `position` affects, seen from `slot`, in each node whose head has `words`. `words` are those of
+/// a head, and `slot` has an entry. From the first to the last stand just the entries whose rows agree with that of `slot` in all columns
+/// below `position`. They follow each other, since rows rise. The words are compared as vectors, and no head is made.
 #[inline(always)]
 pub fn affected_slots(words: &[u64], slot: u8, position: u16) -> (u8, u8)
     requires long { length words.now ≡ HEAD_WORDS }

@@ -13,7 +13,7 @@ use crate::{HEAD_WORDS, MIDDLE_KIND, NARROW_KIND};
 use partial_keys::{Columns, MAX_COLUMNS};
 use std::simd::prelude::*;
 
-/// Returns the positions of the columns of each node whose head has `words`, and 65,535 behind them up to 31 elements.
+/// Returns the positions of the columns of each node whose head has `words`, and 65,535 behind them: 31 numbers in all.
 pub(crate) fn read_positions(words: &[u64]) -> [u16; MAX_COLUMNS]
     requires { length words.now ≡ HEAD_WORDS }
     ensures { InNodesOf words.now (λ node. result ≡ with_free node.columns) }

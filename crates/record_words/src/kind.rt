@@ -63,7 +63,7 @@ impl HeadKind {
     }
 }
 
-/// Returns the kind of a head with `columns`: narrow or middle if all are near and few enough, else wide.
+/// Returns the kind of a head with `columns`: narrow for at most 8 near ones, middle for 9 to 16 near ones, else wide.
 pub fn kind_of(columns: &Columns) -> HeadKind
     ensures { result ≡ kind_of columns.now }
 {

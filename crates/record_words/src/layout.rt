@@ -77,7 +77,7 @@ impl LeafClass {
         }
     }
 
-    /// Returns the number of this class: from 0 for `Short`, the smallest, to 4 for `Long`.
+    /// Returns the number of this class, by size: from 0 for `Short`, the smallest, to 4 for `Long`.
     pub fn index(self) -> usize
         ensures { result < LEAF_CLASSES }
     {
@@ -154,9 +154,9 @@ impl Layout {
         })
     }
 
-    /// Returns the layout of a table for `passes` passes, 1 to `MAX_STOCK_PASSES`, with the records of `stock`. A stock has 1 to
-    /// 4,294,967,295 node records, and within the same bounds leaf records of all classes together. The fault names the first number that
-    /// is out of range, of passes, nodes and leaves.
+    /// Returns the layout of a table for `passes` passes, 1 to `MAX_STOCK_PASSES`, with the records of `stock`. A stock must have 1 to
+    /// 4,294,967,295 node records. It must have 1 to 4,294,967,295 leaf records, of all classes together. The fault names the first number
+    /// that is out of range, in the order of passes, nodes and leaves.
     pub fn with_stock(passes: u32, stock: Stock) -> Result<Layout, LayoutFault>
         ensures ok { IfOk result (λ layout. (layout.passes ≡ passes) × HasStock layout stock) }
         ensures passes { (result ≡ Err LayoutFault.Passes) ↔ ¬ IsStockPassCount passes }
@@ -219,7 +219,7 @@ impl Layout {
         }
     }
 
-    /// Returns how many words the leaf record `number` has.
+    /// Returns how many words the leaf record `number` has, 4 to 33.
     pub fn leaf_size(&self, number: u32) -> usize
         ensures size { result ≡ leaf_size self.now number }
         ensures few { (SHORT_WORDS ≤ result) × (result ≤ LEAF_WORDS) }
@@ -227,9 +227,9 @@ impl Layout {
         self.class_of(number).words()
     }
 
-    /// Returns the number of the first leaf record with at least `words` words: all before it have fewer, and all from it on have enough.
-    /// If none has, the result is the number of leaf records. If `words` is more than any class has, it is where the long ones begin, or
-    /// would begin.
+    /// Returns the number of the first leaf record with at least `words` words, or how many leaf records there are if none has so many. All
+    /// before it have fewer, and all from it on have enough. No class has more than 33 words. For more than these the result is where the
+    /// long records begin, or would begin, and those from it on have too few.
     pub fn first_leaf_with(&self, words: usize) -> u32
         ensures below { (q : ℕ) → q < result → leaf_size self.now q < words }
         ensures from { words ≤ LEAF_WORDS → (q : ℕ) → result ≤ q → words ≤ leaf_size self.now q }

@@ -110,7 +110,7 @@ pub use state::{
     LEAST_OBSOLETE, Tag, obsolete_word, pack_state, read_obsolete_epoch, unpack_state,
 };
 
-/// Epochs are below this number, and at least 1.
+/// Epochs are below this number, and at least 1. So a state word, 8 times the epoch and 4, has 64 bits.
 pub const EPOCHS: u64 = 1 << 60;
 
 /// The word of a pin that is not set. One that is set has an epoch.
@@ -134,9 +134,9 @@ pub const WORD_BYTES: usize = 8;
 /// How many words a cache line has.
 pub const CACHE_LINE_WORDS: usize = 8;
 
-/// How many words a processor may fetch together: two cache lines, since with one it often fetches the one beside it. Words that
-/// different threads write often stand at least so far apart. Then no two share a line, nor two lines that are fetched together, wherever
-/// in memory the table begins. So no thread's writes slow down what another does.
+/// How many words a processor may fetch together: two cache lines, since with one it often fetches the one beside it. Words that different
+/// threads often write stand at least so far apart. Then no two share a line, nor two lines that are fetched together, wherever in memory
+/// the table begins. So no thread's writes slow down what another does.
 pub const LINE_WORDS: usize = 16;
 
 /// The word of the epoch. Gets, scans and changes load it and the root, so these two may share a line.
@@ -284,13 +284,13 @@ pub const FEW_KEYS: u32 = 32;
 /// How many node records and leaf records `Stock::for_keys` has to spare for few keys.
 pub const FEW_SPARE: u32 = 1;
 
-/// How many of both it has to spare at least for more.
+/// How many node records and leaf records `Stock::for_keys` has to spare at least for more than `FEW_KEYS` keys.
 pub const LEAST_SPARE: u32 = 10;
 
-/// For how many keys it has one record more of both to spare, if they are not few.
+/// For how many keys `Stock::for_keys` has one more record of each kind to spare, if there are more than `FEW_KEYS`.
 pub const KEYS_A_SPARE: u32 = 16;
 
-/// How many of both `Stock::for_keys` has to spare at most, however many the keys are.
+/// How many records of each kind `Stock::for_keys` has to spare at most, however many the keys are.
 pub const MOST_SPARE: u32 = 512;
 
 /// Why words can't be read: they are those of no value.

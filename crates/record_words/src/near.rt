@@ -8,13 +8,14 @@ ghost use Rattle.record_words.specs.Kinds.{AreNearLanes, HasNearLanes, distance_
 use key_bits::Key;
 use std::simd::prelude::*;
 
-/// The masks of bits 1 to 8 of the nine bits of a byte. It is 0 for bit 0, which says that there is a byte.
+/// The mask of each of the nine bits of a byte, by the bit's number. Bit 0, which says that there is a byte, has none. The last seven only
+/// fill a vector.
 const MASKS: [u8; 16] = [0, 128, 64, 32, 16, 8, 4, 2, 1, 0, 0, 0, 0, 0, 0, 0];
 
-/// Which of the nine bits has this mask, if it is one of the last four, and else 0.
+/// Which of the nine bits has this mask, if the mask is in the byte's lower half; 0 for a number that is no mask.
 const BIT_OF_LOW_MASK: [u8; 16] = [0, 8, 7, 0, 6, 0, 0, 0, 5, 0, 0, 0, 0, 0, 0, 0];
 
-/// Which of the nine bits has 16 times this mask.
+/// Which of the nine bits has 16 times this mask, which is in the byte's upper half; 0 for a number that is no mask.
 const BIT_OF_HIGH_MASK: [u8; 16] = [0, 4, 3, 0, 2, 0, 0, 0, 1, 0, 0, 0, 0, 0, 0, 0];
 
 /// Returns the bytes of two words, those of `low` first, the lowest byte of each first.
@@ -35,8 +36,8 @@ pub(crate) fn words_of_bytes(lanes: u8x16) -> u64x2
     u64x2::from_le_bytes(lanes)
 }
 
-/// Returns how far each of `positions` is behind the first bit of byte `first`. Lane 15-i has the distance of column i; it is 0 for 65,535,
-/// which stands for no column.
+/// Returns how far each of `positions` is behind the first position of byte `first`, modulo 65,536. Lane 15-i has the distance of column i,
+/// and 0 for 65,535, which stands for no column. `first` is below 7,282, so that 9 times `first` fits 16 bits.
 #[inline(always)]
 fn distances_of(positions: u16x16, first: u16) -> u16x16
     requires { first < 7282 }

@@ -167,9 +167,9 @@ pub fn can_take_leaf(words: &[u64; NODE_FIELDS]) -> bool
     numbers.height == 1 && (numbers.count as usize) < MAX_ENTRIES
 }
 
-/// Adds the leaf of the record `leaf` to `words`, those of a node with leaves alone and room for one more. A new fork at `position` stands
-/// over the affected slots `first` to `last`, of which no fork has that position. The leaf stands straight after them if `bit` is true,
-/// else straight before.
+/// Adds the leaf of the record `leaf` to `words`, those of a node with leaves alone and room for one more. A new fork at `position`, which
+/// is below 65,535, stands over the affected slots `first` to `last`. No fork between these slots has that position yet. The leaf stands
+/// straight after them if `bit` is true, else straight before.
 #[inline(always)]
 pub fn add_leaf(
     words: &mut [u64; NODE_FIELDS],
@@ -194,9 +194,9 @@ pub fn add_leaf(
     insert_element(words, end, at, pack_entry(Some(Entry::Leaf(leaf))));
 }
 
-/// Changes the head in `words` to the one with a new fork at `position` over the slots from `first` to `last`. The leaf's slot follows from
-/// `bit`, as in `add_leaf`. The words of the entries stay. Mostly `position` is a column already, and then the words of the positions stay,
-/// too.
+/// Changes the head in `words` to the one with a new fork at `position` over the slots from `first` to `last`. The new leaf's row stands
+/// straight after theirs if `bit` is true, else straight before. The words of the entries stay. Mostly `position` is a column already, and
+/// then the words of the positions stay, too.
 #[inline(always)]
 fn add_fork(words: &mut [u64; NODE_FIELDS], first: u8, last: u8, position: u16, bit: bool)
     requires growing { (node : NodeView) × CanGrowAt words.old node position first last }
@@ -215,7 +215,9 @@ fn add_fork(words: &mut [u64; NODE_FIELDS], first: u8, last: u8, position: u16, 
     put_rows(words, kind, rows);
 }
 
-/// Does what `add_fork` does, where `position` is no column yet: the rows get 0 there, and the head is put together from its parts.
+/// Changes the head in `words` to the one with a new fork over the slots from `first` to `last`, at `position`, which is no column yet. The
+/// new leaf's row stands straight after theirs if `bit` is true, else straight before. The words of the entries stay. The old rows get 0 in
+/// the new column, since they have no fork there.
 fn add_column_fork(words: &mut [u64; NODE_FIELDS], first: u8, last: u8, position: u16, bit: bool)
     requires growing { (node : NodeView) × CanGrowAt words.old node position first last }
     requires below { position < 65535 }
@@ -232,8 +234,8 @@ fn add_column_fork(words: &mut [u64; NODE_FIELDS], first: u8, last: u8, position
     put_parts(words, numbers.count + 1, 1, &columns, rows);
 }
 
-/// Takes the entry in `slot`, and the last fork on the path to it, out of the node of `words`, and returns `None`. The height is computed
-/// anew. If the node has just two entries, `words` stay, and it returns the other entry.
+/// Takes the entry in `slot`, and the last fork on the path to it, out of the node of `words`. The height becomes one above the greatest
+/// left. Returns `None`. If the node has just two entries, `words` stay, and the result is the other entry.
 pub fn drop_entry(words: &mut [u64; NODE_FIELDS], slot: u8) -> Option<Entry>
     requires { (node : NodeView) × HasNodeWords node × (node_words node ≡ words.old) × (slot < length node.entries) }
     ensures { (node : NodeView) → HasNodeWords node → node_words node ≡ words.old → SpellLeft words.new result (without slot (piece node)) }
@@ -250,7 +252,8 @@ pub fn drop_entry(words: &mut [u64; NODE_FIELDS], slot: u8) -> Option<Entry>
 }
 
 /// Takes the row of `slot`, one of more than two, and the last fork on the path to it out of the head in `words`. The head's height becomes
-/// `height`. The words of the entries stay. Mostly each column still has a fork, and then the words of the columns stay, too.
+/// `height`, which is at least 1. The words of the entries stay. Mostly each column still has a fork, and then the words of the columns
+/// stay, too.
 fn drop_row(words: &mut [u64; NODE_FIELDS], slot: u8, height: u16)
     requires dropping { (node : NodeView) × CanDropAt words.old node slot }
     requires height { 0 < height }
@@ -269,7 +272,8 @@ fn drop_row(words: &mut [u64; NODE_FIELDS], slot: u8, height: u16)
 }
 
 /// Makes the head in `words` one of `count` entries and of `height`, with the first `count` of `rows`. The columns in which `used` has 0
-/// are left out, of the rows, too. The words of the entries stay.
+/// are left out of the columns and the rows; at least one stays. Neither these rows nor `used` have a 1 behind the node's columns. The
+/// words of the entries stay.
 fn drop_columns(words: &mut [u64; NODE_FIELDS], count: u8, height: u16, rows: u32x32, used: u32)
     requires few { count ≤ 32 }
     requires dropping { (node : NodeView) × CanDropColumns words.old node (take count rows) used }
@@ -290,8 +294,9 @@ fn drop_columns(words: &mut [u64; NODE_FIELDS], count: u8, height: u16, rows: u3
     );
 }
 
-/// Puts `entry` in place of the entries in slots `slot` and `other` of the node of `words`, and of the fork over just these. `entry` is
-/// lower than the node. Returns `None`. If the node has no other entries, it returns `entry`, and only the word of slot `other` changes.
+/// Puts `entry` in place of the entries in slots `slot` and `other` of the node of `words`, and of the fork over just these two. `entry` is
+/// lower than the node. The node's height becomes one above the greatest left. Returns `None`. If the node has no other entries, the result
+/// is `entry`, and only the word of slot `other` changes.
 pub fn close_fork(
     words: &mut [u64; NODE_FIELDS],
     slot: u8,
@@ -306,7 +311,7 @@ pub fn close_fork(
 }
 
 /// Returns the height of a new node over the entries in `words`: one above the greatest of theirs. All of them stood in a node of the
-/// height `height`.
+/// height `height`, so they are leaves if that is 1.
 fn height_over(words: &[u64], height: u16) -> u16
     requires { (entries : List Entry) × SpellEntries height words.now entries }
     ensures { (entries : List Entry) → SpellEntries height words.now entries → result ≡ 1 + greatest_height entries }

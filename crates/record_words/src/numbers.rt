@@ -115,7 +115,8 @@ impl HeadNumbers {
     }
 }
 
-/// Returns the numbers of entries and of columns, the height, the kind and the first byte, of each node whose head begins with `word`.
+/// Returns the numbers of entries and of columns, the height, the kind and the first byte, of each node whose head begins with `word`. Of
+/// any other word it returns the parts that stand there.
 #[inline(always)]
 pub fn read_numbers(word: u64) -> HeadNumbers
     ensures parts { (result.count ≡ count_in word) × (result.columns ≡ column_count_in word) × (result.height ≡ height_in word) × (result.kind ≡ kind_in word) ×
@@ -132,7 +133,7 @@ pub fn read_numbers(word: u64) -> HeadNumbers
     }
 }
 
-/// Returns the kind of each node whose head begins with `word`.
+/// Returns the kind that `word` tells, the first word of a head: narrow for 1 from bit 40 on, middle for 2, and else wide.
 #[inline(always)]
 fn read_kind(word: u64) -> HeadKind
     ensures { result ≡ kind_in word }
@@ -144,8 +145,8 @@ fn read_kind(word: u64) -> HeadKind
     }
 }
 
-/// Returns the number that tells the kind of each node whose head begins with `word`: `NARROW_KIND`, `MIDDLE_KIND`, or 0 for a wide one. A
-/// search compares the number as it is, since a `HeadKind` takes some ten instructions more.
+/// Returns the number that stands in `word` from bit 40 on. In the first word of a head it tells the kind: `NARROW_KIND`, `MIDDLE_KIND`, or
+/// 0 for a wide one. A search compares the number as it is, since a `HeadKind` takes some ten instructions more.
 #[inline(always)]
 pub fn kind_number(word: u64) -> u64
     ensures { result ≡ word / 2 ^ 40 }
@@ -153,8 +154,8 @@ pub fn kind_number(word: u64) -> u64
     word >> 40
 }
 
-/// Returns the position of a near column, whose byte is `index` behind byte `first_byte`, and whose bit there has the mask `mask`, which is
-/// not 0.
+/// Returns the position of a near column. Its byte is `index` behind byte `first_byte`, and `mask`, which is not 0, is the mask of its bit
+/// there.
 #[inline(always)]
 fn near_position(first_byte: u8, index: u8, mask: u8) -> u16
     ensures { (p : ℕ) → bit_mask p ≡ mask → 0 < mask → p / 9 ≡ first_byte + index → result ≡ p }
@@ -162,8 +163,8 @@ fn near_position(first_byte: u8, index: u8, mask: u8) -> u16
     9 * (first_byte as u16 + index as u16) + 1 + mask.leading_zeros() as u16
 }
 
-/// Returns the index of the word that tells the first position in a head of the kind `kind`. A wide head has the position there, the others
-/// have its mask.
+/// Returns the index of the word that tells the first position in a head of the kind `kind`. A wide head has the position there. The others
+/// have its mask, which is enough, since its byte is in the first word.
 #[inline(always)]
 pub fn index_of_first_position(kind: HeadKind) -> usize
     ensures { result ≡ mask_index kind 0 }

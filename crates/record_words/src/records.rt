@@ -10,7 +10,7 @@ pub enum Rec {
 impl Default for Rec {
     ghost use Rattle.std.specs.Prelude.{◌≡◌};
 
-    /// Returns the first node record, which fills the unused elements of a list.
+    /// Returns the first node record, with which a list fills its unused elements.
     fn default() -> Rec
         ensures { result ≡ Rec.Node 0 }
     {

@@ -89,7 +89,8 @@ pub fn search_middle(words: &[u64; MIDDLE_HEAD_WORDS], key: &Key) -> u8
     )
 }
 
-/// Returns the index of the highest bit set in `mask` below bit `count`. Bit 0 of `mask` is set.
+/// Returns the index of the highest bit set in `mask` below bit `count`. A bit is set for each row that complies with a key, and the search
+/// leads to the last of them. Bit 0 is set, since the first row is 0.
 #[inline(always)]
 fn last_of(mask: u64, count: u8) -> u8
     requires some { mask % 2 ≡ 1 }

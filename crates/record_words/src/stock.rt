@@ -67,7 +67,7 @@ impl Stock {
     /// A tree has fewer nodes than keys (`versions::laws::nodes_in_tree_are_fewer_than_keys`). So the stock has a node record and a leaf
     /// record for each key. For each pass it has the records that one change claims at most: a leaf record, 18 node records for each byte
     /// of a key, and one. Records that passes have replaced come back once no call can reach them; calls may wait for them. Sums stop at
-    /// 4,294,967,295.
+    /// 4,294,967,295. For at least one pass there is at least one record of each kind.
     pub fn for_any_keys(count: u32, longest: usize, passes: u32) -> Stock
         ensures stock { result ≡ stock_for_any count longest passes }
         ensures size { 1 ≤ passes → IsRecordCount result.nodes × IsRecordCount (leaves_of result) }
