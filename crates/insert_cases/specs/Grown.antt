@@ -28,27 +28,27 @@ abbrev pub GrownShows : (old : NodeView) → (grown : Grown) → (shown : Piece 
 GrownShows old (Whole node) shown = IsBuiltFrom node shown
 GrownShows old (Two cut) shown = IsCutOf old cut shown
 
--- what a node has grown to is one node
+-- whether what a node has grown to is one node, so that no fork rises
 abbrev pub is_whole : Grown → Bool
 is_whole (Whole node) = true
 is_whole (Two cut) = false
 
--- the half is the old node as it stands
+-- whether the half is the old node as it stands
 abbrev pub is_same : Half → Bool
 is_same (One entry) = false
 is_same (Many node) = false
 is_same Same = true
 
--- one half of the cut is the old node as it stands
+-- whether one half of the cut is the old node as it stands
 abbrev pub keeps_side : Cut → Bool
 keeps_side cut = is_same cut.zero || is_same cut.one
 
--- the old node stays in the tree
+-- whether the old node stays in the tree, as one half of a cut
 abbrev pub keeps_node : Grown → Bool
 keeps_node (Whole node) = false
 keeps_node (Two cut) = keeps_side cut
 
--- the piece that a half made anew shows
+-- the piece that a half made anew shows; leaf 0 for `Same`, which is not made anew
 abbrev pub half_piece : Half → Piece Entry
 half_piece (One entry) = Place entry
 half_piece (Many node) = piece node

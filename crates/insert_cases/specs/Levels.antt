@@ -10,8 +10,9 @@ pub record IsLevel (way : List PathNode) (position level : ℕ) : Type 0 where
   pub low : 0 < level → (node : PathNode) → slice_get way level ≡ Some node → node.first_position < position
   pub rest : (lower : ℕ) (node : PathNode) → level < lower → slice_get way lower ≡ Some node → position ≤ node.first_position
 
--- The choice of the node that gets the new leaf. If several entries are affected at the level, it is the node there. If one is, and it is a
--- node, it is that next node, with all of its entries. If that one is a leaf, it is the node at the level.
+-- The choice of the node that gets the new leaf, where the entries `first` to `last` are affected in the node at `level`. If they are
+-- several, it is that node. If one is affected, and the path goes on to a further node, it is the further node, with all of its entries. If
+-- the path ends, the one entry is a leaf, and it is the node at `level`. The case follows from the chosen node.
 pub record IsChosen (way : List PathNode) (level first last : ℕ) (choice : Choice) : Type 0 where
   pub several : first < last → (node : PathNode) → slice_get way level ≡ Some node →
       choice ≡ record { level = level; first = first; last = last; case = case_of node.height node.count false }
@@ -20,7 +21,8 @@ pub record IsChosen (way : List PathNode) (level first last : ℕ) (choice : Cho
   pub leaf : last ≤ first → length way ≤ level + 1 → (node : PathNode) → slice_get way level ≡ Some node →
       choice ≡ record { level = level; first = first; last = last; case = case_of node.height node.count true }
 
--- What rises from a node of height `child` is pulled up into its parent of height `parent`, since the parent is just one higher.
+-- What rises from a node of height `child` goes into its parent of height `parent`, since the parent is just one higher. Else a new node
+-- would fit between the two.
 abbrev pub IsPullUp : (child parent : ℕ) → Type 0
 IsPullUp child parent = parent ≡ child + 1
 

@@ -24,7 +24,8 @@ abbrev pub stage : (key : Key) → (tree : Tree) → (nodes : ℕ) → Tree
 stage key tree zero = tree
 stage key tree (suc others) = stage key (below key tree) others
 
--- the path's entry tells of this node: its number, height, first position and count, and the slot that the key's search takes
+-- The path's entry tells of the node `n` with this fixed part and body: its number, height, first position and count, and the slot that the
+-- key's search takes.
 pub record IsStep (key : Key) (path_node : PathNode) (n : ℕ) (fixed : Fixed) (tree : Tree) : Type 0 where
   pub number : path_node.number ≡ n
   pub height : path_node.height ≡ fixed.height
@@ -68,12 +69,14 @@ is_leaf (leaf number key value) = true
 is_leaf (node number fixed inner) = false
 is_leaf (fork position left right) = false
 
--- the case of an insertion into a node of this height and count; `one_leaf` says whether just one leaf is affected
+-- The case of an insertion into a node of this height and count. If just one leaf is affected (`one_leaf`), and the node is higher than 1,
+-- the leaf is pushed down. Else the node gets the new leaf, and overflows if it has 32 entries.
 abbrev pub case_of : (height count : ℕ) → (one_leaf : Bool) → Case
 case_of height count one_leaf = if one_leaf && nat_lt 1 height then LeafPushdown else (if nat_lt count 32 then NormalInsert else Overflow)
 
--- The node that an insertion of the key affects. The key first differs, at `position`, from the key of the leaf that its search finds. On
--- the key's path all forks above that node are before the position. The part affected in the node is a leaf, or has two entries or more.
+-- The node that an insertion of the key affects, as `choice` tells it. `position` is where the key first differs from the key of the leaf
+-- that its search finds. On the key's path all forks above that node are before the position. The part affected in the node is a leaf, or
+-- has two entries or more.
 pub record IsAffectedNode (key : Key) (position : ℕ) (tree : Tree) (choice : Choice) : Type 0 where
   pub number : ℕ
   pub fixed : Fixed

@@ -40,12 +40,12 @@ pub enum Case {
 
 /// The affected node of an insertion, by its index `level` on the way, its affected slots from `first` to `last`, and what is done there.
 ///
-/// It says which nodes get another one in their place. For `LeafPushdown` it is none, and slot `first` of the affected node is stored into.
-/// For `NormalInsert` it is the affected node. For `Overflow` these are the nodes from the affected one up to `pull_up_chain_end`, but for
-/// a full node that stays whole as one half.
+/// So it tells which nodes are replaced. `LeafPushdown` replaces none, and stores into slot `first` of the affected node. `NormalInsert`
+/// replaces the affected node. `Overflow` replaces the nodes from the affected one up to `pull_up_chain_end`, but for an affected node that
+/// stays whole as one half.
 ///
-/// The last two store into `slot` of the node above the uppermost of these, or at the root. A writer locks these nodes, also the one
-/// that stays whole, and the one that is stored into.
+/// `NormalInsert` and `Overflow` store into `slot` of the node above the uppermost of these, or at the root. A writer locks all these
+/// nodes, also one that stays whole, and what it stores into.
 #[derive(Clone, Copy)]
 pub struct Choice {
     pub level: usize,
@@ -68,7 +68,7 @@ pub fn last_level_before(way: &[PathNode], position: u16) -> usize
     level
 }
 
-/// Returns the affected node and the case of an insertion after a search along `way`, whose leaf has another key. `level` is what
+/// Returns the affected node and the case of an insertion after a search along `way` that ended at a leaf with another key. `level` is what
 /// `last_level_before` returns for the position where the two keys first differ. In the node there, the entries from `first` to `last` are
 /// affected. If that is one entry, and the path goes on below it, the whole next node is affected instead.
 pub fn choose_case(way: &[PathNode], level: usize, first: u8, last: u8) -> Choice
@@ -120,7 +120,7 @@ fn case_at_node(step: PathNode, one_leaf: bool) -> Case
 }
 
 /// Returns the index on `way` of the uppermost node that is remade if the node at index `level` overflows: that node, or one above it. The
-/// halves of a full node go into its parent if that is one higher, and a full parent overflows in turn.
+/// halves of a full node go into its parent if the parent is one higher, and a full parent overflows in turn.
 pub fn pull_up_chain_end(way: &[PathNode], level: usize) -> usize
     requires { level < length way.now }
     ensures { IsChainEnd way.now level result }
@@ -132,7 +132,7 @@ pub fn pull_up_chain_end(way: &[PathNode], level: usize) -> usize
     end
 }
 
-/// Returns whether `child` is full, and what rises from it goes into `parent`.
+/// Returns whether `child` is full, and its parent `parent` is one higher, so that what rises from `child` goes into `parent`.
 fn is_pulled_up(child: PathNode, parent: PathNode) -> bool
     ensures { IsTrue result ↔ ((child.count ≡ 32) × IsPullUp child.height parent.height) }
 {

@@ -22,8 +22,9 @@ pub enum Grown {
 }
 
 /// Returns `node` with `entry` added. A new fork at `position` parts `entry` from the entries from `first` to `last`, which
-/// `Node::affected` returns. `bit` is the new key's bit there. The result is one node if there is room, else the cut that [`grow_full`]
-/// returns.
+/// `Node::affected` returns. `bit` is the bit of the entry's key at `position`. `entry` stands behind those entries if `bit` is true, else
+/// before them. If there is room, the result is one node. Else it is the root fork of all 33 entries, with its two sides. One side is then
+/// `node` as it is, exactly if `position` is before the first fork of `node`.
 pub fn grow(node: &Node, first: u8, last: u8, position: u16, bit: bool, entry: Entry) -> Grown
     requires range { IsAffected (piece node.now) position first last }
     requires position { position < 65535 }
@@ -38,9 +39,10 @@ pub fn grow(node: &Node, first: u8, last: u8, position: u16, bit: bool, entry: E
     Grown::Two(grow_full(node, first, last, position, bit, entry))
 }
 
-/// Returns what the full node `node` becomes with `entry` added, as [`grow`] says. The node is cut at its root fork, and the entry goes
-/// into one of the halves. If `position` is below the root fork's, the cut is there: the whole node is one side, `Half::Same`, and the
-/// entry the other.
+/// Returns the full node `node` with `entry` added, as a cut of all 33 entries. A new fork at `position` parts `entry` from the affected
+/// entries `first` to `last`. `entry` stands behind these if `bit` is true, else before them. The node is cut at its root fork, and `entry`
+/// goes into one of the halves. If `position` is below the root fork's, the cut is there: the whole node is one side, `Half::Same`, and
+/// `entry` the other.
 pub fn grow_full(node: &Node, first: u8, last: u8, position: u16, bit: bool, entry: Entry) -> Cut
     requires full { length node.now.entries ≡ 32 }
     requires range { IsAffected (piece node.now) position first last }
@@ -79,7 +81,7 @@ fn keep_node_whole(position: u16, bit: bool, entry: Entry) -> Cut
 }
 
 /// Returns the cut of the full node `node` at its root fork, with `entry` in the half that has the entries from `first` to `last`.
-/// [`grow_half`] puts it there.
+/// `position` is above the root fork's. [`grow_half`] puts `entry` there.
 fn cut_and_grow(node: &Node, first: u8, last: u8, position: u16, bit: bool, entry: Entry) -> Cut
     requires lawful { IsLawfulNode node.now }
     requires range { IsAffected (piece node.now) position first last }
@@ -124,7 +126,7 @@ fn half_count(half: &Half) -> u8
 }
 
 /// Returns the node of `half`, a side of a cut with fewer than 32 entries, with `entry` beside its affected entries `first` to `last`. A
-/// fork at `position` parts it from these. It stands behind them if `bit` is true, else before them.
+/// fork at `position` parts `entry` from these. `entry` stands behind them if `bit` is true, else before them.
 fn grow_half(half: Half, first: u8, last: u8, position: u16, bit: bool, entry: Entry) -> Node
     requires half { HalfShows half (half_piece half) }
     requires room { size (half_piece half) < 32 }
@@ -150,7 +152,8 @@ fn grow_half(half: Half, first: u8, last: u8, position: u16, bit: bool, entry: E
 }
 
 /// Returns `node` with a fork of `zero` and `one` at `position` in place of the entry in `slot`. `position` is above those of all forks on
-/// the path to `slot`. The result is one node if there are fewer than 32 entries, else the cut that [`pull_up_full`] returns.
+/// the path to `slot`. The result is one node if `node` has fewer than 32 entries. Else it is a cut of 33 entries, as [`pull_up_full`]
+/// makes it. No side of it is `node` as it is.
 pub fn pull_up(node: &Node, slot: u8, position: u16, zero: Entry, one: Entry) -> Grown
     requires place { slot < length node.now.entries }
     requires path { IsAbovePath position slot (piece node.now) }
@@ -169,8 +172,9 @@ pub fn pull_up(node: &Node, slot: u8, position: u16, zero: Entry, one: Entry) ->
     Grown::Two(pull_up_full(node, slot, position, zero, one))
 }
 
-/// Returns what the full node `node` becomes with the fork in it, as [`pull_up`] says. The node is cut at its root fork, and the new fork
-/// stands in one of the halves.
+/// Puts a fork of `zero` and `one` at `position` in place of the entry in `slot` of the full node `node`. Returns a cut of all 33 entries.
+/// `position` is above those of all forks on the path to `slot`. The node is cut at its root fork, and the new fork stands in one of the
+/// halves. Neither half is `Half::Same`.
 pub fn pull_up_full(node: &Node, slot: u8, position: u16, zero: Entry, one: Entry) -> Cut
     requires full { length node.now.entries ≡ 32 }
     requires place { slot < length node.now.entries }
@@ -205,8 +209,8 @@ pub fn pull_up_full(node: &Node, slot: u8, position: u16, zero: Entry, one: Entr
     }
 }
 
-/// Returns the node of `half`, a side of a cut with fewer than 32 entries. It has a fork in place of the entry in `slot`, as [`pull_up`]
-/// says.
+/// Returns the node of `half`, a side of a cut with fewer than 32 entries. It has a fork of `zero` and `one` at `position` in place of the
+/// entry in `slot`. `position` is above those of all forks on the path to `slot`.
 fn fork_half(half: Half, slot: u8, position: u16, zero: Entry, one: Entry) -> Node
     requires half { HalfShows half (half_piece half) }
     requires room { size (half_piece half) < 32 }

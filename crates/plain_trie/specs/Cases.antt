@@ -11,8 +11,9 @@ use Rattle.plain_trie.specs.Views.{PlainView, shown_tree}
 abbrev pub MakesRoot : (old new : PlainView) → (up : Bool) → Type 0
 MakesRoot old new up = up ≡ true → MatchOption new.top ⊥ (IsNewNode (length old.nodes))
 
--- An absent key was added, in the next leaf record. The nodes up to the root were changed as the case of the node says that the key
--- affects.
+-- What the addition of an absent key, in the next leaf record, changed in a trie that had a tree. The key first differs at some position
+-- from the key of the leaf where its search ends. The nodes were changed by the case of the node that this position affects, and by what
+-- rose from it. A fork that rose from the root is in a new node.
 abbrev pub TakesCase : (old new : PlainView) → (key : Key) → Type 0
 TakesCase old new key =
     (tree : Tree) → shown_tree old ≡ Some tree →

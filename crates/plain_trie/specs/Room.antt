@@ -28,14 +28,14 @@ LacksRoom plain = IsAtLimit plain ⊎ MustGrow plain
 abbrev pub KeepsRoom : (old new : PlainView) → Type 0
 KeepsRoom old new = (old.node_capacity ≤ new.node_capacity) × (old.leaf_capacity ≤ new.leaf_capacity)
 
--- nothing of the trie has changed but that its vector of leaves may have more room
+-- nothing of the trie has changed but, at most, for how many leaves its vector has memory
 abbrev pub IsUnchanged : (old new : PlainView) → Type 0
 IsUnchanged old new = new ≡ record old { leaf_capacity = new.leaf_capacity }
 
--- The call has the reply that it has on the finite map of the trie, and the trie is the map after it.
+-- The reply is that of the finite map for which the trie stands. Then the trie stands for the map after the call.
 abbrev pub IsTrieAnswer : (call : Call) → (old new : PlainView) → (reply : Reply) → Type 0
 IsTrieAnswer call old new reply = (reply ≡ reply_of (trie_map old) call) × (trie_map new ≡ map_after (trie_map old) call)
 
--- The call would have added its key, for which there was no room. The trie is unchanged.
+-- The call would have added its key, for which there was no room. The trie is unchanged, but its vector of leaves may have more room.
 abbrev pub IsOutOfMemory : (call : Call) → (old new : PlainView) → Type 0
 IsOutOfMemory call old new = AddsKey (trie_map old) call × LacksRoom old × IsUnchanged old new

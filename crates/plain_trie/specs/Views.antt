@@ -36,12 +36,12 @@ trie_map plain = map_read (shown_tree plain)
 abbrev pub ShowsSoundTree : PlainView → Type 0
 ShowsSoundTree plain = MatchOption plain.top (Unit {0}) (λ entry. IsSomeAnd (shown_tree plain) IsSound)
 
--- The records of the trie show a bit trie of its keys from the root's entry on, if it has one. Else its map is empty.
+-- If the trie has a root's entry, its records show a sound bit trie from there on, whose leaves are the trie's map. Else the map is empty.
 abbrev pub ShowsTrie : PlainView → Type 0
 ShowsTrie plain = MatchOption plain.top (trie_map plain ≡ []) (λ entry.
     (tree : Tree) × (subtrie tree ≡ Place entry) × IsSound tree × ShowsTree plain.nodes plain.leaves tree × (trie_map plain ≡ pairs (items tree)))
 
--- the trie, which has this root's entry, shows this tree, which is sound
+-- The trie's records show this sound tree from its root's entry on, and the tree begins at the entry `entry`.
 pub record IsTree (plain : PlainView) (entry : Entry) (tree : Tree) : Type 0 where
   pub is : shown_tree plain ≡ Some tree
   pub head : subtrie tree ≡ Place entry

@@ -20,8 +20,8 @@ use std::marker::Model;
 /// A height optimized trie for one thread. Contracts see its records, the entry of its root, and for how many records its
 /// two vectors have memory.
 ///
-/// A node's stored height is one above the greatest of its entries when the node is built, and stays as it is while the
-/// node keeps its forks. So where an entry gives way to a lower one, it can be more than one above the greatest.
+/// A node's stored height is one above the greatest of its entries when the node is built. It stays as it is while the node keeps its
+/// forks. So where an entry gives way to a lower one, it can be more than one above the greatest.
 #[derive(Drop)]
 pub struct PlainTrie {
     nodes: Vec<Node>,
@@ -71,7 +71,7 @@ impl PlainTrie {
         }
     }
 
-    /// Returns the root's entry; `None` if the trie has no key.
+    /// Returns the root's entry; `None` if the trie has no key. In either case the records show the trie's map (`ShowsTrie`).
     pub fn top(&self) -> Option<Entry>
         ensures top { result ≡ self.now.top }
         ensures shows { ShowsTrie self.now }
@@ -123,7 +123,8 @@ impl PlainTrie {
     /// made for, so one may be refused though its own would find room. A refused call leaves all records and the root as they were.
     ///
     /// A key that is added below a node changes the nodes by the case of the affected one, which `choose_case` of `insert_cases` names.
-    /// Those above it change by what rises from there.
+    /// Those above it change by what rises from there. In any case no vector has less room, and each node keeps a right height
+    /// (`KeepsHeights`).
     pub fn insert(&mut self, key: &Key, value: u64) -> Result<Reply, AllocError>
         ensures ok { IfOk result (IsTrieAnswer (Insert key.now value) self.old self.new) }
         ensures err { OnErr result (IsOutOfMemory (Insert key.now value) self.old self.new) }
@@ -138,7 +139,8 @@ impl PlainTrie {
     }
 
     /// Gives `key` the value `value`, and returns `New`, or `Was` with the value that the key had. Only a key that was absent takes memory.
-    /// `AllocError` where `insert` would return it; then all records and the root stay as they were.
+    /// It changes the nodes as `insert` does, by the case of the affected one. `AllocError` where `insert` would return it; then all
+    /// records and the root stay as they were. In any case no vector has less room, and each node keeps a right height (`KeepsHeights`).
     pub fn upsert(&mut self, key: &Key, value: u64) -> Result<Reply, AllocError>
         ensures ok { IfOk result (IsTrieAnswer (Upsert key.now value) self.old self.new) }
         ensures err { OnErr result (IsOutOfMemory (Upsert key.now value) self.old self.new) }
@@ -154,8 +156,10 @@ impl PlainTrie {
         Ok(Reply::Was(held))
     }
 
-    /// Adds `key` with `value` if it is absent, and returns `None`; else returns the number of its leaf record. Room is made first for the
-    /// leaf, a node for each height, and a new root. So a refusal, `AllocError`, changes no record.
+    /// Adds `key` with `value` if it is absent, and returns `None`; else returns the number of its leaf record, and changes nothing. Room
+    /// is made first for the leaf, a node for each height, and a new root. So a refusal, `AllocError`, changes no record. A key that is
+    /// added below a node changes the nodes by the case of the affected one (`TakesCase`). In any case no vector has less room, and each
+    /// node keeps a right height (`KeepsHeights`).
     fn add_absent(&mut self, key: &Key, value: u64) -> Result<Option<usize>, AllocError>
         ensures ok { IfOk result (λ held. MatchOption held
             ((value_at (trie_map self.old) key.now ≡ None) × (trie_map self.new ≡ with_value (trie_map self.old) key.now value))
@@ -184,7 +188,8 @@ impl PlainTrie {
         Ok(None)
     }
 
-    /// Adds `key` with `value` to a trie without keys. `AllocError`, and nothing changes, if memory is refused.
+    /// Adds `key` with `value` to a trie without keys. `AllocError` if memory, or a number of 32 bits, is lacking; then no record and no
+    /// key has changed. In any case no vector has less room, and each node keeps a right height (`KeepsHeights`).
     fn add_first_leaf(&mut self, key: &Key, value: u64) -> Result<(), AllocError>
         requires { self.old.top ≡ None }
         ensures map { OnOk result (trie_map self.new ≡ with_value (trie_map self.old) key.now value) }
@@ -201,7 +206,7 @@ impl PlainTrie {
         Ok(())
     }
 
-    /// Gives `key`, which is held in leaf record `leaf`, the value `value`.
+    /// Gives `key`, which is held in leaf record `leaf`, the value `value`. All nodes stay, and no vector has less room.
     fn set_value(&mut self, leaf: usize, key: &Key, value: u64)
         requires { IsHeldInLeaf self.old key.now leaf }
         ensures map { trie_map self.new ≡ with_value (trie_map self.old) key.now value }

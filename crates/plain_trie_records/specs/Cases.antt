@@ -24,9 +24,9 @@ use Rattle.plain_trie_records.specs.Heights.{Remains}
 abbrev pub IsOneSide : NodeView → Subtrie → Type 0
 IsOneSide view shown = AtRootFork (λ position zero one. (piece view ≡ zero) ⊎ (piece view ≡ one)) shown
 
--- What became of the affected node, by the case. With the new leaf it would show the subtrie `shown`. In a leaf pushdown a new node over
--- two leaves stands in place of its one affected leaf. In the other cases the node has the leaf itself, or it was cut, and one side is
--- left.
+-- What became of the affected node, by the case. With the new leaf it would show the subtrie `shown`. After a leaf pushdown it has a node
+-- of height 1 in slot `first`, and is otherwise as it was. After a normal insertion it is built to show `shown`. After an overflow it shows
+-- one side of the root fork of `shown`.
 abbrev pub IsCaseDone : (case : Case) → (old new : NodeView) → (first : ℕ) → (shown : Subtrie) → Type 0
 IsCaseDone LeafPushdown old new first shown = (number : ℕ) × (new ≡ record old { entries = slice_set old.entries first (Node number 1) })
 IsCaseDone NormalInsert old new first shown = IsBuiltFrom new shown
@@ -49,8 +49,8 @@ is_overflow LeafPushdown = false
 is_overflow NormalInsert = false
 is_overflow Overflow = true
 
--- A node takes in a fork in place of the entry in slot `at`. If it had room, it has one entry more. If it was full, it has one side of its
--- new root fork, which goes up.
+-- A node takes in a fork of two entries in place of the entry in slot `at`. If it had room, it was built anew with one entry more, and
+-- nothing goes up. If it was full, it has one side of its new root fork, which goes up.
 pub record TakesFork (old new : NodeView) (at : ℕ) (up : Bool) : Type 0 where
   pub position : ℕ
   pub zero_entry : Entry
@@ -62,8 +62,9 @@ pub record TakesFork (old new : NodeView) (at : ℕ) (up : Bool) : Type 0 where
 abbrev pub HasNodeAt : (old new : NodeView) → (at : ℕ) → Type 0
 HasNodeAt old new at = (number : ℕ) × (height : ℕ) × (new ≡ record old { entries = slice_set old.entries at (Node number height) })
 
--- What becomes of a node above a child of this height. A fork that rose goes into it if that is a pull up. Otherwise a new node in the
--- child's slot has the fork, and nothing goes up. If none rose, at most one slot has another entry.
+-- What becomes of a node above a child of height `low`, which stands in slot `at`. If a fork rose and the node is one higher, it takes the
+-- fork in. If it is higher still, slot `at` gets another node, and nothing goes up. If no fork rose, at most one slot has another entry,
+-- and nothing goes up.
 abbrev pub IsLevelDone : (low : ℕ) → (rose : Bool) → (old new : NodeView) → (at : ℕ) → (up : Bool) → Type 0
 IsLevelDone low false old new at up = Remains old new × (up ≡ false)
 IsLevelDone low true old new at up =
@@ -77,8 +78,8 @@ pub record DoesLevel (old new : List NodeView) (number low at : ℕ) (rose up : 
   pub new_at : slice_get new number ≡ Some after
   pub does : IsLevelDone low rose before after at up
 
--- Each node on the key's path has become what `IsLevelDone` says, from the top of the tree through `levels` levels. `low` says whether a
--- fork rose to the lowest of these nodes, and `up` whether one rises from the top.
+-- Each node on the key's path has become what `IsLevelDone` says, from the top of the tree through `levels` levels. Each of these levels
+-- has a node. `low` says whether a fork rose to the lowest of them, and `up` whether one rises from the top.
 abbrev pub DoesLevels : (old new : List NodeView) → (key : Key) → (levels : ℕ) → (tree : Tree) → (low up : Bool) → Type 0
 DoesLevels old new key zero tree low up = up ≡ low
 DoesLevels old new key (suc below) (leaf number own_key value) low up = ⊥
@@ -89,8 +90,9 @@ DoesLevels old new key (suc below) (fork position left right) low up = ⊥
 
 -- ---- an insertion
 
--- The records before and after a new leaf was added below the tree. `up` says whether a fork rises from the tree. The affected node was
--- changed by its case, and each node above it by what rose to it.
+-- The node records before and after a new leaf was added to the tree, which begins with a node. The leaf has the record `number`. Its key
+-- first differs, at `position`, from the key of the leaf where its search ends. The affected node was changed by its case, and each node
+-- above it by what rose to it. `up` says whether a fork rises from the tree.
 pub record IsByCase (old new : List NodeView) (key : Key) (position number : ℕ) (tree : Tree) (up : Bool) : Type 0 where
   pub choice : Choice
   pub affected : IsAffectedNode key position tree choice
@@ -100,7 +102,7 @@ pub record IsByCase (old new : List NodeView) (key : Key) (position number : ℕ
   pub rises : DoesLevels old new key choice.level tree (is_overflow choice.case) up
 
 -- The records before and after a new leaf was added to the tree, by the case of the node that the leaf affects. `up` says whether a fork
--- rises from the top. A leaf alone gives way to a fork of it and the new one.
+-- rises from the top. A tree of one leaf gives way to a fork of it and the new one. Of a tree that begins with a fork nothing is said.
 abbrev pub AddsByCase : (old new : List NodeView) → (key : Key) → (position number : ℕ) → (tree : Tree) → (up : Bool) → Type 0
 AddsByCase old new key position number (leaf own_number own_key value) up = up ≡ true
 AddsByCase old new key position number (node own_number fixed body) up = IsByCase old new key position number (node own_number fixed body) up
@@ -111,7 +113,8 @@ abbrev pub IsNewNode : (count : ℕ) → (entry : Entry) → Type 0
 IsNewNode count (Leaf number) = ⊥
 IsNewNode count (Node number height) = count ≤ number
 
--- A new node was put between the node of this number and its child in slot `at`. It shows the fork that rose there.
+-- A new record, behind the old ones, has a node built to show the fork that rose. In record `number` that node's entry stands in slot `at`,
+-- and all else is as in `node_view`.
 pub record IsPutBetween (old new : List NodeView) (number at : ℕ) (node_view : NodeView) (shown : Subtrie) : Type 0 where
   pub view : NodeView
   pub built : IsBuiltFrom view shown

@@ -15,25 +15,25 @@ Remains old new = (new ≡ old) ⊎ ((place : ℕ) × (entry : Entry) × (new �
 abbrev pub HasHeightAnew : NodeView → Type 0
 HasHeightAnew node = node.height ≡ 1 + greatest_height node.entries
 
--- if the node has the same forks as before, it has the same stored height
+-- if the node has the columns and rows that it had before, it has the stored height that it had
 abbrev pub KeepsHeight : (old new : NodeView) → Type 0
 KeepsHeight old new = new.columns ≡ old.columns → new.rows ≡ old.rows → new.height ≡ old.height
 
--- No node record goes away. Each has a node that remains, or one that was built. Where a node's forks are as before, so is its stored
--- height.
+-- No node record goes away. Each record has a node that remains, or one whose height is one above the greatest of its entries'. Where a
+-- node's columns and rows are as before, so is its stored height.
 pub record KeepsHeights (old new : List NodeView) : Type 0 where
   pub longer : length old ≤ length new
   pub each : (number : ℕ) (node : NodeView) → slice_get new number ≡ Some node →
       ((was : NodeView) × (slice_get old number ≡ Some was) × Remains was node) ⊎ HasHeightAnew node
   pub steady : (number : ℕ) (was node : NodeView) → slice_get old number ≡ Some was → slice_get new number ≡ Some node → KeepsHeight was node
 
--- if the half of a cut node has the forks of the old node, it has its height
+-- If the half of a cut node is a new node with the old node's columns and rows, it has the old node's height. Any other half is steady.
 abbrev pub IsHalfSteady : NodeView → Half → Type 0
 IsHalfSteady old (One entry) = Unit {0}
 IsHalfSteady old (Many node) = KeepsHeight old node
 IsHalfSteady old Same = Unit {0}
 
--- wherever what a node has grown to has its old forks, it has its old height
+-- each new node that a node has grown to keeps its height, if it has the old node's columns and rows
 abbrev pub IsGrownSteady : NodeView → Grown → Type 0
 IsGrownSteady old (Whole node) = KeepsHeight old node
 IsGrownSteady old (Two cut) = IsHalfSteady old cut.zero × IsHalfSteady old cut.one

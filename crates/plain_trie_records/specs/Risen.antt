@@ -11,8 +11,8 @@ use Rattle.tries.specs.Tree.{Subtrie, first_position}
 use Rattle.insert_cases.specs.declared.raising.Risen.{Risen}
 use Rattle.insert_cases.specs.declared.raising.Risen.TheVariants.{Whole, Split}
 
--- The entry names a node that shows the subtrie. The node's height was built anew. Or it is that of the old node, and so is its first
--- position.
+-- The entry names a record whose lawful node shows the subtrie, and has that node's height. Either this is one above the greatest height of
+-- the subtrie's entries. Or the height and the first position are those of the old node.
 pub record IsNamed (nodes : List NodeView) (old : NodeView) (entry : Entry) (shown : Subtrie) : Type 0 where
   pub number : ℕ
   pub view : NodeView
@@ -27,7 +27,8 @@ pub record IsNamed (nodes : List NodeView) (old : NodeView) (entry : Entry) (sho
 abbrev pub StandsForSubtrie : (nodes : List NodeView) → (old : NodeView) → (entry : Entry) → (shown : Subtrie) → Type 0
 StandsForSubtrie nodes old entry shown = (shown ≡ Place entry) ⊎ IsNamed nodes old entry shown
 
--- what has risen shows this subtrie: it is one entry, or the two sides of a fork
+-- What has risen shows this subtrie. One entry names a node that shows it. A fork has its root fork's position, and its two entries stand
+-- for the root fork's sides.
 abbrev pub RisenShows : (nodes : List NodeView) → (old : NodeView) → (risen : Risen) → (shown : Subtrie) → Type 0
 RisenShows nodes old (Whole entry) shown = IsNamed nodes old entry shown
 RisenShows nodes old (Split position zero one) shown =
@@ -41,25 +42,25 @@ OthersStay old new number = (other : ℕ) (view : NodeView) → number ≢ other
 abbrev pub AllStay : (old new : List NodeView) → Type 0
 AllStay old new = (number : ℕ) (view : NodeView) → slice_get old number ≡ Some view → slice_get new number ≡ Some view
 
--- the node records, with the node of the half behind them; without one if the half is an entry alone
+-- the node records, and behind them the node of the half, if the half is a new node
 abbrev pub pushed_nodes : List NodeView → Half → List NodeView
 pushed_nodes nodes (One entry) = nodes
 pushed_nodes nodes (Many node) = nodes ++ node ∷ []
 pushed_nodes nodes Same = nodes
 
--- the entry of the half, if its node was added as the record of this number
+-- the entry of the half, if its node was added as the record of this number; `old`, the old node's entry, if the half is `Same`
 abbrev pub pushed_entry : (number : ℕ) → (old : Entry) → (half : Half) → Entry
 pushed_entry number old (One entry) = entry
 pushed_entry number old (Many node) = Node number node.height
 pushed_entry number old Same = old
 
--- the node records, with the node of the half in place of node record `number`
+-- the node records, with the node of the half in place of node record `number`, if the half is a new node
 abbrev pub kept_nodes : (nodes : List NodeView) → (number : ℕ) → (half : Half) → List NodeView
 kept_nodes nodes number (One entry) = nodes
 kept_nodes nodes number (Many node) = slice_set nodes number node
 kept_nodes nodes number Same = nodes
 
--- the entry of the half, if its node took the place of the record of this number
+-- the entry of the half, if its node took the place of the record of this number; `old`, the old node's entry, if the half is `Same`
 abbrev pub kept_entry : (number : ℕ) → (old : Entry) → (half : Half) → Entry
 kept_entry number old (One entry) = entry
 kept_entry number old (Many node) = Node number node.height

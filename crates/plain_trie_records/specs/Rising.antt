@@ -21,12 +21,12 @@ LacksNode sought (leaf number key value) = Unit {0}
 LacksNode sought (node number fixed body) = (sought ≢ number) × LacksNode sought body
 LacksNode sought (fork position left right) = LacksNode sought left × LacksNode sought right
 
--- each node record stays as it was whose number no node of the tree has
+-- each node record that the tree doesn't have stays as it was
 abbrev pub StaysStored : (old new : List NodeView) → (tree : Tree) → Type 0
 StaysStored old new tree = (number : ℕ) (view : NodeView) → LacksNode number tree → slice_get old number ≡ Some view → slice_get new number ≡ Some view
 
--- In place of the tree `below` the new records show a tree with one leaf more, behind a fork at this position. It begins with the subtrie
--- `head`, and its entries are lower than `bound`. All node records but those of `below` are as they were.
+-- In place of the tree `below` the new records show a bit trie of lawful nodes with one leaf more, as `IsAdded` says. That tree begins with
+-- the subtrie `head`, and its entries are lower than `bound`. All node records but those of `below` are as they were.
 pub record IsRaised (old new : List NodeView) (leaves : List LeafRecord) (item : Item) (position : ℕ) (below : Tree) (bound : ℕ) (head : Subtrie) : Type 0 where
   pub tree : Tree
   pub begins : subtrie tree ≡ head
@@ -36,8 +36,8 @@ pub record IsRaised (old new : List NodeView) (leaves : List LeafRecord) (item :
   pub shown : ShowsTree new leaves tree
   pub kept : StaysStored old new below
 
--- The records show the tree at an entry, and a new leaf besides. The new key differs first, at this position, from the key of the leaf
--- where its search ends.
+-- The records show a tree at an entry, a bit trie of lawful nodes, and beside it the new leaf's record. The new key is lawful. It first
+-- differs, at this position, from the key of the leaf where its search ends.
 pub record IsAddable (nodes : List NodeView) (leaves : List LeafRecord) (item : Item) (position : ℕ) (entry : Entry) (tree : Tree) : Type 0 where
   pub head : subtrie tree ≡ Place entry
   pub trie : IsTrie tree
@@ -67,8 +67,9 @@ pub record Level : Type 0 where
 abbrev pub level : (number height at low : ℕ) → Level
 level number height at low = record { number = number; height = height; at = at; low = low }
 
--- A new leaf was added below a node of the old records, as far up as the child on the key's path. The subtrie `head` takes the child's
--- place. `here` is the node's level on the path.
+-- A new leaf was added below a node of the old records. What became of the child on the key's path begins with the subtrie `head`. The old
+-- records show the node with the body `tree`, a bit trie of lawful nodes. Each fork on the key's path through the body is before this
+-- position. `here` is the node's level on the path, and the child is lower than the node.
 pub record IsLifting (old : Records) (new : List NodeView) (item : Item) (position : ℕ) (here : Level)
     (fixed : Fixed) (tree : Tree) (head : Subtrie) : Type 0 where
   pub trie : IsTrie tree

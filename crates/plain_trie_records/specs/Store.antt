@@ -28,13 +28,14 @@ read_node entry_shows number height (Some view) =
     if nat_eq view.height height then join_node number (head_of view) (read_subtrie entry_shows (piece view)) else None
 read_node entry_shows number height None = None
 
--- the tree that an entry shows in these records; none if a record is missing, or a path has more than `depth` nodes
+-- The tree that an entry shows in these records. There is none if a record is missing, a node's height is not that of its entry, or a path
+-- has more than `depth` nodes.
 abbrev pub entry_tree : (nodes : List NodeView) → (leaves : List LeafRecord) → (depth : ℕ) → (entry : Entry) → Option Tree
 entry_tree nodes leaves depth (Leaf number) = option_map (λ (stored : LeafRecord). leaf number stored.key stored.value) (slice_get leaves number)
 entry_tree nodes leaves zero (Node number height) = None
 entry_tree nodes leaves (suc depth) (Node number height) = read_node (entry_tree nodes leaves depth) number height (slice_get nodes number)
 
--- The tree is a bit trie. Each of its nodes has two entries or more, and a height above theirs.
+-- The tree is a bit trie, and each of its nodes is lawful: it has two entries or more, and a height above theirs.
 pub record IsSound (tree : Tree) : Type 0 where
   pub trie : IsTrie tree
   pub built : IsBuilt tree

@@ -14,8 +14,9 @@ ghost use Rattle.plain_trie_records.specs.Risen.{RisenShows, OthersStay, pushed_
 use compound_node::{Cut, Entry, Half, Node};
 use insert_cases::{Grown, Risen};
 
-/// Stores `grown`, which the node `number` of the height `height` has become, and returns the entry or fork that takes the node's place. If
-/// both halves are nodes, the first takes the old node's record, and the other a new one, for which there is room.
+/// Stores `grown`, which the node `number` of the height `height` has become. Returns what takes the node's place: the entry of the one
+/// node, or the fork of the two halves. The one node, or the first half that is a node, takes the old node's record. A second half that is
+/// a node gets a new record, for which there is room. All other records stay.
 pub fn store_grown(nodes: &mut Vec<Node>, number: u32, height: u16, grown: Grown) -> Risen
     requires number { number < vec_len nodes.old }
     requires room { vec_len nodes.old < vec_capacity nodes.old }
@@ -38,7 +39,9 @@ pub fn store_grown(nodes: &mut Vec<Node>, number: u32, height: u16, grown: Grown
     }
 }
 
-/// Stores the two halves of `cut`, into which the node `number` of the height `height` was cut, and returns the fork of their entries.
+/// Stores the two halves of `cut`, into which the node `number` of the height `height` was cut, and returns the fork of their entries. The
+/// first half that is a node gets the record `number`, since nothing else names it any more. A second one gets a new record, for which
+/// there is room. All other records stay.
 fn store_cut(nodes: &mut Vec<Node>, number: u32, height: u16, cut: Cut) -> Risen
     requires number { number < vec_len nodes.old }
     requires room { vec_len nodes.old < vec_capacity nodes.old }
@@ -97,8 +100,8 @@ fn put_half(nodes: &mut Vec<Node>, number: u32, height: u16, half: Half) -> Entr
     }
 }
 
-/// Returns the entry of `half`. One entry is returned as it is, and a node is put into a new record. `Half::Same` is the node `number`, of
-/// the height `height`.
+/// Returns the entry of `half`. One entry is returned as it is, and a node is put into a new record, for which there is room. `Half::Same`
+/// is the node `number`, of the height `height`.
 fn push_half_if_node(nodes: &mut Vec<Node>, number: u32, height: u16, half: Half) -> Entry
     requires room { vec_len nodes.old < vec_capacity nodes.old }
     requires small { vec_len nodes.old < 2 ^ 32 }
@@ -128,7 +131,7 @@ pub fn put_node(nodes: &mut Vec<Node>, number: u32, node: Node) -> Entry
     Entry::Node { number, height }
 }
 
-/// Puts `node` into a new record behind the others, and returns the entry that names it.
+/// Puts `node` into a new record behind the others, for which there is room, and returns the entry that names it.
 fn push_node(nodes: &mut Vec<Node>, node: Node) -> Entry
     requires room { vec_len nodes.old < vec_capacity nodes.old }
     requires small { vec_len nodes.old < 2 ^ 32 }
@@ -145,7 +148,8 @@ fn push_node(nodes: &mut Vec<Node>, node: Node) -> Entry
     entry
 }
 
-/// Puts a node of `zero` and `one`, with a fork at `position`, into a new record behind the others, and returns the entry that names it.
+/// Puts a node of `zero` and `one`, with a fork at `position`, into a new record behind the others, for which there is room. Returns the
+/// entry that names it.
 pub fn push_pair(nodes: &mut Vec<Node>, position: u16, zero: Entry, one: Entry) -> Entry
     requires room { vec_len nodes.old < vec_capacity nodes.old }
     requires small { vec_len nodes.old < 2 ^ 32 }

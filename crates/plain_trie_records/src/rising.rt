@@ -23,10 +23,12 @@ use insert_cases::{Risen, grow, is_pull_up, pull_up};
 use key_bits::Key;
 
 /// Adds the leaf of the record `leaf`, which has `key`, below `entry`, and returns what takes the place of `entry`. At `position` the key
-/// first differs from that of the leaf where its search ends. `nodes` has room for as many nodes more as `entry` is high.
+/// first differs from that of the leaf where its search ends. `nodes` has room, and numbers of 32 bits, for as many nodes more as `entry`
+/// is high. No more are added, so its capacity stays.
 ///
-/// The search goes down to the node that takes the new leaf, or to a leaf. That leaf gives way to a fork of itself and the new one. Each
-/// node on the way back takes in what took its child's place.
+/// The search goes down to the node that takes the new leaf, or to a leaf. That leaf gives way to a fork of itself and the new one. If it
+/// is `entry` itself, no node changes. Each node on the way back takes in what took its child's place, as `AddsByCase` says. Node records
+/// outside the tree below `entry` stay. A node whose columns and rows stay keeps its height, too (`KeepsHeights`).
 pub fn raise_newcomer(
     nodes: &mut Vec<Node>,
     entry: Entry,
@@ -68,8 +70,8 @@ pub fn raise_newcomer(
 }
 
 /// Returns whether a new leaf goes into a node of the height `height` itself, if it affects the node's entries from `first` to `last`. It
-/// does if these are several, or if all entries are leaves. Else it goes to the one affected entry or below it: into a node there, or into
-/// a new one of both.
+/// does if these are several, or if all entries are leaves. Else the one affected entry gives way: to a node that takes the leaf, or to a
+/// new node of both.
 fn node_takes_leaf(height: u16, first: u8, last: u8) -> bool
     ensures { IsTrue result ↔ ((first < last) ⊎ (height ≡ 1)) }
 {
@@ -96,8 +98,9 @@ fn fork_entries(old: Entry, position: u16, bit: bool, new: Entry) -> Risen
 }
 
 /// Puts `risen` in the place of the entry in `slot` of the node `number`, which is `height` high, and returns what takes the node's place.
-/// `low` is the height of the entry that was there. A fork goes into the node if that is one higher than `low`, else into a new node in
-/// that slot. A full node that takes in the fork is cut, and the fork of its sides is returned.
+/// `low` is the height of the entry that was there. A fork goes into the node if the node is one higher than `low`, else into a new node in
+/// that slot. A full node that takes in the fork is cut, and the fork of its sides is returned. One record at most is added, for which
+/// there is room. All other records stay.
 fn lift_risen(
     nodes: &mut Vec<Node>,
     number: u32,
@@ -143,7 +146,7 @@ fn lift_risen(
 }
 
 /// Returns the root's entry when `risen` takes the old root's place. One entry is returned as it is. A fork becomes a new node in `nodes`,
-/// which has room for it.
+/// which has room for it. All node records from before stay.
 pub fn make_root(nodes: &mut Vec<Node>, risen: Risen) -> Entry
     requires place { (ns : List NodeView) × (leaves : List LeafRecord) × (x : Item) × (p : ℕ) × (t : Tree) × (h : ℕ) ×
         IsRaised ns nodes.old.items leaves x p t h (subtrie_of risen) }
@@ -166,8 +169,8 @@ pub fn make_root(nodes: &mut Vec<Node>, risen: Risen) -> Entry
     }
 }
 
-/// Puts `entry`, which is lower than the node `number`, into the node's slot `slot` in its own record, and returns the entry that names the
-/// node. The node's height stays.
+/// Puts `entry`, which is lower than the node `number`, into slot `slot` of that node in its own record. Returns the entry that names the
+/// node. The node's height stays, and so do all other records.
 fn replace_entry(nodes: &mut Vec<Node>, number: u32, slot: u8, entry: Entry) -> Entry
     requires { (old : NodeView) × (slice_get nodes.old.items number ≡ Some old) × (slot < size (piece old)) × StandsBelow old.height entry }
     ensures shows { (old : NodeView) → slice_get nodes.old.items number ≡ Some old → IsNamed nodes.new.items old result (grafted slot (At entry) (piece old)) }

@@ -10,8 +10,9 @@ use std::alloc::AllocError;
 /// A vector has at most this many records, so that a number of 32 bits names each.
 const MAX_RECORDS: usize = 4_294_967_296;
 
-/// Makes room for one leaf more and for `count` nodes, and returns the leaf's number. `AllocError` if memory or numbers of 32 bits don't
-/// suffice. All records stay in any case.
+/// Makes room for one leaf more and for `count` nodes, at most 65,536. Returns the leaf's number, which is that behind all others.
+/// `AllocError` if numbers of 32 bits don't suffice, or a vector has to grow and memory is refused. All records stay in any case, and no
+/// vector has less room. After an error the vector of nodes has just the room that it had.
 pub fn make_room(
     nodes: &mut Vec<Node>,
     leaves: &mut Vec<LeafRecord>,

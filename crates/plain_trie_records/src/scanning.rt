@@ -27,7 +27,7 @@ pub struct ScanRange<'a> {
 
 /// Goes on with `scan`, which has the pairs before those below `entry`: adds the pairs of `range` below `entry`, in the order of their
 /// keys. If the limit is reached, it sets `more` instead of adding a further pair. All leaves below `entry` are read. `AllocError` if
-/// memory is refused for a pair; the pairs before that one are added then.
+/// memory is refused for a pair, so only if `scan` is to have one.
 pub fn scan_below(
     nodes: &Vec<Node>,
     leaves: &Vec<LeafRecord>,
@@ -72,7 +72,7 @@ fn scan_leaf(leaf: &LeafRecord, range: ScanRange, scan: &mut Scan) -> Result<(),
     Ok(())
 }
 
-/// Returns whether `key` is neither below `range` nor above it.
+/// Returns whether `key` is in `range`, both ends included.
 fn is_in_range(range: ScanRange, key: &Key) -> bool
     ensures { result ≡ is_within range.entry.from.now range.entry.upto.now key.now }
 {

@@ -6,8 +6,8 @@ use Rattle.compound_node.specs.declared.entries.Entry.TheVariants.{Leaf, Node}
 use Rattle.node_tries.specs.Piece.{Place, Fork}
 use Rattle.tries.specs.Tree.{Subtrie, Tree, leaf, node, fork}
 
--- The part of a body that an insertion of the key affects, where `position` is the first position at which the key differs. Below the forks
--- before that position, the part is all that is left on the key's path.
+-- The part of a body that an insertion of the key affects, where the key first differs at `position`. It is what is left on the key's path
+-- behind all forks before that position. A node that is an entry of the body is not entered.
 abbrev pub affected : (position : ℕ) → (key : Key) → (tree : Tree) → Tree
 affected position key (leaf number own_key value) = leaf number own_key value
 affected position key (node number fixed body) = node number fixed body
@@ -20,7 +20,8 @@ IsLeafOrFork (leaf number key value) = Unit {0}
 IsLeafOrFork (node number fixed body) = ⊥
 IsLeafOrFork (fork position left right) = Unit {0}
 
--- The part of a subtrie that an insertion of the key affects, as `affected` says of a body.
+-- The part of a subtrie that an insertion of the key affects, where the key first differs at `position`. It is what is left on the key's
+-- path behind all forks before that position.
 abbrev pub subtrie_affected : (position : ℕ) → (key : Key) → (trie : Subtrie) → Subtrie
 subtrie_affected position key (Place entry) = Place entry
 subtrie_affected position key (Fork fork_position left right) =
@@ -32,8 +33,8 @@ abbrev pub subtrie_forked : (bit : Bool) → (position : ℕ) → (entry : Entry
 subtrie_forked false position entry trie = Fork position (Place entry) trie
 subtrie_forked true position entry trie = Fork position trie (Place entry)
 
--- The subtrie with a new key's entry, where `position` is the first position at which the key differs. A new fork there has the entry on
--- one side, and on the other the part that was affected.
+-- The subtrie with a new key's entry, where the key first differs at `position`. A new fork there has the entry on the side of the key's
+-- bit, and on the other side the affected part.
 abbrev pub subtrie_grown : (position : ℕ) → (key : Key) → (entry : Entry) → (trie : Subtrie) → Subtrie
 subtrie_grown position key entry (Place other) = subtrie_forked (bit key position) position entry (Place other)
 subtrie_grown position key entry (Fork fork_position left right) =

@@ -14,7 +14,7 @@ pub record Item : Type 0 where
 abbrev pub item : (number : ℕ) → (key : Key) → (value : ℕ) → Item
 item number key value = record { number = number; key = key; value = value }
 
--- the leaves of a tree, from its first side to its second
+-- the leaves of a tree, in the order of its keys: those of a fork's 0 side, then those of its 1 side
 abbrev pub items : Tree → List Item
 items (leaf number key value) = record { number = number; key = key; value = value } ∷ []
 items (node number fixed body) = items body
@@ -45,7 +45,7 @@ pub data IsExchange (x y : Item) : List Item → List Item → Type 0 where
   exchanged : {xs : List Item} → IsExchange x y (x ∷ xs) (y ∷ xs)
   past_one : {z : Item} {xs ys : List Item} → IsExchange x y xs ys → IsExchange x y (z ∷ xs) (z ∷ ys)
 
--- The tree's first fork is at a later position than this one. A leaf has no fork.
+-- The tree's first fork is at a later position than this one, or the tree has no fork.
 abbrev pub IsAbove : (position : ℕ) → (tree : Tree) → Type 0
 IsAbove position (leaf number key value) = Unit {0}
 IsAbove position (node number fixed body) = IsAbove position body

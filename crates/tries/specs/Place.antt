@@ -22,12 +22,12 @@ with_entry (Place old) slot entry = Place entry
 with_entry (Fork position left right) slot entry =
     if nat_lt slot (size left) then Fork position (with_entry left slot entry) right else Fork position left (with_entry right (slot - size left) entry)
 
--- The forks of a subtrie, without its entries. They are what a node's fixed words show.
+-- The forks of a subtrie, with leaf 0 in place of each entry. They are what a node's fixed words show.
 abbrev pub shape : Subtrie → Subtrie
 shape (Place entry) = Place (Leaf 0)
 shape (Fork position left right) = Fork position (shape left) (shape right)
 
--- The two subtries differ in the entry of one slot at most.
+-- The two subtries have the same forks, and differ in the entry of one slot at most.
 pub data Swap : Subtrie → Subtrie → Type 0 where
   swap : {e f : Entry} → Swap (Place e) (Place f)
   in_zero : {p : ℕ} {a b c : Subtrie} → Swap a c → Swap (Fork p a b) (Fork p c b)
@@ -39,8 +39,8 @@ with_subtrie key other (Place entry) = other
 with_subtrie key other (Fork position left right) =
     if bit key position then Fork position left (with_subtrie key other right) else Fork position (with_subtrie key other left) right
 
--- A fork after one entry was taken out of one side, that of the bit. `rest` is what is left of that side. If the side was that entry alone,
--- nothing of it is left, and the result is the other side.
+-- A fork of `left` and `right` after one entry was taken out of the side of the bit. `rest` is what is left of that side. If the side was
+-- that entry alone, nothing of it is left, and the result is the other side.
 abbrev pub joined : (position : ℕ) → (bit : Bool) → (left right rest : Subtrie) → Subtrie
 joined position true left (Place entry) rest = left
 joined position true left (Fork below zero one) rest = Fork position left rest
@@ -54,8 +54,8 @@ subtrie_without key (Place entry) = Place entry
 subtrie_without key (Fork position left right) =
     joined position (bit key position) left right (if bit key position then subtrie_without key right else subtrie_without key left)
 
--- One step of `subtrie_sibling`: the last fork on a key's path, and the subtrie on its other side. If this fork's side of the bit is one
--- entry, it is this fork. Else it is what was found below.
+-- One step of `subtrie_sibling`, at a fork on the key's path. If the fork's side of the bit is one entry, the fork is the path's last: the
+-- result is its position and its other side. Else the result is `below`, which was found farther down.
 abbrev pub side_beside : (position : ℕ) → (bit : Bool) → (left right : Subtrie) → (below : Option (ℕ × Subtrie)) → Option (ℕ × Subtrie)
 side_beside position true left (Place entry) below = Some (position, left)
 side_beside position true left (Fork lower zero one) below = below
@@ -68,8 +68,8 @@ subtrie_sibling key (Place entry) = None
 subtrie_sibling key (Fork position left right) =
     side_beside position (bit key position) left right (if bit key position then subtrie_sibling key right else subtrie_sibling key left)
 
--- One step of `subtrie_collapsed`, at one fork. If the side of the bit is one entry, this fork is the last on the path, and the new entry
--- takes its place. Else `below` takes the place of that side.
+-- One step of `subtrie_collapsed`, at a fork on the key's path. If the fork's side of the bit is one entry, the fork is the path's last,
+-- and the new entry takes its place. Else `below` takes the place of that side.
 abbrev pub fork_closed : (position : ℕ) → (bit : Bool) → (entry : Entry) → (left right below : Subtrie) → Subtrie
 fork_closed position true entry left (Place old) below = Place entry
 fork_closed position true entry left (Fork lower zero one) below = Fork position left below

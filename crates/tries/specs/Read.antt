@@ -4,13 +4,13 @@ use Rattle.compound_node.specs.declared.entries.Entry.{Entry}
 use Rattle.node_tries.specs.Piece.{Place, Fork}
 use Rattle.tries.specs.Tree.{Fixed, Subtrie, Tree, node, fork}
 
--- a fork of two trees, if both are there
+-- a fork of two trees; none if one of them is missing
 abbrev pub join_fork : (position : ℕ) → (left right : Option Tree) → Option Tree
 join_fork position (Some left) (Some right) = Some (fork position left right)
 join_fork position (Some left) None = None
 join_fork position None right = None
 
--- a node around a body, if the body is there
+-- a node around a body; none if the body is missing
 abbrev pub join_node : (number : ℕ) → (fixed : Fixed) → (body : Option Tree) → Option Tree
 join_node number fixed (Some body) = Some (node number fixed body)
 join_node number fixed None = None

@@ -30,21 +30,21 @@ abbrev pub seek : Key → Subtrie → Entry
 seek key (Place entry) = entry
 seek key (Fork position left right) = if bit key position then seek key right else seek key left
 
--- Two bodies of one node in two versions: they have the same forks. At each fork, the keys below it in either body agree before its
--- position.
+-- Two bodies of one node in two versions: they have the same forks, and any entries. At each fork, each key below it in the one body agrees
+-- with each key below it in the other before the fork's position.
 pub data Kin : Tree → Tree → Type 0 where
   tips : {a b : Tree} → IsTip a → IsTip b → Kin a b
   forks : {p : ℕ} {a b c d : Tree} → ((key other : Key) → Has a key ⊎ Has b key → Has c other ⊎ Has d other → AgreeBelow p key other) →
       Kin a c → Kin b d → Kin (fork p a b) (fork p c d)
 
--- The position of the fork that parts two slots of a subtrie, where `first` is the lower slot.
+-- The position of the fork that parts two slots of a subtrie, where `first` is the lower slot; 0 if no fork parts them.
 abbrev pub between : (trie : Subtrie) → (first second : ℕ) → ℕ
 between (Place entry) first second = 0
 between (Fork position left right) first second =
     if nat_lt second (size left) then between left first second
     else (if nat_lt first (size left) then position else between right (first - size left) (second - size left))
 
--- The key is in the tree that stands in this slot of the body.
+-- The key is in the tree that stands in this slot of the body. Nothing is in a slot past the last.
 abbrev pub IsUnder : (tree : Tree) → (slot : ℕ) → (key : Key) → Type 0
 IsUnder (leaf number own_key value) slot key = (slot ≡ 0) × Has (leaf number own_key value) key
 IsUnder (node number fixed body) slot key = (slot ≡ 0) × Has (node number fixed body) key

@@ -24,15 +24,16 @@ AddingInserts =
     (lookup (is_at (slice_cmp nat_cmp item.key)) (pairs (items before)) ≡ None) ×
     (insert_entry (slice_cmp nat_cmp) (pairs (items before)) item.key item.value ≡ pairs (items after))
 
--- If a bit trie has one leaf in place of another with the same key, the key had the old value before. The new content is the old one with
--- the new value of the key.
+-- Let a tree have the leaves of a bit trie, but one leaf in place of another with the same key. In the bit trie's content the key has the
+-- old leaf's value. The tree's content is that one with the new leaf's value for the key.
 abbrev pub ExchangeReplaces : Type 0
 ExchangeReplaces =
     (before after : Tree) (item other : Item) → IsTrie before → IsExchange item other (items before) (items after) → item.key ≡ other.key →
     (lookup (is_at (slice_cmp nat_cmp other.key)) (pairs (items before)) ≡ Some item.value) ×
     (insert_entry (slice_cmp nat_cmp) (pairs (items before)) other.key other.value ≡ pairs (items after))
 
--- If a bit trie has one leaf less than before, the key of that leaf had its value before. The new content is the old one without the key.
+-- Let a tree have the leaves of a bit trie without one. In the bit trie's content that leaf's key has its value. The tree's content is that
+-- one without the key.
 abbrev pub TakingRemoves : Type 0
 TakingRemoves =
     (before after : Tree) (item : Item) → IsTrie before → IsMore item (items after) (items before) →

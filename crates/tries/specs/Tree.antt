@@ -70,8 +70,8 @@ abbrev pub first_position : Subtrie → ℕ
 first_position (Place entry) = 0
 first_position (Fork position left right) = position
 
--- A node's fixed part fits its subtrie. Its rows show the subtrie's forks, and its 32 slots have room for the entries. Its height and first
--- position add up to at most the number of positions of a key.
+-- A node's fixed part fits its subtrie. Its columns are lawful, its rows show the subtrie's forks over them, and its 32 slots have room for
+-- the entries. Its height and first position add up to at most the number of positions of a key, so a height fits its 16 bits.
 pub record IsFit (fixed : Fixed) (trie : Subtrie) : Type 0 where
   pub positions : IsColumns fixed.columns
   pub shows : ShowsPiece fixed.columns fixed.rows (places trie) trie

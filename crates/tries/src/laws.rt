@@ -8,8 +8,8 @@ pub fn content_is_in_key_order()
     ensures { ContentRises }
 {}
 
-/// A tree is a bit trie exactly if each leaf has a key and each fork keeps two rules. All forks below the fork have higher positions. The
-/// first keys of its two sides agree before its position, and have 0 and 1 there.
+/// A tree is a bit trie exactly if each leaf's key is lawful, and each fork keeps two rules. The next forks below it have higher positions.
+/// The first keys of its two sides agree before its position, and have 0 and 1 there.
 pub fn local_rules_make_a_trie()
     ensures { LocalIsTrie }
 {}
@@ -20,8 +20,8 @@ pub fn one_leaf_more_adds_its_key()
     ensures { AddingInserts }
 {}
 
-/// Let a leaf of a bit trie be exchanged for one of the same key. That changes the map by that key's value alone, which becomes the new
-/// leaf's.
+/// Let a tree have the leaves of a bit trie, but one leaf in place of another with the same key. In the trie's map the key has the old
+/// leaf's value. The tree's map has the new leaf's value for the key, and is otherwise the trie's.
 pub fn exchanged_leaf_replaces_value()
     ensures { ExchangeReplaces }
 {}
@@ -31,7 +31,7 @@ pub fn one_leaf_less_removes_its_key()
     ensures { TakingRemoves }
 {}
 
-/// If each node of a tree has two entries or more, the tree has fewer nodes than leaves.
+/// A tree of lawful nodes, each with two entries or more, has fewer nodes than leaves.
 pub fn nodes_are_fewer_than_leaves()
     ensures { NodesAreFewer }
 {}

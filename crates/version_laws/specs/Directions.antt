@@ -47,22 +47,22 @@ place_ahead Downwards gap entries = gap - suc entries
 
 -- Keys
 
--- a scan comes to `key` before it comes to `other`
+-- `key` is strictly before `other` in the order of the scan: less upwards, greater downwards
 abbrev pub IsEarlier : (direction : Direction) → (key other : Key) → Type 0
 IsEarlier Upwards key other = IsBefore key other
 IsEarlier Downwards key other = IsBefore other key
 
--- a scan comes to `key` before it comes to `other`, or the two keys are the same
+-- `key` is before `other` in the order of the scan, or the two keys are equal
 abbrev pub IsNoLater : (direction : Direction) → (key other : Key) → Type 0
 IsNoLater Upwards key other = IsAtMost key other
 IsNoLater Downwards key other = IsAtMost other key
 
--- the key with which a scan of a range begins
+-- the end of a range at which a scan begins: the least key upwards, the greatest downwards
 abbrev pub first_key : Direction → Range → Key
 first_key Upwards range = range.from
 first_key Downwards range = range.upto
 
--- the key with which a scan of a range ends
+-- the end of a range at which a scan ends: the greatest key upwards, the least downwards
 abbrev pub last_key : Direction → Range → Key
 last_key Upwards range = range.upto
 last_key Downwards range = range.from
@@ -82,42 +82,46 @@ WasPassed Downwards gap place = gap ≤ place
 -- What a scan knows. The first frame is that of the lowest node, and has the gap where the scan is. Each other frame has the slot below
 -- which the scan is.
 
--- the key may stand in a slot of the node that a scan at this gap has passed
+-- in some slot of the node that a scan at this gap has passed, the key may stand (`MayStandAt`)
 abbrev pub MayStandPassed : (direction : Direction) → (past : Past) → (since node gap : ℕ) → (key : Key) → Type 0
 MayStandPassed direction past since number gap key = (slot : ℕ) × WasPassed direction gap slot × MayStandAt past since number slot key
 
--- in the node of one of the frames, the key may stand in a slot before the frame's
+-- For one of the frames, the key may stand in the frame's node, in a slot that the scan takes before the frame's slot.
 abbrev pub MayStandBeforeFrames : (direction : Direction) → (past : Past) → (since : ℕ) → (key : Key) → (frames : List Frame) → Type 0
 MayStandBeforeFrames direction past since key [] = ⊥
 MayStandBeforeFrames direction past since key (frame ∷ others) =
     MayStandPassed direction past since frame.number (gap_before direction frame.place) key ⊎ MayStandBeforeFrames direction past since key others
 
--- in the node of one of its frames, the scan has passed a slot in which the key may stand
+-- In the node of one of its frames, the scan has passed a slot in which the key may stand. The first frame's place is a gap, and each other
+-- frame's place is a slot.
 abbrev pub HasPassed : (direction : Direction) → (past : Past) → (since : ℕ) → (key : Key) → (frames : List Frame) → Type 0
 HasPassed direction past since key [] = ⊥
 HasPassed direction past since key (lowest ∷ others) =
     MayStandPassed direction past since lowest.number lowest.place key ⊎ MayStandBeforeFrames direction past since key others
 
--- the node of one of the frames had the key below it, in a slot behind the frame's
+-- For one of the frames, the frame's node had the key below it in a version from `since` on. The slot to which the frame's forks lead the
+-- key comes after the frame's slot in the scan.
 abbrev pub ComesOnWay : (direction : Direction) → (past : Past) → (since : ℕ) → (key : Key) → (frames : List Frame) → Type 0
 ComesOnWay direction past since key [] = ⊥
 ComesOnWay direction past since key (frame ∷ others) =
     (HadKeyBelow past since key (a_node frame.number) × IsToCome direction (gap_behind direction frame.place) (spot key frame.shape)) ⊎
     ComesOnWay direction past since key others
 
--- the node of one of the frames had the key below it, in a slot that the scan has still to take
+-- For one of the frames, the frame's node had the key below it in a version from `since` on. The scan has still to take the slot to which
+-- the frame's forks lead the key. The first frame's place is a gap, and each other frame's place is a slot.
 abbrev pub Comes : (direction : Direction) → (past : Past) → (since : ℕ) → (key : Key) → (frames : List Frame) → Type 0
 Comes direction past since key [] = ⊥
 Comes direction past since key (lowest ∷ others) =
     (HadKeyBelow past since key (a_node lowest.number) × IsToCome direction lowest.place (spot key lowest.shape)) ⊎ ComesOnWay direction past since key others
 
--- the keys of the pairs are in the order of the scan; the newest pair stands first in the list
+-- The keys of the pairs are strictly in the order of the scan, so no key stands twice. The newest pair is the first of the list.
 abbrev pub AreOrdered : Direction → List Pair → Type 0
 AreOrdered direction [] = Unit {0}
 AreOrdered direction (newest ∷ older) = Every (λ pair. IsEarlier direction pair.key newest.key) older × AreOrdered direction older
 
--- The invariant of a scan's loop, by the past, the frames and the pairs taken so far, the newest first. Each pair was held in a version
--- from `since` on. Each key of the range that was held in all these versions is listed, or is still to come.
+-- The invariant of a scan's loop. `frames` is the path to the gap where the scan is, and `taken` the pairs so far, the newest first.
+-- The pairs are strictly in the scan's order, in the range, and no more than its limit. Each was held in a version from `since` on, and may
+-- stand in a slot passed. Each key of the range that was held in all these versions is listed, or is still to come.
 pub record IsScanBy (direction : Direction) (past : Past) (since : ℕ) (range : Range) (frames : List Frame) (taken : List Pair) : Type 0 where
   pub stack : IsStack past since frames
   pub ordered : AreOrdered direction taken
@@ -127,8 +131,8 @@ pub record IsScanBy (direction : Direction) (past : Past) (since : ℕ) (range :
   pub short : length taken ≤ range.limit
   pub covered : (key : Key) → IsKeptSince past since key → IsInRange range key → IsKeyListed key taken ⊎ Comes direction past since key frames
 
--- What a scan that came to the end of its range promises. Each pair was held in a version from `since` on, and each key of the range that
--- was held in all these versions is listed.
+-- What a scan that came to the end of its range promises. Its pairs, the newest first, are strictly in the scan's order, in the range, and
+-- no more than its limit. Each was held in a version from `since` on. Each key of the range that was held in all these versions is listed.
 pub record IsComplete (direction : Direction) (past : Past) (since : ℕ) (range : Range) (taken : List Pair) : Type 0 where
   pub ordered : AreOrdered direction taken
   pub within : Every (λ pair. IsInRange range pair.key) taken
@@ -136,13 +140,14 @@ pub record IsComplete (direction : Direction) (past : Past) (since : ℕ) (range
   pub short : length taken ≤ range.limit
   pub covered : (key : Key) → IsKeptSince past since key → IsInRange range key → IsKeyListed key taken
 
--- the scan has reached the key: the newest pair, which stands first, has this key or a later one
+-- The newest pair, the first of the list, has this key or one that comes later in the scan. A scan without pairs has reached no key.
 abbrev pub IsReachedBy : (direction : Direction) → (key : Key) → (taken : List Pair) → Type 0
 IsReachedBy direction key [] = ⊥
 IsReachedBy direction key (newest ∷ older) = IsNoLater direction key newest.key
 
--- What a scan that was cut at its limit promises. It has as many pairs as its limit, and some key was held later than all of these. Each
--- key up to the newest pair's that was held in all versions from `since` on is listed.
+-- What a scan that was cut at its limit promises. Its pairs are in order, in the range and held as `IsComplete` says, and as many as the
+-- limit. In a version from `since` on the range had a further key, which comes after all of them. Each key of the range that was held in
+-- all these versions is listed, if it comes no later than the newest pair's key.
 pub record IsCut (direction : Direction) (past : Past) (since : ℕ) (range : Range) (taken : List Pair) : Type 0 where
   pub ordered : AreOrdered direction taken
   pub within : Every (λ pair. IsInRange range pair.key) taken
@@ -156,13 +161,14 @@ abbrev pub IsAnswer : (direction : Direction) → (past : Past) → (since : ℕ
 IsAnswer direction past since range taken false = IsComplete direction past since range taken
 IsAnswer direction past since range taken true = IsCut direction past since range taken
 
--- Each key that may stand behind this gap of the node comes later than `key`, now and however the past grows.
+-- Each key that may stand in a slot that a scan at this gap has still to take comes later than `key`. Since writers go on during the scan,
+-- this holds for each past `new` that goes on from `old`. It need only keep fixed words and stems from version `since` on.
 abbrev pub IsPastKey : (direction : Direction) → (past : Past) → (since : ℕ) → (key : Key) → (node gap : ℕ) → Type 0
 IsPastKey direction old since key number gap =
     (new : Past) → IsGrown old new → KeepsFixedWordsSince new since → (slot : ℕ) (other : Key) → IsToCome direction gap slot → MayStandAt new since number slot other →
     IsEarlier direction key other
 
--- A statement on a scan from one front to another, by the range's ends and its limit.
+-- A statement on a scan that began at the front `before` and ended at `after`, by the range's least and greatest key and its limit.
 abbrev pub ScanLaw : Type 1
 ScanLaw = (before after : List Change) → (from upto : Key) → (limit : ℕ) → (scan : Scan) → Type 0
 

@@ -11,7 +11,7 @@ use Rattle.record_words.specs.declared.records.Rec.{Rec}
 use Rattle.record_words.specs.declared.records.Rec.TheVariants.{Node as a_node, Leaf as a_leaf}
 use Rattle.tries.specs.Place.{shape}
 
--- The tree that stands in a slot of a body.
+-- The tree that stands in a slot of a body. A slot past the last leads to the last.
 abbrev pub at_place : (tree : Tree) → (slot : ℕ) → Tree
 at_place (leaf number key value) slot = leaf number key value
 at_place (node number fixed body) slot = node number fixed body
@@ -24,7 +24,7 @@ AgreeUpToPlace (Fork position left right) slot key other =
     AgreeBelow (suc position) key other × (slot < size left → AgreeUpToPlace left slot key other) ×
     (size left ≤ slot → AgreeUpToPlace right (slot - size left) key other)
 
--- In version `first` or a later one, node record `number` stood in the tree with this body.
+-- In some version `at`, from `first` up to the newest, node record `number` stood in the tree with the body `tree`.
 pub record Stood (past : Past) (first number : ℕ) (tree : Tree) : Type 0 where
   pub at : ℕ
   pub since : first ≤ at
@@ -51,8 +51,8 @@ abbrev pub IsRead : (past : Past) → (since leaf : ℕ) → (key : Key) → (va
 IsRead past since number key value =
     (version : ℕ) × (since ≤ version) × (version ≤ past.now) × Stands past version (a_leaf number) (leaf number key value)
 
--- The key may stand in this slot of the node record. In a version from `since` on some key stood there, and the two agree at each fork on
--- the path to the slot.
+-- The key may stand in this slot of the node record. In a version from `since` on some key stood there. The two keys have the same bits up
+-- to and at each fork on the path to the slot.
 abbrev pub MayStandAt : (past : Past) → (since node slot : ℕ) → (key : Key) → Type 0
 MayStandAt past since number slot key =
     (tree : Tree) × (other : Key) × Stood past since number tree × IsUnder tree slot other × AgreeUpToPlace (subtrie tree) slot other key
@@ -62,15 +62,17 @@ abbrev pub HadKeyBelow : (past : Past) → (since : ℕ) → (key : Key) → (re
 HadKeyBelow past since key rec =
     (version : ℕ) × (tree : Tree) × (since ≤ version) × (version ≤ past.now) × Stands past version rec tree × Has tree key
 
--- A node on the path of a scan: its number, its height, its forks and a place. In the lowest node the place is the gap where the scan is.
--- In each other node the place is the slot below which the scan is.
+-- A node on the path of a scan: its number, its height, its forks without their entries, and a place. In the lowest node the place is the
+-- gap where the scan is. In each other node the place is the slot below which the scan is.
 pub record Frame : Type 0 where
   pub number : ℕ
   pub height : ℕ
   pub shape : Subtrie
   pub place : ℕ
 
--- The frames, the lowest node's first, are the path of a scan from the root.
+-- The frames, the lowest node's first, are the path of a scan from the root, or there are none. The topmost node's entry was at the root.
+-- Each other node's entry was in the slot of the frame above. Each node had its frame's forks. Each of this was so in some version from
+-- `since` on, maybe in different ones.
 abbrev pub IsStack : (past : Past) → (since : ℕ) → (frames : List Frame) → Type 0
 IsStack past since [] = Unit {0}
 IsStack past since (top ∷ []) = IsRooted past since (Node top.number top.height) × HadShapeSince past since top.number top.shape

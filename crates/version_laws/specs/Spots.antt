@@ -13,14 +13,14 @@ use Rattle.record_words.specs.declared.records.Rec.TheVariants.{Node as a_node}
 use Rattle.versions.specs.Core.{InTree, BareCore}
 use Rattle.version_laws.specs.Writer.{IsSubtrieStored}
 
--- The pass has locked the node, which is in the tree.
+-- The pass has locked the node, which is in the tree since the version `linked`.
 pub record IsLockedNode (core : BareCore) (pass node : ℕ) : Type 0 where
   pub lock : core.lock node ≡ Some pass
   pub linked : ℕ
   pub fate : core.fate (a_node node) ≡ InTree linked
 
 -- The pass holds the lock of a spot on the key's path, where this entry stands. Either it has locked the anchor, and the entry is the root.
--- Or it has locked a node in the tree, and the entry is that node's on the path.
+-- Or it has locked a node in the tree, whose entry on the key's path is this entry.
 pub data HoldsSpot (core : BareCore) (pass : ℕ) (key : Key) (entry : Entry) : Type 0 where
   by_anchor : core.anchor ≡ Some pass → core.root ≡ Some entry → HoldsSpot core pass key entry
   by_node : (node : ℕ) → IsLockedNode core pass node → seek key (core.heap.nodes node).subtrie ≡ entry → HoldsSpot core pass key entry
@@ -30,8 +30,9 @@ abbrev pub IsLowAt : {core : BareCore} {pass : ℕ} {key : Key} {old : Entry} �
 IsLowAt (by_anchor lock root) new = Unit {0}
 IsLowAt {core = core} (by_node node locked names) new = IsLowerSubtrie (core.heap.nodes node).fixed.height (Place new)
 
--- An insertion of the key, which first differs at this position, affects no more of a subtrie than the entry on the key's path. `below` is
--- the subtrie of that entry. Either the first fork of `below` is before the position, or the affected part is one entry.
+-- An insertion of the key, which first differs at this position, affects no more of `trie` than the entry on the key's path. `below` is the
+-- subtrie of that entry. Either the first fork of `below` is before the position, so the key differs farther down. Or the affected part of
+-- `trie` is one entry.
 abbrev pub AffectsOne : (position : ℕ) → (key : Key) → (trie below : Subtrie) → Type 0
 AffectsOne position key trie below = FirstForkIsBefore position below ⊎ IsTipSubtrie (subtrie_affected position key trie)
 
@@ -40,7 +41,8 @@ abbrev pub subtrie_below : Heap → Entry → Subtrie
 subtrie_below heap (Leaf number) = Place (Leaf number)
 subtrie_below heap (Node number height) = (heap.nodes number).subtrie
 
--- An insertion of the key, which first differs at this position, affects no more of the spot's node than the entry at the spot.
+-- An insertion of the key, which first differs at this position, affects no more of the spot's node than the entry at the spot. At the
+-- anchor there is no other entry to affect.
 abbrev pub AffectsSpotAloneInCore : {core : BareCore} {pass : ℕ} {key : Key} {old : Entry} → (spot : HoldsSpot core pass key old) → (position : ℕ) → Type 0
 AffectsSpotAloneInCore (by_anchor lock root) position = Unit {0}
 AffectsSpotAloneInCore {core = core} {key = key} {old = old} (by_node node locked names) position =

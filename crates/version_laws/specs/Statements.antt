@@ -29,16 +29,17 @@ use Rattle.packed_pairs.specs.declared.direction.Direction.{Direction}
 use Rattle.compound_node.specs.Nodes.{height_of}
 use Rattle.versions.specs.Frames.{IsGrown}
 
--- The store makes a legal publish of the tree, which may be empty, and the publish makes this change, by the change's pass. The leaves are
--- not the same as before. Just the records `new` are linked anew, and just the records `gone` are unlinked.
+-- A store that leaves the words `heap` and the root `root` is a legal publish of this change, by the change's pass. It makes the version
+-- `tree`, which may be empty, and whose leaves differ from those before. Just the records `new` are linked anew, and just the records
+-- `gone` are unlinked.
 pub record IsPublished (core : BareCore) (heap : Heap) (root : Option Entry) (change : Change) (new gone : List Rec) : Type 0 where
   pub tree : Option Tree
   pub legal : IsVersionPublish core change.pass heap root tree change
   pub differs : items_of (core.past.version core.past.now) ≢ items_of tree
   pub trade : HasTraded (core.past.version core.past.now) tree new gone
 
--- An insertion may store the one entry that has risen from a locked node, at the spot where that node's own entry stands. The new entry
--- names a copy of the node, an intermediate node or a new root.
+-- An insertion may store the one entry that has risen from a locked node, at the spot where that node's own entry stands. The new leaf is
+-- ready, and the spot is locked. The new entry names a copy of the node, an intermediate node or a new root.
 abbrev pub InsertAtSpot : Type 0
 InsertAtSpot =
     (core : BareCore) (pass : ℕ) → IsLawfulState (view core) → (newcomer : Newcomer) → IsNewLeaf core pass newcomer.item →
@@ -51,15 +52,15 @@ InsertAtSpot =
     (heap : Heap) (root : Option Entry) → IsStoredAt at heap root risen →
     IsPublished core heap root (added_change pass newcomer.item) (linked_by_rise rise) (unlinked_by_rise rise)
 
--- Let an insertion affect no more of a locked node than its entry for the node below. Then the locked node's own first fork is before the
--- insertion's position. So of the node above that one, only its entry need be checked.
+-- Let an insertion affect no more of the locked node `upper` than its entry for node `lower`. Then the first fork of node `upper` is before
+-- the insertion's position. So in the node above `upper`, too, the insertion affects one entry alone.
 abbrev pub UpperGoesOn : Type 0
 UpperGoesOn =
     (core : BareCore) (pass : ℕ) → IsLawfulState (view core) → (key : Key) (position upper lower : ℕ) → IsUpper core pass key position upper lower →
     FirstForkIsBefore position (core.heap.nodes upper).subtrie
 
--- An insertion that affects one leaf alone may store a new node of that leaf and the new one. In a node it is a leaf pushdown, and at the
--- root it adds the second key.
+-- Let an insertion affect one leaf alone, which stands at a locked spot. It may store there a new node of this leaf and the new one. In a
+-- node that is a leaf pushdown, and at the root it adds the second key. The new leaf and the new node are ready.
 abbrev pub PairAtSpot : Type 0
 PairAtSpot =
     (core : BareCore) (pass : ℕ) → IsLawfulState (view core) → (new : Item) (position : ℕ) → IsNewLeaf core pass new →
@@ -76,13 +77,14 @@ PairAtSpot =
     (heap : Heap) (root : Option Entry) → IsStoredAt at heap root (Node new_node fixed.height) →
     IsPublished core heap root (added_change pass new) (a_node new_node ∷ a_leaf new.number ∷ []) []
 
--- An insertion into an empty index may store the new leaf at the root.
+-- An insertion into an empty index may store the new leaf, which is ready, at the root. The pass has locked the anchor.
 abbrev pub FirstKey : Type 0
 FirstKey =
     (core : BareCore) (pass : ℕ) → IsLawfulState (view core) → (new : Item) → core.anchor ≡ Some pass → core.root ≡ None → IsNewLeaf core pass new →
     IsPublished core core.heap (Some (Leaf new.number)) (added_change pass new) (a_leaf new.number ∷ []) []
 
--- An upsert of a held key may store a new leaf in place of the old one, at a locked spot.
+-- A pass may store a new leaf, which is ready, at a locked spot in place of a leaf with the same key. The key gets the new leaf's value,
+-- and the old leaf is unlinked.
 abbrev pub UpsertAtSpot : Type 0
 UpsertAtSpot =
     (core : BareCore) (pass : ℕ) → IsLawfulState (view core) → (new : Item) → IsNewLeaf core pass new → (old : ℕ) (at : HoldsSpot core pass new.key (Leaf old)) →
@@ -90,7 +92,8 @@ UpsertAtSpot =
     (heap : Heap) (root : Option Entry) → IsStoredAt at heap root (Leaf new.number) →
     IsPublished core heap root (replaced_change pass new) (a_leaf new.number ∷ []) (a_leaf old ∷ [])
 
--- A removal may store what is left of the leaf's node, one entry or a new node, at the spot where that node's entry stands.
+-- A removal may store what is left of the leaf's node, one entry or a new node, at the spot where that node's entry stands. The pass has
+-- locked the node and the spot. The node and the leaf are unlinked.
 abbrev pub RemoveAtSpot : Type 0
 RemoveAtSpot =
     (core : BareCore) (pass : ℕ) → IsLawfulState (view core) → (key : Key) (node leaf : ℕ) → IsLeafOf core pass key node leaf → (height : ℕ) (left : Entry) →
@@ -99,7 +102,8 @@ RemoveAtSpot =
     IsPublished core heap root (removed_change pass (item leaf key (core.heap.leaves leaf).value)) (linked_for_entry stands) (a_node node ∷ a_leaf leaf ∷ [])
 
 -- A removal may merge what is left of the leaf's node with the node beside it, into one new node. In the node above, the new node's entry
--- takes the place of the fork between the two. What is left of the node above, one entry or a new node, takes that node's place.
+-- takes the place of the fork between the two. What is left of the node above, one entry or a new node, takes that node's place. All three
+-- old nodes and the spot are locked, and the three and the leaf are unlinked.
 abbrev pub MergeAtSpot : Type 0
 MergeAtSpot =
     -- the leaf stands in the lower node, which is beside another one in the upper node
@@ -114,22 +118,23 @@ MergeAtSpot =
     IsPublished core heap root (removed_change pass (item leaf key (core.heap.leaves leaf).value)) (linked_for_entry stands ++ a_node merged ∷ [])
     (a_node upper ∷ a_node lower ∷ a_node beside ∷ a_leaf leaf ∷ [])
 
--- A removal of the last key may empty the root.
+-- A pass that has locked the anchor may empty a root that is a leaf. That removes the last key.
 abbrev pub RemoveLast : Type 0
 RemoveLast =
     (core : BareCore) (pass : ℕ) → IsLawfulState (view core) → (leaf : ℕ) → core.anchor ≡ Some pass → core.root ≡ Some (Leaf leaf) →
     IsPublished core core.heap None (removed_change pass (item leaf (core.heap.leaves leaf).key (core.heap.leaves leaf).value)) [] (a_leaf leaf ∷ [])
 
--- A search that was led to a leaf has its result from the leaf's key. If it is the search's key, the key was held with the leaf's value in
--- a version since the search began. Else the key was absent in one.
+-- Let the records of the versions from `since` on be kept (`IsReach`). A search that was led to a leaf has its result from the leaf's
+-- present words. If their key is the search's key, it was held with their value in a version from `since` on. Else the search's key was
+-- absent in a version from `since` on.
 abbrev pub GetEnds : Type 0
 GetEnds =
     (state : State) → IsLawfulState state → (since : ℕ) → IsReach state since → (key : Key) (leaf : ℕ) → IsLed state.past since key (Leaf leaf) →
     ((key ≡ (state.heap.leaves leaf).key) × IsHeldSince state.past since key (state.heap.leaves leaf).value) ⊎
     ((key ≢ (state.heap.leaves leaf).key) × WasAbsentSince state.past since key)
 
--- Let a walk since the front `before` have found these pairs, and have come to its end or been cut at the limit. Then a scan of them is
--- lawful from that front to `before ++ rest`.
+-- Let a walk have found these pairs since the front `before`, and have come to its end or been cut at the limit (`IsAnswer`). Then the scan
+-- that lists them is lawful from that front to the later front `before ++ rest`. Both ends of the range are keys.
 abbrev pub ScanIsLawful : Type 0
 ScanIsLawful =
     -- the versions tell the changes of the later front
@@ -141,25 +146,29 @@ ScanIsLawful =
     IsAnswer direction past (length before) range taken more →
     IsLawfulBy direction before (before ++ rest) range.from range.upto range.limit scan
 
--- A load of the root in a lawful state tells which entry the root had in a version from `since` on (`IsRooted`).
+-- A load of the root in a lawful state tells an entry. The root had it in a version from `since` on (`IsRooted`), for each version `since`
+-- so far.
 abbrev pub LoadsRoot : Type 0
 LoadsRoot = (state : State) → IsLawfulState state → (since : ℕ) → since ≤ state.now → (top : Entry) → state.root ≡ Some top → IsRooted state.past since top
 
--- A load of a slot of a node that stood in the tree since `since` tells which entry the node had there (`IsPlaced`). The entry is lower
--- than the node.
+-- Let a node have stood in the tree in a version from `since` on, and let the records of these versions be kept (`IsReach`). A load of one
+-- of its slots tells which entry it had there in a version from `since` on (`IsPlaced`). The node may have been unlinked meanwhile. The
+-- entry is lower than the node.
 abbrev pub LoadsPlace : Type 0
 LoadsPlace =
     (state : State) → IsLawfulState state → (since : ℕ) → IsReach state since → (number height : ℕ) → EntryStoodSince state.past since (Node number height) →
     (slot : ℕ) → slot < size (state.heap.nodes number).subtrie →
     IsPlaced state.past since number slot (entry_at (state.heap.nodes number).subtrie slot) × (height_of (entry_at (state.heap.nodes number).subtrie slot) < height)
 
--- The loads of a node's head tell which forks the node had in a version from `since` on (`HadShapeSince`).
+-- Let a node have stood in the tree in a version from `since` on, and let the records of these versions be kept (`IsReach`). The loads of
+-- its head tell which forks it had in a version from `since` on (`HadShapeSince`).
 abbrev pub LoadsShape : Type 0
 LoadsShape =
     (state : State) → IsLawfulState state → (since : ℕ) → IsReach state since → (number height : ℕ) → EntryStoodSince state.past since (Node number height) →
     HadShapeSince state.past since number (shape (state.heap.nodes number).subtrie)
 
--- The loads of a leaf's words tell which key and value the leaf had in a version from `since` on (`IsRead`).
+-- Let a leaf have stood in the tree in a version from `since` on, and let the records of these versions be kept (`IsReach`). The loads of
+-- its words tell which key and value it had in a version from `since` on (`IsRead`).
 abbrev pub LoadsLeaf : Type 0
 LoadsLeaf =
     (state : State) → IsLawfulState state → (since : ℕ) → IsReach state since → (leaf : ℕ) → EntryStoodSince state.past since (Leaf leaf) →
@@ -169,16 +178,17 @@ LoadsLeaf =
 abbrev pub LoadsNone : Type 0
 LoadsNone = (state : State) → IsLawfulState state → (since : ℕ) → since ≤ state.now → (key : Key) → state.root ≡ None → WasAbsentSince state.past since key
 
--- A search is led from a node to the entry in the slot on the key's path. The forks and the entry may have been loaded in different
--- versions of the node's life.
+-- Let a past keep fixed words from the version `since` on (`KeepsFixedWordsSince`). Let a search for a key be led to a node (`IsLed`). Let
+-- loads tell forks of the node (`HadShapeSince`), and an entry in the slot to which these lead the key (`IsPlaced`). Then the search is led
+-- to that entry. The forks and the entry may be of different versions of the node's life.
 abbrev pub LedPlaced : Type 0
 LedPlaced =
     (past : Past) (since : ℕ) → KeepsFixedWordsSince past since → (key : Key) (number height slot : ℕ) (trie : Subtrie) (next : Entry) →
     HadShapeSince past since number trie → spot key trie ≡ slot → IsPlaced past since number slot next →
     IsLed past since key (Node number height) → IsLed past since key next
 
--- What a writer has found below a locked node stays true while the versions grow. It does as long as the writer keeps the lock and its pin,
--- and the node its words.
+-- What a writer has found below a locked node stays true while versions are added. For that the writer keeps the node's lock, the node
+-- keeps its words, and the writer's pin is no later than its search's version.
 abbrev pub FoundIsKept : Type 0
 FoundIsKept =
     (old new : BareCore) (pass : ℕ) (newcomer : Newcomer) (lowest : ℕ) (pin : Pin) → IsLawfulState (view new) → IsGrown old.past new.past →

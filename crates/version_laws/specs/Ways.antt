@@ -12,14 +12,14 @@ use Rattle.versions.specs.Frames.{IsGrown}
 use Rattle.version_laws.specs.Scan.{EntryStoodSince, IsRooted, IsBlank, IsPlaced, HadShapeSince, IsRead}
 use Rattle.version_laws.specs.Writer.{BeganAt, IsWayBelow}
 
--- A search went on from node `start`, whose first fork is at `first_fork`, and has come to the entry. All keys below the entry agree,
--- before `first_fork`, with some key `like` of that node.
+-- A search that began at node `start` has come to this entry. In a version from `since` on, node `start` had its first fork at `first_fork`
+-- and some key `like`. In one, maybe another, the entry stood in the tree, and all keys below it agreed with `like` before `first_fork`.
 abbrev pub IsOnWay : (past : Past) → (since first_fork start : ℕ) → (entry : Entry) → Type 0
 IsOnWay past since first_fork start entry =
     (like : Key) × BeganAt past since first_fork like start × StoodWithKeys past since (λ below. AgreeBelow first_fork like below) entry
 
--- A search that went on from this entry ended at a leaf with this key. The entry is that leaf. Or it is a node that had some key `like`,
--- and the two keys agree before that node's first fork.
+-- A search that began at this entry ended at a leaf with this key, by facts of versions from `since` on. Either the entry is that leaf. Or
+-- it is a node that had some key `like`, and the two keys agree before the node's first fork.
 pub data IsWayFrom (past : Past) (since : ℕ) (key : Key) : Entry → Type 0 where
   from_leaf : (number : ℕ) → StoodWithKeys past since (λ held. held ≡ key) (Leaf number) → IsWayFrom past since key (Leaf number)
   from_node : (number height first_fork : ℕ) (like : Key) → BeganAt past since first_fork like number → AgreeBelow first_fork like key →
@@ -34,14 +34,14 @@ IsStill past since key entry =
 
 -- The way of a writer
 
--- A search goes on from a node that stood in the tree since the version `since`, and whose forks were read.
+-- A search below a lock may begin at a node that stood in the tree in a version from `since` on. Its forks were read.
 abbrev pub WayBegins : Type 0
 WayBegins =
     (past : Past) (since : ℕ) → KeepsFixedWordsSince past since → (start height first_fork : ℕ) (trie : Subtrie) → EntryStoodSince past since (Node start height) →
     HadShapeSince past since start trie → first_position trie ≡ first_fork →
     IsOnWay past since first_fork start (Node start height)
 
--- A search below a lock goes on by an entry that was read, whatever was published in between.
+-- A search below a lock has come to a node. It may go on by any entry that was read there, whatever was published in between.
 abbrev pub WayGoesOn : Type 0
 WayGoesOn =
     (past : Past) (since : ℕ) → KeepsFixedWordsSince past since → (first_fork start number height slot : ℕ) (entry : Entry) →
@@ -59,8 +59,8 @@ WayEnds =
 abbrev pub WayOfLeaf : Type 0
 WayOfLeaf = (past : Past) (since number : ℕ) (key : Key) (value : ℕ) → IsRead past since number key value → IsWayFrom past since key (Leaf number)
 
--- Let a search have gone on from a locked node's entry on the key's path. Then what is known of that search is what an insertion needs of
--- the path below the node.
+-- Let a search have begun at the entry on the key's path of a node's subtrie `trie`. Let it have ended at a leaf with the key `other`. Then
+-- `IsWayBelow` holds, which is what an insertion needs of the path below that node.
 abbrev pub WayIsBelow : Type 0
 WayIsBelow =
     (past : Past) (since : ℕ) (key : Key) (trie : Subtrie) (other : Key) → IsWayFrom past since other (seek key trie) → IsWayBelow past since key trie other
@@ -71,7 +71,7 @@ WayIsBelow =
 abbrev pub StillRooted : Type 0
 StillRooted = (past : Past) (since : ℕ) (key : Key) (entry : Entry) → IsRooted past since entry → IsStill past since key entry
 
--- A search goes on from a node to the entry that was read in the slot on the key's path, if no change was made since.
+-- If nothing was changed since, a search goes on from a node to the entry that was read in the slot on the key's path.
 abbrev pub StillPlaced : Type 0
 StillPlaced =
     (past : Past) (since : ℕ) → KeepsFixedWordsSince past since → since ≤ past.now → (key : Key) (number height slot : ℕ) (trie : Subtrie) (entry : Entry) →
@@ -83,8 +83,7 @@ abbrev pub StillGrows : Type 0
 StillGrows =
     (old new : Past) → IsGrown old new → (since : ℕ) (key : Key) (entry : Entry) → since ≤ old.now → IsStill old since key entry → IsStill new since key entry
 
--- A tree has each of its nodes in one place only: two bodies with which one node stands in it are one, if they have the same forks and
--- stems.
+-- Let one node stand with two bodies in a lawful bit trie. If the bodies have the same forks and stems (`Kin`), they are equal.
 abbrev pub OneBody : Type 0
 OneBody =
     (number : ℕ) (fixed : Fixed) (body other tree : Tree) → Within (node number fixed body) tree → Within (node number fixed other) tree → IsTrie tree →

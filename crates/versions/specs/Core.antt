@@ -9,7 +9,7 @@ use Rattle.versions.specs.State.{Life, Out, Linked, Retired, Past, State}
 use Rattle.record_words.specs.declared.records.Rec.{Rec}
 
 -- What has become of a record. It is free, or held by a pass that fills it, or ready for that pass to link it. It is in the tree since a
--- version, or was unlinked by a pass after the version `last`. Or it is marked with an epoch, until it is given back.
+-- version. Or it was unlinked by a pass, with `last` as its last version. Or it is marked with an epoch, until it is given back.
 pub data Fate : Type 0 where
   Free : Fate
   Held : (by : ℕ) → Fate
@@ -56,13 +56,14 @@ abbrev pub pin_version : Option Pin → Option ℕ
 pin_version None = None
 pin_version (Some pin) = Some pin.version
 
--- The core without locks and epochs, as the laws of versions see it.
+-- The core as the laws of versions see it, without changes, locks, the epoch and rounds. It has a life in place of each fate, and of each
+-- pin the version alone.
 abbrev pub view : BareCore → State
 view core =
     record { heap = core.heap; root = core.root; past = core.past; life = λ r. life_of (core.fate r); pin = λ pass. pin_version (core.pins pass) }
 
--- What holds of epochs: each record that a pinned pass may still reach has a mark that keeps it from being given back. A pin has three
--- parts. Its word is an epoch that was loaded before; its floor and its version are the epoch and the newest version when it was set.
+-- What holds of epochs, so that no record that a pinned pass may still reach is given back. A pin has three parts. Its word is an epoch
+-- that was loaded before. Its floor and its version are the epoch and the newest version when it was set.
 pub record HasLawfulEpochs (shared : Shared) : Type 0 where
   -- the parts of a pin are in order, and none is ahead of the present
   pub floors : (pass : ℕ) (pin : Pin) → shared.pins pass ≡ Some pin → (pin.word ≤ pin.floor) × (pin.floor ≤ shared.epoch) ×
@@ -70,10 +71,10 @@ pub record HasLawfulEpochs (shared : Shared) : Type 0 where
   -- the parts of a round are in order, and none is ahead of the present
   pub loads : (pass : ℕ) → ((shared.rounds pass).epoch ≤ shared.epoch) × ((shared.rounds pass).version ≤ shared.past.now) ×
       ((shared.rounds pass).bound ≤ (shared.rounds pass).epoch)
-  -- a pass was pinned before a round loaded the epoch, or at the round's version or a later one
+  -- a pin's floor is no greater than the epoch that a round has loaded, or its version is no earlier than the round's
   pub after : (pass other : ℕ) (pin : Pin) → shared.pins pass ≡ Some pin → (pin.floor ≤ (shared.rounds other).epoch) ⊎
       ((shared.rounds other).version ≤ pin.version)
-  -- a record's mark is no less than the floor of a pin, or the pass was pinned after the record was unlinked
+  -- a marked record's epoch is no less than a pin's floor, or its last version is before the pin's version
   pub marks : (rec : Rec) (since last epoch : ℕ) → shared.fate rec ≡ Marked since last epoch → (pass : ℕ) (pin : Pin) → shared.pins pass ≡ Some pin →
       (pin.floor ≤ epoch) ⊎
       (last < pin.version)

@@ -19,7 +19,7 @@ pub record Heap : Type 0 where
   pub nodes : ℕ → NodeWords
   pub leaves : ℕ → LeafWords
 
--- The record with which the tree begins has the words that the tree tells.
+-- The record with which the tree begins has the words that the tree tells. Of a tree that begins with a fork nothing is said.
 abbrev pub IsCopied : Heap → Tree → Type 0
 IsCopied heap (leaf number key value) = heap.leaves number ≡ record { key = key; value = value }
 IsCopied heap (node number fixed body) = heap.nodes number ≡ record { fixed = fixed; subtrie = subtrie body }
@@ -31,7 +31,8 @@ IsShown heap (leaf number key value) = heap.leaves number ≡ record { key = key
 IsShown heap (node number fixed body) = (heap.nodes number ≡ record { fixed = fixed; subtrie = subtrie body }) × IsShown heap body
 IsShown heap (fork position left right) = IsShown heap left × IsShown heap right
 
--- From one heap to the next, each leaf keeps its key, and each node its fixed words. Each subtrie keeps all its entries but one at most.
+-- From one heap to the next, each leaf keeps its key, and each node its fixed words. Each subtrie keeps its forks, and all its entries but
+-- one at most. Leaves' values may change.
 abbrev pub KeepsAllButOneEntry : (old new : Heap) → Type 0
 KeepsAllButOneEntry old new =
     ((number : ℕ) → (old.leaves number).key ≡ (new.leaves number).key) × ((number : ℕ) → ((old.nodes number).fixed ≡ (new.nodes number).fixed)) ×

@@ -17,7 +17,7 @@ forked position None tree = tree
 forked position (Some tree) None = Some tree
 forked position (Some left) (Some right) = Some (fork position left right)
 
--- the tree of the first `count` leaves alone: their forks, and no nodes
+-- the tree of the first `count` leaves alone: their forks, and no nodes; none for no leaves
 abbrev pub first_leaves : (tree : Tree) → (count : ℕ) → Option Tree
 first_leaves (leaf number key value) zero = None
 first_leaves (leaf number key value) (suc count) = Some (leaf number key value)
@@ -44,13 +44,14 @@ loaded_by shared pass root tree = record shared {
   fate = λ rec. if is_linked tree rec then InTree (length (items_of tree)) else shared.fate rec;
 }
 
--- Take a bulk load as insertions of the tree's leaves, in their order. They are legal calls of the pass that loads the tree.
+-- Take a bulk load of a bit trie as insertions of its leaves, in their order. They are legal calls of the pass that loads it, in a front of
+-- their own changes.
 abbrev pub LoadIsLegal : Type 0
 LoadIsLegal =
     (pass : ℕ) (tree : Option Tree) → ((present : Tree) → tree ≡ Some present → IsTrie present) →
     LegalCalls (map (added_change pass) (items_of tree)) pass (added_notes 0 (items_of tree))
 
--- The core is lawful after a bulk load of a lawful tree that the words show.
+-- Let the words show a lawful tree, or no tree. The core is lawful after a bulk load of it into an index in which nothing has happened.
 abbrev pub LoadIsLawful : Type 0
 LoadIsLawful =
     (heap : Heap) (pass : ℕ) (root : Option Entry) (tree : Option Tree) → IsTop heap root tree →

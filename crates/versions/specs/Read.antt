@@ -6,7 +6,8 @@ use Rattle.compound_node.specs.declared.entries.Entry.{Entry}
 use Rattle.compound_node.specs.declared.entries.Entry.TheVariants.{Leaf, Node}
 use Rattle.versions.specs.Heap.{Heap}
 
--- the tree that the words show from an entry on; none, if a path below the entry has more than `depth` nodes
+-- The tree that the words show from an entry on. There is none if a path below the entry has more than `depth` nodes, or a node's height is
+-- not that of its entry.
 abbrev pub read : (heap : Heap) → (depth : ℕ) → (entry : Entry) → Option Tree
 read heap depth (Leaf number) = Some (leaf number (heap.leaves number).key (heap.leaves number).value)
 read heap zero (Node number height) = None

@@ -27,20 +27,20 @@ Links (leaf number key value) rec = rec ≡ a_leaf number
 Links (node number fixed body) rec = (rec ≡ a_node number) ⊎ Links body rec
 Links (fork position left right) rec = Links left rec ⊎ Links right rec
 
--- The present life of a record. Since it was last free it was not linked, or it is linked since a version, or it was linked from one
--- version to another.
+-- The present life of a record, since it was last free. It was not linked (`Out`). Or it is linked since a version. Or it was linked from
+-- the version `since` to the version `last`.
 pub data Life : Type 0 where
   Out : Life
   Linked : (since : ℕ) → Life
   Retired : (since last : ℕ) → Life
 
--- A record with this life was linked in this version of it, where `now` is the newest version.
+-- This version is one in which a record with this life is or was linked. `now` is the newest version.
 abbrev pub Spans : (now : ℕ) → (life : Life) → (version : ℕ) → Type 0
 Spans now Out version = ⊥
 Spans now (Linked since) version = (since ≤ version) × (version ≤ now)
 Spans now (Retired since last) version = (since ≤ version) × (version ≤ last)
 
--- The last version of a life, where `now` is the newest version. A record that is linked has `now`.
+-- The last version of a life, where `now` is the newest version. A record that is linked, or is not linked since it was free, has `now`.
 abbrev pub last_of : (now : ℕ) → (life : Life) → ℕ
 last_of now Out = now
 last_of now (Linked since) = now
@@ -52,12 +52,13 @@ IsLived now Out = Unit {0}
 IsLived now (Linked since) = since ≤ now
 IsLived now (Retired since last) = (since ≤ last) × (last < now)
 
--- The versions so far. The newest one is number `now`.
+-- The versions so far. The newest one is number `now`, and what `version` has past it doesn't count.
 pub record Past : Type 0 where
   pub now : ℕ
   pub version : ℕ → Option Tree
 
--- the words of the records, the root, the versions so far, and each record's life and each pass's pin
+-- The words of the records, the entry at the root, the versions so far, and each record's life. Of each pinned pass it has the version of
+-- its pin.
 pub record State : Type 0 where
   pub heap : Heap
   pub root : Option Entry
@@ -73,8 +74,8 @@ pub record Stands (past : Past) (version : ℕ) (rec : Rec) (part : Tree) : Type
   pub within : Within part tree
   pub is_record : IsRecord rec part
 
--- Two trees that begin with one record, in two versions. A leaf has the same key in both. A node has the same fixed words in both, and the
--- same forks with the same stems (`Kin`).
+-- Two trees that begin with one record, in two versions, have in common what the record keeps. A leaf has the same key in both. A node has
+-- the same fixed words in both, and the same forks with the same stems (`Kin`).
 abbrev pub IsSameRecord : (first second : Tree) → Type 0
 IsSameRecord (leaf number key value) (leaf other_number other_key other_value) = key ≡ other_key
 IsSameRecord (node number fixed body) (node other_number other_fixed other_body) = (fixed ≡ other_fixed) × Kin body other_body
@@ -98,6 +99,7 @@ pub record IsLawfulState (state : State) : Type 0 where
   pub trees : (version : ℕ) (tree : Tree) → version ≤ state.now → state.version version ≡ Some tree → IsTrie tree × IsBuilt tree
   -- the words show the newest version
   pub top : IsTop state.heap state.root (state.version state.now)
+  -- the versions of each life are in order
   pub lived : (rec : Rec) → IsLived state.now (state.life rec)
   -- a record is linked in each version of its life
   pub alive : (rec : Rec) (version : ℕ) → Spans state.now (state.life rec) version → (part : Tree) × Stands state.past version rec part
@@ -127,7 +129,7 @@ IsLed past since key entry =
     (version : ℕ) × (tree : Tree) × (since ≤ version) × (version ≤ past.now) × Stands past version (rec_of entry) tree × (subtrie tree ≡ Place entry) ×
     (Follows key tree ⊎ WasAbsentSince past since key)
 
--- The subtrie's first fork is at this position or later.
+-- The subtrie's first fork is at this position or later, or the subtrie has no fork.
 abbrev pub FirstForkIsFrom : (position : ℕ) → (trie : Subtrie) → Type 0
 FirstForkIsFrom position (Place entry) = Unit {0}
 FirstForkIsFrom position (Fork fork_position left right) = position ≤ fork_position
@@ -155,7 +157,8 @@ IsHeldSince past since key value = (version : ℕ) × (tree : Tree) × (since �
 abbrev pub IsKeptSince : (past : Past) → (since : ℕ) → (key : Key) → Type 0
 IsKeptSince past since key = (version : ℕ) → since ≤ version → version ≤ past.now → (tree : Tree) × (past.version version ≡ Some tree) × Has tree key
 
--- From version `since` on, each record keeps its fixed words and its stem. Each version is a bit trie of lawful nodes, or empty.
+-- In all versions from `since` on, a node has the same fixed words and stems, and a leaf the same key. Each version, also before `since`,
+-- is a bit trie of lawful nodes, or empty.
 pub record KeepsFixedWordsSince (past : Past) (since : ℕ) : Type 0 where
   pub trees : (version : ℕ) (tree : Tree) → version ≤ past.now → past.version version ≡ Some tree → IsTrie tree × IsBuilt tree
   pub same : (rec : Rec) (version other_version : ℕ) (part other_part : Tree) → since ≤ version → version ≤ past.now → since ≤ other_version →

@@ -14,14 +14,15 @@ use Rattle.finite_map.specs.Fronts.{map_of}
 use Rattle.versions.specs.Told.{content}
 use Rattle.versions.specs.Steps.{IsLawfulCore, IsCoreStep, bare_opening}
 
--- A search may go on in a node that has changed since it was led there. It is led to the node's present entry on the key's path.
+-- Let a search have been led to a node, and let the records of the versions from `since` on be kept (`IsReach`). The node's present entry
+-- on the key's path leads the search on, even if the node has changed or was unlinked since.
 abbrev pub StateHindsight : Type 0
 StateHindsight =
     (state : State) → IsLawfulState state → (since : ℕ) → IsReach state since → (key : Key) (number height : ℕ) →
     IsLed state.past since key (Node number height) → IsLed state.past since key (seek key (state.heap.nodes number).subtrie)
 
--- Let one key be below a slot of a node, and another one below a later slot. The fork between the slots parts the two keys, whichever
--- versions they are of.
+-- Let one key be below a slot of a node, and another one below a later slot, in any versions of the node's life. They first differ at the
+-- fork between the slots, where the first key has 0.
 abbrev pub StateParting : Type 0
 StateParting =
     (state : State) → IsLawfulState state → (rec : Rec) (version other_version number other_number : ℕ) (fixed other_fixed : Fixed) (body other_body : Tree) →
@@ -31,7 +32,7 @@ StateParting =
     (slot later_slot : ℕ) → slot < later_slot → (key other : Key) → IsUnder body slot key → IsUnder other_body later_slot other →
     IsParted (between (subtrie body) slot later_slot) key other
 
--- The core of a new table is lawful.
+-- The core of a new table is lawful, whatever the words of its records say.
 abbrev pub BareOpeningIsLawful : Type 0
 BareOpeningIsLawful = (heap : Heap) → IsLawfulCore (bare_opening heap)
 

@@ -33,7 +33,8 @@ abbrev pub is_linked : Option Tree → Rec → Bool
 is_linked None rec = false
 is_linked (Some tree) rec = links tree rec
 
--- What a publish by this pass makes of a record's fate. `linked` says whether the new tree has the record.
+-- What a publish by this pass makes of a record's fate. `linked` says whether the new tree has the record. A ready record that it has is in
+-- the tree from the next version on. A record in the tree that it lacks is unlinked by the pass. All other fates stay.
 abbrev pub next_fate : (now pass : ℕ) → Bool → Fate → Fate
 next_fate now pass linked Free = Free
 next_fate now pass linked (Held by) = Held by
@@ -59,8 +60,9 @@ pub data IsStore (core : BareCore) (pass : ℕ) (heap : Heap) (root : Option Ent
   at_value : (number : ℕ) → HasLockedNamer core pass number → ((other : ℕ) → heap.nodes other ≡ core.heap.nodes other) →
       ((other : ℕ) → other ≢ number → heap.leaves other ≡ core.heap.leaves other) → root ≡ core.root → IsStore core pass heap root
 
--- The publish makes the next version, which is the tree `next`. The words show it, it is lawful, and its leaves differ from those before as
--- the change `told` says. What it links anew the pass has made ready, and each node that it unlinks the pass has locked.
+-- The publish makes the next version, which is the tree `next`, maybe empty. The words show it, and it is a bit trie of lawful nodes. Its
+-- leaves differ from those before as the change `told` says. Each record that it links anew was made ready by the pass, and each node that
+-- it unlinks is locked by the pass.
 pub record IsNextVersion (shared : Shared) (pass : ℕ) (heap : Heap) (root : Option Entry) (next : Option Tree) (told : Change) : Type 0 where
   pub top : IsTop heap root next
   pub tree : (present : Tree) → next ≡ Some present → IsTrie present × IsBuilt present
@@ -68,7 +70,8 @@ pub record IsNextVersion (shared : Shared) (pass : ℕ) (heap : Heap) (root : Op
   pub goes : (number since : ℕ) → shared.fate (a_node number) ≡ InTree since → ¬ (IsLinked next (a_node number)) → shared.lock number ≡ Some pass
   pub change : IsChange (shared.past.version shared.past.now) told next
 
--- The publish is legal. It stores one word under its lock, in a record that is linked then, and makes the next version.
+-- The publish is legal. It stores one word under its lock, and makes the next version. No leaf's key and no fixed words change, and of each
+-- subtrie one entry at most. A record whose words change is in the new tree. The change is one of this pass.
 pub record IsVersionPublish (core : BareCore) (pass : ℕ) (heap : Heap) (root : Option Entry) (tree : Option Tree) (change : Change) : Type 0 where
   pub store : IsStore core pass heap root
   pub near : KeepsAllButOneEntry core.heap heap
@@ -108,7 +111,7 @@ with_epoch shared epoch = record shared { epoch = epoch }
 abbrev pub with_pin : (shared : Shared) → (pass : ℕ) → (pin : Option Pin) → Shared
 with_pin shared pass pin = record shared { pins = λ other. if nat_eq other pass then pin else shared.pins other }
 
--- what passes share after the pass has set its pin to this word
+-- what passes share after the pass has set its pin to this word; the pin's version is the newest version, and its floor the epoch
 abbrev pub after_set_pin : (shared : Shared) → (pass word : ℕ) → Shared
 after_set_pin shared pass word = with_pin shared pass (Some (record { word = word; version = shared.past.now; floor = shared.epoch }))
 
@@ -116,7 +119,7 @@ after_set_pin shared pass word = with_pin shared pass (Some (record { word = wor
 abbrev pub with_round : (shared : Shared) → (pass : ℕ) → (round : Round) → Shared
 with_round shared pass round = record shared { rounds = λ other. if nat_eq other pass then round else shared.rounds other }
 
--- the round that a load of the epoch begins
+-- the round that a load of the epoch begins: its bound is the epoch at first, and no pin has been loaded
 abbrev pub begun_round : (epoch now : ℕ) → Round
 begun_round epoch now = record { epoch = epoch; version = now; bound = epoch; seen = [] }
 
@@ -124,12 +127,12 @@ begun_round epoch now = record { epoch = epoch; version = now; bound = epoch; se
 abbrev pub after_load_epoch : (shared : Shared) → (pass : ℕ) → Shared
 after_load_epoch shared pass = with_round shared pass (begun_round shared.epoch shared.past.now)
 
--- the bound of a round after it has loaded a pin: the lesser of the bound and the pin's word
+-- the bound of a round after it has loaded a pin: the lesser of the bound and the pin's word; the bound stays if no pin is set
 abbrev pub lowered : (bound : ℕ) → (pin : Option Pin) → ℕ
 lowered bound None = bound
 lowered bound (Some pin) = min bound pin.word
 
--- a round after it has loaded the pin of this pass
+-- a round after it has loaded the pin of this pass: the pass counts as seen, and the bound is lowered to the pin's word
 abbrev pub with_seen : (round : Round) → (pass : ℕ) → (pin : Option Pin) → Round
 with_seen round pass pin = record { epoch = round.epoch; version = round.version; bound = lowered round.bound pin; seen = pass ∷ round.seen }
 
@@ -137,8 +140,8 @@ with_seen round pass pin = record { epoch = round.epoch; version = round.version
 abbrev pub after_load_pin : (shared : Shared) → (pass other : ℕ) → Shared
 after_load_pin shared pass other = with_round shared pass (with_seen (shared.rounds pass) other (shared.pins other))
 
--- What passes share after a publish by this pass. The change and the tree are added as the last ones. Records that the tree links anew, or
--- no more, have a new fate.
+-- What passes share after a publish by this pass. The root has this entry. The change and the tree are added as the last ones. Records that
+-- the tree links anew, or no more, have a new fate.
 abbrev pub published_by : (shared : Shared) → (pass : ℕ) → (root : Option Entry) → (tree : Option Tree) → (change : Change) → Shared
 published_by shared pass root tree change = record shared {
   root = root;
@@ -160,8 +163,8 @@ pub record ChangesNoOther (old new : Heap) (rec : Rec) : Type 0 where
 abbrev pub HasSeenAll : BareCore → Round → Type 0
 HasSeenAll core round = (pass : ℕ) (pin : Pin) → core.pins pass ≡ Some pin → has_seen round.seen pass ≡ true
 
--- A step of this pass that changes the core, and the core after the step. All other steps are loads and failed exchanges, which change
--- nothing.
+-- A legal step of this pass that changes the core, and the core after the step. All other steps are loads and failed exchanges, which
+-- change nothing.
 pub data IsCoreStep (core : BareCore) (pass : ℕ) : BareCore → Type 0 where
   claims : (rec : Rec) → core.fate rec ≡ Free → IsCoreStep core pass (record core { shared = with_fate core.shared rec (Held pass) })
   fills : (rec : Rec) (heap : Heap) → core.fate rec ≡ Held pass → ChangesNoOther core.heap heap rec →
@@ -176,13 +179,16 @@ pub data IsCoreStep (core : BareCore) (pass : ℕ) : BareCore → Type 0 where
       IsCoreStep core pass (record core { shared = with_lock core.shared number None })
   publishes : (heap : Heap) (root : Option Entry) (tree : Option Tree) (change : Change) → IsVersionPublish core pass heap root tree change →
       IsCoreStep core pass (after_publish core pass heap root tree change)
+  -- the mark is an epoch that the pass loaded after the record was unlinked, so no pass pinned earlier has a higher floor
   marks : (rec : Rec) (since last : ℕ) → core.fate rec ≡ Unlinked since last pass → last < (core.rounds pass).version →
       IsCoreStep core pass (record core { shared = after_mark core.shared rec since last (core.rounds pass).epoch })
   loads_epoch : IsCoreStep core pass (record core { shared = after_load_epoch core.shared pass })
   advances : IsCoreStep core pass (record core { shared = with_epoch core.shared (suc core.epoch) })
+  -- the pin's word is the epoch that the pass loaded last
   pins : core.pins pass ≡ None → IsCoreStep core pass (record core { shared = after_set_pin core.shared pass (core.rounds pass).epoch })
   unpins : (pin : Pin) → core.pins pass ≡ Some pin → IsCoreStep core pass (record core { shared = with_pin core.shared pass None })
   loads_pin : (other : ℕ) → IsCoreStep core pass (record core { shared = after_load_pin core.shared pass other })
+  -- the round has loaded all pins, and its bound is above the mark, so no pinned pass can reach the record
   gives_back : (rec : Rec) (since last epoch : ℕ) → core.fate rec ≡ Marked since last epoch → epoch < (core.rounds pass).bound →
       HasSeenAll core (core.rounds pass) →
       IsCoreStep core pass (record core { shared = with_fate core.shared rec Free })
@@ -193,8 +199,8 @@ IsLockable pass (InTree since) = Unit {0}
 IsLockable pass (Unlinked since last by) = by ≡ pass
 IsLockable pass fate = ⊥
 
--- The core is lawful. Its words, versions and lives are, and so are its epochs. Its versions tell its changes. Each locked node is in the
--- tree, or was unlinked by the pass that has locked it.
+-- The core is lawful. Its words, versions and lives are lawful together, and so are its epochs. Its versions tell its changes. Each locked
+-- node is in the tree, or was unlinked by the pass that has locked it.
 pub record IsLawfulCore (core : BareCore) : Type 0 where
   pub state : IsLawfulState (view core)
   pub paced : HasLawfulEpochs core.shared
@@ -202,7 +208,7 @@ pub record IsLawfulCore (core : BareCore) : Type 0 where
   pub locked : (number pass : ℕ) → core.lock number ≡ Some pass → IsLockable pass (core.fate (a_node number))
 
 -- What passes share before the first step. The index is empty, no record is claimed, nothing is locked or pinned, and no pass has loaded
--- the epoch.
+-- the epoch. The epoch is 1, since 0 in a pin's word means that it isn't set.
 abbrev pub at_first : Shared
 at_first = record {
   root = None;

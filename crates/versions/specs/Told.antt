@@ -42,18 +42,20 @@ abbrev pub added_notes : (place : ℕ) → (leaves : List Item) → List Note
 added_notes place [] = []
 added_notes place (first ∷ others) = record { place = place; call = Insert first.key first.value; reply = Inserted } ∷ added_notes (suc place) others
 
--- What a change of this kind makes of a list of leaves. The list gets the leaf, or gets it in place of one with the same key, or loses it.
+-- What a change of this kind makes of a list of leaves. `Added` adds the leaf at some place. `Replaced` puts it in place of one with the
+-- same key. `Removed` takes it out.
 abbrev pub IsChanged : (kind : Kind) → (item : Item) → (before after : List Item) → Type 0
 IsChanged Added item before after = IsMore item before after
 IsChanged Replaced item before after = (other : Item) × (other.key ≡ item.key) × IsExchange other item before after
 IsChanged Removed item before after = IsMore item after before
 
--- From one version to the next one leaf changes, as the change says.
+-- From the version `before` to the next one, one leaf with the change's key and value comes, takes another's place, or goes. The change's
+-- kind says which. The leaf's record may have any number.
 abbrev pub IsChange : (before : Option Tree) → (change : Change) → (after : Option Tree) → Type 0
 IsChange before change after = (number : ℕ) × IsChanged change.kind (item_of number change) (items_of before) (items_of after)
 
--- The versions tell these changes. There are as many as versions after the empty one. The content of version n is the map after the first n
--- changes, and each change is legal on the map before it.
+-- The versions tell these changes, one for each version after the empty one. The content of version n is the map after the first n changes,
+-- and each change is legal on the map before it.
 pub record TellChanges (past : Past) (changes : List Change) : Type 0 where
   pub count : length changes ≡ past.now
   pub content_is : (version : ℕ) → version ≤ past.now → content (past.version version) ≡ map_of (take version changes)

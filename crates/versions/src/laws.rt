@@ -4,14 +4,15 @@ ghost use Rattle.versions.specs.Counts.{NodesInTreeAreFewer};
 ghost use Rattle.versions.specs.Loads.{LoadIsLawful, LoadIsLegal};
 ghost use Rattle.versions.specs.Statements.{ContentIsMap, StateHindsight, BareOpeningIsLawful, StateParting, BareReachIsKept, ReachIsSteady, StepKeepsLawful};
 
-/// Let each record of the versions from m on still be in the life that it had there. Let a search have been led to a node of one of these
-/// versions. The node's present words lead the search on to a record of one of them. Both times, the search's key follows the record's
-/// stem, or was absent in one of these versions.
+/// Let each record of the versions from m on still be in the life that it had there. A search is led to an entry if the entry's record was
+/// in the tree in one of these versions. The search's key also follows the record's stem there, or was absent in one of these versions. A
+/// search that was led to a node is led to the node's present entry on the key's path. That holds even if the node has changed or was
+/// unlinked since.
 pub fn hindsight()
     ensures { StateHindsight }
 {}
 
-/// Keys below two slots of a node, in any versions of its life, first differ at the fork between these slots. A key below the first slot
+/// Keys below two slots of a node, in any versions of its life, first differ at the fork between these slots. The key below the lower slot
 /// has 0 there.
 pub fn keys_part_at_fork_between_slots()
     ensures { StateParting }
@@ -22,12 +23,13 @@ pub fn opening_is_lawful()
     ensures { BareOpeningIsLawful }
 {}
 
-/// After a load of a lawful tree into an index in which nothing has happened, the core is lawful.
+/// Let the words show a lawful tree, or none. After a load of it into an index in which nothing has happened, the core is lawful.
 pub fn load_is_lawful()
     ensures { LoadIsLawful }
 {}
 
-/// The leaves of a loaded tree, as insertions in the order of the keys, are legal calls of the pass that loads them.
+/// Take the leaves of a bit trie, or of no tree, as insertions in the order of the keys. They are legal calls of the pass that loads them,
+/// in the front of their own changes.
 pub fn load_is_legal_calls()
     ensures { LoadIsLegal }
 {}
@@ -47,7 +49,8 @@ pub fn reach_is_kept()
     ensures { BareReachIsKept }
 {}
 
-/// In all versions since its pin, a node of a pass's reach has the same fixed words and stems, and a leaf the same key.
+/// Take a record of a pinned pass's reach, and the versions since the pin in which it was in the tree. A node has the same fixed words and
+/// stems in all of these, and a leaf the same key.
 pub fn records_in_reach_stay_same()
     ensures { ReachIsSteady }
 {}
