@@ -2,7 +2,7 @@
 use Rattle.std.specs.Prelude.{List, refl}
 use Rattle.std.specs.Coded.{Coded, code_by, coded_list}
 
--- the elements, in order
+-- What contracts see of a bounded vector: its elements, in order.
 pub record BoundedVec (T : Type 0) : Type 0 where
   pub items : List T
 

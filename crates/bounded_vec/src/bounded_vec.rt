@@ -7,8 +7,8 @@ use std::alloc::{AllocError, Global};
 use std::marker::Model;
 use std::mem::swap;
 
-/// So many elements stand in memory of their own: a list that has never had more takes no more than that, where the system gives memory
-/// only once something is written there.
+/// How many elements have memory apart from that for `MOST`. A list that never had more leaves the other memory unwritten, and the system
+/// may then never give it pages.
 const FEW: usize = 8;
 
 /// A vector of at most `MOST` elements. Their memory is on the heap, from when the vector is made: no later call asks for any.
@@ -16,9 +16,9 @@ const FEW: usize = 8;
 /// Contracts see the elements, as `items`.
 #[derive(Drop)]
 pub struct BoundedVec<T, const MOST: usize> {
-    /// The elements. There is memory for [`FEW`], and for `MOST` once there were more.
+    /// The elements. There is memory for [`FEW`] of them, and for `MOST` once there were more.
     elements: Vec<T>,
-    /// Nothing, in the other memory.
+    /// No element: it keeps the memory for `MOST` until `elements` takes it.
     empty: Vec<T>,
 }
 
@@ -37,7 +37,7 @@ impl<T, const MOST: usize> Model for BoundedVec<T, MOST> {
 }
 
 impl<T, const MOST: usize> BoundedVec<T, MOST> {
-    /// Returns the elements. Inline, since it is short, as the methods below are.
+    /// Returns the elements, at most `MOST`. Inline, since it is short, as the methods below are.
     #[inline(always)]
     pub fn as_slice(&self) -> &[T]
         ensures value { result.now ≡ self.now.items }
@@ -90,8 +90,8 @@ impl<T: Copy + Drop, const MOST: usize> BoundedVec<T, MOST> {
         self.elements.push_reserved(element);
     }
 
-    /// Moves `elements` into memory for `MOST` elements, that of `empty`, if they stand in that of the few. Not inline, since that is rare.
-    /// It isn't told of the element that comes, which can stay in registers then.
+    /// Moves `elements` into memory for `MOST` elements, that of `empty`, unless they stand there already. Then `empty` has the other
+    /// memory. Not inline, since it is rare. The element to append is no parameter, so that it can stay in registers.
     #[inline(never)]
     fn make_room(elements: &mut Vec<T>, empty: &mut Vec<T>)
         requires room { length elements.old.items < MOST }
@@ -110,7 +110,7 @@ impl<T: Copy + Drop, const MOST: usize> BoundedVec<T, MOST> {
         }
     }
 
-    /// Keeps the first `count` elements.
+    /// Keeps the first `count` elements; all, if there are fewer.
     #[inline(always)]
     pub fn truncate(&mut self, count: usize)
         ensures items { self.new.items ≡ take count self.old.items }

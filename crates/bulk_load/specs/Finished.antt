@@ -10,7 +10,8 @@ use Rattle.rowex_core.specs.Opening.{opening}
 use Rattle.rowex_core.specs.Words.{Shows}
 use Rattle.bulk_load.specs.Views.{load_act}
 
--- The words of a table show what a load has made of the leaves `taken`: their tree, and the core after the load. Some node record is spare.
+-- The words are what a table may be made of, and show the core after their load (`load`, `shows`). Their tree has the leaves `taken`. At
+-- least one node record is in no tree (`spare`).
 pub record IsFinished (layout : Layout) (words : List ℕ) (taken : List Item) : Type 0 where
   pub load : IsLoad layout words
   pub shows : Shows (after (opening layout) 0 (load_act words)) words

@@ -19,7 +19,7 @@ abbrev pub whole_of : List LeftPiece → Tree → Tree
 whole_of [] tree = tree
 whole_of (left ∷ others) tree = whole_of others (fork left.position left.tree tree)
 
--- how many entries each piece on the stack has, from the lowest one on, and last the tree to their right
+-- how many entries each piece on the stack has at its top, from the lowest piece on, and last the tree to their right
 abbrev pub counts : List LeftPiece → Tree → List ℕ
 counts [] tree = size (subtrie tree) ∷ []
 counts (left ∷ others) tree = counts others left.tree ++ size (subtrie tree) ∷ []

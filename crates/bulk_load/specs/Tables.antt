@@ -19,7 +19,7 @@ abbrev pub start_of : (layout : Layout) → (rec : Rec) → ℕ
 start_of layout (a_node number) = node_start layout number
 start_of layout (a_leaf number) = leaf_start layout number
 
--- the class of a leaf record, from 0 for the shortest to 4 for the longest
+-- The class of a leaf record, from 0 for the shortest to 4 for the longest. Records of one class have numbers that follow each other.
 abbrev pub leaf_class : (layout : Layout) → (number : ℕ) → ℕ
 leaf_class layout number =
     if nat_lt number layout.medium_from then 0 else (if nat_lt number layout.large_from then 1 else
@@ -29,14 +29,15 @@ leaf_class layout number =
 abbrev pub state_in : (layout : Layout) → (table : List ℕ) → (rec : Rec) → ℕ
 state_in layout table rec = get_or table (start_of layout rec) 0
 
--- From `old` to `new` the record was written and is live. The words of all other records are as before.
+-- From `old` to `new` the record was written and is live. All words outside the record are as before.
 pub record IsPut (layout : Layout) (old new : List ℕ) (rec : Rec) : Type 0 where
   pub size : length new ≡ length old
   pub state : state_in layout new rec ≡ state_word Live
   pub others : (index : ℕ) → (index < start_of layout rec) ⊎ (start_of layout rec + size_of layout rec ≤ index) →
       get_or new index 0 ≡ get_or old index 0
 
--- The words of the table that belong to no record are those of a table without keys. So the root has no entry yet.
+-- The table has the words that the layout asks for, and those that belong to no record are those of a table without keys. So the root has
+-- no entry yet, whatever its records show.
 pub record IsRootless (layout : Layout) (table : List ℕ) : Type 0 where
   pub size : length table ≡ word_count layout
   pub epoch : get_or table EPOCH_WORD 0 ≡ 1
@@ -48,7 +49,8 @@ pub record IsRootless (layout : Layout) (table : List ℕ) : Type 0 where
 abbrev pub WordsShow : (layout : Layout) → (table : List ℕ) → (tree : Option Tree) → Type 0
 WordsShow layout table tree = (shown : Tree) → tree ≡ Some shown → IsShown (heap_of (fields_in layout table)) shown
 
--- Just the records of the tree are live in the table. The table has each, with room for it, and their words encode nodes and leaves.
+-- Of the table's records just those of the tree are live, and all others are free. The table has each record of the tree, with room for it,
+-- and their words encode nodes and leaves. The words show the tree, if there is one; but the root has no entry yet.
 pub record HoldsTree (layout : Layout) (table : List ℕ) (tree : Option Tree) : Type 0 where
   pub blank : IsRootless layout table
   pub live : (rec : Rec) → IsLinked tree rec → state_in layout table rec ≡ state_word Live
@@ -57,8 +59,8 @@ pub record HoldsTree (layout : Layout) (table : List ℕ) (tree : Option Tree) :
       FitsIn layout rec (fields_in layout table rec)
   pub shows : WordsShow layout table tree
 
--- `next` is the cursor of the class of the leaf record `number`. The records of the class below the cursor were taken, and those from it on
--- are free. The cursor stands in the class as long as one is left.
+-- `next` is the cursor of the class of the leaf record `number`. The records of the class below the cursor are taken, and those from it on
+-- are free. As long as one is free, the cursor is the number of a record of the class.
 pub record IsCursorOf (layout : Layout) (table : List ℕ) (next number : ℕ) : Type 0 where
   pub taken : state_in layout table (a_leaf number) ≡ state_word Free → next ≤ number
   pub free : next ≤ number → (state_in layout table (a_leaf number) ≡ state_word Free) × (leaf_class layout next ≡ leaf_class layout number)

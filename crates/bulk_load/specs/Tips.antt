@@ -10,12 +10,12 @@ use Rattle.bulk_load.specs.declared.tips.Tip.{Tip}
 abbrev pub tip : (position : ℕ) → (entry : Entry) → Tip
 tip position entry = record { fork = position; entry = entry }
 
--- The entries of a piece as tips, each with the position of the fork before it. `before` is that of the fork before the piece.
+-- The entries of a piece as tips, each with the position of the fork right before it. `before` is that of the fork before the whole piece.
 abbrev pub tips_of : (before : ℕ) → (piece : Piece Entry) → List Tip
 tips_of before (Place entry) = tip before entry ∷ []
 tips_of before (Fork position left right) = tips_of before left ++ tips_of position right
 
--- A node may have the entry of the tip, behind a fork at the tip's position.
+-- A node may have the entry of the tip, behind a fork at the tip's position: positions of columns are below 65,535.
 abbrev pub MayBeTip : Tip → Type 0
 MayBeTip one = IsEntry one.entry × (one.fork < 65535)
 
@@ -29,7 +29,7 @@ pub record AreTipsOf (tips : List Tip) (before : ℕ) (piece : Piece Entry) : Ty
 abbrev pub entries_in_tips : List Tip → List Entry
 entries_in_tips tips = map (λ one. one.entry) tips
 
--- the positions of the forks between the tips
+-- the positions of the forks between the tips: all but that of the first tip, whose fork stands before them
 abbrev pub forks_between : List Tip → List ℕ
 forks_between tips = drop 1 (map (λ one. one.fork) tips)
 

@@ -23,22 +23,22 @@ no_items layout = record { layout = layout; items = [] }
 abbrev pub with_item : LoadView → Item → LoadView
 with_item load item = record { layout = load.layout; items = load.items ++ item ∷ [] }
 
--- The key is above that of the last leaf, if there is one.
+-- the key is above that of the last leaf, or there is no leaf
 abbrev pub IsAboveLast : List Item → Key → Type 0
 IsAboveLast [] key = Unit {0}
 IsAboveLast (item ∷ []) key = key_order item.key key ≡ Less
 IsAboveLast (item ∷ (next ∷ items)) key = IsAboveLast (next ∷ items) key
 
--- the load has taken the leaf record of this number
+-- one of these leaves, which a load has taken, stands in the leaf record of this number
 abbrev pub IsTakenLeaf : (items : List Item) → (number : ℕ) → Type 0
 IsTakenLeaf [] number = ⊥
 IsTakenLeaf (item ∷ items) number = (number ≡ item.number) ⊎ IsTakenLeaf items number
 
--- the load has taken each leaf record with room for the key
+-- the load has taken each leaf record of the layout with room for the key
 abbrev pub HasNoRoomFor : LoadView → Key → Type 0
 HasNoRoomFor load key =
     (number : ℕ) → number < load.layout.leaves → words_for (length key) ≤ leaf_size load.layout number → IsTakenLeaf load.items number
 
--- the bulk load of these words into a table, as an act
+-- The bulk load of these words into a table, as an act. The address of its slice of words is 0, since no contract speaks of it.
 abbrev pub load_act : (words : List ℕ) → Act
 load_act words = Load (record { ref_ptr = (0, 0); now = words })

@@ -30,7 +30,7 @@ use record_words::{
 };
 use std::alloc::{AllocError, Global};
 
-/// Why a pair was not taken. Those before stay.
+/// Why a pair was not taken. The pairs before it stay.
 #[derive(Clone, Copy, PartialEq, Eq)]
 pub enum LoadFault {
     /// The key is not above the last one.
@@ -106,8 +106,10 @@ impl Builder {
         })
     }
 
-    /// Returns where the leaf of `key` belongs. The error is `NotRising` if `key` isn't above the last one. Else it is `LeavesFull` if no
-    /// leaf record with room for `key` is free, and then `NodesFull` if too few node records may be left.
+    /// Returns where the leaf of `key` belongs: the position of the fork before it, and a free record with room for it. The error is
+    /// `NotRising` exactly if `key` isn't above the last one. Else it is `LeavesFull` if no leaf record with room for `key` is free. Else
+    /// it is `NodesFull` if too few node records may be left. Then the table has no more node records than pairs were taken. If it has two
+    /// or more, at least 32 pairs were taken.
     pub(crate) fn find_next_leaf(&self, key: &Key) -> Result<NextLeaf, LoadFault>
         requires { (xs : List Item) × IsLoading self.now xs }
         ensures next_leaf { IfOk result (λ next_leaf. IsNextLeaf self.now key.now next_leaf.fork_position next_leaf.record_number) }
@@ -130,7 +132,8 @@ impl Builder {
         })
     }
 
-    /// Makes room for one tip more, and one piece more. The error is `Memory` if memory is refused.
+    /// Makes room for one tip more, and one piece more, and changes nothing else. The error is `Memory` if memory is refused. Then some
+    /// room may have been made.
     pub(crate) fn reserve(&mut self) -> Result<(), LoadFault>
         ensures same { HasSameFields self.old self.new }
         ensures ok { OnOk result (HasSpace self.new) }
@@ -158,7 +161,8 @@ impl Builder {
         self.add_leaf(next_leaf.fork_position, next_leaf.record_number, key, value);
     }
 
-    /// Makes one tree of all pieces, and writes the root's entry. It leads to that tree, or to nothing if there is no piece.
+    /// Makes one tree of all pieces, if there are any, and writes the root's entry. After this the words are finished: they show a tree of
+    /// the taken leaves, or none, and at least one node record is in no tree.
     pub(crate) fn close_all(&mut self)
         requires { (xs : List Item) × IsLoading self.old xs }
         ensures finished { (xs : List Item) → IsLoading self.old xs → IsFinished self.old.layout self.new.words.items xs }
@@ -171,7 +175,8 @@ impl Builder {
         put_root(self.words.as_mut_slice(), Some(entry));
     }
 
-    /// Makes one tree of all pieces, of which there is one at least. Returns the entry that leads to it. At least one node record is left.
+    /// Makes one tree of all pieces, of which there is one at least. Returns the entry that leads to it: a leaf's, or that of a node with
+    /// all remaining tips. The tree's leaves are those that were taken. At least one node record is left.
     fn close_tree(&mut self) -> Entry
         requires { (xs : List Item) × IsStackOf self.old xs }
         ensures tree { (xs : List Item) → IsStackOf self.old xs → (t : Tree) × IsTreeOf self.new t × (items t ≡ xs) × (subtrie t ≡ Place result) }
@@ -206,8 +211,8 @@ impl Builder {
         }
     }
 
-    /// Returns the number of the first free leaf record of the smallest class that has one and at least `words` words; `None` if there is
-    /// none.
+    /// Returns the number of a free leaf record of at least `words` words; `None` if there is none. It is the next record of the first
+    /// class that has such a record. So a short key takes no long record while a short one is free.
     fn find_leaf(&self, words: usize) -> Option<u32>
         requires { length self.now.words.items ≡ word_count self.now.layout }
         ensures found { IfSome result (λ n. (n < self.now.layout.leaves) × (words ≤ leaf_size self.now.layout n) ×
@@ -235,8 +240,10 @@ impl Builder {
             && self.words[self.layout.leaf(number)] == pack_state(Tag::Free)
     }
 
-    /// Returns whether enough node records are left for one leaf more, which is one tip and one piece more. Enough are two for each piece,
-    /// or one for each tip, or one for all. Closing all pieces takes no more, and leaves one.
+    /// Returns whether, by one of three bounds, node records are left to close all pieces with one leaf more, and one besides. That leaf is
+    /// one tip and one piece more. The first bound is two records for each piece: a join makes one piece of two and closes both at most,
+    /// and the last piece takes one. The second is one record for each tip: a node takes the place of two tips or more. The third is that
+    /// one node has room for all tips (`fits_one_node`).
     fn has_nodes(&self) -> bool
         ensures { IsTrue result ↔ HasNodesFor self.now 1 }
     {
@@ -251,7 +258,8 @@ impl Builder {
         self.nodes == 0 && self.tips.len() < MAX_ENTRIES && self.layout.nodes > 1
     }
 
-    /// Puts the leaf of `key` and `value`, in the record `leaf`, on top as a piece of its own, behind a fork at `fork`.
+    /// Writes the leaf of `key` and `value` into the free record `leaf`, which has room for them. Puts the leaf on top as a piece of its
+    /// own, behind a fork at `fork`. There is memory for one tip and one piece more. The record after `leaf` is then the next of its class.
     fn add_leaf(&mut self, fork: u16, leaf: u32, key: &Key, value: u64)
         requires space { HasSpace self.old }
         requires leaf { leaf < self.old.layout.leaves }
@@ -276,7 +284,8 @@ impl Builder {
         self.leaves[class_number(&self.layout, leaf)] = leaf + 1;
     }
 
-    /// Joins the pieces at forks behind `position`.
+    /// Joins the pieces at forks behind `position`, from the last one on. It ends when the fork before the top piece is before `position`,
+    /// or the piece is the only one. Leaf records stay, and node records are left for as many more leaves as before.
     fn join_behind(&mut self, position: u16)
         requires { (xs : List Item) × CanJoin self.old xs position }
         ensures behind { (xs : List Item) → CanJoin self.old xs position → CanPart self.new xs position }
@@ -291,7 +300,8 @@ impl Builder {
         }
     }
 
-    /// Joins all pieces, of which there is one at least, into one. The loop's label names it for the proof.
+    /// Joins all pieces, of which there is one at least, into one with at most 32 tips and the same leaves. Node records are left to close
+    /// that piece, and one besides. The loop's label names it for the proof.
     fn join_all(&mut self)
         requires { (xs : List Item) × IsStackOf self.old xs }
         ensures alone { (xs : List Item) → IsStackOf self.old xs → (t : Tree) × IsOnePiece self.new t xs }
@@ -302,7 +312,9 @@ impl Builder {
         }
     }
 
-    /// Makes one piece of the last two pieces, at the fork between them. A piece that needs it is closed before.
+    /// Makes one piece of the last two pieces, at the fork between them. A piece that is lower than the other one is closed before. If one
+    /// node then has no room for their tips, each piece of several tips is closed (`plan_join`). Leaf records stay, and node records are
+    /// left for as many more leaves as before.
     fn join_last(&mut self)
         requires several { 2 ≤ vec_len self.old.pieces }
         requires stack { (xs : List Item) × IsStackOf self.old xs }
@@ -323,7 +335,9 @@ impl Builder {
     }
 
     /// Closes the piece of `count` tips before the last `behind` ones, if `closes` is true: a node of its tips is written, and the node's
-    /// entry replaces them. Returns how many tips the piece has then.
+    /// entry replaces them. For that the piece has 2 to 32 tips, and a node record is left. Returns how many tips the piece has afterwards:
+    /// 1 if it was closed, and else `count`. The tree keeps its leaves, and the builder its layout, its last key and its leaf records.
+    /// `pieces` stays, too: the caller writes the count there.
     fn close_piece(&mut self, behind: usize, count: usize, closes: bool) -> usize
         requires fits { behind + count ≤ vec_len self.old.tips }
         requires room { IsTrue closes → (2 ≤ count) × (count ≤ 32) × (self.old.nodes < self.old.layout.nodes) }
@@ -343,8 +357,9 @@ impl Builder {
         1
     }
 
-    /// Writes a node of the `count` tips before the last `behind` ones, and replaces these tips by the node's entry. Never inline: the
-    /// memory of its locals is cleared at each call.
+    /// Writes a node of the `count` tips, 2 to 32, before the last `behind` ones, and replaces these tips by the node's entry. The tree
+    /// keeps its leaves, and the builder its layout, its last key, its leaf records and `pieces`. Never inline: the memory of its locals is
+    /// cleared at each call.
     #[inline(never)]
     fn write_piece(&mut self, behind: usize, count: usize)
         requires fits { behind + count ≤ vec_len self.old.tips }
@@ -385,8 +400,9 @@ fn class_number(layout: &Layout, number: u32) -> usize
     }
 }
 
-/// Returns how `left` and `right` become one piece. The lower one is closed, so that it stands in a node as high as the other. Both are
-/// closed if they have too many tips for one node.
+/// Returns how `left` and `right`, of at most 32 tips each, become one piece. The lower one is closed if it has several tips, so that its
+/// node stands beside entries of the other. If one node then has no room for all tips, each piece of several tips is closed. `height` is
+/// that of a node of the tips left. If both are pieces of leaves alone that fit one node, neither is closed, and `height` is 1.
 fn plan_join(left: StackedPiece, right: StackedPiece) -> JoinPlan
     requires { (left.count ≤ 32) × (right.count ≤ 32) }
     ensures few { (if result.closes_left then 1 else left.count) + (if result.closes_right then 1 else right.count) ≤ 32 }

@@ -53,15 +53,15 @@ impl Loader {
         self.builder.layout
     }
 
-    /// Returns the number of the first node record that is not taken so far. Fewer node records are taken than pairs, or none.
+    /// Returns the number of the first node record that is not taken so far. It is at most the number of pairs taken.
     pub fn first_free_node(&self) -> u32
         ensures { result ≤ length self.now.items }
     {
         self.builder.nodes
     }
 
-    /// Returns the number of the first leaf record of each class that is not taken, or of where it would be. All leaf records of the class
-    /// below that number are taken.
+    /// Returns for each class the number of its first leaf record that is not taken, or the number behind its last. Just the records of the
+    /// class below that number are taken.
     pub fn first_free_leaves(&self) -> [u32; LEAF_CLASSES]
         ensures { (n : ℕ) → n < self.now.layout.leaves → IsTakenLeaf self.now.items n ↔ (n < get_or result (leaf_class self.now.layout n) 0) }
     {
@@ -70,7 +70,8 @@ impl Loader {
 
     /// Takes `key` with `value`, as the last pair. The error is `NotRising` exactly if `key` isn't above the last one. It is `LeavesFull`
     /// only if no leaf record with room for `key` is left. It is `NodesFull` only if the table has no more node records than pairs were
-    /// taken. A table of two node records takes 32 pairs. It is `Memory` if memory is refused. After an error the pairs are as before.
+    /// taken. In a table of two node records or more it comes after 32 pairs at the earliest. It is `Memory` if memory is refused. After an
+    /// error the pairs are as before.
     pub fn push(&mut self, key: &Key, value: u64) -> Result<(), LoadFault>
         ensures taken { OnOk result ((n : ℕ) × (self.new ≡ with_item self.old (item n key.now value))) }
         ensures refused { OnErr result (self.new ≡ self.old) }
@@ -85,8 +86,8 @@ impl Loader {
         Ok(())
     }
 
-    /// Returns the words of the table. They show one tree, whose leaves are those that were taken. At least one node record stands in no
-    /// tree.
+    /// Returns the words of the table, as `HotTable::new_loaded` takes them. They show one tree, or none, whose leaves are those that were
+    /// taken. At least one node record stands in no tree. It asks for no memory, and never fails.
     pub fn finish(self) -> Vec<u64>
         ensures load { IsLoad self.layout result.items }
         ensures shows { Shows (after (opening self.layout) 0 (load_act result.items)) result.items }

@@ -19,7 +19,8 @@ use record_words::{
     key_word_at, pack_entry, pack_node, pack_state,
 };
 
-/// Writes the state of a live record to the word `start` of `words`, and the first `count` of `fields` to the words behind it.
+/// Writes the state of a live record to the word `start` of `words`, and the first `count` of `fields` to the words behind it. All other
+/// words stay.
 fn put_record(words: &mut [u64], start: usize, fields: &[u64], count: usize)
     requires room { start + 1 + count ≤ length words.old }
     requires few { count ≤ length fields.now }
@@ -31,7 +32,7 @@ fn put_record(words: &mut [u64], start: usize, fields: &[u64], count: usize)
     words[start + 1..start + 1 + count].copy_from_slice(&fields[..count]);
 }
 
-/// Writes `node` into the node record `number`, which is live then.
+/// Writes `node` into the node record `number`, which is live then. All other words stay.
 pub(crate) fn put_node(words: &mut [u64], layout: &Layout, number: u32, node: &Node)
     requires size { length words.old ≡ word_count layout.now }
     requires number { number < layout.now.nodes }
@@ -43,7 +44,8 @@ pub(crate) fn put_node(words: &mut [u64], layout: &Layout, number: u32, node: &N
     put_record(words, layout.node(number), &pack_node(node), NODE_FIELDS);
 }
 
-/// Writes `key` with `value` into the leaf record `number`, which has room for them, and is live then.
+/// Writes `key` with `value` into the leaf record `number`, which has room for them, and is live then. All words outside the record stay,
+/// and so do those of the record behind the key.
 pub(crate) fn put_leaf(words: &mut [u64], layout: &Layout, number: u32, key: &Key, value: u64)
     requires size { length words.old ≡ word_count layout.now }
     requires number { number < layout.now.leaves }
@@ -61,7 +63,7 @@ pub(crate) fn put_leaf(words: &mut [u64], layout: &Layout, number: u32, key: &Ke
     put_key(words, start + KEY_OFFSET as usize, key, count);
 }
 
-/// Writes the first `count` words of `key` to `words`, from index `start` on.
+/// Writes the first `count` words of `key` to `words`, from index `start` on. All other words stay.
 fn put_key(words: &mut [u64], start: usize, key: &Key, count: usize)
     requires room { start + count ≤ length words.old }
     requires few { count ≤ KEY_WORDS }
@@ -74,7 +76,7 @@ fn put_key(words: &mut [u64], start: usize, key: &Key, count: usize)
     }
 }
 
-/// Writes `entry` as the root's entry.
+/// Writes the word of `entry` as the root's entry. All other words stay.
 pub(crate) fn put_root(words: &mut [u64], entry: Option<Entry>)
     requires room { ROOT_WORD < length words.old }
     requires entry { HasEntryWord entry }

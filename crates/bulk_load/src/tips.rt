@@ -22,7 +22,8 @@ pub(crate) struct Tip {
     pub(crate) entry: Entry,
 }
 
-/// Returns the node of the entries of `tips`, 2 to 32, with the forks between them.
+/// Returns the node of the entries of `tips`, 2 to 32, with the forks between them. The tips are those of a piece, and the fork before the
+/// first doesn't count. Each entry may stand in a node, and each fork's position is below 65,535.
 pub(crate) fn build_node(tips: &[Tip]) -> Node
     requires few { (2 ≤ length tips.now) × (length tips.now ≤ 32) }
     requires each { All MayBeTip tips.now }
@@ -54,8 +55,8 @@ fn collect_columns(tips: &[Tip]) -> Columns
     columns
 }
 
-/// Returns the rows of `tips` over `columns`, and 4,294,967,295 behind them. Each tip's path is that of the tip before it up to the fork
-/// between the two, and takes the 1 side there. Below that fork it has only 0 sides.
+/// Returns the rows of `tips` over `columns`, and 4,294,967,295 behind them. The first row is 0. Each further tip's path is that of the tip
+/// before it up to the fork between the two, and takes the 1 side there. Below that fork it has only 0 sides.
 fn make_rows(tips: &[Tip], columns: &Columns) -> [u32; MAX_ENTRIES]
     requires few { (1 ≤ length tips.now) × (length tips.now ≤ 32) }
     requires columns { IsColumns columns.now }
@@ -97,7 +98,8 @@ fn list_entries(tips: &[Tip]) -> ArrayVec<Entry, MAX_ENTRIES>
     entries
 }
 
-/// Replaces the `count` tips from index `start` on by one with `entry`, behind the fork that stood before the first of them.
+/// Replaces the `count` tips from index `start` on by one with `entry`, behind the fork that stood before the first of them. The other tips
+/// stay in their order, and so does the list's memory.
 pub(crate) fn merge_tips(tips: &mut Vec<Tip>, start: usize, count: usize, entry: Entry)
     requires { (1 ≤ count) × (start + count ≤ vec_len tips.old) }
     ensures len { vec_len tips.new + count ≡ vec_len tips.old + 1 }

@@ -33,11 +33,11 @@ abbrev pub since_of : Option Pending → ℕ
 since_of None = 0
 since_of (Some call) = call.since
 
--- of the call that responds at this time: the time at which it was invoked
+-- the time at which the call was invoked that responds at this time; 0 where none is pending
 abbrev pub invoked : (at : ℕ → Configuration) (happens : ℕ → Happening) (time : ℕ) → ℕ
 invoked at happens time = since_of ((at time).pending (responding_pass (happens time)))
 
--- Whether one call had responded when another was invoked. The one responds at the time `earlier`, and the other at the time `later`.
+-- Whether the call that responds at the time `earlier` had responded when the call that responds at `later` was invoked.
 abbrev pub had_responded : (at : ℕ → Configuration) (happens : ℕ → Happening) (earlier later : ℕ) → Bool
 had_responded at happens earlier later = nat_le earlier (invoked at happens later)
 
@@ -48,7 +48,7 @@ abbrev pub replied : (front : List Change) (call : Call) → Note
 replied front call = record { place = length front; call = call; reply = reply_of (map_of front) call }
 
 -- The pass has made one change, as its call asks, while the changes grew from `before` to `after`. It is the change that the call makes of
--- the map there, which is that of `meanwhile`. All other new changes are by other passes.
+-- the map of `meanwhile`, the changes before it. All other new changes are by other passes.
 pub record HasChangedOnce (pass : ℕ) (asked : Call) (before after : List Change) : Type 0 where
   pub meanwhile : List Change
   pub change : Change
@@ -56,13 +56,13 @@ pub record HasChangedOnce (pass : ℕ) (asked : Call) (before after : List Chang
   pub made : change_of pass (replied meanwhile asked) ≡ Some change
   pub since : OthersGoOn pass (meanwhile ++ change ∷ []) after
 
--- A pending call of the pass asks these calls of the map. While the changes grew from `before` to `after`, it has changed nothing. Or it
--- asks one call, and has made that call's change once.
+-- What a pending call of the pass, which asks these calls of the map, has done while the changes grew from `before` to `after`. The pass
+-- has changed nothing. Or the call asks one call of the map, and the pass has made that call's change once.
 abbrev pub ChangesAsAsked : (pass : ℕ) (calls : List Call) (before after : List Change) → Type 0
 ChangesAsAsked pass calls before after =
     OthersGoOn pass before after ⊎ ((asked : Call) × (calls ≡ asked ∷ []) × HasChangedOnce pass asked before after)
 
--- these calls, which a pending call asks of the map, are just one call, or look-ups alone, or none
+-- these calls, which a pending call asks of the map, are just one call, or look-ups alone, or none, as for a scan
 abbrev pub AsksOneOrLooksUp : List Call → Type 0
 AsksOneOrLooksUp calls = ((asked : Call) × (calls ≡ asked ∷ [])) ⊎ ((keys : List (List ℕ)) × (calls ≡ map Get keys))
 
@@ -72,22 +72,22 @@ EndsWithin at last later pass call =
     (time : ℕ) × (last ≤ time) × (time ≤ later) × (((notes : List Note) × IsResponse at time pass call notes) ⊎ IsRefusal at time pass call)
 
 -- A premise on each call that is pending at time `last`. Either it ends by time `later`, and asks one call of the map, look-ups alone, or
--- nothing. Or since its invocation it has changed nothing, or has changed the map as it asks. No contract tells of a call that never
--- returns. For calls that end, the premise costs nothing.
+-- nothing. Or since its invocation it has changed nothing, or has changed the map as it asks. It is a premise since no contract tells of a
+-- call that never returns.
 abbrev pub PendingEndOrChangeAsAsked : (layout : Layout) (last later : ℕ) (at : ℕ → Configuration) → Type 0
 PendingEndOrChangeAsAsked layout last later at =
     (pass : ℕ) → pass < layout.passes → (call : Pending) → (at last).pending pass ≡ Some call →
     (AsksOneOrLooksUp call.calls × EndsWithin at last later pass call) ⊎
     ChangesAsAsked pass call.calls (at call.since).core.changes (at last).core.changes
 
--- These notes may be appended to a history for the pending call of a pass. They are none, or one for each call of the map that it asks.
--- Where no call is pending they are none.
+-- These notes may be appended to a history for the pending call of a pass. They are none, or one for each call of the map that it asks, in
+-- that order. Where no call is pending they are none.
 abbrev pub IsAppended : (pending : Option Pending) (notes : List Note) → Type 0
 IsAppended None notes = notes ≡ []
 IsAppended (Some call) notes = (notes ≡ []) ⊎ (map (λ note. note.call) notes ≡ call.calls)
 
--- What happens at this time in a run that is completed. Up to `last` it is what happens in the run. Then pass 0 responds, then pass 1 and
--- so on, each with its notes of `added`.
+-- What happens at this time in a run that is completed. Before `last` it is what happens in the run. From then on pass 0 responds, then
+-- pass 1 and so on, each with its notes of `added`.
 abbrev pub completed : (last : ℕ) (happens : ℕ → Happening) (added : ℕ → List Note) (time : ℕ) → Happening
 completed last happens added time = if nat_lt time last then happens time else responds (time - last) (added (time - last))
 

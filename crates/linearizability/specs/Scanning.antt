@@ -19,8 +19,9 @@ WasHeld at since until key value = (time : ℕ) × (since ≤ time) × (time ≤
 abbrev pub WasThere : (at : ℕ → Configuration) (since until : ℕ) (key : List ℕ) → Type 0
 WasThere at since until key = (time : ℕ) → since ≤ time → time ≤ until → IsSome (value_at (map_at at time) key)
 
--- What a scan from time `since` to time `until` shows. Each of its pairs was in the map at one of these times. No key of the range is
--- missing that was in the map at all of them. If the scan has more, this is said only of keys no further than its last pair (`IsReached`).
+-- What a scan from time `since` to time `until` shows. Each of its pairs was in the map at one of these times (`held`). It has each key of
+-- the range that was in the map at all of them (`whole`). If the scan has more, that is said only of keys up to its last pair. `IsReached`
+-- tells these by the pairs and the direction.
 pub record IsScanInTime (IsReached : Map → List ℕ → Type 0) (at : ℕ → Configuration) (since until : ℕ) (from upto : List ℕ) (scan : Scan) : Type 0 where
   pub held : All (λ pair. WasHeld at since until pair.0 pair.1) scan.pairs.items
   pub whole : (key : List ℕ) → IsTrue (is_within from upto key) → (scan.more ≡ true → IsReached scan.pairs.items key) → WasThere at since until key →

@@ -24,33 +24,34 @@ RunsStaySound =
     (layout : Layout) (last : ℕ) (at : ℕ → Configuration) (happens : ℕ → Happening) → IsWholeRun layout last at happens →
     (time : ℕ) → time ≤ last → IsSoundConfiguration layout (at time)
 
--- the steps of a run are legal events that lead from its first core to the core at each time
+-- the steps of a run up to a time are legal events that lead from its first core to the core at that time
 abbrev pub RunsAreEvents : Type 0
 RunsAreEvents =
     (layout : Layout) (last : ℕ) (at : ℕ → Configuration) (happens : ℕ → Happening) → IsWholeRun layout last at happens →
     (time : ℕ) → time ≤ last → (events : List Event) × EventsLead (at 0).core events (at time).core
 
--- With these responses appended, the answered calls of a run have one order, in which each stands once. In this order each reply is that of
--- a finite map, which is empty at first. Where one call had responded before another was invoked, it stands first.
+-- With the responses `added` appended, the calls of a run that have responded have one order, in which each stands once. In this order each
+-- reply is that of a finite map, which is empty at first. A call that had responded before another was invoked stands before it.
 abbrev pub HaveOneOrder : (layout : Layout) (last : ℕ) (at : ℕ → Configuration) (happens : ℕ → Happening) (added : ℕ → List Note) → Type 0
 HaveOneOrder layout last at happens added =
     (order : List (ℕ × Note)) × IsPermutation (complete_calls (completed last happens added) (last + layout.passes)) order ×
     LegalHistory (calls_of (noted order)) × IsInTime (had_responded (held_from last at) (completed last happens added)) order
 
--- The run is linearizable (Herlihy and Wing, 1990). Responses may be appended for calls that are pending, one at most for each, so that all
--- answered calls have one order.
+-- The run is linearizable (Herlihy and Wing, 1990). Responses may be appended for pending calls, so that all calls with a response have one
+-- order. A pending call gets one for each call of the map that it asks, or none at all.
 abbrev pub IsLinearizable : (layout : Layout) (last : ℕ) (at : ℕ → Configuration) (happens : ℕ → Happening) → Type 0
 IsLinearizable layout last at happens =
     (added : ℕ → List Note) × ((pass : ℕ) → IsAppended ((at last).pending pass) (added pass)) × HaveOneOrder layout last at happens added
 
--- Each run is linearizable up to any time. The calls that are pending then must end later, or change the map as they ask.
+-- Each run is linearizable up to any time `last`. The calls pending then must end by a time `later` of the run, or have changed the map as
+-- they ask (`PendingEndOrChangeAsAsked`).
 abbrev pub Linearizable : Type 0
 Linearizable =
     (layout : Layout) (last later : ℕ) (at : ℕ → Configuration) (happens : ℕ → Happening) → last ≤ later → IsWholeRun layout later at happens →
     PendingEndOrChangeAsAsked layout last later at → IsLinearizable layout last at happens
 
 -- Let a call respond that asks one call of the map, or whose notes tell of no change. At each time from its invocation to its response it
--- has changed nothing, or has changed the map as it asks.
+-- has changed nothing, or has changed the map once as it asks.
 abbrev pub RespondersChangeAsAsked : Type 0
 RespondersChangeAsAsked =
     (layout : Layout) (last : ℕ) (at : ℕ → Configuration) (happens : ℕ → Happening) → IsWholeRun layout last at happens →
@@ -58,21 +59,22 @@ RespondersChangeAsAsked =
     ((asked : Call) × (call.calls ≡ asked ∷ [])) ⊎ (changes_of pass notes ≡ []) →
     (middle : ℕ) → call.since ≤ middle → middle ≤ time → ChangesAsAsked pass call.calls (at call.since).core.changes (at middle).core.changes
 
--- A call that is refused has changed nothing, from its invocation to its refusal.
+-- A call that is refused has changed nothing, at each time from its invocation to its refusal: all new changes are by other passes.
 abbrev pub RefusedChangeNothing : Type 0
 RefusedChangeNothing =
     (layout : Layout) (last : ℕ) (at : ℕ → Configuration) (happens : ℕ → Happening) → IsWholeRun layout last at happens →
     (pass time : ℕ) (call : Pending) → pass < layout.passes → time ≤ last → IsRefusal at time pass call →
     (middle : ℕ) → call.since ≤ middle → middle ≤ time → OthersGoOn pass (at call.since).core.changes (at middle).core.changes
 
--- Whatever pending calls do, the answered calls have one order, together with one call for each change that a pending call has made.
+-- In each run the calls that have responded have one order, together with one call for each change that a pending call has made. No premise
+-- on pending calls is needed, since the added calls are found by the changes (`completions`).
 abbrev pub OrderedByEffect : Type 0
 OrderedByEffect =
     (layout : Layout) (last : ℕ) (at : ℕ → Configuration) (happens : ℕ → Happening) → IsWholeRun layout last at happens →
     HaveOneOrder layout last at happens (completions last at)
 
--- Let a scan, upwards or downwards, be lawful while the front grew from its load of the root to its end. The scan shows the maps of times
--- from its beginning to its end, as `IsScanInTime` says.
+-- Let a pass load the root between times `since` and `until`. Let a scan, upwards or downwards, be lawful while the front grew from that
+-- load to `until`. The scan shows the maps of these times, as `IsScanInTime` says.
 abbrev pub ScansInTime : Type 0
 ScansInTime =
     (layout : Layout) (last : ℕ) (at : ℕ → Configuration) (happens : ℕ → Happening) → IsWholeRun layout last at happens →

@@ -6,14 +6,15 @@ pub fn runs_stay_sound()
     ensures { RunsStaySound }
 {}
 
-/// The look-ups and changes of a run are linearizable up to each time. The premise is one on each call that is pending then. It has changed
-/// nothing, or just what it asks; or it ends later, and asks one call of the map, look-ups alone, or nothing.
+/// The look-ups and changes of a run are linearizable up to each time, if each call that is pending then meets one of two premises. It has
+/// changed nothing, or has changed the map once as it asks. Or it ends later in the run, and asks one call of the map, look-ups alone, or
+/// nothing.
 pub fn runs_are_linearizable()
     ensures { Linearizable }
 {}
 
-/// Let a call that responds ask one call of the map, or let its replies tell of no change. At each time from its invocation to its response
-/// the call has changed nothing, or just what it asks.
+/// Let a call that responds ask one call of the map, or let its notes tell of no change. At each time from its invocation to its response
+/// the call has changed nothing, or has changed the map once as it asks.
 pub fn answered_calls_change_as_asked()
     ensures { RespondersChangeAsAsked }
 {}
@@ -23,8 +24,9 @@ pub fn refusals_change_nothing()
     ensures { RefusedChangeNothing }
 {}
 
-/// Take the answered calls, with one call for each change that a pending call has made, whatever pending calls do. They have one order in
-/// which each reply is that of a map, empty at first. In it no call stands before one that had responded when it was invoked.
+/// Take the calls that have responded, with one call for each change that a pending call has made. They have one order in which each reply
+/// is that of a map, empty at first. A call that had responded before another was invoked stands before that other one. Pending calls may
+/// do anything.
 pub fn runs_are_ordered_by_effect()
     ensures { OrderedByEffect }
 {}
@@ -34,8 +36,9 @@ pub fn runs_are_events()
     ensures { RunsAreEvents }
 {}
 
-/// Let a scan, up or down, be lawful between what its pass saw at the load of the root and by the end. Each pair was in the map at a time
-/// of the scan. No key of its range that was there all along is missing; at its limit, none up to the last pair.
+/// Let a scan, up or down, be lawful from its pass's load of the root to its end. Each pair was in the map at a time of the scan. No key of
+/// its range is missing that was in the map at all times of the scan. If the scan has more pairs to come, this is said of keys up to its
+/// last pair alone.
 pub fn scans_are_of_their_time()
     ensures { ScansInTime }
 {}

@@ -10,8 +10,8 @@ use Rattle.rowex_core.specs.Words.{record_word}
 use Rattle.rowex_core.specs.Events.{IsLockedAt}
 use Rattle.rowex_core.specs.Sharing.{share}
 
--- What the steps of other passes leave to the pass. The versions and changes have grown by changes of others alone. What the pass has is as
--- it was.
+-- What the steps of other passes, from `old` to `new`, leave to the pass. The layout stays, and so does what the pass has (`share`).
+-- Earlier versions stay, with further ones behind them. Earlier changes stay, and further ones are by other passes.
 pub record IsFrame (pass : ℕ) (old new : Core) : Type 0 where
   pub layout : new.layout ≡ old.layout
   pub past : IsGrown old.past new.past

@@ -8,16 +8,17 @@ use Rattle.rowex_core.specs.declared.known.Owned.{Owned}
 use Rattle.versions.specs.Steps.{same_rec}
 use Rattle.versions.specs.Trades.{IsOneOf}
 
--- The records of a pass's own, `own`, are exactly the records `recs`. Each is held in a way that has the property P.
+-- The records in the list `own`, a pass's own, are exactly the records `recs`. Each of them has the property P, which may tell how it is
+-- held.
 pub record OwnsJust (own : List Owned) (P : Owned → Type 0) (recs : List Rec) : Type 0 where
   pub only : (owned : Owned) → IsOneOf owned own → IsOneOf owned.rec recs × P owned
   pub each : (rec : Rec) → IsOneOf rec recs → (owned : Owned) × IsOneOf owned own × (owned.rec ≡ rec)
 
--- the record may be held in any way
+-- true of every record of a pass's own, however it is held
 abbrev pub InAnyWay : Owned → Type 0
 InAnyWay owned = Unit {0}
 
--- the pass has unlinked the record
+-- the pass has unlinked the record, in some version, and not yet marked it
 abbrev pub IsUnlinked : Owned → Type 0
 IsUnlinked owned = (since : ℕ) × (last : ℕ) × (owned.holding ≡ Unlinked since last)
 
@@ -25,7 +26,7 @@ IsUnlinked owned = (since : ℕ) × (last : ℕ) × (owned.holding ≡ Unlinked 
 abbrev pub IsUnlinkedBefore : (version : ℕ) → (owned : Owned) → Type 0
 IsUnlinkedBefore version owned = (since : ℕ) × (last : ℕ) × (owned.holding ≡ Unlinked since last) × (last < version)
 
--- The nodes that a pass has locked, by its locks, are exactly those of the numbers `nodes`.
+-- The nodes of a pass's list `locks` are exactly those of the numbers `nodes`.
 pub record LocksJust (locks : List Locked) (nodes : List ℕ) : Type 0 where
   pub only : (lock : Locked) → IsOneOf lock locks → IsOneOf lock.node nodes
   pub each : (number : ℕ) → IsOneOf number nodes → (lock : Locked) × IsOneOf lock locks × (lock.node ≡ number)

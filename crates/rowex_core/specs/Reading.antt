@@ -22,7 +22,8 @@ use Rattle.versions.specs.Heap.{NodeWords, LeafWords}
 abbrev pub fixed_of : List ℕ → Fixed
 fixed_of head = record { height = height_in (numbers_in head); columns = columns_in head; rows = rows_in head }
 
--- what the words of a node say: `head` are the words of its head, and `tail` those of its entries
+-- What the words of a node say: `head` are the words of its head, and `tail` those of its entries. `Leaf 0` stands in for an entry that is
+-- missing, which no encoded node has.
 abbrev pub node_words_from : (head tail : List ℕ) → NodeWords
 node_words_from head tail = record {
   fixed = fixed_of head;
@@ -67,8 +68,8 @@ head_value (leaf number key value) = Some value
 head_value (node number fixed body) = None
 head_value (fork position left right) = None
 
--- The record with which the tree begins has this word at this offset. The offset is that of a word that stays while the record lives.
--- Behind the end of a leaf's key any word may stand.
+-- The record with which the tree begins has this word at this offset. The offset is that of a fixed word (`IsFixedOffset`). Behind the end
+-- of a leaf's key any word may stand. For a tree that begins with a fork, and so with no record, the word is 0.
 abbrev pub HasWordAt : Tree → (offset word : ℕ) → Type 0
 HasWordAt (leaf number key value) offset word = offset < words_for (length key) → get_or (leaf_words (key, value)) (offset - FIELDS_OFFSET) 0 ≡ word
 HasWordAt (node number fixed body) offset word =

@@ -6,7 +6,8 @@ use Rattle.rowex_core.specs.Cores.{Core}
 use Rattle.rowex_core.specs.Events.{Legal, after}
 use Rattle.rowex_core.specs.Knowing.{IsViewOf}
 
--- the events are steps that are legal one after the other, from the core `old` on, and lead to the core `new`
+-- The events are steps that are legal one after the other, from the core `old` on, and lead to the core `new`. Without events `new` is
+-- `old`.
 abbrev pub EventsLead : (old : Core) → (events : List Event) → (new : Core) → Type 0
 EventsLead old [] new = new ≡ old
 EventsLead old (event ∷ events) new = Legal old event.pass event.act × EventsLead (after old event.pass event.act) events new

@@ -34,17 +34,17 @@ abbrev pub is_in_tree : Fate → Bool
 is_in_tree (InTree since) = true
 is_in_tree fate = false
 
--- the record as a list of one, with its words, if it is held; else an empty list
+-- The record as a list of one, with its words and how it is held. The list is empty if the record is not the pass's own.
 abbrev pub owned : (rec : Rec) → (words : List ℕ) → (holding : Option Holding) → List Owned
 owned rec words None = []
 owned rec words (Some holding) = record { rec = rec; holding = holding; words = words } ∷ []
 
--- the node as a list of one, with its words, if it is locked; else an empty list
+-- the node as a list of one, with its words; an empty list if it is not locked
 abbrev pub locked : (node : ℕ) → (words : List ℕ) → (is_locked : Bool) → List Locked
 locked node words true = record { node = node; words = words } ∷ []
 locked node words false = []
 
--- the entry of the root, if the pass has locked the anchor; else none
+-- the entry of the root, which may be none, if the pass has locked the anchor; else `None`
 abbrev pub anchored_at : Option Entry → Bool → Option (Option Entry)
 anchored_at root true = Some root
 anchored_at root false = None
@@ -58,7 +58,7 @@ pub record Share : Type 0 where
   pub pin : Option Pin
   pub round : Round
 
--- what the pass has in the core
+-- What the pass has in the core. A locked node counts while it is in the tree; an unlinked one counts as a record of its own.
 abbrev pub share : (pass : ℕ) → (core : Core) → Share
 share pass core = record {
   own = λ rec. owned rec (core.words rec) (holding_of pass (core.fate rec));
@@ -76,7 +76,7 @@ of_record rec own = filter (λ owned. same_rec rec owned.rec) own
 abbrev pub of_node : (node : ℕ) → (locks : List Locked) → List Locked
 of_node node locks = filter (λ lock. nat_eq node lock.node) locks
 
--- what a pass has, as far as it knows
+-- what a pass has, as far as it knows, in the form of what it has in a core (`share`)
 abbrev pub known_share : Known → Share
 known_share known = record {
   own = λ rec. of_record rec known.own;
@@ -86,7 +86,7 @@ known_share known = record {
   round = known.round;
 }
 
--- the share of a pass that has nothing, and has loaded no epoch
+-- the share of a pass that has no record, lock or pin, and has loaded no epoch
 abbrev pub nothing : Share
 nothing = record {
   own = λ rec. [];
@@ -104,7 +104,7 @@ fate_of pass Held = HeldBy pass
 fate_of pass IsReady = ReadyBy pass
 fate_of pass (Unlinked since last) = UnlinkedBy since last pass
 
--- The record is the pass's own, in the way that the pass knows, and has the words that the pass knows.
+-- The record is the pass's own, held as the pass knows, and has the words that the pass knows.
 abbrev pub IsOwned : (pass : ℕ) → (core : Core) → (owned : Owned) → Type 0
 IsOwned pass core owned = (core.fate owned.rec ≡ fate_of pass owned.holding) × (core.words owned.rec ≡ owned.words)
 
@@ -112,8 +112,8 @@ IsOwned pass core owned = (core.fate owned.rec ≡ fate_of pass owned.holding) �
 abbrev pub IsLocked : (pass : ℕ) → (core : Core) → (lock : Locked) → Type 0
 IsLocked pass core lock = (core.lock lock.node ≡ Some pass) × IsInTree core lock.node × (core.words (a_node lock.node) ≡ lock.words)
 
--- The pass has just what it knows that it has: records of its own, locks of nodes, and the lock of the anchor. Each has the words that the
--- pass knows.
+-- The pass has what it knows to be its own, and nothing more: records, locks of nodes in the tree, and the lock of the anchor. Each record
+-- and node has the words that the pass knows, and the root the entry.
 pub record HasAll (core : Core) (known : Known) : Type 0 where
   pub own : All (IsOwned known.pass core) known.own
   pub all_own : (rec : Rec) (holding : Holding) → core.fate rec ≡ fate_of known.pass holding →

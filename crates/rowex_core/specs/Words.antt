@@ -14,12 +14,14 @@ use Rattle.versions.specs.declared.Pin.{Pin}
 use Rattle.versions.specs.Core.{Fate, Free, Held, Ready, InTree, Unlinked, Marked}
 use Rattle.rowex_core.specs.Cores.{Core}
 
--- what the state word says of a live node: locked, if a pass has its lock
+-- What a state word says where a lock may be: locked if a pass has the lock, and else live. That is the anchor's word, and that of a record
+-- that is ready, linked or unlinked.
 abbrev pub lock_tag : Option ℕ → Tag
 lock_tag None = Live
 lock_tag (Some pass) = Locked
 
--- what the state word says of a record of this fate; `lock` is the pass that has locked the record, if one has
+-- What the state word says of a record of this fate. `lock` is the pass that has locked the record, if one has. A record that is ready, in
+-- the tree or unlinked is live or locked, since a publish changes no state word.
 abbrev pub tag_of : Option ℕ → Fate → Tag
 tag_of lock Free = FreeTag
 tag_of lock (Held pass) = HeldTag
@@ -28,7 +30,7 @@ tag_of lock (InTree since) = lock_tag lock
 tag_of lock (Unlinked since last pass) = lock_tag lock
 tag_of lock (Marked since last epoch) = Obsolete epoch
 
--- the pass that has locked the record, if one has; a leaf is never locked
+-- The pass that has locked the record, if one has. A leaf is never locked: its value stands under the lock of what names it.
 abbrev pub lock_of : Core → Rec → Option ℕ
 lock_of core (a_node number) = core.lock number
 lock_of core (a_leaf number) = None
@@ -42,12 +44,12 @@ abbrev pub pin_word : Option Pin → ℕ
 pin_word None = NO_PIN
 pin_word (Some pin) = pin.word
 
--- The word of a record at an offset. At offset 0 stands its state.
+-- The word of a record at an offset: its state at offset 0, then the words that the core has. Behind these it is 0.
 abbrev pub record_word : (core : Core) → (rec : Rec) → (offset : ℕ) → ℕ
 record_word core rec zero = state_at core rec
 record_word core rec (suc offset) = get_or (core.words rec) offset 0
 
--- the word that stands at a location
+-- The word that stands at a location: the epoch, the root's entry, the anchor's state, a pin, or a word of a record.
 abbrev pub word_at : Core → Location → ℕ
 word_at core Epoch = core.epoch
 word_at core Root = entry_word core.root
@@ -56,7 +58,8 @@ word_at core (PinOf pass) = pin_word (core.pins pass)
 word_at core (NodeWord number offset) = record_word core (a_node number) offset
 word_at core (LeafWord number offset) = record_word core (a_leaf number) offset
 
--- The words of the table show the core: at each location of the table stands the word that the core has there.
+-- The table's words show the core. There are as many as the layout asks for. At each location of the table stands the word that the core
+-- has there.
 pub record Shows (core : Core) (words : List ℕ) : Type 0 where
   pub size : length words ≡ word_count core.layout
   pub each : (location : Location) → IsInTable core.layout location → get_or words (address core.layout location) 0 ≡ word_at core location

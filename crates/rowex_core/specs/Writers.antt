@@ -25,9 +25,9 @@ use Rattle.rowex_core.specs.Events.{IsLegalPublish, IsLockedAt, IsWordFor, IsOfE
 use Rattle.rowex_core.specs.Having.{OwnsJust, LocksJust, AreKept, InAnyWay, IsUnlinked}
 use Rattle.rowex_core.specs.Knowing.{Knows, publish_learned}
 
--- Let a pass hold the lock of a spot. Let the versions allow a store of an entry there as a publish of this tree and this change
--- (`IsVersionsPublish`). Let the leaves change. The store is a legal publish. The words then show this tree, and the change that is found
--- between the leaves is this one.
+-- Let a word be stored at the root or in a slot, under the pass's lock. The word may stand there, and the words of a node there still
+-- encode one. Let the versions allow the store as a publish of this tree and this change (`IsVersionsPublish`), and let the leaves change.
+-- The store is a legal publish. The words then show this tree, and the change found between the leaves is this one.
 abbrev pub PublishIsLegal : Type 0
 PublishIsLegal =
     (core : Core) (pass : ℕ) (spot : Spot) (word : ℕ) → IsOfEntry spot → IsLawful core → IsLockedAt core pass spot → IsWordFor spot word →
@@ -37,14 +37,15 @@ PublishIsLegal =
     items_of (core.past.version core.past.now) ≢ items_of tree →
     IsLegalPublish core pass spot word × (next_tree core spot word ≡ tree) × (next_change core pass spot word ≡ change)
 
--- A store of a value of 64 bits, under the lock of what names its leaf, is a legal publish. It links no record anew, and unlinks none.
+-- A store of a value of 64 bits in a lawful core, under the lock of what names its leaf, is a legal publish. It links no record anew, and
+-- unlinks none.
 abbrev pub ValueIsLegal : Type 0
 ValueIsLegal =
     (core : Core) (pass leaf word : ℕ) → IsLawful core → IsLockedAt core pass (Value leaf) → word < 2 ^ 64 →
     IsLegalPublish core pass (Value leaf) word × HasTraded (core.past.version core.past.now) (next_tree core (Value leaf) word) [] []
 
--- Let words encode a node, and let an entry be stored in one of its slots that may stand below the node's height. The words encode the node
--- with that entry then. What is read from them is the same fixed part, and the subtrie with that entry.
+-- Let words encode a node, and replace the entry of one of its slots by another, whose height is below the node's. The words with that
+-- entry's word encode the node with that entry. What is read from them has the fixed part of before, and the subtrie with that entry.
 abbrev pub SlotIsStored : Type 0
 SlotIsStored =
     (view : NodeView) (words : List ℕ) → HasNodeWords view → node_words view ≡ words → All (λ word. word < 2 ^ 64) words →
@@ -53,7 +54,8 @@ SlotIsStored =
     HasNodeWords stored × (node_words stored ≡ after) ×
     (node_words_of after ≡ record { fixed = (node_words_of words).fixed; subtrie = with_entry (node_words_of words).subtrie slot entry })
 
--- Let a node have stood in the tree in a version since a pass's pin. If its state word says live, it is in the tree.
+-- Let a node have stood in the tree in a version since a pass's pin. If its state word is 2, which says live, it is in the tree now.
+-- Without the pin it might have been given back, and be ready for another place.
 abbrev pub LedIsInTree : Type 0
 LedIsInTree =
     (core : Core) → IsLawful core → (pass : ℕ) (pin : Pin) → core.pins pass ≡ Some pin → (number version : ℕ) (tree : Tree) → pin.version ≤ version →
@@ -61,7 +63,7 @@ LedIsInTree =
     Stands core.past version (a_node number) tree → state_at core (a_node number) ≡ 2 → IsInTree core number
 
 -- Let a pass own just the records that its publish links anew, and have locked just the nodes `held`. After the publish it owns just the
--- records that this unlinked, and has locked just those of the nodes that are still linked.
+-- records that the publish unlinked. It has locked just those of the nodes that are still linked.
 abbrev pub OwnedAfterPublish : Type 0
 OwnedAfterPublish =
     (core : Core) (known : Known) (spot : Spot) (word : ℕ) → IsLawful core → Knows core known → (new gone : List Rec) (held kept : List ℕ) →

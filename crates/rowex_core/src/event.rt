@@ -25,15 +25,15 @@ pub enum Spot {
 
 /// One load, store or compare-exchange on one word; or the bulk load with which a table was made, which is no atomic step.
 ///
-/// `word` is what a load found, or what a store puts there. `found` is the word that a compare-exchange found: if that isn't the expected
-/// one, it stays. `offset` counts the words of a record, from its state at 0 on.
+/// `word` is what a load found, or what a store puts there. `found` is the word that a compare-exchange found. If it isn't the one
+/// expected, the exchange changes nothing. `offset` counts the words of a record, from its state at 0 on.
 #[derive(Clone, Copy)]
 pub enum Act {
     /// Exchanges the state of a record from free to held.
     Claim { rec: Rec, found: u64 },
     /// Stores a word, other than the state, of a record that the pass holds.
     Fill { rec: Rec, offset: u8, word: u64 },
-    /// Makes a held record live.
+    /// Makes a held record live, so that a publish of its pass may link it.
     Ready { rec: Rec },
     /// Makes a held record free.
     Release { rec: Rec },
@@ -43,7 +43,7 @@ pub enum Act {
     LoadFixed { rec: Rec, offset: u8, word: u64 },
     /// Exchanges the state of the anchor or of a node from live to locked.
     Lock { target: Target, found: u64 },
-    /// Makes what the pass has locked live.
+    /// Makes the anchor or a node live again, which the pass has locked. A node is still in the tree.
     Unlock { target: Target },
     /// Stores the root, an entry word or a leaf's value, under its lock or that of what names the leaf. It is the one step that changes the
     /// map.
@@ -52,7 +52,7 @@ pub enum Act {
     Mark { rec: Rec, epoch: u64 },
     /// Loads the epoch.
     LoadEpoch { word: u64 },
-    /// Exchanges the epoch from `expected` to the one after.
+    /// Exchanges the epoch from `expected` to `expected` + 1.
     Advance { expected: u64, found: u64 },
     /// Stores the epoch that the pass loaded last as its pin.
     SetPin { word: u64 },
@@ -64,7 +64,7 @@ pub enum Act {
     LoadState { rec: Rec, word: u64 },
     /// Exchanges the state of a record from obsolete in this epoch to free.
     GiveBack { rec: Rec, epoch: u64, found: u64 },
-    /// Links all records of the tree that the table's words, these ones, show. It stands before all steps, and none makes it.
+    /// Makes a table of `words`, and links all records of the tree that they show. It stands before all steps, and no step makes it.
     Load { words: &'static [u64] },
 }
 
@@ -79,7 +79,7 @@ pub struct Event {
 pub trait Gate {
     ghost use Rattle.rowex_core.specs.declared.event.Event.{Event};
 
-    /// That the first gate, told this event, has become the second.
+    /// That the first gate, told this event, may have become the second.
     ghost becomes: { Self → Event → Self → Type 0 };
 
     /// Tells the gate `event`, whose step has just been made.

@@ -22,7 +22,7 @@ pub enum Fact {
         slot: u8,
         entry: Option<Entry>,
     },
-    /// If the record stood in the tree between these versions, it did so once with this word at this offset.
+    /// As `Placed`, for a record: in one of these versions it had this word at this offset.
     Fixed {
         since: u64,
         at: u64,
@@ -30,7 +30,7 @@ pub enum Fact {
         offset: u8,
         word: u64,
     },
-    /// If the leaf stood in the tree between these versions, it did so once with this value.
+    /// As `Placed`, for a leaf: in one of these versions it had this value.
     Valued {
         since: u64,
         at: u64,
@@ -62,8 +62,8 @@ pub struct Locked {
     pub words: Listed<u64>,
 }
 
-/// A value that the pass has loaded of a leaf since it last locked, unlocked, published or marked. The leaf has it still, if what names the
-/// leaf is locked by the pass.
+/// A value that the pass has loaded of a leaf since it last locked, unlocked, published or marked. While what names the leaf is locked by
+/// the pass, the leaf still has it.
 pub struct Loaded {
     pub leaf: u32,
     pub value: u64,
@@ -103,7 +103,7 @@ pub struct Known {
     pub front: Listed<Change>,
     /// What its last load of the root left.
     pub fresh: Fresh,
-    /// The pass's answered calls.
+    /// The pass's completed calls, each with its reply and its place.
     pub notes: Listed<Note>,
     /// The number of its next atomic step; the first is 1.
     pub steps: u64,

@@ -7,8 +7,8 @@ pub fn steps_stay_lawful()
     ensures { StepsStayLawful }
 {}
 
-/// A legal step of one pass leaves another pass its records, locks, pin and round, and leaves all versions. It adds no change of that other
-/// pass.
+/// A legal step of one pass leaves another pass its records, locks, pin and round. It leaves all versions so far, and adds no change of
+/// that other pass.
 pub fn steps_leave_what_others_have()
     ensures { StepsLeaveOthers }
 {}
@@ -18,7 +18,7 @@ pub fn steps_keep_what_others_know()
     ensures { StepsKeepKnowledge }
 {}
 
-/// What a pass knows is true after its own legal step too, with what that step teaches it.
+/// What a pass knows, with what its own legal step teaches it, is true after that step.
 pub fn learned_is_true()
     ensures { LearnedIsTrue }
 {}
@@ -49,37 +49,37 @@ pub fn runs_stay_lawful()
     ensures { RunsStayLawful }
 {}
 
-/// A list of legal events of other passes leaves true what a pass knows.
+/// Let what a seat knows be true of a lawful core. It stays true after legal events, if none of these is by a pass whose seat it is.
 pub fn runs_keep_knowledge()
     ensures { RunsKeep }
 {}
 
 /// A publish appends one change and one version; all earlier ones stay. A bulk load appends one change for each leaf, and makes the
-/// versions anew: it is legal at the opening alone. Every other act leaves both lists.
+/// versions anew: it is legal at the opening alone. Every other act leaves changes and versions as they are.
 pub fn only_publish_appends()
     ensures { EachActAppends }
 {}
 
-/// Let the search of a pinned pass be led to a node, since some version not before that of the pin. Then since the same version it is led
-/// to the child that the node's words show now. This holds whether the node is still linked or not.
+/// Let a search of a pinned pass be led to a node, since a version that is no older than the pin. Since that version it is also led to the
+/// entry to which the node's words now send it. This holds whether the node is still linked or not.
 pub fn hindsight()
     ensures { Hindsight }
 {}
 
-/// Keys below two entries of a node, in any versions of its life, first differ at the fork between these entries. A key below the first
-/// entry has 0 there.
+/// Keys below two entries of a node, in any versions of its present life, first differ at the fork between these entries. A key below the
+/// left entry has 0 there.
 pub fn keys_part_at_fork_between_entries()
     ensures { KeysPartAtFork }
 {}
 
-/// Take a record that was in the tree in a version since a pass's pin. It is neither free nor held. It has the words of that version, but
-/// for its state, a node's entries and what stands behind a leaf's key.
+/// Take a record that was in the tree in a version since a pass's pin. It is neither free nor held. It has the words that it had in that
+/// version, with four exceptions: its state, a node's entries, a leaf's value, and what stands behind a leaf's key.
 pub fn reach_keeps_its_words()
     ensures { ReachKeepsWords }
 {}
 
-/// Each entry in a node of a pinned pass's reach is now the one that the node had in the last version that linked it. The node's fixed
-/// words and stems are the same in all versions since the pin that link it.
+/// Take a node that was in the tree in a version since a pass's pin. Each of its slots now has the entry that it had in the last version in
+/// which the node stood, or none. Its fixed words and stems were the same in these two versions.
 pub fn entries_in_reach_are_of_last_version()
     ensures { EntriesInReach }
 {}
@@ -89,13 +89,13 @@ pub fn publish_is_map_step()
     ensures { PublishIsAStep }
 {}
 
-/// Let the store of an entry word show a bit trie with other leaves than the newest version has. If one change of the storing pass leads
-/// from the old leaves to the new ones, the publish of that word makes this change.
+/// Let an entry word be stored, and let the words then show no tree, or a bit trie of lawful nodes. Let one change of the storing pass lead
+/// from the newest version's leaves to those of that tree, and let the two lists of leaves differ. Then `next_change` finds that change.
 pub fn legality_finds_change()
     ensures { FindsChange }
 {}
 
-/// Let a node be locked, and a pass lock another one by a legal step. Then the core is lawful, and both locks stand.
+/// Let a node be locked, and let a pass lock another one by a legal step. The core after that step is lawful, and both locks stand.
 pub fn locks_stay_apart()
     ensures { LocksApart }
 {}

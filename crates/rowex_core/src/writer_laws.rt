@@ -2,19 +2,20 @@
 
 ghost use Rattle.rowex_core.specs.Writers.{LedIsInTree, PublishIsLegal, OwnedAfterPublish, SlotIsStored, ValueIsLegal};
 
-/// Let a pass that has a spot's lock store an entry word there, after which the words of that node are still those of a node. If the
-/// versions allow this as the publish of a tree with other leaves, it is a legal publish. It makes that tree, and the change that the
-/// versions tell.
+/// Let a pass store an entry word at the root or in a slot, under its lock. After the store let the words of a node there still encode one.
+/// Let the versions allow this as the publish of a tree with other leaves. Then the store is a legal publish. It makes that tree, and the
+/// change that the versions tell.
 pub fn allowed_store_is_legal_publish()
     ensures { PublishIsLegal }
 {}
 
-/// Let a pass have locked what names a leaf. Its store of a value to that leaf is a legal publish, by which no record comes or goes.
+/// Let a pass have locked what names a leaf. Its store of a value of 64 bits to that leaf is a legal publish, which links no record anew
+/// and unlinks none.
 pub fn guarded_store_of_value_is_legal_publish()
     ensures { ValueIsLegal }
 {}
 
-/// Let words be those of a node, and a lower entry be stored in one of its slots. Then the words are those of the node with that entry
+/// Let words encode a node, and let an entry of lesser height be stored in one of its slots. Then the words encode the node with that entry
 /// there.
 pub fn stored_slot_is_shown()
     ensures { SlotIsStored }
@@ -25,8 +26,8 @@ pub fn led_live_node_is_in_tree()
     ensures { LedIsInTree }
 {}
 
-/// Let a pass own just those records that its publish links anew. After the publish it owns just those that it unlinked, and has just its
-/// locks of nodes still linked.
+/// Let a pass own just those records that its publish links anew. After the publish it owns just those records that the publish unlinked.
+/// Of its locks of nodes it has just those of nodes still linked.
 pub fn publisher_owns_what_it_unlinked()
     ensures { OwnedAfterPublish }
 {}

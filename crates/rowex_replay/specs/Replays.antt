@@ -8,11 +8,11 @@ use Rattle.rowex_core.specs.Events.{IsLockedAt}
 use Rattle.rowex_replay_state.specs.States.{StateView, IsStateOf}
 use Rattle.rowex_replay.specs.Runs.{Run, HasLegalEvents, core_of}
 
--- The act may want memory: it is a publish by a pass that has locked the word. No other kind of act may.
+-- The act is a publish by a pass that has the lock of the word. No other act takes memory.
 abbrev pub MayWantMemory : (core : Core) → (pass : ℕ) → (act : Act) → Type 0
 MayWantMemory core pass act = (spot : Spot) × (word : ℕ) × (act ≡ Publish spot word) × IsLockedAt core pass spot
 
--- The state is that of the core after the run, whose events are legal.
+-- The events of the run are legal, and the state is that of the core to which they lead.
 pub record IsAfter (state : StateView) (run : Run) : Type 0 where
   pub legal : ∥ HasLegalEvents run ∥₁
   pub at : IsStateOf state (core_of run)

@@ -12,7 +12,7 @@ pub record Run : Type 0 where
   pub layout : Layout
   pub events : List Event
 
--- the core after these events, the first of which happens at this core
+-- the core after these events, of which the first is made in this core; it is asked of no event whether it is legal
 abbrev pub core_after : Core → List Event → Core
 core_after core [] = core
 core_after core (event ∷ events) = core_after (after core event.pass event.act) events

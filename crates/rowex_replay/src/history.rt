@@ -33,7 +33,7 @@ impl History {
         History {}
     }
 
-    /// Returns the history with `_event` appended.
+    /// Returns the history with `_event` behind its events.
     pub(crate) fn append_event(&self, _event: &Event) -> History
         ensures { result.run ≡ with_event self.now.run _event.now }
     {

@@ -5,7 +5,7 @@ ghost use Rattle.rowex_replay.specs.Runs.{HasLegalEvents, core_of};
 
 use crate::replay::Replay;
 
-/// The events of a replay's run are legal one after the other from the opening core on, and the core to which they lead is lawful.
+/// The events of a replay's run are legal one after the other from the opening core on. The core to which they lead is lawful.
 pub fn runs_are_legal(replay: &Replay)
     ensures legal { ∥ HasLegalEvents replay.now ∥₁ }
     ensures lawful { ∥ IsLawful (core_of replay.now) ∥₁ }

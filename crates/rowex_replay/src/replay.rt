@@ -50,9 +50,9 @@ impl Replay {
         })
     }
 
-    /// Makes `event` if it is a step that is legal where the run so far leads. If not, the error is `Illegal`. It is `Load` for a bulk
-    /// load, which a replay never makes. It is `Memory` if memory was refused, which only a publish under the lock of its word takes. An
-    /// error changes nothing. Only a publish takes time linear in the table.
+    /// Makes `event` if it is a legal step where the run so far leads, and appends it to the run. If it isn't legal, the error is
+    /// `Illegal`. It is `Load` for a bulk load, which a replay never makes. It is `Memory` if memory was refused, which only a publish
+    /// under the lock of its word takes. An error changes nothing. Only a publish takes time linear in the table.
     pub fn step(&mut self, event: Event) -> Result<(), ReplayFault>
         ensures ok { OnOk result (Legal (core_of self.old) event.pass event.act × (self.new ≡ with_event self.old event)) }
         ensures illegal { result ≡ Err ReplayFault.Illegal → ¬ Legal (core_of self.old) event.pass event.act }
@@ -72,8 +72,8 @@ impl Replay {
         self.state.changes()
     }
 
-    /// Returns the keys of the newest version with their values, in key order: the map after the run's changes. `AllocError` if memory is
-    /// refused.
+    /// Returns the keys of the newest version with their values, in key order. That is also the map after the run's changes. `AllocError`
+    /// if memory is refused.
     pub fn content(&self, alloc: Global) -> Result<Vec<(Key, u64)>, AllocError>
         ensures version { IfOk result (λ pairs. pairs.items ≡ content ((core_of self.now).past.version (core_of self.now).past.now)) }
         ensures map { IfOk result (λ pairs. pairs.items ≡ map_of (core_of self.now).changes) }

@@ -14,16 +14,17 @@ BeginApart old new = Unit {0}
 abbrev pub numbers : List Item → List ℕ
 numbers items = map (λ item. item.number) items
 
--- One leaf has changed from `old` to `new`, as the change tells.
+-- From `old` to `new` one leaf was added, replaced or removed, as the kind of the change says. It has the change's key and value, and some
+-- record number.
 abbrev pub Changes : (change : Change) → (old new : List Item) → Type 0
 Changes change old new = (number : ℕ) × IsChanged change.kind (item_of number change) old new
 
--- A change was found exactly if one leaf has changed from `old` to `new`, as `change_between` tells. The found change is then that one.
+-- A change was found exactly if the one that `change_between` gives leads from `old` to `new`. The found change is then that one.
 abbrev pub IsFoundChange : (pass : ℕ) → (old new : List Item) → (found : Option Change) → Type 0
 IsFoundChange pass old new None = ¬ (Changes (change_between pass old new) old new)
 IsFoundChange pass old new (Some change) = (change ≡ change_between pass old new) × Changes change old new
 
--- The change was found exactly if the old and the new leaves have the same numbers.
+-- The change was found exactly if `old` and `new`, the leaves beside the one that changes, have the same numbers in the same order.
 abbrev pub IsMade : (old new : List Item) → (change : Change) → (result : Option Change) → Type 0
 IsMade old new change None = ¬ (numbers old ≡ numbers new)
 IsMade old new change (Some found) = (found ≡ change) × (numbers old ≡ numbers new)

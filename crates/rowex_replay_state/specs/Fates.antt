@@ -3,7 +3,7 @@ use Rattle.rowex_replay_state.specs.declared.fate.Fate.{Fate as Stored}
 use Rattle.rowex_replay_state.specs.declared.fate.Fate.TheVariants.{Free as IsFree, Held as IsHeld, Ready as IsReady, InTree as IsInTree, Unlinked as IsUnlinked, Marked as IsMarked}
 use Rattle.versions.specs.Core.{Fate, Free, Held, Ready, InTree, Unlinked, Marked}
 
--- the fate that the state of a replay stores in this form
+-- the fate of the core for which this stored fate stands, form by form
 abbrev pub stored_fate : Stored → Fate
 stored_fate IsFree = Free
 stored_fate (IsHeld by) = Held by

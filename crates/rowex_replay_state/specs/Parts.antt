@@ -24,8 +24,9 @@ IsForkedFrom least (leaf number key value) = Unit {0}
 IsForkedFrom least (node number fixed body) = IsForkedFrom least body
 IsForkedFrom least (fork position left right) = least ≤ position
 
--- The words show the tree, whose subtrie is `trie`. The tree is lawful: its forks rise and part its keys, and its nodes are built as they
--- must be. The table has its records, whose words encode nodes and leaves. The position of its first fork, if any, is at least `least`.
+-- The words show the tree, whose subtrie is `trie`. The tree is lawful: its forks rise and part its keys (`local`), and its nodes are built
+-- as they must be (`built`). The position of its first fork, if any, is at least `least`. The table has its records, whose words encode
+-- nodes and leaves (`spelled`).
 pub record ShowsPart (table : Table) (words : Rec → List ℕ) (least : ℕ) (trie : Subtrie) (tree : Tree) : Type 0 where
   pub subtrie_is : subtrie tree ≡ trie
   pub shown : IsShown (heap_of words) tree
@@ -39,7 +40,7 @@ pub record HasMarks (table : Table) (linked : Linked) : Type 0 where
   pub all_nodes : length linked.nodes.items ≡ length table.nodes
   pub all_leaves : length linked.leaves.items ≡ length table.leaves
 
--- What was read has grown by the tree: by its leaves, and by the marks of the records that it links.
+-- What was read has grown by the tree. Its leaves are appended, and the records that it links are marked besides those marked before.
 pub record GrowsBy (tree : Tree) (old new : Linked) : Type 0 where
   pub items_are : map read_item new.items.items ≡ map read_item old.items.items ++ items tree
   pub nodes_are : (number : ℕ) → (slice_index_or new.nodes.items number false ≡ true) ↔ ((slice_index_or old.nodes.items number false ≡ true) ⊎
@@ -47,18 +48,18 @@ pub record GrowsBy (tree : Tree) (old new : Linked) : Type 0 where
   pub leaves_are : (number : ℕ) →
       (slice_index_or new.leaves.items number false ≡ true) ↔ ((slice_index_or old.leaves.items number false ≡ true) ⊎ Links tree (a_leaf number))
 
--- If `good` is true, a tree of which `shows` holds was read, and what was read has grown by it. Else there is no such tree.
+-- If `good` is true, a tree of which `shows` holds was read, and what was read has grown by that tree. Else `shows` holds of no tree.
 abbrev pub IsTreeRead : (shows : Tree → Type 0) → (good : Bool) → (old new : Linked) → Type 0
 IsTreeRead shows true old new = (tree : Tree) × shows tree × GrowsBy tree old new
 IsTreeRead shows false old new = (tree : Tree) → ¬ (shows tree)
 
--- A part of a tree, whose subtrie has the property `fits`, was read exactly if the words show one. That holds whatever words are given to
--- records that the table hasn't.
+-- A part of a tree was read exactly if the words show a lawful one (`ShowsPart`), whose subtrie has the property `fits`. That holds
+-- whatever words are given to records that the table hasn't: a lawful part links none of them.
 abbrev pub IsPartRead : (table : Table) → (least : ℕ) → (fits : Subtrie → Type 0) → (good : Bool) → (old new : Linked) → Type 0
 IsPartRead table least fits good old new =
     (words : Rec → List ℕ) → AreWordsOf table words → (trie : Subtrie) → fits trie → IsTreeRead (ShowsPart table words least trie) good old new
 
--- There is still a mark for each record of the table. If a part was read, there is at least one leaf more.
+-- There is still a mark for each record of the table. If a part was read, there is at least one leaf more, so each part has a first leaf.
 pub record HasGrown (table : Table) (good : Bool) (old new : Linked) : Type 0 where
   pub room : HasMarks table new
   pub longer : good ≡ true → length old.items.items < length new.items.items
@@ -69,8 +70,8 @@ pub record IsLeafAt (leaves : List (List ℕ)) (number : ℕ) (pair : List ℕ �
   pub has : HasLeafWords pair
   pub spelling : leaf_words pair ≡ up_to_key (slice_index_or leaves number [])
 
--- `added` is true exactly if the words of the leaf record encode a leaf. That leaf is then added to what was read, and marked as linked.
--- Else nothing has changed.
+-- `added` is true exactly if the table has the leaf record, and its words encode a leaf. That leaf is then the last of those read, and its
+-- record is marked as linked. Else nothing has changed.
 abbrev pub AddsLeaf : (leaves : List (List ℕ)) → (number : ℕ) → (added : Bool) → (old new : Linked) → Type 0
 AddsLeaf leaves number true old new =
     (pair : List ℕ × ℕ) × IsLeafAt leaves number pair ×
@@ -85,7 +86,7 @@ pub record EncodesNode (nodes : List (List ℕ)) (number height : ℕ) (view : N
   pub spelling : node_words view ≡ slice_index_or nodes number []
   pub height_is : view.height ≡ height
 
--- a node was found exactly if the words of the node record encode one of this height
+-- a node was found exactly if the table has the node record, and its words encode one of this height; the found one is that
 abbrev pub IsNodeAt : (nodes : List (List ℕ)) → (number height : ℕ) → (found : Option NodeView) → Type 0
 IsNodeAt nodes number height None = (view : NodeView) → ¬ (EncodesNode nodes number height view)
 IsNodeAt nodes number height (Some view) = EncodesNode nodes number height view

@@ -14,8 +14,8 @@ use Rattle.rowex_core.specs.Cores.{Core, IsLawful, IsPastFilling, heap_of}
 use Rattle.rowex_core.specs.Events.{change_between, tree_of}
 use Rattle.rowex_replay_state.specs.States.{StateView, IsStateOf}
 
--- The state is that of the lawful core once a word was stored in a node or at the root. Records have the words `words` then. Those of leaf
--- records are the core's.
+-- The state is that of a lawful core, but its records have the words `words`. In leaf records they are the core's. So it is the state
+-- between the store of a node's word and the change of fates, or before a store at the root.
 pub record IsWordStored (state : StateView) (core : Core) (words : Rec → List ℕ) : Type 0 where
   pub lawful : ∥ IsLawful core ∥₁
   pub at : IsStateOf state (record core { words = words })
@@ -25,21 +25,23 @@ pub record IsWordStored (state : StateView) (core : Core) (words : Rec → List 
 abbrev pub AreWordsPacked : Core → (Rec → List ℕ) → Type 0
 AreWordsPacked core words = (rec : Rec) → IsPastFilling (core.fate rec) → IsPacked rec (words rec)
 
--- the change that a publish by the pass makes, after which the words show the tree from this root
+-- the change that a publish by the pass makes after which the words show the tree from this root, as the leaves tell it
 abbrev pub change_to : (core : Core) → (pass : ℕ) → (words : Rec → List ℕ) → (root : Option Entry) → Change
 change_to core pass words root = change_between pass (items_of (core.past.version core.past.now)) (items_of (tree_of (heap_of words) root))
 
--- The pass may make the tree that the words show from this root the newest version. Its lock of the stored word is left aside.
+-- The pass may make the tree that the words show from this root the newest version. The lock under which the word is stored is not asked
+-- for.
 abbrev pub MayMakeVersion : (core : Core) → (pass : ℕ) → (words : Rec → List ℕ) → (root : Option Entry) → Type 0
 MayMakeVersion core pass words root = IsNextVersion core.shared pass (heap_of words) root (tree_of (heap_of words) root) (change_to core pass words root)
 
--- the core once the pass has made the tree that the words show from this root the newest version
+-- The core once the pass has made the tree that the words show from this root the newest version. The leaves tell the change.
 abbrev pub published : (core : Core) → (pass : ℕ) → (words : Rec → List ℕ) → (root : Option Entry) → Core
 published core pass words root =
     record { layout = core.layout; words = words; shared = published_by core.shared pass root (tree_of (heap_of words) root) (change_to core pass words root) }
 
--- Whether a replay has made the pass's publish. If so, the publish is legal in each core with the old state, and the new state is that of
--- the core after it. If not, it is legal in none, and the state is as before.
+-- Whether a replay has made the tree from this root the newest version, once the word is stored. If so, the pass may make it in each core
+-- with the old state (`MayMakeVersion`). The new state is that of the core after it. If not, it may in none whose records are encoded, and
+-- the state is as before. The lock of the word and its node's encoding are checked before.
 abbrev pub IsPublishJudged : (made : Bool) → (old new : StateView) → (pass : ℕ) → (root : Option Entry) → Type 0
 IsPublishJudged true old new pass root =
     (core : Core) (words : Rec → List ℕ) → IsWordStored old core words → MayMakeVersion core pass words root ×
@@ -52,7 +54,7 @@ IsPublishJudged false old new pass root =
 abbrev pub revalued_item : (leaf word : ℕ) → (old : Item) → Item
 revalued_item leaf word old = item old.number old.key (if nat_eq old.number leaf then word else old.value)
 
--- The two lists have the same leaves. But in `new` the leaf of the number `leaf` has the word as its value.
+-- The two lists have the same leaves, in the same order, but for one value: in `new` the leaf of the number `leaf` has the value `word`.
 pub record AreRevalued (leaf word : ℕ) (old new : List ReadItem) : Type 0 where
   pub count : length new ≡ length old
   pub each : (place : ℕ) (next : ReadItem) → slice_get new place ≡ Some next → (was : ReadItem) × (slice_get old place ≡ Some was) ×

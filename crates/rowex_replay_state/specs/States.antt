@@ -1,4 +1,4 @@
--- When a state is that of a core, and what a step of it may answer.
+-- When a state is that of a core, and what a step of it comes to.
 use Rattle.std.specs.Prelude.{◌≡◌, ◌⊎◌, ℕ, ◌<◌, List, map, Bool, true, false, Option, Some}
 use Rattle.compound_node.specs.declared.entries.Entry.{Entry}
 use Rattle.compound_node.specs.declared.entries.Entry.TheVariants.{Leaf}
@@ -19,7 +19,8 @@ use Rattle.rowex_replay_state.specs.declared.passes.PassState.{PassState}
 use Rattle.rowex_replay_state.specs.Passes.{ArePassesOf}
 use Rattle.rowex_replay_state.specs.Records.{RecordsView, AreRecordsOf, HasLockedEntry, lock_in, words_in}
 
--- What contracts see of the state of a replay. `items` are the leaves of the newest version, in order.
+-- What contracts see of the state of a replay. `anchor` is the pass that has locked the anchor, if one has, and `root` the root's entry.
+-- `items` are the leaves of the newest version, in key order.
 pub record StateView : Type 0 where
   pub records : RecordsView
   pub passes : List PassState
@@ -29,8 +30,8 @@ pub record StateView : Type 0 where
   pub changes : List Change
   pub items : List ReadItem
 
--- The state is that of this core: with the same records, passes, locks, epoch, root and changes. It has the leaves of the core's newest
--- version.
+-- The state is that of this core: with the same records, passes, anchor's lock, root, epoch and changes. Its leaves are those of the core's
+-- newest version. Earlier versions are not kept, since no step's legality needs them.
 pub record IsStateOf (state : StateView) (core : Core) : Type 0 where
   pub records : AreRecordsOf state.records core.layout core.words core.fate core.lock
   pub passes : ArePassesOf state.passes core.layout core.pins core.rounds
@@ -41,7 +42,7 @@ pub record IsStateOf (state : StateView) (core : Core) : Type 0 where
   pub items : items_of (core.past.version core.past.now) ≡ map read_item state.items
 
 -- Whether a replay has made the pass's act. If so, the act is legal in each lawful core with the old state, and the new state is that of
--- the core after it. If not, the act is legal in none, and the state is as before.
+-- the core after it. If not, the act is legal in none, and the state is as before. That the layout has the pass is checked elsewhere.
 abbrev pub IsStepped : (made : Bool) → (old new : StateView) → (pass : ℕ) → (act : Act) → Type 0
 IsStepped true old new pass act = (core : Core) → ∥ IsLawful core ∥₁ → IsStateOf old core → LegalAct core pass act × IsStateOf new (after core pass act)
 IsStepped false old new pass act = (new ≡ old) × ((core : Core) → IsLawful core → IsStateOf old core → ¬ (LegalAct core pass act))
@@ -51,7 +52,8 @@ abbrev pub HasNamerLocked : (state : StateView) → (pass leaf : ℕ) → Type 0
 HasNamerLocked state pass leaf =
     ((state.anchor ≡ Some pass) × (state.root ≡ Some (Leaf leaf))) ⊎ HasLockedEntry state.records pass (entry_word (Some (Leaf leaf)))
 
--- The pass has the lock under which the word of the spot is stored. For a value it is that of what names the leaf.
+-- The table has the spot, and the pass has the lock under which the word of the spot is stored. For a value it is the lock of what names
+-- the leaf.
 abbrev pub HasLock : (state : StateView) → (pass : ℕ) → (spot : Spot) → Type 0
 HasLock state pass Root = state.anchor ≡ Some pass
 HasLock state pass (Slot number slot) = (slot < MAX_ENTRIES) × (lock_in state.records (a_node number) ≡ Some (Some pass))

@@ -32,8 +32,8 @@ HasRecordIn table (a_leaf number) = number < length table.leaves
 abbrev pub IsEncoded : (table : Table) → (words : Rec → List ℕ) → (rec : Rec) → Type 0
 IsEncoded table words rec = HasRecordIn table rec × IsPacked rec (words rec)
 
--- The words show a lawful tree from this root, or the root is empty. The table has each record that the tree links, and its words encode a
--- node or a leaf.
+-- The words show a lawful tree from this root's entry, or the root has none. The table has each record that the tree links, and its words
+-- encode a node or a leaf.
 pub record IsVersion (table : Table) (words : Rec → List ℕ) (root : Option Entry) : Type 0 where
   pub top : IsTop (heap_of words) root (tree_of (heap_of words) root)
   pub tree : (shown : Tree) → tree_of (heap_of words) root ≡ Some shown → IsTrie shown × IsBuilt shown
@@ -43,7 +43,8 @@ pub record IsVersion (table : Table) (words : Rec → List ℕ) (root : Option E
 abbrev pub read_item : ReadItem → Item
 read_item read = record { number = read.number; key = read.key; value = read.value }
 
--- What was read of a tree, `linked`: its leaves in order, and for each record of the table whether the tree links it.
+-- What was read of a tree, `linked`, is right: its leaves in key order, and for each record of the table whether the tree links the record.
+-- There is one mark for each record.
 pub record Tells (table : Table) (tree : Option Tree) (linked : Linked) : Type 0 where
   pub items_are : map read_item linked.items.items ≡ items_of tree
   pub all_nodes : length linked.nodes.items ≡ length table.nodes
@@ -51,11 +52,12 @@ pub record Tells (table : Table) (tree : Option Tree) (linked : Linked) : Type 0
   pub nodes_are : (number : ℕ) → (slice_index_or linked.nodes.items number false ≡ true) ↔ IsLinked tree (a_node number)
   pub leaves_are : (number : ℕ) → (slice_index_or linked.leaves.items number false ≡ true) ↔ IsLinked tree (a_leaf number)
 
--- A version was read exactly if the words show a lawful one from this root. What was read is then told of that version's tree.
+-- A version was read exactly if the words show a lawful one from this root. What was read then tells its leaves and what it links.
 abbrev pub IsReadVersion : (table : Table) → (words : Rec → List ℕ) → (root : Option Entry) → (told : Option Linked) → Type 0
 IsReadVersion table words root None = ¬ (IsVersion table words root)
 IsReadVersion table words root (Some linked) = IsVersion table words root × Tells table (tree_of (heap_of words) root) linked
 
--- A version was read exactly if there is a lawful one from this root, whatever words are given to records that the table hasn't.
+-- A version was read exactly if there is a lawful one from this root (`IsReadVersion`). That holds whatever words are given to records that
+-- the table hasn't: a lawful version links none of them.
 abbrev pub IsToldVersion : (table : Table) → (root : Option Entry) → (linked : Option Linked) → Type 0
 IsToldVersion table root linked = (words : Rec → List ℕ) → AreWordsOf table words → IsReadVersion table words root linked

@@ -10,8 +10,8 @@ use finite_map::{Change, Kind};
 use std::cmp::Ordering;
 
 /// Returns the change by which `pass` made the leaves `before` the leaves `after`: one leaf more, one less, or one for another of its key.
-/// `None` exactly if the two lists don't differ by such a change. Both lists are in the order of the keys, and leaves of one number are one
-/// leaf.
+/// `None` exactly if the two lists don't differ by such a change. Both lists have to be in the order of the keys, and leaves of one number
+/// have to be one leaf.
 pub fn change_between(pass: u16, before: &[Item], after: &[Item]) -> Option<Change>
     ensures { AgreeByNumber (map read_item before.now) (map read_item after.now) → IsFoundChange pass (map read_item before.now) (map read_item after.now) result }
 {
@@ -19,8 +19,9 @@ pub fn change_between(pass: u16, before: &[Item], after: &[Item]) -> Option<Chan
     change_from_first_difference(pass, &before[front..], &after[front..])
 }
 
-/// Returns the change by which `pass` made the leaves `gone` the leaves `come`, or `None`, as `change_between` does. If both lists have a
-/// first leaf, these two leaves have different numbers.
+/// Returns the change by which `pass` made the leaves `gone` the leaves `come`; `None` exactly if the two lists don't differ by one change.
+/// If both lists have a first leaf, these two have different numbers. So the change is at the first place, and the lesser of the two keys
+/// tells which leaf it is. Both lists have to be in the order of the keys, and leaves of one number have to be one leaf.
 fn change_from_first_difference(pass: u16, gone: &[Item], come: &[Item]) -> Option<Change>
     requires { BeginApart (map read_item gone.now) (map read_item come.now) }
     ensures { AgreeByNumber (map read_item gone.now) (map read_item come.now) → IsFoundChange pass (map read_item gone.now) (map read_item come.now) result }
@@ -37,8 +38,9 @@ fn change_from_first_difference(pass: u16, gone: &[Item], come: &[Item]) -> Opti
     }
 }
 
-/// Returns the change of `pass` of the kind `kind` for the leaf `item`. `None` if the other leaves, `before` and `after`, have different
-/// numbers.
+/// Returns the change of `pass` of the kind `kind` for the leaf `item`. `before` and `after` are the leaves beside it, before and after the
+/// change. `None` exactly if these two lists don't have the same record numbers in the same order, since then more than one leaf has
+/// changed.
 fn make_change(
     pass: u16,
     item: &Item,
@@ -60,7 +62,8 @@ fn make_change(
     }
 }
 
-/// Returns how many leaves have the same numbers in `before` and `after`, up to the first that differ, or to the end of the shorter list.
+/// Returns how many leaves of `before` and `after`, from the first on, have the same record numbers. The count ends at the first place
+/// where the numbers differ, or where a list ends.
 fn count_same_first_items(before: &[Item], after: &[Item]) -> usize
     ensures within { result ≤ length before.now }
     ensures within_both { result ≤ length after.now }

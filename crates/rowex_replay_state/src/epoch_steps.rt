@@ -25,8 +25,8 @@ impl State {
         self.passes.get(pass as usize).copied()
     }
 
-    /// Begins a round of `pass`, by a load of the epoch that finds `word`. Returns whether the step is legal: `word` is the epoch. If not,
-    /// nothing changes.
+    /// Makes the load of the epoch by `pass`, which finds `word`. Returns whether the step is legal: `word` is the epoch. If so, a new
+    /// round of `pass` begins, with this epoch and the newest version, whose number is that of the changes so far. If not, nothing changes.
     pub(crate) fn load_epoch(&mut self, pass: u16, word: u64) -> bool
         requires { pass < length self.old.passes }
         ensures { IsStepped result self.old self.new pass (LoadEpoch word) }
@@ -41,7 +41,8 @@ impl State {
     }
 
     /// Raises the epoch by one if it is `expected`, as an exchange by `pass`, which may be any. Returns whether the step is legal: `found`
-    /// is the epoch before, and `expected` is 1 to `EPOCHS` - 2. If not, nothing changes.
+    /// is the epoch before, and `expected` is 1 to `EPOCHS` - 2, so that the epoch stays below `EPOCHS`. If not, nothing changes. An
+    /// exchange that finds another epoch than `expected` fails: it is a legal step, too, and changes nothing.
     pub(crate) fn advance(&mut self, pass: u16, expected: u64, found: u64) -> bool
         ensures { IsStepped result self.old self.new pass (Advance expected found) }
     {
@@ -54,8 +55,8 @@ impl State {
         true
     }
 
-    /// Pins `pass` by `word`. Returns whether the step is legal: the pass isn't pinned, and its last load of the epoch found `word`. If
-    /// not, nothing changes.
+    /// Pins `pass` by `word`. Returns whether the step is legal: the pass isn't pinned, and its last load of the epoch found `word`. A pass
+    /// that hasn't loaded the epoch yet may not be pinned. If the step isn't legal, nothing changes.
     pub(crate) fn set_pin(&mut self, pass: u16, word: u64) -> bool
         requires { pass < length self.old.passes }
         ensures { IsStepped result self.old self.new pass (SetPin word) }
@@ -83,8 +84,9 @@ impl State {
         true
     }
 
-    /// Notes in the round of `pass` that it has loaded the pin of pass `of`, and found `word`. Returns whether the step is legal: the index
-    /// has pass `of`, and `word` is its pin, or 0 if it has none. If not, nothing changes.
+    /// Makes the load by `pass` of the pin of pass `of`, which finds `word`. Returns whether the step is legal: the index has pass `of`,
+    /// and `word` is its pin, or 0 if it has none. If so, the round of `pass` has loaded that pin, and its bound falls to the pin if that
+    /// is lower. If not, nothing changes.
     pub(crate) fn load_pin(&mut self, pass: u16, of: u16, word: u64) -> bool
         requires { pass < length self.old.passes }
         ensures { IsStepped result self.old self.new pass (LoadPin of word) }

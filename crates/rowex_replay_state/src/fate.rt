@@ -25,8 +25,8 @@ pub(crate) enum Fate {
 impl Fate {
     ghost use Rattle.rowex_replay_state.specs.Fates.{stored_fate};
 
-    /// Returns the state of a record that has come to this fate. If the record is live, `lock` is the pass that has locked it, or `None`;
-    /// else `lock` is ignored.
+    /// Returns the state of a record that has come to this fate. A record that is ready, in the tree or unlinked is locked if `lock` is a
+    /// pass, and else live. For other fates `lock` is ignored.
     pub(crate) fn state(self, lock: Option<u16>) -> Tag
         ensures { result ≡ tag_of lock (stored_fate self) }
     {
@@ -39,7 +39,8 @@ impl Fate {
     }
 }
 
-/// Returns the state of a live record or of the anchor: `Locked` if `lock` is a pass, `Live` if it is `None`.
+/// Returns the state of the anchor, or of a record that is neither free, held nor marked: `Locked` if `lock` is a pass, `Live` if it is
+/// `None`.
 pub(crate) fn live_state(lock: Option<u16>) -> Tag
     ensures { result ≡ lock_tag lock }
 {

@@ -9,7 +9,8 @@ ghost use Rattle.record_words.specs.declared.TheConstants.{HEAD_WORDS};
 use arrayvec::ArrayVec;
 use record_words::HeadNumbers;
 
-/// Returns the columns of each node whose head has `words`, with `numbers` in their first word.
+/// Returns the columns of each node whose head has `words`, with `numbers` in their first word. For words of no node the result has no
+/// meaning, so the caller compares.
 pub(crate) fn read_columns(words: &[u64], numbers: HeadNumbers) -> ArrayVec<u16, 31>
     requires { length words.now ≡ HEAD_WORDS }
     ensures { InNodesOf words.now (λ node. AreNumbersOf numbers node → result.items ≡ node.columns) }
@@ -24,7 +25,7 @@ pub(crate) fn read_columns(words: &[u64], numbers: HeadNumbers) -> ArrayVec<u16,
 }
 
 /// Returns the 32 rows of each node whose head has `words`, with `numbers` in their first word. Behind the last entry they are
-/// 4,294,967,295.
+/// 4,294,967,295. For words of no node the result has no meaning, so the caller compares.
 pub(crate) fn read_rows(words: &[u64], numbers: HeadNumbers) -> [u32; 32]
     requires { length words.now ≡ HEAD_WORDS }
     ensures { InNodesOf words.now (λ node. AreNumbersOf numbers node → result ≡ with_unused node.rows) }

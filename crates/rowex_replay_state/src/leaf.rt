@@ -20,8 +20,8 @@ pub fn unpack_leaf(words: &[u64; LEAF_FIELDS]) -> Result<(Key, u64), WordFault>
     unpack_leaf_with_bytes(words, &unpack_key_bytes(words))
 }
 
-/// Returns the key and the value of a leaf record with `words`, as `unpack_leaf` does. The key's length is at most 240. `bytes` are those
-/// of the key's words, and 0 behind these.
+/// Returns the key and the value of a leaf record with `words` from offset 1 on, whose key's length is at most 240. `bytes` are those of
+/// the key's words, and 0 behind these. `WordFault::Bad` if a byte behind the key isn't 0.
 fn unpack_leaf_with_bytes(words: &[u64; LEAF_FIELDS], bytes: &[u8]) -> Result<(Key, u64), WordFault>
     requires short { slice_index words.now 1 ≤ MAX_BYTES }
     requires spelled { IsBytesOf bytes.now (take KEY_WORDS (drop 2 (up_to_key words.now))) }
@@ -44,8 +44,8 @@ fn are_zero_bytes(bytes: &[u8]) -> bool
     bytes.iter().all(|byte| *byte == 0)
 }
 
-/// Returns the bytes of the key in `words`, those of a leaf, up to the end of the key's last word, and 0 behind these. The key's length is
-/// at most 240.
+/// Returns the bytes of the key in `words`, a leaf's from offset 1 on. They go to the end of the key's last word, and are 0 behind it. The
+/// key's length is at most 240.
 fn unpack_key_bytes(words: &[u64; LEAF_FIELDS]) -> [u8; MAX_BYTES]
     requires { slice_index words.now 1 ≤ MAX_BYTES }
     ensures { IsBytesOf result (take KEY_WORDS (drop 2 (up_to_key words.now))) }

@@ -8,9 +8,9 @@ ghost use Rattle.rowex_replay_state.specs.Links.{AllMayBeLinked, AllMayBeUnlinke
 use crate::fate::Fate;
 
 impl Fate {
-    /// Returns whether a record that has come to this fate lets `pass` publish a tree. `is_linked` says whether the tree links the record.
-    /// A record that it links must be in the tree already, or made ready by `pass`. Anything may have become of a record that it doesn't
-    /// link.
+    /// Returns whether a record that has come to this fate lets `pass` publish a tree, where `is_linked` says whether the tree links the
+    /// record. A record that the tree links must be in the tree already, or made ready by `pass`. Any fate will do of a record that it
+    /// doesn't link.
     fn may_be_linked(self, pass: u16, is_linked: bool) -> bool
         ensures { IsTrue result ↔ MayBeLinked pass is_linked self }
     {
@@ -22,7 +22,7 @@ impl Fate {
     }
 
     /// Returns whether a node that has come to this fate lets `pass` publish a tree. `is_linked` says whether the tree links the node, and
-    /// `lock` which pass has locked the node, if any. A node that is in the tree may be left out only if `pass` has locked it.
+    /// `lock` which pass has locked it, if any. A node that is in the tree may be left out only if `pass` has locked it.
     fn may_be_unlinked(self, pass: u16, is_linked: bool, lock: Option<u16>) -> bool
         ensures { IsTrue result ↔ MayBeUnlinked pass is_linked lock self }
     {
@@ -32,9 +32,9 @@ impl Fate {
         }
     }
 
-    /// Returns what has become of a record after `pass` has published version `now + 1`, by what had become of it before. `is_linked` says
-    /// whether that version links the record. A ready record that is linked is in the tree then. A record of the tree that isn't linked is
-    /// unlinked. All else stays.
+    /// Returns the fate of a record after `pass` has published version `now + 1`, by its fate before. `is_linked` says whether that version
+    /// links the record. A ready record that is linked is in the tree then. A record of the tree that isn't linked is unlinked by `pass`.
+    /// All else stays.
     fn fate_after_publish(self, now: u64, pass: u16, is_linked: bool) -> Fate
         requires { now + 1 < 2 ^ 64 }
         ensures { stored_fate result ≡ next_fate now pass is_linked (stored_fate self) }
@@ -51,8 +51,8 @@ impl Fate {
     }
 }
 
-/// Returns whether the `fates` of all nodes, or of all leaves, let `pass` publish a tree that links just those that `linked` marks.
-/// `may_be_linked` says so of each. A record behind the last mark isn't linked.
+/// Returns whether `pass` may link the records that `linked` marks, by the `fates` of all nodes, or of all leaves. Each must be in the tree
+/// already, or made ready by `pass`. A record behind the last mark isn't linked. Records that aren't linked may have any fate.
 pub(crate) fn may_link(fates: &[Fate], pass: u16, linked: &[bool]) -> bool
     ensures { IsTrue result ↔ AllMayBeLinked pass linked.now fates.now }
 {
@@ -64,8 +64,8 @@ pub(crate) fn may_link(fates: &[Fate], pass: u16, linked: &[bool]) -> bool
     true
 }
 
-/// Returns whether the `fates` and `locks` of all nodes let `pass` publish a tree that links just those that `linked` marks.
-/// `may_be_unlinked` says so of each. A node behind the last mark isn't linked, and a node behind the last lock isn't locked.
+/// Returns whether `pass` may leave out of the tree the nodes that `linked` doesn't mark, by the `fates` and `locks` of all nodes. Each of
+/// them that is in the tree must be locked by `pass`. A node behind the last mark isn't linked, and one behind the last lock isn't locked.
 pub(crate) fn may_unlink(fates: &[Fate], locks: &[Option<u16>], pass: u16, linked: &[bool]) -> bool
     ensures { IsTrue result ↔ AllMayBeUnlinked pass linked.now locks.now fates.now }
 {
@@ -77,8 +77,8 @@ pub(crate) fn may_unlink(fates: &[Fate], locks: &[Option<u16>], pass: u16, linke
     true
 }
 
-/// Makes each of `fates` what has become of its record after `pass` has published version `now + 1`. That version links just the records
-/// that `linked` marks. A record behind the last mark isn't linked.
+/// Makes each of `fates` that of its record after `pass` has published version `now + 1`. That version links just the records that `linked`
+/// marks. A record behind the last mark isn't linked.
 pub(crate) fn update_each_fate(fates: &mut [Fate], now: u64, pass: u16, linked: &[bool])
     requires { now + 1 < 2 ^ 64 }
     ensures { AreNextFates now pass linked.now fates.old fates.new }

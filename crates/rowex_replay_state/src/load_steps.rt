@@ -14,6 +14,7 @@ use rowex_core::{Rec, Spot};
 
 impl State {
     /// Returns whether it is legal that `pass` loads the word at `spot` and finds `word`: the table has that spot, and `word` stands there.
+    /// Any pass may.
     pub(crate) fn load_ref(&self, pass: u16, spot: Spot, word: u64) -> bool
         ensures { IsStepped result self.now self.now pass (LoadRef spot word) }
     {
@@ -31,7 +32,7 @@ impl State {
     }
 
     /// Returns whether it is legal that `pass` loads the word at `offset` of `rec` and finds `word`: `word` stands there. `false`, too, if
-    /// `offset` is that of the state, of an entry or of no word.
+    /// the table has no such record, or `offset` is that of the state, an entry, a value or no word.
     pub(crate) fn load_fixed(&self, pass: u16, rec: Rec, offset: u8, word: u64) -> bool
         ensures { IsStepped result self.now self.now pass (LoadFixed rec offset word) }
     {

@@ -18,8 +18,9 @@ impl State {
         self.anchor == Some(pass)
     }
 
-    /// Locks `target` for `pass` if it is live and unlocked. Returns whether the step is legal: `found` is the target's state word before,
-    /// and a node that is live and unlocked is in the tree. If not, nothing changes.
+    /// Locks `target` for `pass` if its state is live. Returns whether the step is legal: `found` is the target's state word before. A live
+    /// node must also be in the tree: one that is ready may not be locked. If the step isn't legal, nothing changes. A try that finds
+    /// another state than live fails: it is a legal step, too, and changes nothing.
     pub(crate) fn lock(&mut self, pass: u16, target: Target, found: u64) -> bool
         ensures { IsStepped result self.old self.new pass (Lock target found) }
     {
@@ -29,8 +30,8 @@ impl State {
         }
     }
 
-    /// Unlocks `target`. Returns whether the step is legal: `pass` has locked the target, which, if it is a node, is in the tree. If not,
-    /// nothing changes.
+    /// Unlocks `target`. Returns whether the step is legal: `pass` has locked the target. A node must also be in the tree, since an
+    /// unlinked one is unlocked by its mark. If not legal, nothing changes.
     pub(crate) fn unlock(&mut self, pass: u16, target: Target) -> bool
         ensures { IsStepped result self.old self.new pass (Unlock target) }
     {
@@ -40,7 +41,8 @@ impl State {
         }
     }
 
-    /// Locks the anchor for `pass` if it is unlocked. Returns whether the step is legal, as `lock` does. If not, nothing changes.
+    /// Locks the anchor for `pass` if it is unlocked. Returns whether the step is legal: `found` is the anchor's state word before. If not,
+    /// nothing changes. A legal try that finds the anchor locked changes nothing either.
     fn lock_anchor(&mut self, pass: u16, found: u64) -> bool
         ensures { IsStepped result self.old self.new pass (Lock Anchor found) }
     {
@@ -53,8 +55,8 @@ impl State {
         true
     }
 
-    /// Locks the node `node` for `pass` if it is live and unlocked. Returns whether the step is legal, as `lock` does. If not, nothing
-    /// changes.
+    /// Locks the node `node` for `pass` if its state is live. Returns whether the step is legal: `found` is the node's state word before,
+    /// and a live node is also in the tree. If not, nothing changes. A legal try that finds another state changes nothing either.
     fn lock_node(&mut self, pass: u16, node: u32, found: u64) -> bool
         ensures { IsStepped result self.old self.new pass (Lock (NodeTarget node) found) }
     {
@@ -70,7 +72,7 @@ impl State {
         true
     }
 
-    /// Unlocks the anchor. Returns whether `pass` has locked it. If not, nothing changes.
+    /// Unlocks the anchor. Returns whether the step is legal: `pass` has locked the anchor. If not, nothing changes.
     fn unlock_anchor(&mut self, pass: u16) -> bool
         ensures { IsStepped result self.old self.new pass (Unlock Anchor) }
     {
@@ -81,7 +83,8 @@ impl State {
         true
     }
 
-    /// Unlocks the node `node`. Returns whether the step is legal, as `unlock` does. If not, nothing changes.
+    /// Unlocks the node `node`. Returns whether the step is legal: `pass` has locked the node, and the node is in the tree. If not, nothing
+    /// changes.
     fn unlock_node(&mut self, pass: u16, node: u32) -> bool
         ensures { IsStepped result self.old self.new pass (Unlock (NodeTarget node)) }
     {

@@ -13,8 +13,8 @@ use record_words::{
     HEAD_WORDS, MAX_ENTRIES, NODE_FIELDS, WordFault, pack_head, pack_node, read_numbers,
 };
 
-/// Returns the node of a node record with `words` from offset 1 on; `WordFault::Bad` if no node has these words. The node is read by the
-/// kind of its head. Then its words are made anew, and all are compared with `words`.
+/// Returns the node of a node record with `words` from offset 1 on; `WordFault::Bad` if no node has these words. Reading passes over bits
+/// that no node uses. So the node's words are made anew, and all are compared with `words`.
 pub fn unpack_node(words: &[u64; NODE_FIELDS]) -> Result<Node, WordFault>
     ensures { IsReading HasNodeWords node_words words.now result }
 {
@@ -39,8 +39,8 @@ pub fn unpack_node(words: &[u64; NODE_FIELDS]) -> Result<Node, WordFault>
     }
 }
 
-/// Returns the head of a node record with `words` from offset 1 up to its entries, whatever these are. `WordFault::Bad` if no head has
-/// these words. It is read as by `unpack_node`.
+/// Returns the head of a node record with `words` from offset 1 up to its entries, which may be any. `WordFault::Bad` if no head has these
+/// words. To find that, the head's words are made anew, and all are compared with `words`.
 pub fn unpack_head(words: &[u64; HEAD_WORDS]) -> Result<Head, WordFault>
     ensures { IsReading HasHeadWords head_words words.now result }
 {

@@ -21,9 +21,10 @@ pub(crate) struct RecordedWords<'a> {
     pub leaves: &'a [[u64; LEAF_FIELDS]],
 }
 
-/// Reads the part of a tree that begins at `entry`, from the words in `records`. Adds what that part links to `linked`, which has a mark
-/// for each record. Returns whether the words show a lawful part, with no fork before position `least`. `AllocError` if memory is refused.
-/// Then, or if the result is `false`, `linked` may have some of the part.
+/// Reads the part of a tree that begins at `entry`, from the words in `records`. Returns whether they show a lawful part, with no fork
+/// before position `least`. If so, its leaves, at least one, are appended to `linked`, and its records are marked there. `linked` has a
+/// mark for each record, before and after. `AllocError` if memory is refused. After an error or `false`, `linked` may have some of the
+/// part.
 #[cycle(reading)]
 pub(crate) fn read_entry(
     records: RecordedWords,
@@ -42,6 +43,7 @@ pub(crate) fn read_entry(
                 return Ok(false);
             };
             let cut = node.cut();
+            // A lawful node is no higher than bits of a key are left, since each fork below takes one.
             if usize::from(height) + usize::from(cut.position) > 9 * MAX_BYTES {
                 return Ok(false);
             }
@@ -51,7 +53,9 @@ pub(crate) fn read_entry(
     }
 }
 
-/// Reads the part of a tree below `half`, one side of a fork, and returns what `read_entry` does. `false` for `Half::Same`.
+/// Reads the part of a tree below `half`, one side of a fork. Returns whether the words show a lawful part there, with no fork before
+/// position `least`. If so, its leaves, at least one, are appended to `linked`, and its records are marked there. `linked` has a mark for
+/// each record, before and after. `AllocError` if memory is refused. Returns `false` for `Half::Same`, which no cut of a node has.
 #[cycle(reading)]
 fn read_half(
     records: RecordedWords,
@@ -70,7 +74,10 @@ fn read_half(
     }
 }
 
-/// Reads the part of a tree below `cut`, a node's root fork with its two sides, and returns what `read_entry` does.
+/// Reads the part of a tree below `cut`, a node's root fork with its two sides. Returns whether the words show a lawful part there, with no
+/// fork before position `least`. If so, its leaves, at least one, are appended to `linked`, and its records are marked there. `linked` has
+/// a mark for each record, before and after. `AllocError` if memory is refused. Just the first keys of the sides are compared: a side's
+/// keys agree up to its own first fork, which is further.
 #[cycle(reading)]
 fn read_cut(
     records: RecordedWords,
@@ -97,8 +104,8 @@ fn read_cut(
     Ok(are_parted_keys(position, &linked.items[zero].key, &linked.items[one].key))
 }
 
-/// Adds the leaf record `number` of `leaves` to `linked`, and returns `true`. Returns `false`, and adds nothing, if the table has no such
-/// record or its words are those of no leaf. `AllocError` if memory is refused.
+/// Adds the leaf of record `number` of `leaves` to `linked`, marks the record, and returns `true`. Returns `false`, and adds nothing, if
+/// the table has no such record or its words are those of no leaf. `AllocError` if memory is refused.
 fn read_leaf(
     leaves: &[[u64; LEAF_FIELDS]],
     number: u32,
@@ -118,8 +125,8 @@ fn read_leaf(
     Ok(true)
 }
 
-/// Returns the node in the record `number`, if it has the height `height`. `None` if it hasn't, if the table hasn't the record, or if no
-/// node has its words.
+/// Returns the node in the record `number`, if its height is `height`. `None` if it has another height, if the table hasn't the record, or
+/// if no node has the record's words.
 fn node_at(nodes: &[[u64; NODE_FIELDS]], number: u32, height: u16) -> Option<Node>
     ensures { IsNodeAt nodes.now number height result }
 {

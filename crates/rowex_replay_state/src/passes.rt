@@ -7,8 +7,9 @@ use record_words::MAX_STOCK_PASSES;
 /// The most passes of an index, as a length.
 const PASSES: usize = MAX_STOCK_PASSES as usize;
 
-/// What a replay keeps of a pass: its pin, and its round. Its last load of the epoch found `epoch`, or 0 before the first, when `version`
-/// was the newest. `bound` is the least of `epoch` and of the pins loaded since, and `seen` says of which passes these were.
+/// What a replay keeps of a pass: its pin, and its round. Its last load of the epoch found `epoch`, when version `version` was the newest;
+/// both are 0 before the first load. `bound` is the least of `epoch` and of the pins loaded since, and `seen` says of which passes these
+/// were.
 #[derive(Clone, Copy)]
 pub(crate) struct PassState {
     pub(crate) pin: Option<u64>,
@@ -34,8 +35,8 @@ impl PassState {
         }
     }
 
-    /// Returns the pass when it has loaded `epoch` while version `version` was the newest. Its round has loaded no pin yet, and its own pin
-    /// stays.
+    /// Returns the pass as it is once it has loaded `epoch`, while version `version` was the newest. Its new round has loaded no pin yet,
+    /// and its own pin stays.
     pub(crate) fn begin_round(self, epoch: u64, version: u64) -> PassState
         ensures { result ≡ in_round self epoch version }
     {
@@ -48,8 +49,8 @@ impl PassState {
         }
     }
 
-    /// Returns the pass when its round has loaded `pin`, the pin of pass `of`, which may be the pass itself. `None` stands for no pin. The
-    /// bound falls to `pin` if that is lower.
+    /// Returns the pass as it is once its round has loaded `pin`, the pin of pass `of`, which may be the pass itself. `None` stands for no
+    /// pin. The bound falls to `pin` if that is lower. A number that no pass can have is not noted.
     pub(crate) fn see_pin(self, of: u16, pin: Option<u64>) -> PassState
         ensures { result ≡ with_pin_seen self of pin }
     {
@@ -68,7 +69,8 @@ impl PassState {
         }
     }
 
-    /// Returns whether the pass may be pinned by `epoch`: it isn't pinned, and `epoch` is what it loaded last, and not 0.
+    /// Returns whether the pass may be pinned by `epoch`: it isn't pinned, and its last load of the epoch found `epoch`. That is at least
+    /// 1; before the first load it is 0.
     pub(crate) fn may_pin(&self, epoch: u64) -> bool
         ensures { IsTrue result ↔ MayPin self.now epoch }
     {

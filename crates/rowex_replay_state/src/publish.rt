@@ -21,11 +21,12 @@ use rowex_core::{Rec, Spot};
 use std::alloc::AllocError;
 
 impl State {
-    /// Stores `word` at `spot`. Returns whether the step is legal; if not, nothing changes. To store at the root or a slot, `pass` must
-    /// have locked the word there, and `word` must be that of an entry or 0. The words must then show a lawful next version. To store a
+    /// Stores `word` at `spot`. Returns whether the step is legal; if not, nothing changes. At the root `pass` must have locked the anchor,
+    /// in a slot the node. There `word` must be that of an entry or 0, and the words must then show a lawful next version. To store a
     /// value, `pass` must have locked what names the leaf.
     ///
-    /// `AllocError`, and nothing changes, if memory is refused. That can only be where `pass` has the lock.
+    /// `AllocError`, and nothing changes, if memory is refused. Then `pass` has the lock that the spot asks for, and whether the publish is
+    /// legal stays open.
     pub(crate) fn publish(&mut self, pass: u16, spot: Spot, word: u64) -> Result<bool, AllocError>
         ensures ok { IfOk result (λ made. IsStepped made self.old self.new pass (Publish spot word)) }
         ensures err { OnErr result (self.new ≡ self.old) }
@@ -39,7 +40,9 @@ impl State {
         }
     }
 
-    /// Stores the value `word` to the leaf `leaf`. Returns whether the step is legal, or the error, as `publish` does.
+    /// Stores the value `word` to the leaf `leaf`. Returns whether the step is legal: `pass` has locked what names the leaf. If not,
+    /// nothing changes. `AllocError`, and nothing changes, if memory is refused; `pass` has that lock then. No tree is read, since a value
+    /// stored under that lock always makes a next version.
     fn publish_value(&mut self, pass: u16, leaf: u32, word: u64) -> Result<bool, AllocError>
         ensures ok { IfOk result (λ made. IsStepped made self.old self.new pass (Publish (Value leaf) word)) }
         ensures err { OnErr result (self.new ≡ self.old) }
@@ -62,8 +65,8 @@ impl State {
         Ok(true)
     }
 
-    /// Returns whether `pass` has locked what names the leaf `leaf`. That is the anchor if the leaf is the root, or a node of the tree that
-    /// has the leaf as an entry.
+    /// Returns whether `pass` has locked what names the leaf `leaf`. That is the anchor if the leaf is the root's entry, or a node of the
+    /// tree that has the leaf as an entry.
     fn has_locked_namer(&self, pass: u16, leaf: u32) -> bool
         ensures { IsTrue result ↔ HasNamerLocked self.now pass leaf }
     {
@@ -71,14 +74,16 @@ impl State {
         self.has_locked_root(pass, entry) || self.records.has_locked_entry(pass, pack_entry(entry))
     }
 
-    /// Returns whether `pass` has locked the anchor, and `root` is the root.
+    /// Returns whether `pass` has locked the anchor, and the root's entry is `root`.
     fn has_locked_root(&self, pass: u16, root: Option<Entry>) -> bool
         ensures { IsTrue result ↔ ((self.now.anchor ≡ Some pass) × (self.now.root ≡ root)) }
     {
         self.has_locked_anchor(pass) && self.root == root
     }
 
-    /// Stores `word`, that of the entry `root`, at the root. Returns whether the step is legal, or the error, as `publish` does.
+    /// Stores `word`, that of the entry `root`, at the root. Returns whether the step is legal: `pass` has locked the anchor, and the words
+    /// then show a lawful next version. If not, nothing changes. `AllocError`, and nothing changes, if memory is refused; `pass` has locked
+    /// the anchor then.
     fn publish_root(
         &mut self,
         pass: u16,
@@ -97,8 +102,9 @@ impl State {
         self.publish_tree(pass, root)
     }
 
-    /// Stores `word`, that of an entry or 0, in slot `entry` of the node `node`. Returns whether the step is legal, or the error, as
-    /// `publish` does.
+    /// Stores `word`, that of an entry or 0, in slot `entry` of the node `node`. Returns whether the step is legal: `pass` has locked the
+    /// node, which has that slot, and the words then show a lawful next version. If not, nothing changes. `AllocError`, and nothing
+    /// changes, if memory is refused; `pass` has locked the node then.
     fn publish_entry(
         &mut self,
         pass: u16,
@@ -140,8 +146,9 @@ impl State {
     }
 
     /// Makes the tree that the words show from `root` the newest version, by one change of `pass`, and returns `true`. Returns `false`, and
-    /// nothing changes, if the tree isn't lawful, is not one change from the newest, or fates and locks don't allow it. `AllocError`, and
-    /// nothing changes, if memory is refused.
+    /// nothing changes, if that tree isn't lawful, or differs from the newest version by more or less than one change. It returns `false`,
+    /// too, if fates or locks don't allow the tree. `AllocError`, and nothing changes, if memory is refused. The caller has checked the
+    /// lock of the stored word.
     fn publish_tree(&mut self, pass: u16, root: Option<Entry>) -> Result<bool, AllocError>
         ensures ok { IfOk result (λ made. IsPublishJudged made self.old self.new pass root) }
         ensures err { OnErr result (self.new ≡ self.old) }

@@ -13,7 +13,7 @@ use rowex_core::Rec;
 
 impl State {
     /// Claims `rec` for `pass` if it is free. Returns whether the step is legal: `found` is the record's state word before. If not, nothing
-    /// changes.
+    /// changes. A claim that finds another state than free fails: it is a legal step, too, and changes nothing.
     pub(crate) fn claim(&mut self, pass: u16, rec: Rec, found: u64) -> bool
         ensures { IsStepped result self.old self.new pass (Claim rec found) }
     {
@@ -26,8 +26,8 @@ impl State {
         true
     }
 
-    /// Stores `word` at `offset` of `rec`. Returns whether the step is legal: `pass` holds the record, and `offset` is that of one of its
-    /// words other than the state. If not, nothing changes.
+    /// Stores `word` at `offset` of `rec`. Returns whether the step is legal: `pass` holds the record, which has a word other than its
+    /// state at `offset`. If not, nothing changes.
     pub(crate) fn fill(&mut self, pass: u16, rec: Rec, offset: u8, word: u64) -> bool
         ensures { IsStepped result self.old self.new pass (Fill rec offset word) }
     {
@@ -38,8 +38,8 @@ impl State {
         true
     }
 
-    /// Makes `rec` live. Returns whether the step is legal: `pass` holds the record, and its words are those of a node, or of a leaf for
-    /// whose key the record has room. If not, nothing changes.
+    /// Makes `rec` ready, and so live. Returns whether the step is legal: `pass` holds the record, and its words are those of a node, or of
+    /// a leaf for whose key the record has room. If not, nothing changes.
     pub(crate) fn ready(&mut self, pass: u16, rec: Rec) -> bool
         ensures { IsStepped result self.old self.new pass (Ready rec) }
     {
@@ -61,8 +61,8 @@ impl State {
         true
     }
 
-    /// Makes `rec` obsolete with `epoch`, and unlocks it. Returns whether the step is legal: `pass` has unlinked the record, and its last
-    /// load of the epoch came later and found `epoch`. If not, nothing changes.
+    /// Makes `rec` obsolete with `epoch`, and unlocks it. Returns whether the step is legal: `pass` has unlinked the record, has loaded the
+    /// epoch since, and its last load found `epoch`. If not, nothing changes.
     pub(crate) fn mark(&mut self, pass: u16, rec: Rec, epoch: u64) -> bool
         requires { pass < length self.old.passes }
         ensures { IsStepped result self.old self.new pass (Mark rec epoch) }
@@ -80,7 +80,8 @@ impl State {
     }
 
     /// Frees `rec` if it is marked with `epoch`. Returns whether the step is legal: `found` is the record's state word before, and the
-    /// round of `pass` shows that no pass can reach what is marked with `epoch`. If not, nothing changes.
+    /// round of `pass` shows that no pass can reach what is marked with `epoch`. If not, nothing changes. An exchange that finds another
+    /// state fails: it is a legal step, too, and changes nothing.
     pub(crate) fn give_back(&mut self, pass: u16, rec: Rec, epoch: u64, found: u64) -> bool
         requires { pass < length self.old.passes }
         ensures { IsStepped result self.old self.new pass (GiveBack rec epoch found) }
@@ -101,7 +102,8 @@ impl State {
     }
 }
 
-/// Returns whether `rec` has a word other than its state at `offset`, in a table of `layout`, which needn't have the record.
+/// Returns whether `rec` has a word other than its state at `offset`. In a table of `layout` a leaf's number tells its record's size.
+/// Whether the table has the record is not asked.
 fn is_offset(layout: Layout, rec: Rec, offset: u8) -> bool
     ensures { IsTrue result ↔ (IsOffset rec offset × HasWord layout rec offset) }
 {
@@ -111,8 +113,8 @@ fn is_offset(layout: Layout, rec: Rec, offset: u8) -> bool
     }
 }
 
-/// Returns whether `rec` has a word at `offset` that is neither its state nor an entry nor a value. The table of `layout` needn't have the
-/// record.
+/// Returns whether `rec` has a word at `offset` that is neither its state nor an entry nor a value. In a table of `layout` a leaf's number
+/// tells its record's size. Whether the table has the record is not asked.
 pub(crate) fn is_offset_of_fixed_word(layout: Layout, rec: Rec, offset: u8) -> bool
     ensures { IsTrue result ↔ (IsFixedOffset rec offset × HasWord layout rec offset) }
 {

@@ -67,7 +67,7 @@ impl Records {
         self.layout
     }
 
-    /// Returns what has become of `rec`; `None` if the table hasn't the record.
+    /// Returns the fate of `rec`; `None` if the table hasn't the record.
     pub(crate) fn fate(&self, rec: Rec) -> Option<Fate>
         ensures { result ≡ fate_in self.now rec }
     {
@@ -126,8 +126,9 @@ impl Records {
         &self.leaves
     }
 
-    /// Returns whether `pass` may publish a tree, by what has become of the records and by their locks. The tree links just the nodes and
-    /// leaves that `nodes` and `leaves` mark. A record behind the last mark isn't linked.
+    /// Returns whether fates and locks let `pass` publish a tree that links just the nodes and leaves that `nodes` and `leaves` mark. Each
+    /// marked record must be in the tree, or made ready by `pass`. Each node of the tree that isn't marked must be locked by `pass`. A
+    /// record behind the last mark isn't linked.
     pub(crate) fn may_publish(&self, pass: u16, nodes: &[bool], leaves: &[bool]) -> bool
         ensures { IsTrue result ↔ MayPublishTree self.now pass nodes.now leaves.now }
     {
@@ -140,8 +141,8 @@ impl Records {
         may_unlink(&self.node_fates, &self.locks, pass, nodes)
     }
 
-    /// Notes what has become of each record after `pass` has published version `now + 1`. That version links just the nodes and leaves that
-    /// `nodes` and `leaves` mark. A record behind the last mark isn't linked. Words and locks stay.
+    /// Sets the fate of each record to what it is after `pass` has published version `now + 1`. That version links just the nodes and
+    /// leaves that `nodes` and `leaves` mark. A record behind the last mark isn't linked. Words and locks stay.
     pub(crate) fn update_fates(&mut self, now: u64, pass: u16, nodes: &[bool], leaves: &[bool])
         requires { now + 1 < 2 ^ 64 }
         ensures { AreNextRecords now pass nodes.now leaves.now self.old self.new }
@@ -219,7 +220,8 @@ impl Records {
         }
     }
 
-    /// Returns whether the leaf record `number` has room for a key of the length that `words` say, a leaf's words from offset 1 on.
+    /// Returns whether the leaf record `number` has room for a key of the length that `words` say, a leaf's words from offset 1 on. A leaf
+    /// has three words beside those of its key: state, value and length.
     fn has_room_for_key(&self, number: u32, words: &[u64; LEAF_FIELDS]) -> bool
         ensures { IsTrue result ↔ FitsIn self.now.layout (a_leaf number) words.now }
     {
@@ -316,7 +318,7 @@ impl Records {
         set_item(&mut self.nodes, number as usize, words);
     }
 
-    /// Notes `fate` as what has become of `rec`. If the table hasn't the record, nothing changes.
+    /// Sets the fate of `rec` to `fate`. If the table hasn't the record, nothing changes.
     pub(crate) fn set_fate(&mut self, rec: Rec, fate: Fate)
         ensures { self.new ≡ with_fate_in self.old rec fate }
     {
@@ -326,7 +328,7 @@ impl Records {
         }
     }
 
-    /// Notes `fate` as what has become of `rec`, and unlocks it if it is a node. If the table hasn't the record, nothing changes.
+    /// Sets the fate of `rec` to `fate`, and unlocks it if it is a node. If the table hasn't the record, nothing changes.
     pub(crate) fn set_fate_and_unlock(&mut self, rec: Rec, fate: Fate)
         ensures { self.new ≡ with_fate_unlocked_in self.old rec fate }
     {

@@ -68,9 +68,9 @@ impl State {
         })
     }
 
-    /// Makes `event` if it is a legal step. If not, the error is `Illegal`. It is `Load` for a bulk load, which is no step. It is `Memory`
-    /// if memory was refused, which only a publish under the lock of its word takes. An error changes nothing. Only a publish takes time
-    /// linear in the table.
+    /// Makes `event` if it is a legal step in the cores with this state. If not, the error is `Illegal`, also for a pass that the index
+    /// hasn't. It is `Load` for a bulk load, which is no step. It is `Memory` if memory was refused. Only a publish whose pass has the lock
+    /// of its word asks for memory. After an error nothing has changed. Only a publish takes time linear in the table.
     pub fn step(&mut self, event: Event) -> Result<(), ReplayFault>
         ensures ok { OnOk result ((c : Core) → ∥ IsLawful c ∥₁ → IsStateOf self.old c
             → Legal c event.pass event.act × IsStateOf self.new (after c event.pass event.act)) }
@@ -93,8 +93,8 @@ impl State {
         }
     }
 
-    /// Makes the act `act` of `pass` if it is legal, and returns whether it is; if not, nothing changes. `AllocError`, and nothing changes,
-    /// if memory is refused to a publish under the lock of its word.
+    /// Makes the act `act` of `pass` if it is legal, and returns whether it is; if not, nothing changes. The index has the pass, and the
+    /// act is no bulk load. `AllocError`, and nothing changes, if memory is refused to a publish under the lock of its word.
     fn make_act(&mut self, pass: u16, act: Act) -> Result<bool, AllocError>
         requires pass { pass < length self.old.passes }
         requires atomic { IsAtomic act }
@@ -131,7 +131,7 @@ impl State {
         self.changes.len() as u64
     }
 
-    /// Returns the keys that the newest version holds, with their values, in the order of the keys. `AllocError` if memory is refused.
+    /// Returns the keys of the newest version with their values, in the order of the keys. `AllocError` if memory is refused.
     pub fn content(&self, alloc: Global) -> Result<Vec<(Key, u64)>, AllocError>
         ensures { IfOk result (λ pairs. (c : Core) → IsStateOf self.now c → pairs.items ≡ content (c.past.version c.past.now)) }
     {

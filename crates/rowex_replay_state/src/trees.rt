@@ -9,10 +9,10 @@ use compound_node::Entry;
 use record_words::{LEAF_FIELDS, NODE_FIELDS};
 use std::alloc::{AllocError, Global};
 
-/// Returns what the tree that begins at the entry `root` links; nothing for `None`. `nodes` and `leaves` are the words of the table's
-/// records, each from offset 1 on. The result is `None` if these show no lawful tree there. It is `None`, too, if the tree links a record
-/// that the table hasn't, or whose words are those of no node or leaf. `AllocError` if memory is refused. The time is linear in the table's
-/// records and the tree.
+/// Returns the leaves of the tree that begins at the entry `root`, in key order, and for each record whether the tree links it. For a
+/// `root` of `None` there is no leaf, and no record is linked. `nodes` and `leaves` are the words of the table's records, each from offset
+/// 1 on. The result is `None` if these show no lawful tree there. It is `None`, too, if the tree links a record that the table hasn't, or
+/// whose words are those of no node or leaf. `AllocError` if memory is refused. The time is linear in the table's records and the tree.
 pub fn read_tree(
     alloc: Global,
     nodes: &[[u64; NODE_FIELDS]],
