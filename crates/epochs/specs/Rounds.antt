@@ -16,7 +16,8 @@ use Rattle.epochs.specs.Runs.{collecting, paced}
 use Rattle.epochs.specs.declared.limbo.Visited.{Visited}
 use Rattle.epochs.specs.declared.limbo.Visited.TheVariants.{Given}
 
--- the exchange that raises the epoch by one, where the exchange finds `found`; at the last epoch there is none
+-- The exchange that tries to raise `epoch` by one, and finds `found`. At the last epoch there is none. It raises nothing if another pass
+-- has raised the epoch meanwhile.
 abbrev pub advance_steps : (epoch found : ℕ) → List Act
 advance_steps epoch found = if nat_lt (epoch + 1) EPOCHS then Advance epoch found ∷ [] else []
 
@@ -24,25 +25,26 @@ advance_steps epoch found = if nat_lt (epoch + 1) EPOCHS then Advance epoch foun
 abbrev pub LoadsPin : (pass : ℕ) → (acts : List Act) → Type 0
 LoadsPin pass acts = (word : ℕ) × (acts ≡ LoadPin pass word ∷ [])
 
--- The acts of a visit of a record. The record's state is loaded. If the record is marked with an epoch below the bound, one exchange
--- follows, to give the record back.
+-- The acts of a visit of a record. The record's state is loaded. If it is obsolete in an epoch below the bound, one exchange follows, to
+-- give the record back (`tries`), which may find another state. Else nothing follows (`passes`).
 pub data Visits (bound : ℕ) (rec : Rec) : List Act → Type 0 where
   passes : (word : ℕ) → ((epoch : ℕ) → 1 ≤ epoch → epoch < bound → word ≢ state_word (Obsolete epoch)) → Visits bound rec (LoadState rec word ∷ [])
   tries : (epoch found : ℕ) → 1 ≤ epoch → epoch < bound →
       Visits bound rec (LoadState rec (state_word (Obsolete epoch)) ∷ GiveBack rec epoch found ∷ [])
 
--- the acts are those of a visit of each of these records, one after the other
+-- the acts are those of a visit of each of these records, one after the other, in this order
 abbrev pub VisitEach : (bound : ℕ) → (recs : List Rec) → (acts : List Act) → Type 0
 VisitEach bound [] acts = acts ≡ []
 VisitEach bound (rec ∷ recs) acts = (first : List Act) × (rest : List Act) × Visits bound rec first × VisitEach bound recs rest × (acts ≡ first ++ rest)
 
--- whether the act gives a record back: it is an exchange of the state, and found the state that it expected
+-- whether the act gives a record back: it is an exchange to that end, and found the state that it expected
 abbrev pub has_given : Act → Bool
 has_given (GiveBack rec epoch found) = nat_eq found (state_word (Obsolete epoch))
 has_given act = false
 
--- A round. The pass loads the epoch, raises it, loads it again and loads each pin. The bound is the least of the epoch loaded last and of
--- the pins that are set. Then the pass visits each record, nodes first. It gives `given_nodes` nodes and `given_leaves` leaves back.
+-- A round. The pass loads the epoch and, unless that is the last one, tries to raise it by one. Then it loads the epoch again, and each
+-- pin. The bound is the least of the epoch loaded last and of the pins that are set. Then the pass visits each record of the table once,
+-- nodes first. It gives `given_nodes` nodes and `given_leaves` leaves back.
 pub record IsRound {G : Type 0} (table : TableView) (becomes : G → Event → G → Type 0) (old new : SeatView × G)
     (given_nodes given_leaves : ℕ) : Type 0 where
   pub epoch : ℕ
@@ -58,8 +60,8 @@ pub record IsRound {G : Type 0} (table : TableView) (becomes : G → Event → G
   pub nodes_given : given_nodes ≡ count_by has_given nodes
   pub leaves_given : given_leaves ≡ count_by has_given leaves
 
--- A small round. It begins as a round does: the pass loads the epoch, raises it, and loads it again and each pin. Then the pass visits at
--- most `most` records.
+-- A small round. The pass loads the epoch and, unless that is the last one, tries to raise it by one. Then it loads the epoch again, and
+-- each pin. Then it visits the records `recs`, at most `most`. Which they are, and how many it gives back, this doesn't say.
 pub record IsSmallRound {G : Type 0} (table : TableView) (becomes : G → Event → G → Type 0) (most : ℕ) (old new : SeatView × G) : Type 0 where
   pub epoch : ℕ
   pub found : ℕ
@@ -72,34 +74,37 @@ pub record IsSmallRound {G : Type 0} (table : TableView) (becomes : G → Event 
   pub visits_each : VisitEach new.0.known.round.bound recs visits
   pub few : length recs ≤ most
 
--- A spared round, which visits no record. The pass loads the epoch, raises it, and loads it again and each pin.
+-- A spared round, which begins as each round does, and visits no record.
 abbrev pub IsSparedRound : {G : Type 0} → (table : TableView) → (becomes : G → Event → G → Type 0) → (old new : SeatView × G) → Type 0
 IsSparedRound table becomes old new = IsSmallRound table becomes 0 old new
 
 -- The parts of a round
 
--- The pass has loaded the first `count` pins since its last load of the epoch. The bound of its round, which is `bound`, is the least of
--- that epoch and of those pins that were set.
+-- The pass has loaded the first `count` pins since its last load of the epoch. The bound of its round is `bound`, so the least of that
+-- epoch and of the pins that it found set since.
 pub record HasBound (count bound : ℕ) (known : Known) : Type 0 where
   pub least : known.round.bound ≡ bound
   pub seen : (pass : ℕ) → pass < count → has_seen known.round.seen pass ≡ true
 
--- the pass loads the epoch, and raises it by one if it is not the last
+-- The pass loads the epoch and, unless that is the last one, tries to raise it by one. The epoch stays if another pass has raised it
+-- meanwhile. Of what the pass knows only its pin and its round may change.
 abbrev pub AdvancesEpoch : {G : Type 0} → (table : TableView) → (becomes : G → Event → G → Type 0) → (old new : SeatView × G) → Type 0
 AdvancesEpoch table becomes old new = (epoch : ℕ) × (found : ℕ) × Does table becomes paced (LoadEpoch epoch ∷ advance_steps epoch found) old new
 
--- the pass loads the epoch, and then the first `count` pins; the round's bound rests on these
+-- The pass loads the epoch, and then the first `count` pins, in the order of their numbers. The round's bound is the least of these. Of
+-- what the pass knows only its pin and its round may change.
 abbrev pub FindsBound : {G : Type 0} → (table : TableView) → (becomes : G → Event → G → Type 0) → (count : ℕ) → (old new : SeatView × G) →
     Type 0
 FindsBound table becomes count old new =
     (next : ℕ) × (pins : List Act) × InTurn LoadsPin count pins × Does table becomes paced (LoadEpoch next ∷ pins) old new
 
--- the pass loads the epoch, raises it, and loads it again and each pin; so each round begins
+-- So each round begins. The pass loads the epoch and, unless that is the last one, tries to raise it by one. Then it loads the epoch again,
+-- and each pin.
 abbrev pub BeginsRound : {G : Type 0} → (table : TableView) → (becomes : G → Event → G → Type 0) → (old new : SeatView × G) → Type 0
 BeginsRound {G = G} table becomes old new =
     (middle : SeatView × G) × AdvancesEpoch table becomes old middle × FindsBound table becomes table.layout.passes middle new
 
--- whether the record that was visited was given back
+-- whether a visit that came to this gave its record back
 abbrev pub is_given : Visited → Bool
 is_given Given = true
 is_given seen = false
@@ -110,7 +115,7 @@ abbrev pub VisitsOne : {G : Type 0} → (table : TableView) → (becomes : G →
 VisitsOne table becomes bound rec given old new =
     (acts : List Act) × Visits bound rec acts × Does table becomes collecting acts old new × (count_by has_given acts ≡ if given then 1 else 0)
 
--- the pass visits the first `count` records of the kind, and gives `given` of them back
+-- the pass visits the first `count` records of the kind, in the order of their numbers, and gives `given` of them back
 abbrev pub VisitsFirst : {G : Type 0} → (table : TableView) → (becomes : G → Event → G → Type 0) → (bound : ℕ) → (kind : ℕ → Rec) →
     (count given : ℕ) → (old new : SeatView × G) → Type 0
 VisitsFirst table becomes bound kind count given old new =
@@ -124,15 +129,15 @@ VisitsTable {G = G} table becomes bound given_nodes given_leaves old new =
     (middle : SeatView × G) × VisitsFirst table becomes bound a_node table.layout.nodes given_nodes old middle ×
     VisitsFirst table becomes bound a_leaf table.layout.leaves given_leaves middle new
 
--- Let the pass have visited the first `before.0` records of the kind and given `before.1` of them back. Then it has now visited the first
--- `after.0`, and given `after.1` of these back.
+-- From `old` to `new` the pass goes on with its visits. Take any start from which it had visited the first `before.0` records of the kind
+-- and given `before.1` of them back. From there it has now visited the first `after.0`, and given `after.1` of these back.
 abbrev pub GoesOnVisiting : {G : Type 0} → (table : TableView) → (becomes : G → Event → G → Type 0) → (bound : ℕ) → (kind : ℕ → Rec) →
     (before after : ℕ × ℕ) → (old new : SeatView × G) → Type 0
 GoesOnVisiting {G = G} table becomes bound kind before after old new =
     (first : SeatView × G) → VisitsFirst table becomes bound kind before.0 before.1 first old →
     VisitsFirst table becomes bound kind after.0 after.1 first new
 
--- the pass visits at most `most` records
+-- the pass visits some records, at most `most`; which they are, this doesn't say
 abbrev pub VisitsSome : {G : Type 0} → (table : TableView) → (becomes : G → Event → G → Type 0) → (bound most : ℕ) →
     (old new : SeatView × G) → Type 0
 VisitsSome table becomes bound most old new =

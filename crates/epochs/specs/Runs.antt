@@ -6,7 +6,7 @@ use Rattle.rowex_core.specs.declared.known.Known.{Known}
 use Rattle.rowex_table.specs.Runs.{Does}
 use Rattle.rowex_table.specs.Seats.{TableView, SeatView}
 
--- what the pass knew before, but with its pin and its round as they are now
+-- What the pass knew before, but with its pin and its round as they are now. Steps on the epoch and on pins change nothing else.
 abbrev pub paced : (old new : Known) → Known
 paced old new = record old { pin = new.pin; round = new.round }
 
@@ -15,6 +15,6 @@ paced old new = record old { pin = new.pin; round = new.round }
 abbrev pub collecting : (old new : Known) → Known
 collecting old new = record (paced old new) { failed = new.failed }
 
--- the pass sets its pin: it loads the epoch, and stores the epoch that it found
+-- The pass sets its pin: it loads the epoch, and stores the epoch that it found. Of what it knows only its pin and its round change.
 abbrev pub Pins : {G : Type 0} → (table : TableView) → (becomes : G → Event → G → Type 0) → (old new : SeatView × G) → Type 0
 Pins table becomes old new = (epoch : ℕ) × Does table becomes paced (LoadEpoch epoch ∷ SetPin epoch ∷ []) old new

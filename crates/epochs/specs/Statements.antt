@@ -15,12 +15,12 @@ use Rattle.rowex_table.specs.Runs.{Runs}
 use Rattle.rowex_table.specs.Seats.{TableView, SeatView}
 use Rattle.epochs.specs.Reach.{IsInReach, IsReachKept}
 
--- before and after each step of any pass, no record that is in reach of a pinned pass is free or held
+-- at each legal step of any pass, before and after it, no record that is in reach of a pinned pass is free or held
 abbrev pub ReachIsKept : Type 0
 ReachIsKept = (layout : Layout) (act : Act) (said : Known → List Note) (old new : Known) (event : IsEvent layout act said old new) →
     IsReachKept event.core × IsReachKept (after event.core old.pass act)
 
--- before and after each step of this run, no record that is in reach of a pinned pass is free or held
+-- at each step of this run, before and after it, no record that is in reach of a pinned pass is free or held
 abbrev pub KeepsReach : {G : Type 0} (table : TableView) (becomes : G → Event → G → Type 0) (acts : List Act) (old new : SeatView × G) →
     Runs table becomes acts old new → Type 0
 KeepsReach table becomes [] old new run = Unit {0}
@@ -32,7 +32,7 @@ abbrev pub RunsKeepReach : {G : Type 0} → (G → Event → G → Type 0) → T
 RunsKeepReach {G = G} becomes =
     (table : TableView) (acts : List Act) (old new : SeatView × G) (run : Runs table becomes acts old new) → KeepsReach table becomes acts old new run
 
--- a record that a pass gives back, by an exchange that succeeds, is then in reach of no pinned pass
+-- a record that a pass gives back, by an exchange that finds the expected state, is in reach of no pinned pass at that step
 abbrev pub GivenIsOutOfReach : Type 0
 GivenIsOutOfReach =
     (layout : Layout) (rec : Rec) (epoch : ℕ) (said : Known → List Note) (old new : Known)

@@ -51,8 +51,9 @@ const NO_VISITS: Tally = Tally {
     found_free: false,
 };
 
-/// Makes a full round: raises the epoch by one, and gives back each record that was retired in an epoch below the new one and below each
-/// set pin. Returns how many it gave back, and whether other records were free already. The pass has no pin.
+/// Makes a full round: tries to raise the epoch by one, and visits each record. It gives back a retired record whose epoch is below the
+/// epoch then loaded and below each set pin. A record that another pass has given back meanwhile doesn't count. Returns how many it gave
+/// back, and whether other records were free already. The pass has no pin, before and after.
 ///
 /// At the last epoch, 2^60 - 1, the epoch stays, and what is below it is still given back.
 pub fn collect_round<G: Gate>(table: &HotTable, seat: &mut TableSeat, gate: &mut G) -> Collected
@@ -65,13 +66,13 @@ pub fn collect_round<G: Gate>(table: &HotTable, seat: &mut TableSeat, gate: &mut
     visit_records(table, seat, gate, bound)
 }
 
-/// Makes a full round as `collect_round` does, unless it could give nothing back. Then it only begins one, and returns `None`. It could
-/// give nothing back in an index of several passes, if the round's bound hasn't risen since the last round. That is the last one that this
-/// function made for the pass.
+/// Makes a full round, in which each record is visited, unless that could give nothing back. Then it only begins one, and returns `None`.
+/// That is so in an index of several passes, if the round's bound is no higher than `limbo.swept`: the bound of the last full round that
+/// this function made for the pass. A full round sets `limbo.swept` to its bound. The pass has no pin, before and after.
 ///
-/// That round left no record below its bound retired, and none is retired below it later. A pass marks what it retires while it is pinned,
-/// with an epoch that it loads under this pin. If the round has seen the pin, the pin was no lower than the bound. Otherwise the pass was
-/// pinned after the round had loaded its epoch, or it had marked and unpinned before the round visited a record.
+/// That last full round left no record below its bound retired, and none is retired below it later. A pass marks what it retires while it
+/// is pinned, with an epoch that it loads under this pin. If the round has seen the pin, the pin was no lower than the bound. Otherwise the
+/// pass was pinned after the round had loaded its epoch, or it had marked and unpinned before the round visited a record.
 pub fn collect_if_risen<G: Gate>(
     table: &HotTable,
     seat: &mut TableSeat,
@@ -95,11 +96,11 @@ pub fn collect_if_risen<G: Gate>(
     Some(visit_records(table, seat, gate, bound))
 }
 
-/// Makes a small round: raises the epoch by one, and visits the oldest records of the pass's list `limbo`. It visits at most
-/// `MOST_VISITED`, up to the first that has to wait. A record that was retired in an epoch below the new one and below each set pin is
-/// given back, and stands in `limbo.given` then.
+/// Makes a small round: tries to raise the epoch by one, and visits the oldest records of the pass's list `limbo`. It visits at most
+/// `MOST_VISITED`, up to the first that has to wait. A retired record whose epoch is below the epoch then loaded and below each set pin is
+/// given back. As far as there is room, `limbo.given` lists the records given back. The contract says only how many records are visited.
 ///
-/// The cost doesn't grow with the number of the table's records. The pass has no pin.
+/// The cost doesn't grow with the number of the table's records. The pass has no pin, before and after.
 pub fn collect_small_round<G: Gate>(
     table: &HotTable,
     seat: &mut TableSeat,
@@ -116,7 +117,8 @@ pub fn collect_small_round<G: Gate>(
     visit_limbo(table, seat, gate, limbo, bound);
 }
 
-/// Raises the epoch by one, and returns the bound of the round: the least of the new epoch and of the pins that are set.
+/// Tries to raise the epoch by one, and returns the bound of the round: the least of the epoch loaded after that and of the pins that are
+/// set. The pass's pin stays.
 fn begin_round<G: Gate>(table: &HotTable, seat: &mut TableSeat, gate: &mut G) -> u64
     requires { IsSeatOf table.now seat.old }
     ensures pin { seat.new.known.pin ≡ seat.old.known.pin }
@@ -127,8 +129,8 @@ fn begin_round<G: Gate>(table: &HotTable, seat: &mut TableSeat, gate: &mut G) ->
     find_bound(table, seat, gate)
 }
 
-/// Loads the epoch and raises it by one, unless another pass has done so meanwhile. At the last epoch, 2^60 - 1, nothing is tried. The
-/// pass's pin stays.
+/// Loads the epoch and tries to raise it by one, which changes nothing if another pass has done so meanwhile. At the last epoch, 2^60 - 1,
+/// nothing is tried. The pass's pin stays.
 fn advance_epoch<G: Gate>(table: &HotTable, seat: &mut TableSeat, gate: &mut G)
     requires { IsSeatOf table.now seat.old }
     ensures pin { seat.new.known.pin ≡ seat.old.known.pin }
@@ -168,8 +170,8 @@ fn bound_with_pin(bound: u64, word: u64) -> u64
     }
 }
 
-/// Visits each record, nodes first. Returns how many of each kind it gave back, and whether others were free. `bound` is the bound of the
-/// round.
+/// Visits each record of the table, nodes first. Returns how many of each kind it gave back, and whether others were free. `bound` is the
+/// bound of the round. The pass's pin and round stay.
 fn visit_records<G: Gate>(
     table: &HotTable,
     seat: &mut TableSeat,
@@ -194,7 +196,7 @@ fn visit_records<G: Gate>(
 }
 
 /// Visits each node record, in the order of their numbers. Returns how many it gave back, and whether one was free already. `bound` is the
-/// bound of the round.
+/// bound of the round. The pass's pin and round stay.
 fn visit_node_records<G: Gate>(
     table: &HotTable,
     seat: &mut TableSeat,
@@ -216,7 +218,7 @@ fn visit_node_records<G: Gate>(
 }
 
 /// Visits each leaf record, in the order of their numbers. Returns how many it gave back, and whether one was free already. `bound` is the
-/// bound of the round.
+/// bound of the round. The pass's pin and round stay.
 fn visit_leaf_records<G: Gate>(
     table: &HotTable,
     seat: &mut TableSeat,
@@ -240,7 +242,7 @@ fn visit_leaf_records<G: Gate>(
 }
 
 /// Visits the leaf records of `numbers`, all of one class, so that each begins equally far behind the one before. Returns the tally
-/// `before` with these visits. `bound` is the bound of the round.
+/// `before`, which counts the lower numbers, with these visits. `bound` is the bound of the round. The pass's pin and round stay.
 fn visit_class<G: Gate>(
     table: &HotTable,
     seat: &mut TableSeat,
@@ -272,7 +274,8 @@ fn visit_class<G: Gate>(
     tally
 }
 
-/// Returns `tally` with one more visit, which came to `seen`.
+/// Returns `tally` with one more visit, which came to `seen`. It counts a record given back, and notes one that was free. A visit that came
+/// to something else changes nothing.
 fn count_visit(tally: Tally, seen: Visited) -> Tally
     requires { tally.given + 1 < 2 ^ 32 }
     ensures given { result.given ≡ tally.given + (if is_given seen then 1 else 0) }
@@ -293,7 +296,8 @@ fn count_visit(tally: Tally, seen: Visited) -> Tally
 }
 
 /// Visits the oldest records of `limbo`, at most `MOST_VISITED`, up to the first that has to wait. The records before that one leave the
-/// list. `bound` is the bound of the round.
+/// list, whatever their visits came to. The records behind it were retired later, so they mostly wait, too. `bound` is the bound of the
+/// round. The pass's pin and round stay.
 fn visit_limbo<G: Gate>(
     table: &HotTable,
     seat: &mut TableSeat,
@@ -321,7 +325,7 @@ fn visit_limbo<G: Gate>(
 }
 
 /// Visits `rec`, and returns what the visit came to. If the table has no such record, nothing is visited, and the result is `Other`.
-/// `bound` is the bound of the round.
+/// `bound` is the bound of the round. The pass's pin and round stay.
 fn visit_if_there<G: Gate>(
     table: &HotTable,
     seat: &mut TableSeat,
@@ -352,7 +356,7 @@ fn has_record(layout: Layout, rec: Rec) -> bool
 }
 
 /// Loads the state of the record `at`. If the record is obsolete in an epoch below `bound`, the bound of the round, it tries to make the
-/// record free. Returns what the visit came to.
+/// record free. Returns what the visit came to: `Given` exactly if it made the record free. The pass's pin and round stay.
 fn visit_record<G: Gate>(
     table: &HotTable,
     seat: &mut TableSeat,
@@ -374,8 +378,8 @@ fn visit_record<G: Gate>(
     outcome_of_try(found == word)
 }
 
-/// Returns what a visit came to that tried to give its record back: `Given` if `given` says that it did, `Other` if another pass had done
-/// so before.
+/// Returns what a visit came to that tried to give its record back: `Given` if `given` is true, `Other` if another pass had changed the
+/// state before.
 fn outcome_of_try(given: bool) -> Visited
     ensures { is_given result ≡ given }
 {
@@ -387,7 +391,7 @@ fn outcome_of_try(given: bool) -> Visited
 }
 
 /// Returns what a visit came to of a record that is not to be given back, by its state `word`. It is `Waits` if the record is obsolete,
-/// `Free` if it is free, else `Other`.
+/// `Free` if it is free, and else `Other`; never `Given`.
 fn outcome_of_state(word: u64) -> Visited
     ensures given { is_given result ≡ false }
     ensures waits { (epoch : ℕ) → 1 ≤ epoch → epoch < EPOCHS → word ≡ state_word (Obsolete epoch) → result ≡ Waits }
@@ -400,8 +404,8 @@ fn outcome_of_state(word: u64) -> Visited
     }
 }
 
-/// Returns the epoch in which a record with the state `word` was retired, if that is below `bound`. `None` if it isn't, or the record isn't
-/// retired. Most records aren't, which the first comparison tells.
+/// Returns the epoch in which a record with the state `word` was retired, if that is below `bound`. `None` for a later epoch, or for a
+/// record that isn't retired. The first comparison settles most records, since words of other states are lower.
 fn epoch_below(word: u64, bound: u64) -> Option<u64>
     ensures { MatchOption result ((epoch : ℕ) → 1 ≤ epoch → epoch < EPOCHS → epoch < bound → word ≢ state_word (Obsolete epoch))
         (λ epoch. (1 ≤ epoch) × (epoch < EPOCHS) × (epoch < bound) × (word ≡ state_word (Obsolete epoch))) }

@@ -8,16 +8,18 @@ use record_words::Layout;
 use rowex_core::Rec;
 use std::alloc::{AllocError, Global};
 
-/// How many records a limbo list keeps at most. In a table with fewer records it is as many as it has, or up to twice as many.
+/// How many records a limbo list keeps at most. In a table with fewer records it is their number, rounded up to a power of two. A record
+/// beyond that waits for a full round.
 const MOST_WAITING: u32 = 4_096;
 
-/// How many records a pass retires between two small rounds, at least.
+/// How many records a pass retires between two small rounds, at least. The cost of a round's begin, a load of each pin, is shared by these.
 const LEAST_DUE: u32 = 32;
 
-/// How many records a pass retires between two small rounds, at most. A round visits more, so a list that has grown becomes short again.
+/// How many records a pass retires between two small rounds, at most. It is below `MOST_VISITED`: so rounds shorten a list that has grown
+/// while a pin held records back.
 const MOST_DUE: u32 = 96;
 
-/// How many records a small round visits at most.
+/// How many records a small round visits at most, which bounds its cost.
 pub const MOST_VISITED: usize = 128;
 
 /// What a visit of a record came to.
@@ -34,8 +36,8 @@ pub enum Visited {
 }
 
 /// Returns after how many retired records a small round is due in a table of `layout`. It is an eighth of the number of passes, since a
-/// round loads each pin. But the lists of all passes together are to have at most a quarter of the nodes. It is at least `LEAST_DUE` and at
-/// most `MOST_DUE`.
+/// round loads each pin. But the lists of all passes together are to have at most a quarter of the nodes. It is at least `LEAST_DUE`, which
+/// comes first, and at most `MOST_DUE`.
 fn records_between_rounds(layout: Layout) -> u32
     ensures { result ≡ due_after layout }
 {
@@ -84,7 +86,7 @@ impl Limbo {
     }
 
     /// Puts `rec`, which the pass has just retired, at the end of the list. If the list is full, the record is left to full rounds. In any
-    /// case it counts towards the next small round.
+    /// case it counts towards the next small round; the count stops at 2^32 - 1.
     pub fn push(&mut self, rec: Rec)
         ensures retired { self.new.retired ≡ min (self.old.retired + 1) (2 ^ 32 - 1) }
         ensures room { self.old.count < vec_capacity self.old.waiting → self.new.count ≡ self.old.count + 1 }
@@ -102,7 +104,8 @@ impl Limbo {
         }
     }
 
-    /// Returns the ring's index of the record that waits at `index`, counted from 0 at the oldest.
+    /// Returns the ring's index of the record that waits at `index`, counted from 0 at the oldest. It is within the ring if that has memory
+    /// at all.
     fn place_of(&self, index: usize) -> usize
         ensures { 0 < vec_capacity self.now.waiting → result < vec_capacity self.now.waiting }
     {
@@ -110,8 +113,8 @@ impl Limbo {
         self.first.wrapping_add(index) & self.waiting.capacity().wrapping_sub(1)
     }
 
-    /// Returns whether a small round is due in a table of `layout`: the pass has retired enough records since its last one. Most calls end
-    /// at the first comparison.
+    /// Returns whether a small round is due in a table of `layout`: the pass has retired as many records since its last one as `due_after`
+    /// says. Most calls end at the first comparison, which needs no division.
     pub fn is_due(&self, layout: Layout) -> bool
         ensures due { result ≡ true → due_after layout ≤ self.now.retired }
         ensures early { result ≡ false → self.now.retired < due_after layout }
@@ -134,13 +137,14 @@ impl Limbo {
         self.count
     }
 
-    /// Returns the record that waits at `index`, counted from 0 at the oldest; `None` if no place of the ring has ever been used for it.
+    /// Returns the record that waits at `index`, counted from 0 at the oldest; `None` if the ring has no record at that place. No contract
+    /// says which: the number is a hint, and a visit loads the record's state.
     pub(crate) fn waiting_record(&self, index: usize) -> Option<Rec> {
         self.waiting.as_slice().get(self.place_of(index)).copied()
     }
 
     /// Adds `rec` to `given` if `seen`, what its visit came to, is `Given` and there is room. Returns whether `rec` is to leave the list:
-    /// it is not if it has to wait. It stays in the list until `drop_oldest_records`.
+    /// `false` exactly if it has to wait. The list of those that wait stays until `drop_oldest_records`.
     pub(crate) fn take_visit(&mut self, rec: Rec, seen: Visited) -> bool
         ensures waits { seen ≡ Waits → result ≡ false }
         ensures leaves { seen ≢ Waits → result ≡ true }
@@ -156,8 +160,8 @@ impl Limbo {
         true
     }
 
-    /// Takes the oldest `count` records out of the list; all, if there are fewer. An empty list begins again at its first place: so a short
-    /// list stays in little memory.
+    /// Takes the oldest `count` records out of the list; all, if there are fewer. How many count towards the next small round stays. An
+    /// empty list begins again at its first place, so that a short list stays in little memory.
     pub(crate) fn drop_oldest_records(&mut self, count: usize)
         ensures { (self.new.count ≡ self.old.count - count) × (self.new.retired ≡ self.old.retired) }
     {

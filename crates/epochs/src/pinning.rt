@@ -12,7 +12,7 @@ use rowex_core::Gate;
 use rowex_table::{HotTable, TableSeat};
 
 /// Loads the epoch and stores it as the pass's pin, which is clear before. No record that is linked at this store or later is given back
-/// until `unpin`.
+/// until `unpin`, so the pass may read what it then finds.
 pub fn pin<G: Gate>(table: &HotTable, seat: &mut TableSeat, gate: &mut G)
     requires own { IsSeatOf table.now seat.old }
     requires free { seat.old.known.pin ≡ None }
@@ -24,7 +24,8 @@ pub fn pin<G: Gate>(table: &HotTable, seat: &mut TableSeat, gate: &mut G)
     table.set_pin(seat, gate, epoch);
 }
 
-/// Clears the pin: what the pass has found may be given back from now on. A call ends with this step, and its notes, `said`, come with it.
+/// Clears the pin, which is set: what the pass has found may be given back from now on. A call ends with this step, which appends its
+/// notes, `said`.
 pub fn unpin<G: Gate>(table: &HotTable, seat: &mut TableSeat, gate: &mut G)
     ghost said: { Known → List Note }
     requires fits { IsPassOf table.now seat.old }

@@ -10,11 +10,12 @@ use Rattle.rowex_table.specs.Runs.{Runs, Steps}
 use Rattle.rowex_table.specs.Seats.{TableView, SeatView, IsSeatOf, touched_to}
 use Rattle.rowex_reading.specs.Possible.{IsPossible}
 
--- The seat is one of this table's, and what its pass knows is true of some lawful core. So the pass may read.
+-- The seat is one of this table's, and what its pass knows is true of some lawful core. So the pass may read. Each step that it makes shows
+-- that there is such a core.
 abbrev pub IsReader : TableView → SeatView → Type 0
 IsReader table seat = IsSeatOf table seat × IsPossible table.layout seat.known
 
--- the step loads an entry of a node, a leaf's value, or another word of a record but its state
+-- the step loads an entry of a node, a leaf's value, or a fixed word of a record, and neither the root nor a state
 abbrev pub IsBelowRoot : Act → Type 0
 IsBelowRoot (LoadRef (Slot number slot) word) = Unit {0}
 IsBelowRoot (LoadRef (Value leaf) word) = Unit {0}
@@ -40,7 +41,7 @@ pub record Reads {G : Type 0} (table : TableView) (becomes : G → Event → G �
   pub steps : Runs table becomes acts old new
 
 -- The pass makes `loads` loads below the root, and no other step. Just `entries` of the loads are of entries of nodes. On the way it
--- touches at most `most` words, which are no steps.
+-- touches at most `most` words, which are no steps. Its count of touches is left aside in `reads`, and bounded by `few`.
 pub record ReadsAndTouches {G : Type 0} (table : TableView) (becomes : G → Event → G → Type 0) (entries loads most : ℕ)
     (old new : SeatView × G) : Type 0 where
   pub reads : Reads table becomes entries loads old (touched_to old.0.touches new.0, new.1)

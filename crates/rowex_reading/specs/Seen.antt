@@ -17,7 +17,7 @@ use Rattle.rowex_core.specs.Reading.{HasWordAt}
 use Rattle.rowex_table.specs.Made.{IsLater}
 use Rattle.version_laws.specs.Scan.{EntryStoodSince, IsRooted, IsBlank, IsRead, HadShapeSince}
 
--- the past as far as the pass has seen it: up to the version after its front's changes
+-- The past as far as the pass has seen it. Its newest version is the one after the front's changes.
 abbrev pub seen : Core → Known → Past
 seen core known = record { now = length known.front; version = core.past.version }
 
@@ -26,21 +26,22 @@ seen core known = record { now = length known.front; version = core.past.version
 abbrev pub Sure : Known → (Past → Type 0) → Type 0
 Sure known P = (core : Core) → IsLawful core → Recalls core known → P (seen core known)
 
--- the number of the version in which the pass last loaded the root
+-- The number of the version at the pass's last load of the root: as many as the changes that this load showed. Before the first load it is
+-- 0.
 abbrev pub since : Known → ℕ
 since known = length known.fresh.front
 
--- the forks of a node with this head, without its entries
+-- the forks of a node with this head; its entries are not known, and leaves stand in their places
 abbrev pub shape_of : HeadView → Subtrie
 shape_of head = piece (node_of head (leaves (length head.rows)))
 
--- the pass is sure that in some version since its last load of the root, the root had this entry, or none
+-- The pass is sure of the root's entry in some version since its last load of the root. It was this entry, or there was none.
 abbrev pub RootIs : Known → Option Entry → Type 0
 RootIs known None = Sure known (λ past. IsBlank past (since known))
 RootIs known (Some entry) = Sure known (λ past. IsRooted past (since known) entry)
 
 -- The pass has been pinned since its last load of the root, or longer. It is sure that in some version since that load the root had this
--- entry.
+-- entry. So a search may begin there.
 abbrev pub IsAtRoot : Known → Entry → Type 0
 IsAtRoot known entry = IsPinnedSince known (since known) × Sure known (λ past. IsRooted past (since known) entry)
 
@@ -57,14 +58,14 @@ HasMorePlaces past version number slot = (trie : Subtrie) × HadShapeSince past 
 abbrev pub HasPlace : (known : Known) → (version number height slot : ℕ) → Type 0
 HasPlace known version number height slot = IsLedTo known version (Node number height) × Sure known (λ past. HasMorePlaces past version number slot)
 
--- The pass has read this head of the node, which has the height `its_height`. It is sure that in some version since this one the node had
--- the forks of the head.
+-- The pass has read this head of the node, which has the height `its_height` and is the head of a lawful node. It is sure that in some
+-- version since this one the node had the forks of the head.
 pub record IsHeadSeen (known : Known) (version number its_height : ℕ) (head : HeadView) : Type 0 where
   pub height : head.height ≡ its_height
   pub lawful : IsLawfulNode (node_of head (leaves (length head.rows)))
   pub shaped : Sure known (λ past. HadShapeSince past version number (shape_of head))
 
--- The words are those of a head of the node that the pass has read.
+-- The words encode a head that the pass has read of the node (`IsHeadSeen`), which has this height.
 pub record AreHeadWords (known : Known) (version number height : ℕ) (words : List ℕ) : Type 0 where
   pub head : HeadView
   pub seen : IsHeadSeen known version number height head
@@ -78,15 +79,15 @@ StoodWithWord past version rec offset word = StoodAs past version past.now rec (
 abbrev pub IsStood : (known : Known) → (version : ℕ) → (rec : Rec) → Type 0
 IsStood known version rec = IsPinnedSince known version × Sure known (λ past. StoodBetween past version past.now rec)
 
--- From `old` to `new` the pass has loaded some words of the record. Word number i of `words` stands at offset `before` + i + 1 in the
--- record, and was loaded if `IsLoaded` holds of i. Of each loaded word the pass is sure that the record had it, if it was sure that the
--- record stood in the tree.
+-- From `old` to `new` the pass has loaded some words of the record, and has gone on (`IsLater`). Word number i of `words` stands at offset
+-- `before` + i + 1 in the record, and was loaded if `IsLoaded` holds of i. Let the pass have been sure that the record stood in the tree in
+-- some version since one. Of each loaded word it is then sure that the record had it in such a version.
 pub record AreLoaded (old new : Known) (rec : Rec) (before : ℕ) (IsLoaded : ℕ → Type 0) (words : List ℕ) : Type 0 where
   pub later : IsLater old new
   pub each : (version : ℕ) → IsStood old version rec → (index : ℕ) → IsLoaded index →
       Sure new (λ past. StoodWithWord past version rec (before + index + FIELDS_OFFSET) (get_or words index 0))
 
--- in some version since this one the leaf had this key and this value; or, if `held` is none, another key
+-- In some version since this one the leaf had this key and this value. If `held` is none, it had another key, and some value.
 abbrev pub IsCompared : (past : Past) → (version number : ℕ) → (key : Key) → (held : Option ℕ) → Type 0
 IsCompared past version number key (Some value) = IsRead past version number key value
 IsCompared past version number key None = (other : Key) × (value : ℕ) × IsRead past version number other value × (key ≢ other)

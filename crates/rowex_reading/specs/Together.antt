@@ -14,7 +14,8 @@ use Rattle.rowex_table.specs.Seats.{SeatView, TableView}
 use Rattle.rowex_reading.specs.Reads.{Reads}
 use Rattle.rowex_reading.specs.Seen.{Sure, since}
 
--- The key's search has led the pass to this entry, by loads since the pass's last load of the root.
+-- The key's search has led the pass to this entry, by loads since the pass's last load of the root. The pass has been pinned at least as
+-- long. It is sure that the search was rightly led there (`IsLed`).
 pub record HasComeTo (known : Known) (key : Key) (entry : Entry) : Type 0 where
   pub pinned : IsPinnedSince known (since known)
   pub led : Sure known (λ past. IsLed past (since known) key entry)
@@ -24,7 +25,7 @@ abbrev pub HaveComeTo : (known : Known) → (keys : List Key) → (tips : List E
 HaveComeTo known keys tips =
     (index : ℕ) (key : Key) (entry : Entry) → slice_get keys index ≡ Some key → slice_get tips index ≡ Some entry → HasComeTo known key entry
 
--- the first `count` of these entries are leaves
+-- the first `count` of these entries, as far as there are so many, are leaves
 abbrev pub AreLeaves : (count : ℕ) → (tips : List Entry) → Type 0
 AreLeaves count tips = (index : ℕ) (entry : Entry) → index < count → slice_get tips index ≡ Some entry → (number : ℕ) × (entry ≡ Leaf number)
 

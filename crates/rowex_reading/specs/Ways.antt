@@ -19,7 +19,7 @@ use Rattle.rowex_reading.specs.declared.descent.Found.{Found}
 use Rattle.rowex_reading.specs.declared.descent.Found.TheVariants.{Nothing, Leaf}
 use Rattle.std.specs.Prelude.{◌≢◌}
 
--- the entry at which a search ended, or none if the index was empty
+-- the entry at which a search ended, which is a leaf's; none if the index was empty
 abbrev pub end_of : Found → Option Entry
 end_of Nothing = None
 end_of (Leaf number value mismatch) = Some (LeafEntry number)
@@ -29,25 +29,27 @@ abbrev pub value_of : Found → Option ℕ
 value_of (Leaf number value None) = Some value
 value_of found = None
 
--- What the search found at index i of its path: for 0 the root's entry, and else the entry that it took in the node before. Behind the last
--- node this is the leaf at which the search ended, or none.
+-- What the search found at this index of its path: at 0 the root's entry, and else the entry that it took in the node before. Behind the
+-- last node that is the leaf at which the search ended, or none.
 abbrev pub named : (way : List PathNode) → (found : Found) → (index : ℕ) → Option Entry
 named [] found index = end_of found
 named (step ∷ way) found zero = Some (Node step.number step.height)
 named (step ∷ way) found (suc index) = named way found index
 
--- the path's entry for node `number` with this head, where the search takes slot `at`
+-- The path's entry for node `number` with this head, where the search takes slot `at`. Height, first position and number of entries are
+-- those of the head.
 abbrev pub step_at : HeadView → (number at : ℕ) → PathNode
 step_at head number at =
     record { number = number; height = head.height; first_position = first_position (shape_of head); count = size (shape_of head); slot = at }
 
--- the pass is sure that in some version since this one the root had this entry, or none
+-- The pass is sure of the root's entry in some version since this one. It was this entry, or there was none.
 abbrev pub RootWas : (known : Known) → (version : ℕ) → (root : Option Entry) → Type 0
 RootWas known version None = Sure known (λ past. IsBlank past version)
 RootWas known version (Some entry) = Sure known (λ past. IsRooted past version entry)
 
--- What the pass has read of one node of its path, by loads since this version. The node stood in the tree and had these forks. In the slot
--- that the key's search takes there, it had this entry, which is lower than the node.
+-- What the pass has read of one node of its path, by loads since this version. The node stood in the tree with its height (`seen`), and had
+-- these forks, at most 32 entries (`shaped`, `room`). In the slot that the key's search takes there (`at`), it had this entry, which is
+-- lower than the node. `node` has the number of entries and the first fork's position.
 pub record IsWayNode (layout : Layout) (known : Known) (version : ℕ) (key : Key) (node : PathNode) (entry : Entry) : Type 0 where
   pub forks : Subtrie
   pub range : node.number < layout.nodes
@@ -65,13 +67,16 @@ abbrev pub IsMismatch : (key other : Key) → (mismatch : Option ℕ) → Type 0
 IsMismatch key other None = key ≡ other
 IsMismatch key other (Some position) = AgreeBelow position key other × (bit key position ≢ bit other position)
 
--- by loads since this version, the pass has read the key and the value of the leaf at which its search ended
+-- By loads since this version, the pass has read the key and the value of the leaf at which its search ended. `mismatch` is where that key
+-- and the searched one first differ. If the search found nothing, this says nothing.
 abbrev pub IsFoundAt : (known : Known) → (version : ℕ) → (key : Key) → (found : Found) → Type 0
 IsFoundAt known version key Nothing = Unit {0}
 IsFoundAt known version key (Leaf number value mismatch) =
     (other : Key) × Sure known (λ past. IsRead past version number other value) × IsMismatch key other mismatch
 
--- A search for the key loaded the root at this version. It took this path, and found this at the end.
+-- A search for the key, a pass pinned since this version or longer, took this path, and found this at the end. The root had the first entry
+-- of the path, or none (`root`). Each node was read, and its slot for the key had the next one (`nodes`). At the end stood what was found
+-- (`found_at`). The path has at most as many nodes as a key has positions.
 pub record IsWayOf (layout : Layout) (known : Known) (version : ℕ) (key : Key) (way : List PathNode) (found : Found) : Type 0 where
   pub is_key : IsKey key
   pub since : IsPinnedSince known version

@@ -15,8 +15,8 @@ use rowex_core::Gate;
 use rowex_table::{HotTable, TableSeat};
 
 /// Returns the slots of the first and the last entry of the node `step.number` that a new fork at `position` affects. The entry in
-/// `step.slot`, a slot that the node has, is one of these. It loads the words of the node's head that its kind uses, and `gate` is told of
-/// each load.
+/// `step.slot`, a slot that the node has, is one of these. They are affected by the forks that the node had in some version since the pass
+/// was led there. It loads the words of the node's head that its kind uses, 25 at most, and `gate` is told of each load.
 #[inline(always)]
 pub fn find_affected<G: Gate>(
     table: &HotTable,

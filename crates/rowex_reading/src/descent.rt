@@ -15,7 +15,7 @@ use key_bits::{Key, MAX_BYTES, mismatch_of_bytes};
 use rowex_core::{Gate, Rec};
 use rowex_table::{HotTable, TableSeat};
 
-/// The most nodes on a way: a node's height is above that of the next one, and at most 2,160.
+/// The most nodes on a way. A node's height is above that of the next one, and at most 2,160, the number of positions of a key.
 pub const MOST_NODES: usize = 2_160;
 
 /// Where the key's search ended.
@@ -36,7 +36,7 @@ pub enum Found {
 
 /// Searches for `key` from the root down, and returns what stands at the end. Sets `way` to the nodes on the way, the topmost first, each
 /// with the slot taken. In some version since the load of the root, the key had the value found, or was absent if no leaf with it was
-/// found.
+/// found. It loads the root, and at most 26 words for each node on the way and 32 for a leaf.
 pub fn search_way<G: Gate>(
     table: &HotTable,
     seat: &mut TableSeat,

@@ -19,7 +19,7 @@ use rowex_core::{Gate, Rec};
 use rowex_table::{HotTable, RecordAt, TableSeat};
 
 /// Returns the value of `key`, or `None` if the key is absent. This was so in some version since the load of the root. It loads the root,
-/// and at most 26 words for each node on the path and 32 for a leaf. `gate` is told each load. It touches four words of each node.
+/// and at most 26 words for each node on the path and 32 for a leaf. `gate` is told each load. It touches at most four words of each node.
 pub fn look_up<G: Gate>(
     table: &HotTable,
     seat: &mut TableSeat,
@@ -44,7 +44,8 @@ pub fn look_up<G: Gate>(
     }
 }
 
-/// Returns the slot in `node` to which the bits of `key` lead. The words of the node's head are loaded, and `gate` is told of each load.
+/// Returns the slot in `node` to which the bits of `key` lead. They follow the forks that the node had in some version since the pass was
+/// led there. At most 25 words of the node's head are loaded, and `gate` is told of each load. Four words at most are touched.
 #[inline(always)]
 pub(crate) fn find_slot<G: Gate>(
     table: &HotTable,

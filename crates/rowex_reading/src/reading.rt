@@ -32,7 +32,8 @@ use record_words::{
 use rowex_core::{Gate, Rec, Spot};
 use rowex_table::{HotTable, RecordAt, TableSeat};
 
-/// Loads and returns the root's entry; `None` if the tree is empty.
+/// Loads and returns the root's entry; `None` if the tree is empty. The pass is pinned, and so may search from there. The entry's height is
+/// at most 2,160, which bounds a search.
 pub fn load_root<G: Gate>(table: &HotTable, seat: &mut TableSeat, gate: &mut G) -> Option<Entry>
     requires own { IsSeatOf table.now seat.old }
     requires pinned { IsSome seat.old.known.pin }
@@ -44,7 +45,8 @@ pub fn load_root<G: Gate>(table: &HotTable, seat: &mut TableSeat, gate: &mut G) 
     read_entry(word)
 }
 
-/// Loads words of the head of `node` into `words`, from the head's word `first` on, counted from 0, until `words` are full.
+/// Loads words of the head of `node` into `words`, from the head's word `first` on, counted from 0, until `words` are full. Of each word
+/// the pass is then sure that the node had it in some version since the pass was led there.
 #[inline(always)]
 fn load_head_part<G: Gate>(
     table: &HotTable,
@@ -69,7 +71,8 @@ fn load_head_part<G: Gate>(
 }
 
 /// Returns the words of the head of the node `number`. The first word tells the kind of the head. Then the words that this kind uses are
-/// loaded: 7, 13 or 25 in all. The others are all ones, and need no load.
+/// loaded: 7, 13 or 25 in all. The others are all ones in each head of the kind, and need no load. The pass is then sure that the node had
+/// the head's forks in some version since the pass was led there.
 #[inline(always)]
 pub(crate) fn load_head_words<G: Gate>(
     table: &HotTable,
@@ -114,7 +117,9 @@ pub(crate) fn load_head_words<G: Gate>(
     words
 }
 
-/// Loads the head of the node `number`, as [`load_head_words`] does. Returns the node as one of a path that takes its first entry.
+/// Loads the head of the node `number`, to which the pass was led, by 25 loads at most ([`load_head_words`]). Returns the node as one of a
+/// path, with the head's height, first position and number of entries. Its slot is 0, that of the first entry. The pass is then sure that
+/// the node had the head's forks in some version since the pass was led there.
 #[inline(always)]
 pub fn load_path_node<G: Gate>(
     table: &HotTable,
@@ -134,7 +139,8 @@ pub fn load_path_node<G: Gate>(
     path_node(number, numbers, word, 0)
 }
 
-/// Returns the node `number` as one of a path that takes `slot`. Its head has `numbers`, and `word` at [`index_of_first_position`].
+/// Returns the node `number` as one of a path that takes `slot`. Its head has `numbers`, and `word` at [`index_of_first_position`], which
+/// tells the first fork's position.
 #[inline(always)]
 fn path_node(number: u32, numbers: HeadNumbers, word: u64, slot: u8) -> PathNode
     ensures same { (result.number ≡ number) × (result.slot ≡ slot) }
@@ -166,11 +172,11 @@ pub(crate) fn touch_entries(table: &HotTable, seat: &mut TableSeat, node: Record
 }
 
 /// Loads the head of `node` and searches it for `key`. Returns the node as one of the key's path, with the slot to which the bits of `key`
-/// lead.
+/// lead. The pass is then sure that the node had the head's forks in some version since the pass was led there.
 ///
 /// The first word tells the kind of the head. Then the words that this kind uses are loaded, 7, 13 or 25 in all, and none of these loads
-/// waits for another. Nor does the later load of an entry, whose cache line is touched here. The rows of a wide head are loaded last, and
-/// stay in registers.
+/// waits for another. Nor does the later load of an entry: four words of the lines of entries are touched here. The rows of a wide head are
+/// loaded last, and stay in registers.
 #[inline(always)]
 pub fn search_node<G: Gate>(
     table: &HotTable,
@@ -221,7 +227,8 @@ pub fn search_node<G: Gate>(
     }
 }
 
-/// Loads and returns the entry in `slot` of `node`, which has that slot.
+/// Loads and returns the entry in `slot` of `node`, which has that slot. The node had that entry there in some version since the pass was
+/// led to the node. The entry is lower than the node, so a search ends. No word is touched.
 #[inline(always)]
 pub fn load_entry<G: Gate>(
     table: &HotTable,
@@ -243,7 +250,7 @@ pub fn load_entry<G: Gate>(
 }
 
 /// Loads the leaf `leaf`, to which the pass was led. Returns its key's length in bytes and its value. Writes the bytes of the key to the
-/// front of `places`.
+/// front of `places`. The leaf had this key and value in some version since the pass was led there. At most `LEAF_FIELDS` words are loaded.
 ///
 /// Words behind the key are not loaded, and their bytes in `places` stay. If all of `places` was 0 before, the bytes behind the key are
 /// still 0, as `Key::from_padded` wants them; else they mean nothing. Keys of eight bytes are common: their one word is loaded without a
@@ -282,8 +289,9 @@ pub fn load_leaf<G: Gate>(
     (length as usize, value)
 }
 
-/// Loads and returns the value of the leaf `number`, if the leaf has `key`; `None` if it has another key. Keys of eight bytes are common:
-/// what is compiled for them alone has no loop.
+/// Returns the value of the leaf `number`, if the leaf has `key`; `None` if it has another key, and then no value is loaded. The leaf had
+/// this value in some version since the pass was led there. At most `LEAF_FIELDS` words are loaded. Keys of eight bytes are common: what is
+/// compiled for them alone has no loop.
 pub fn load_value<G: Gate>(
     table: &HotTable,
     seat: &mut TableSeat,
@@ -304,8 +312,9 @@ pub fn load_value<G: Gate>(
     compare_leaf(table, seat, gate, leaf, key, size)
 }
 
-/// Returns the value of `leaf`, loaded last, if the leaf has `key`, of `size` bytes; `None` if it has another key. The lengths are
-/// compared, and then words up to the first that differs. Inline, so that a `size` known beforehand needs no loop.
+/// Returns the value of `leaf`, loaded last, if the leaf has `key`, of `size` bytes; `None` if it has another key. The leaf had this value
+/// in some version since the pass was led there. The lengths are compared, and then words up to the first that differs. That is enough,
+/// since no two keys have the same length and words. Inline, so that a `size` known beforehand needs no loop.
 #[inline(always)]
 fn compare_leaf<G: Gate>(
     table: &HotTable,

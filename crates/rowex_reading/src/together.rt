@@ -22,11 +22,11 @@ use record_words::{CACHE_LINE_WORDS, KEY_OFFSET, NUMBERS_OFFSET, VALUE_OFFSET};
 use rowex_core::{Gate, Rec};
 use rowex_table::{HotTable, TableSeat};
 
-/// How many keys go down side by side.
+/// How many keys go down side by side. The more there are, the more loads are under way at once.
 const TOGETHER: usize = 16;
 
-/// Looks up each of `keys` once, and writes to `found`, in the order of the keys, the value of each, or `None` if it is absent. Each result
-/// was true in some version since the load of the root, in no order among the keys. `found` is as long as `keys`.
+/// Looks up each of `keys` once. Writes to `found`, in the order of the keys, the value of each, or `None` if it is absent. Each result was
+/// true in some version since the load of the root. The versions may differ, and have no order. `found` is as long as `keys`.
 ///
 /// It loads the root once, and at most 26 words for each node on a key's way and 32 for its leaf. `gate` is told each load.
 pub fn look_up_all<G: Gate>(
@@ -60,7 +60,9 @@ pub fn look_up_all<G: Gate>(
     }
 }
 
-/// Looks up `keys`, at most `TOGETHER`, from the root's entry `root` on. Writes to `found` as `look_up_all` does.
+/// Looks up `keys`, at most `TOGETHER`, from the root's entry `root` on. Writes to `found`, in the order of the keys, the value of each, or
+/// `None` if it is absent. Each result was true in some version since the load of the root. At most 26 words are loaded for each node on a
+/// key's way, and 32 for its leaf.
 fn look_up_group<G: Gate>(
     table: &HotTable,
     seat: &mut TableSeat,
@@ -84,7 +86,8 @@ fn look_up_group<G: Gate>(
 }
 
 /// Goes down one node on the path of each of `keys`: from its entry in `tips`, if that is a node, to the entry that the path takes there. A
-/// leaf stays. Returns whether any entry was a node.
+/// leaf stays. At most 26 words are loaded for each node. Returns whether any entry was a node. If so, the sum of the heights is lower
+/// then, so repeated calls come to leaves alone.
 fn go_down<G: Gate>(
     table: &HotTable,
     seat: &mut TableSeat,
@@ -112,7 +115,7 @@ fn go_down<G: Gate>(
 }
 
 /// Goes down one node on the path of `key`, which has led to the node `number`. It searches the node's head, loads and returns the entry
-/// that the path takes there, and touches that entry's record.
+/// that the path takes there, which is lower, and touches that entry's record. At most 26 words are loaded.
 #[inline(always)]
 fn enter_node<G: Gate>(
     table: &HotTable,
@@ -134,7 +137,7 @@ fn enter_node<G: Gate>(
 }
 
 /// Touches the cache lines of the record that `entry` names, so that they come while other keys go down. Of a node these are all its lines,
-/// and of a leaf those of its first words.
+/// and of a leaf those of its first words. It touches at most seven words.
 #[inline(always)]
 fn touch_record(table: &HotTable, seat: &mut TableSeat, entry: Entry)
     requires own { IsSeatOf table.now seat.old }
@@ -157,8 +160,9 @@ fn touch_record(table: &HotTable, seat: &mut TableSeat, entry: Entry)
     }
 }
 
-/// Compares each of `keys` with its leaf in `tips`. Writes the leaf's value to `found`, in the order of the keys, or `None` if the leaf has
-/// another key.
+/// Compares each of `keys` with its leaf in `tips`, which has leaves alone. Writes the leaf's value to `found`, in the order of the keys,
+/// or `None` if the leaf has another key. Each result was true in some version since the load of the root. At most 32 words are loaded for
+/// each leaf.
 fn load_values<G: Gate>(
     table: &HotTable,
     seat: &mut TableSeat,

@@ -20,7 +20,7 @@ use Rattle.rowex_table.specs.Runs.{Does, InTurn}
 use Rattle.rowex_table.specs.Seats.{TableView, SeatView, IsSeatOf}
 use Rattle.versions.specs.Trades.{AreApart}
 
--- what the pass knew before, but with its own records as they are now
+-- What the pass knew before, but with its own records as they are now. Steps on its own records change nothing else.
 abbrev pub owning : (old new : Known) → Known
 owning old new = record old { own = new.own }
 
@@ -45,8 +45,8 @@ stored_in rec words count owned = if same_rec owned.rec rec then record owned { 
 abbrev pub StoresWord : (rec : Rec) → (offset word : ℕ) → (acts : List Act) → Type 0
 StoresWord rec offset word acts = acts ≡ Fill rec offset word ∷ []
 
--- The pass stores the first `count` of the words into its record, one after the other, from offset 1 on. The record stays claimed. The
--- pass's other records stay the same.
+-- The pass stores the first `count` of the words into its record, one after the other, from offset 1 on. The record stays claimed, and the
+-- pass's other records stay the same. What followed from its knowledge before still follows (`IsLater`).
 pub record SetsSome {G : Type 0} (table : TableView) (becomes : G → Event → G → Type 0) (rec : Rec) (words : List ℕ) (count : ℕ)
     (old new : SeatView × G) : Type 0 where
   pub acts : List Act
@@ -56,16 +56,17 @@ pub record SetsSome {G : Type 0} (table : TableView) (becomes : G → Event → 
   pub held : IsClaimed new.0.known rec
   pub own : new.0.known.own ≡ map (stored_in rec words count) old.0.known.own
 
--- Let the first `done` of the words have been stored. Then the next `count` are stored, too. The seat is still one of this table, and the
--- record stays claimed.
+-- Take any start from which the first `done` of the words have been stored. Then the next `count` are stored, too. The seat is still one of
+-- this table, and the record stays claimed.
 abbrev pub SetsMore : {G : Type 0} → (table : TableView) → (becomes : G → Event → G → Type 0) → (rec : Rec) → (words : List ℕ) →
     (done count : ℕ) → (old new : SeatView × G) → Type 0
 SetsMore {G = G} table becomes rec words done count old new =
     IsSeatOf table new.0 × IsClaimed new.0.known rec ×
     ((first : SeatView × G) → SetsSome table becomes rec words done first old → SetsSome table becomes rec words (done + count) first new)
 
--- The pass stores all the words into its record, one after the other, from offset 1 on. The record has just these words then. The pass's
--- other records stay the same.
+-- The pass stores all the words into its record, one after the other, from offset 1 on. They are as many as the core has of the record,
+-- which has just these words then. The pass's other records stay the same. What followed from its knowledge before still follows
+-- (`IsLater`).
 pub record SetsAll {G : Type 0} (table : TableView) (becomes : G → Event → G → Type 0) (rec : Rec) (words : List ℕ)
     (old new : SeatView × G) : Type 0 where
   pub sized : length words ≡ word_count_of rec
@@ -79,12 +80,12 @@ pub record SetsAll {G : Type 0} (table : TableView) (becomes : G → Event → G
 abbrev pub IsFilledLeaf : (known : Known) → (number : ℕ) → (leaf : List ℕ × ℕ) → Type 0
 IsFilledLeaf known number leaf = (words : List ℕ) × IsFilled known (a_leaf number) words × (leaf_words leaf ≡ up_to_key words)
 
--- The pass makes its record ready, by one step. Its other records stay the same.
+-- The pass makes its record ready, by one step. The record is still its own, now as ready, and its other records stay the same.
 pub record Readies {G : Type 0} (table : TableView) (becomes : G → Event → G → Type 0) (rec : Rec) (old new : SeatView × G) : Type 0 where
   pub does : Does table becomes owning (Ready rec ∷ []) old new
   pub own : new.0.known.own ≡ map (with_holding rec IsReady) old.0.known.own
 
--- The pass releases its record, by one step. The record is no more its own, and its other records stay the same.
+-- The pass releases its record, by one step. The record is no longer its own, and its other records stay the same.
 pub record GivesUp {G : Type 0} (table : TableView) (becomes : G → Event → G → Type 0) (rec : Rec) (old new : SeatView × G) : Type 0 where
   pub does : Does table becomes owning (Release rec ∷ []) old new
   pub own : new.0.known.own ≡ without_record rec old.0.known.own

@@ -22,7 +22,8 @@ pub enum RecordKind {
     Leaf { first: u32, end: u32 },
 }
 
-/// `count` records of a kind, from number `number` on. Each begins `size` words behind the one before.
+/// `count` records of a kind, from number `number` on. Each begins `size` words behind the one before, so that a walk adds `size` and looks
+/// nothing up.
 #[derive(Clone, Copy)]
 struct Span {
     number: u32,
@@ -50,8 +51,8 @@ impl RecordKind {
         }
     }
 
-    /// Returns the number of the word at which the record of this kind with the number `number` begins. If `number` is how many there are,
-    /// it is where one more would begin.
+    /// Returns the number of the word at which the record of this kind with the number `number` begins. For `number` equal to the count of
+    /// records it is where one more would begin.
     fn start_at(self, layout: &Layout, number: u32) -> usize
         requires { number ≤ count_of self layout.now }
         ensures { result ≡ first_word self layout.now number }
@@ -85,7 +86,7 @@ impl RecordKind {
         }
     }
 
-    /// Returns how many records of this kind a table of `layout` has.
+    /// Returns how many records of this kind a table of `layout` has; 0 for leaf records if `end` isn't above `first`.
     fn count(self, layout: Layout) -> u32
         ensures { result ≡ count_of self layout }
     {
@@ -96,8 +97,8 @@ impl RecordKind {
     }
 }
 
-/// Claims the first record of `kind` that it finds free. Returns its number, counted from 0 at the first of the kind; `None` if no try
-/// found one free.
+/// Claims the first record of `kind` that it finds free. Returns its number, counted from 0 at the first of the kind. The result is `None`
+/// if no try found one free. Then failed steps of this call tell of each record who may own it.
 ///
 /// Each record is tried once, from number `from` on, and from 0 on after the last. A try loads the state, and claims only a record that it
 /// saw free. A `from` that is out of range counts as 0. Inline, since callers know the kind.
@@ -125,10 +126,10 @@ pub fn claim_record<G: Gate>(
 }
 
 /// Claims the first record of `kind` that it finds free, of the next `left` ones from number `from` on. Returns its number; `None` if none
-/// of them was free.
+/// of them was free. Then failed steps of this call tell of each of them who may own it.
 ///
-/// Records are tried as by [`claim_record`]. `left` becomes less by the number of those that were tried. Inline, since callers know the
-/// kind.
+/// Records are tried as by [`claim_record`], each once even if `left` is above their number. `left` becomes less by the number of those
+/// that were tried, the claimed one counted. Inline, since callers know the kind.
 #[inline(always)]
 pub fn claim_next_record<G: Gate>(
     table: &HotTable,
@@ -217,8 +218,8 @@ fn claim_record_behind<G: Gate>(
     (None, most)
 }
 
-/// Claims the first record of `span`, of records of `kind`, that it finds free. Returns how many were tried before that one; `None` if none
-/// was free.
+/// Claims the first record of `span`, of records of `kind`, that it finds free. Returns how many were tried before that one, which is the
+/// claimed record's place in the span. `None` if none was free: then failed steps of this call tell of each who may own it.
 fn claim_record_in_span<G: Gate>(
     table: &HotTable,
     seat: &mut TableSeat,
@@ -246,8 +247,8 @@ fn claim_record_in_span<G: Gate>(
 }
 
 /// Claims the record of `kind` with the number `number`, counted from 0 at the first of the kind, if it is free. Returns whether the pass
-/// has it now. If the kind has no such number, the result is `false`, and no step is made. `gate` is told each step. Inline, since callers
-/// know the kind.
+/// has it now. At most two steps are made, and `gate` is told each. If the kind has no such number, the result is `false`, and no step is
+/// made. Inline, since callers know the kind.
 #[inline(always)]
 pub fn claim_by_number<G: Gate>(
     table: &HotTable,
@@ -270,7 +271,9 @@ pub fn claim_by_number<G: Gate>(
     try_claim_record(table, seat, gate, at)
 }
 
-/// Claims the record `at` if it is free, and returns whether the pass has it now. If a load finds its state not free, no claim is tried.
+/// Claims the record `at` if it is free, and returns whether the pass has it now. If a load finds its state not free, no claim is tried,
+/// since an exchange costs more than a load. The claim fails, too, if another pass claims the record between the two steps. A failed try
+/// becomes one of the pass's failed steps, and its own records stay.
 fn try_claim_record<G: Gate>(
     table: &HotTable,
     seat: &mut TableSeat,
@@ -288,11 +291,12 @@ fn try_claim_record<G: Gate>(
     table.claim_at(seat, gate, at) == pack_state(Tag::Free)
 }
 
-/// Returns the number of the first record of `kind` that a load finds free, counted from 0 at the first of the kind. Nothing is claimed.
-/// `None` if none of those looked at was free.
+/// Returns the number of the first record of `kind` that a load finds free, counted from 0 at the first of the kind. Nothing is claimed, so
+/// another pass may claim that record. `None` if none of those looked at was free: then failed steps of this call tell of each of them who
+/// may own it.
 ///
-/// The states of `most` records are loaded, once each, from number `from` on, and from 0 on after the last. A `most` above the number of
-/// records of the kind counts as that number. A `from` that is out of range counts as 0.
+/// The states of at most `most` records are loaded, once each, from number `from` on, and from 0 on after the last. A `most` above the
+/// number of records of the kind counts as that number. A `from` that is out of range counts as 0.
 pub fn find_free_record<G: Gate>(
     table: &HotTable,
     seat: &mut TableSeat,
@@ -331,7 +335,7 @@ fn number_or_zero(from: u32, all: u32) -> u32
     if from < all { from } else { 0 }
 }
 
-/// Makes `rec`, which the pass has claimed and not made ready, free again.
+/// Makes `rec`, which the pass has claimed and not made ready, free again, by one step. The pass's other records stay.
 pub fn give_up_record<G: Gate>(table: &HotTable, seat: &mut TableSeat, gate: &mut G, rec: Rec)
     requires own { IsSeatOf table.now seat.old }
     requires range { HasRecord table.now.layout rec }
@@ -341,7 +345,8 @@ pub fn give_up_record<G: Gate>(table: &HotTable, seat: &mut TableSeat, gate: &mu
     table.release(seat, gate, rec);
 }
 
-/// Makes the records `recs` free again. They are all that the pass has, each claimed and not made ready.
+/// Makes the records `recs` free again, in their order, by one step each. They are all that the pass has, each claimed and not made ready.
+/// Then the pass has no record.
 pub fn give_up_records<G: Gate>(table: &HotTable, seat: &mut TableSeat, gate: &mut G, recs: &[Rec])
     requires own { IsSeatOf table.now seat.old }
     requires range { All (HasRecord table.now.layout) recs.now }

@@ -25,7 +25,7 @@ use rowex_core::{Gate, Rec};
 use rowex_table::{HotTable, RecordAt, TableSeat};
 
 /// Fills the claimed leaf record `number`, which has room for `key`, with `value` and with the words of `key` up to its end. The words
-/// behind the key stay.
+/// behind the key stay, and mean nothing. It makes at most 32 steps.
 ///
 /// The last store stands behind the loop, so that a store follows each of the others, and none of these needs a fence.
 pub fn fill_leaf<G: Gate>(
@@ -57,7 +57,7 @@ pub fn fill_leaf<G: Gate>(
     store_word(table, seat, gate, leaf, offset, word);
 }
 
-/// How many words of a node are stored by one loop.
+/// How many words of a node are stored by one loop. Seven loops and one store fill a node.
 const GROUP: usize = 8;
 
 /// Fills the claimed node record `number` with `words`, those of a node but its state, by one step for each word. The words are stored
@@ -89,8 +89,8 @@ pub fn fill_node<G: Gate>(
     store_word(table, seat, gate, node, offset, words[NODE_FIELDS - 1]);
 }
 
-/// Stores `GROUP` of `words` in the claimed node record `node`, from index `first` on, counted from 0 behind the state. Inline, so that
-/// offsets are known when it is compiled.
+/// Stores `GROUP` of `words` in the claimed node record `node`, from index `first` on, counted from 0 behind the state. The words at these
+/// indexes stand in it then, and those stored before stay. Inline, so that offsets are known when it is compiled.
 #[inline(always)]
 fn store_group<G: Gate>(
     table: &HotTable,
@@ -113,7 +113,7 @@ fn store_group<G: Gate>(
     }
 }
 
-/// Stores `word` at `offset` of the claimed record `at`, counted in words from 0 at its state.
+/// Stores `word` at `offset` of the claimed record `at`. The offset is counted in words from the state at 0, and is not 0.
 #[inline(always)]
 fn store_word<G: Gate>(
     table: &HotTable,
@@ -132,7 +132,8 @@ fn store_word<G: Gate>(
     table.fill_at(seat, gate, at, offset, word);
 }
 
-/// Makes the claimed record `rec`, which has been filled, ready: one step stores that it is live. From then on the pass may link it.
+/// Makes the claimed record `rec` ready: one step stores that it is live. Its words are those of a node, or of a leaf for whose key it has
+/// room. From then on the pass may link it.
 pub fn make_ready<G: Gate>(table: &HotTable, seat: &mut TableSeat, gate: &mut G, rec: Rec)
     requires own { IsSeatOf table.now seat.old }
     requires range { HasRecord table.now.layout rec }

@@ -37,8 +37,8 @@ HoldsMade known news = (known.own ≡ map (held_as Held) news) × AreApart (recs
 abbrev pub HasReadied : (known : Known) → (done todo : List Made) → Type 0
 HasReadied known done todo = (known.own ≡ map (held_as Ready) done ++ map (held_as Held) todo) × AreApart (recs_of (done ++ todo))
 
--- What a pass knows has gone on from `before` to `after`. The pin is the same, and the front has grown by changes of other passes alone.
--- Where the facts of `after` are true, so are those of `before`.
+-- What a pass knows has gone on from `before` to `after`. The pass and its pin are the same, and the front has grown by changes of other
+-- passes alone. In each past where the facts of `after` are true, those of `before` are. So what followed from `before` still follows.
 pub record IsLater (before after : Known) : Type 0 where
   pub pass : after.pass ≡ before.pass
   pub pin : after.pin ≡ before.pin

@@ -15,9 +15,9 @@ use Rattle.rowex_table.specs.Rule.{MayStep}
 use Rattle.rowex_table.specs.Made.{nodes_of}
 use Rattle.rowex_table.specs.Runs.{silent}
 
--- A pass that knew `earlier` has published the change, and knows `later` now. Its front has all changes so far, this one as the last. The
--- change is legal on the map before it, in which its key has the value `was`. The pass owns just the records `gone`, which it has unlinked.
--- It has locked just the nodes `kept`, and the anchor if it had before.
+-- A pass that knew `earlier` has published the change, and knows `later` now. Its pin is the same. Its front has grown by changes of
+-- others, and has this one as the last. The change is legal on the map before it, in which its key has the value `was`. The pass owns just
+-- the records `gone`, which it has unlinked. It has locked just the nodes `kept`, and the anchor if it had before.
 pub record HasPublished (earlier later : Known) (change : Change) (was : Option ℕ) (gone : List Rec) (kept : List ℕ) : Type 0 where
   pub pass : later.pass ≡ earlier.pass
   pub pin : later.pin ≡ earlier.pin
@@ -31,8 +31,8 @@ pub record HasPublished (earlier later : Known) (change : Change) (was : Option 
   pub locks : LocksJust later.locks kept
   pub anchor : (earlier.anchor ≡ None → later.anchor ≡ None) × (IsSome earlier.anchor → IsSome later.anchor)
 
--- A pass that knows `known` may publish the change by a store of the word at the spot. Then it has published the change, as `HasPublished`
--- says. Of its locked nodes it keeps those that are not among the records `gone`.
+-- A pass that knows `known` may publish by a store of the word at the spot (`may`). If it does so as a step without notes, it has published
+-- the change, as `HasPublished` says. Of its locked nodes it keeps those that are not among the records `gone`.
 pub record Publishes (layout : Layout) (known : Known) (spot : Spot) (word : ℕ) (change : Change) (was : Option ℕ) (gone : List Rec) : Type 0 where
   pub may : MayStep layout (λ found. Publish spot word) known
   pub gives : (later : Known) (kept : List ℕ) → AreKept (nodes_of known.locks) gone kept → IsEvent layout (Publish spot word) silent known later →

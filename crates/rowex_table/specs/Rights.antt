@@ -19,12 +19,12 @@ use Rattle.rowex_core.specs.Knowing.{Knows}
 abbrev pub OwnsAs : (known : Known) → (rec : Rec) → (holding : Holding) → (words : List ℕ) → Type 0
 OwnsAs known rec holding words = Contains known.own (record { rec = rec; holding = holding; words = words })
 
--- the pass has claimed the record, and has not made it ready
+-- The pass has claimed the record, has not made it ready, and knows all its words.
 abbrev pub IsClaimed : Known → Rec → Type 0
 IsClaimed known rec = (words : List ℕ) × (length words ≡ word_count_of rec) × OwnsAs known rec Held words
 
--- The pass may try to lock the target. It always may for the anchor. For a node it must know that the node is in the tree if its state word
--- says live.
+-- The pass may try to lock the target. It always may for the anchor. For a node this must follow from what it knows: if the node's state
+-- word says live, the node is in the tree. A node that is ready, and not linked yet, has that state word, too.
 abbrev pub MayLock : (layout : Layout) → (target : Target) → (known : Known) → Type 0
 MayLock layout Anchor known = Unit {0}
 MayLock layout (NodeTarget number) known =

@@ -31,7 +31,7 @@ use Rattle.rowex_table.specs.declared.traces.TracedView.{TracedView}
 use Rattle.rowex_table.specs.declared.traces.TracedView.TheVariants.{Spent, Dealer, Founder, Pass, Pair, Witness, Follower}
 use Rattle.rowex_table.specs.Traces.{HasTraces, IsNextStep, IsShownRun, RunBeginsWith, untraced, view_of}
 
--- one of the views tells of the pass of this number
+-- one of the views tells of the pass of this number, as its own or as one still to be dealt
 abbrev pub IsSomeSeats : (views : List TracedView) → (pass : ℕ) → Type 0
 IsSomeSeats views pass = (place : ℕ) × (view : TracedView) × (get_elem? views place ≡ some view) × IsViewOf (view_of view) pass
 
@@ -39,8 +39,9 @@ IsSomeSeats views pass = (place : ℕ) × (view : TracedView) × (get_elem? view
 abbrev pub IsTrueOf : (core : Core) → (run : List Event) → (view : TracedView) → Type 0
 IsTrueOf core run view = Knowing core (view_of view) × HasTraces run view
 
--- The rule of a table. A run of steps leads from a new table to a lawful core of this layout, which the words show. What each view says is
--- true of the core and of the run. No two views tell of one pass, and some view tells of each pass of the layout.
+-- The rule of a table. A run of steps (`led`) leads from a new table to a lawful core of this layout, which the words show. What each view
+-- says is true of the core and of the run (`knows`). No two views tell of one pass (`apart`), and some view tells of each pass of the
+-- layout (`each`).
 pub record Ruled {S : Type 0} (layout : Layout) (state : State S TracedView) : Type 0 where
   pub core : Core
   pub lawful : IsLawful core
@@ -54,7 +55,7 @@ pub record Ruled {S : Type 0} (layout : Layout) (state : State S TracedView) : T
       IsViewOf (view_of other) pass → place ≡ other_place
   pub each : (pass : ℕ) → pass < layout.passes → IsSomeSeats state.views pass
 
--- what a new pass of this number knows
+-- what a new pass of this number knows: nothing, and that its first step has the number 1
 abbrev pub opening_of : ℕ → Known
 opening_of pass = record {
   pass = pass;
@@ -76,8 +77,8 @@ opening_of pass = record {
 abbrev pub load_of : List ℕ → Act
 load_of words = Load (record { ref_ptr = (0, 0); now = words })
 
--- What pass 0 knows of a table that was made of these words by a bulk load. Its notes are those of insertions of the leaves of the loaded
--- tree, in order.
+-- What pass 0 knows of a table that was made of these words by a bulk load. It has seen the leaves of the loaded tree added. Its notes are
+-- those of insertions of these leaves, in order.
 abbrev pub loader_of : Layout → List ℕ → Known
 loader_of layout words =
     record (learned (opening layout) (load_of words) (opening_of 0)) { notes = added_notes 0 (items_of (loaded_tree layout words)) }
@@ -92,17 +93,17 @@ abbrev pub first_view : (layout : Layout) → (loads : Bool) → (words : List �
 first_view layout true words = Founder (loader_of layout words) (load_trace words) 1
 first_view layout false words = Dealer 0
 
--- what the pass of a view knows; of a view of another kind, what a new pass 0 knows
+-- what the pass of a view knows; for a view of another kind, what a new pass 0 knows, so that there always is something
 abbrev pub known_of : TracedView → Known
 known_of (Pass known trace) = known
 known_of _ = opening_of 0
 
--- the trace of the pass of a view; of a view of another kind, an empty one
+-- the trace of the pass of a view; for a view of another kind, an empty one
 abbrev pub trace_of : TracedView → Trace
 trace_of (Pass known trace) = trace
 trace_of _ = untraced
 
--- The seat has the view of the pass of this number, and holds nothing else.
+-- The seat has the view of the pass of this number alone, and nothing else is kept with it.
 abbrev pub IsOfPass : {S : Type 0} → (me : Me S TracedView) → (pass : ℕ) → Type 0
 IsOfPass me pass = (me ≡ (Pass (known_of me.0) (trace_of me.0), [])) × ((known_of me.0).pass ≡ pass)
 
@@ -118,11 +119,11 @@ HasSpot layout Root = Unit {0}
 HasSpot layout (Value leaf) = leaf < layout.leaves
 HasSpot layout (Slot node slot) = (node < layout.nodes) × (slot < MAX_ENTRIES)
 
--- a table of this layout has the location, at the word of this index
+-- a table of this layout has the location, and its word has the number `word`
 abbrev pub IsAddressOf : (layout : Layout) → (location : Location) → (word : ℕ) → Type 0
 IsAddressOf layout location word = (word ≡ address layout location) × IsInTable layout location
 
--- a table of this layout has the record, which begins at the word of this index
+-- a table of this layout has the record, and its first word has the number `word`
 abbrev pub IsStartOf : (layout : Layout) → (rec : Rec) → (word : ℕ) → Type 0
 IsStartOf layout rec word = HasRecord layout rec × (word ≡ address layout (word_of rec 0))
 
@@ -131,17 +132,17 @@ abbrev pub record_number : Rec → ℕ
 record_number (a_node number) = number
 record_number (a_leaf number) = number
 
--- it is the record of a node in a table of this layout, and begins where it says
+-- `at` names a node record of a table of this layout, and the number of that record's first word
 abbrev pub IsNodeRecordAt : Layout → RecordAt → Type 0
 IsNodeRecordAt layout at = (at.rec ≡ a_node (record_number at.rec)) × IsStartOf layout (a_node (record_number at.rec)) at.start
 
--- it is the record of a leaf in a table of this layout, and begins where it says
+-- `at` names a leaf record of a table of this layout, and the number of that record's first word
 abbrev pub IsLeafRecordAt : Layout → RecordAt → Type 0
 IsLeafRecordAt layout at = (at.rec ≡ a_leaf (record_number at.rec)) × IsStartOf layout (a_leaf (record_number at.rec)) at.start
 
 -- Events
 
--- The act as one that finds this word. An act that finds no word, as a store, stays as it is.
+-- The act as one that finds this word. An act that finds no word, as a store, stays as it is, and so does a bulk load.
 abbrev pub found_by : (act : Act) → (word : ℕ) → Act
 found_by (Claim rec found) word = Claim rec word
 found_by (LoadRef spot found) word = LoadRef spot word
@@ -154,15 +155,16 @@ found_by (LoadState rec found) word = LoadState rec word
 found_by (GiveBack rec epoch found) word = GiveBack rec epoch word
 found_by act word = act
 
--- A pass that knows `known` may make the step `act` at a table of this layout. The step is legal in each lawful core of which `known` is
--- true. `act` gives the act by the word that it finds.
+-- A pass that knows `known` may make a step at a table of this layout. The step is legal in each lawful core of which `known` is true.
+-- `act` gives the act by the word that it finds there.
 abbrev pub MayStep : (layout : Layout) → (act : ℕ → Act) → (known : Known) → Type 0
 MayStep layout act known =
     (core : Core) → IsLawful core → core.layout ≡ layout → Knows core known →
     Legal core known.pass (act (word_at core (location_of known.pass (act 0))))
 
 -- From the view `old` to the view `new` a pass makes the act, with the notes `said`. The act is legal, the pass learns from it, and it is
--- the next step of the table's run. Without a layout, or for a view of another kind, this says nothing.
+-- the next step of the table's run. Its counts of asides and touches stay. Without a layout, or for a view of another kind, this says
+-- nothing.
 abbrev pub Happens : (layout : Option Layout) → (act : Act) → (said : Known → List Note) → (old new : TracedView) → Type 0
 Happens (Some layout) act said (Pass before trace_before) view =
     (known : Known) × (trace : Trace) × (event : IsEvent layout act said before known) × (view ≡ Pass known trace) ×
@@ -170,31 +172,33 @@ Happens (Some layout) act said (Pass before trace_before) view =
     (trace.touches ≡ trace_before.touches)
 Happens _ act said old view = Unit {0}
 
--- A pass's step, in the form in which a shared table asks for it. The act happens, as one that finds the word `told`.
+-- A pass's step, in the form in which a shared table asks for it. The act happens, as one that finds the word `told`. What else the seat
+-- has stays.
 abbrev pub did : {S : Type 0} → (layout : Option Layout) → (act : Act) → (said : Known → List Note) →
     (step : Step S) → (old : Me S TracedView) → (told : ℕ) → (new : Me S TracedView) → Type 0
 did layout act said step old told new = (new.1 ≡ old.1) × Happens layout (found_by act told) said old.0 new.0
 
 -- Touches
 
--- the view of a pass once it has touched one word more
+-- the view of a pass once it has touched one word more; a view of another kind stays
 abbrev pub touched_once : TracedView → TracedView
 touched_once (Pass known trace) = Pass known (record { events = trace.events; asides = trace.asides; touches = suc trace.touches })
 touched_once view = view
 
--- A touch of a word, in the form in which a shared table asks for it. Of the view only the count of touches changes.
+-- A touch of a word, in the form in which a shared table asks for it. Of the seat only the count of touches changes, and the word that was
+-- found is told to nobody.
 abbrev pub touching : {S : Type 0} → (step : Step S) → (old : Me S TracedView) → (told : ℕ) → (new : Me S TracedView) → Type 0
 touching step old told new = (new.1 ≡ old.1) × (new.0 ≡ touched_once old.0)
 
 -- Seats dealt, and two that meet
 
--- the view of a dealer once it has dealt one more seat
+-- The view of a dealer once it has dealt one more seat. A founder deals its own pass first, and is a dealer then.
 abbrev pub next_dealer : TracedView → TracedView
 next_dealer (Dealer next) = Dealer (next + 1)
 next_dealer (Founder known trace next) = Dealer next
 next_dealer view = view
 
--- the view of the seat that a dealer deals next; `Spent` where the view is no dealer's
+-- The view of the seat that a dealer deals next: a new pass, or a founder's own. It is `Spent` where the view is no dealer's.
 abbrev pub dealt : TracedView → TracedView
 dealt (Dealer next) = Pass (opening_of next) untraced
 dealt (Founder known trace next) = Pass known trace
@@ -204,27 +208,27 @@ dealt _ = Spent
 abbrev pub IsRuledAtFirst : (layout : Layout) → (loads : Bool) → (words : List ℕ) → Type 0
 IsRuledAtFirst layout loads words = Ruled {S = Unit {0}} layout (first_state words [] (first_view layout loads words))
 
--- the dealer's view once the first `count` passes have been dealt; `first` is the table's first view
+-- the dealer's view once the first `count` passes have been dealt, in the order of their numbers; `first` is the table's first view
 abbrev pub dealer_at : (first : TracedView) → (count : ℕ) → TracedView
 dealer_at first zero = first
 dealer_at first (suc pass) = Dealer (suc pass)
 
--- the view of the pass of this number when it is dealt; `first` is the table's first view
+-- the view of the pass of this number right after it is dealt; `first` is the table's first view, which may have loaded the pairs as pass 0
 abbrev pub dealt_at : (first : TracedView) → (pass : ℕ) → TracedView
 dealt_at first zero = dealt first
 dealt_at first (suc pass) = Pass (opening_of (suc pass)) untraced
 
--- the views of two passes, as one view of a pair
+-- the views of two passes, as one view of a pair; `Spent` if one is no pass's
 abbrev pub paired : (first second : TracedView) → TracedView
 paired (Pass known trace) (Pass other other_trace) = Pair known trace other other_trace
 paired first second = Spent
 
--- the view of the first pass of a pair
+-- the view of the first pass of a pair; a view of another kind stays
 abbrev pub first_of_two : TracedView → TracedView
 first_of_two (Pair known trace other other_trace) = Pass known trace
 first_of_two view = view
 
--- the view of the second pass of a pair
+-- the view of the second pass of a pair; `Spent` for a view of another kind
 abbrev pub second_of_two : TracedView → TracedView
 second_of_two (Pair known trace other other_trace) = Pass other other_trace
 second_of_two view = Spent
@@ -247,8 +251,8 @@ HasBeenShown layout before trace_before after trace_after =
     IsShownRun layout before.pass trace_before.events trace_after.events after.front × (trace_after.asides ≡ suc trace_before.asides) ×
     (trace_after.touches ≡ trace_before.touches)
 
--- Two passes meet, which `old` and `new` are views of. Afterwards both know the same changes and the same steps. Without a layout, or for a
--- view of another kind, this says nothing.
+-- `old` and `new` are the views of a pair of passes before and after they meet. Afterwards both know the same changes and the same steps,
+-- and each has been shown them (`HasBeenShown`). Without a layout, or for a view of another kind, this says nothing.
 abbrev pub Meeting : (layout : Option Layout) → (old new : TracedView) → Type 0
 Meeting (Some layout) (Pair one one_trace other other_trace) view =
     (one_after : Known) × (one_trace_after : Trace) × (other_after : Known) × (other_trace_after : Trace) ×
@@ -257,7 +261,7 @@ Meeting (Some layout) (Pair one one_trace other other_trace) view =
     HasBeenShown layout other other_trace other_after other_trace_after
 Meeting _ _ view = Unit {0}
 
--- A meeting of two passes, in the form in which a shared table asks for it.
+-- A meeting of two passes, in the form in which a shared table asks for it. What else the seat has stays.
 abbrev pub met : {S : Type 0} → (layout : Option Layout) → (step : Step S) → (old : Me S TracedView) → (told : ℕ) → (new : Me S TracedView) → Type 0
 met layout step old told new = (new.1 ≡ old.1) × Meeting layout old.0 new.0
 
@@ -277,23 +281,24 @@ witnessed_steps view = []
 abbrev pub IsOfStamp : {S : Type 0} → Me S TracedView → Type 0
 IsOfStamp me = me ≡ (Witness (witnessed me.0) (witnessed_steps me.0), [])
 
--- the view of the stamp that the pass of this view makes
+-- the view of the stamp that the pass of this view makes: its changes and its steps; `Spent` for a view of another kind
 abbrev pub stamped : TracedView → TracedView
 stamped (Pass known trace) = Witness known.front trace.events
 stamped view = Spent
 
--- the view of a pass once it has made a stamp: one aside more
+-- the view of a pass once it has made a stamp, with one aside more; a view of another kind stays
 abbrev pub stamping : TracedView → TracedView
 stamping (Pass known trace) = Pass known (record { events = trace.events; asides = suc trace.asides; touches = trace.touches })
 stamping view = view
 
--- the view of a pass and that of a stamp that it follows, as one view
+-- the view of a pass and that of a stamp that it follows, as one view; `Spent` if they are of other kinds
 abbrev pub following : (pass stamp : TracedView) → TracedView
 following (Pass known trace) (Witness front events) = Follower known trace front events
 following pass stamp = Spent
 
 -- A pass has followed a stamp, whose changes are `stamp`. It has now seen a list of legal changes, each by a pass of the table. The list
--- begins with the stamp's changes, and with those that the pass had seen, and goes on by changes of others.
+-- begins with the stamp's changes. It also begins with those that the pass had seen, and goes on by changes of others. Nothing else that
+-- the pass knows has changed.
 abbrev pub HasFollowed : (layout : Layout) → (stamp : List Change) → (before after : Known) → Type 0
 HasFollowed layout stamp before after =
     (front : List Change) × (after ≡ with_front front before) × LegalFront front × OthersGoOn before.pass before.front front × BeginsWith front stamp ×
@@ -308,7 +313,7 @@ Following (Some layout) (Follower before trace_before stamp events) view =
     RunBeginsWith trace.events events
 Following _ _ view = Unit {0}
 
--- A pass's following of a stamp, in the form in which a shared table asks for it.
+-- A pass's following of a stamp, in the form in which a shared table asks for it. What else the seat has stays.
 abbrev pub followed : {S : Type 0} → (layout : Option Layout) → (step : Step S) →
     (old : Me S TracedView) → (told : ℕ) → (new : Me S TracedView) → Type 0
 followed layout step old told new = (new.1 ≡ old.1) × Following layout old.0 new.0

@@ -14,9 +14,9 @@ pub record TableView : Type 0 where
   pub id : TableId
   pub layout : Layout
 
--- What contracts see of a seat: its table, which one it is there, and what its pass knows. The trace is the list of steps of all passes, up
+-- What contracts see of a seat: its table, which one it is there, and what its pass knows. `trace` is the list of steps of all passes, up
 -- to the last that this pass knows. `asides` counts the stamps that the pass has made or followed, and its meetings. `touches` counts the
--- words that it has touched, which are no steps.
+-- words that it has touched. None of these is a step.
 pub record SeatView : Type 0 where
   pub table : TableId
   pub id : ℕ
@@ -55,36 +55,40 @@ MakesNoAside old new = (new.table ≡ old.table) × (new.id ≡ old.id) × (new.
 abbrev pub touched : (more : ℕ) → (seat : SeatView) → SeatView
 touched more seat = record seat { touches = seat.touches + more }
 
--- The pass has touched some words, at most `most`. Nothing else of its seat has changed.
+-- The pass has touched some words, at most `most`. Nothing else of its seat has changed: a touch teaches nothing.
 abbrev pub HasTouched : (most : ℕ) → (old new : SeatView) → Type 0
 HasTouched most old new = (more : ℕ) × (more ≤ most) × (new ≡ touched more old)
 
--- the seat as if its pass had touched `count` words so far
+-- the seat with `count` as its count of touches, so that two views can be compared without it
 abbrev pub touched_to : (count : ℕ) → (seat : SeatView) → SeatView
 touched_to count seat = record seat { touches = count }
 
--- The pass is shown a run, and the changes that were made in it (`IsShownRun`). So it is where the pass follows a stamp or meets another
--- pass.
+-- The pass is shown the table's run, and the changes made in it (`IsShownRun`). That counts as one aside and no touch. So it is when the
+-- pass follows a stamp or meets another pass.
 pub record IsShownAll (layout : Layout) (old new : SeatView) : Type 0 where
   pub pass : new.known.pass ≡ old.known.pass
   pub run : IsShownRun layout old.known.pass old.trace new.trace new.known.front
   pub asides : new.asides ≡ suc old.asides
   pub touches : new.touches ≡ old.touches
 
--- the seat is one of this table, and its pass is new
+-- The seat is one of this table, with one of the table's passes. The pass is new: it knows what a new pass knows, and no step, and has made
+-- no aside.
 abbrev pub IsNewSeat : TableView → SeatView → Type 0
 IsNewSeat table seat = IsPassOf table seat × (seat.known ≡ opening_of seat.known.pass) × (seat.trace ≡ []) × (seat.asides ≡ 0)
 
--- the seat is one of this table, and has the pass of this number, which is new
+-- The seat is one of this table, and has the pass of this number. The pass is new: it knows what a new pass knows, and no step, and has
+-- made no aside.
 abbrev pub IsNewSeatOf : (table : TableView) → (pass : ℕ) → (seat : SeatView) → Type 0
 IsNewSeatOf table pass seat = IsSeatOf table seat × (seat.known ≡ opening_of pass) × (seat.trace ≡ []) × (seat.asides ≡ 0)
 
--- The seat of pass 0 of a table that was made of these words by a bulk load. The load is the one step of its trace.
+-- The seat of pass 0 of a table that was made of these words by a bulk load. The load is the one event of its trace, and the pass has made
+-- no aside.
 abbrev pub IsLoaderSeat : (table : TableView) → (words : List ℕ) → (seat : SeatView) → Type 0
 IsLoaderSeat table words seat =
     IsSeatOf table seat × (seat.known ≡ loader_of table.layout words) × (seat.trace ≡ (load_trace words).events) × (seat.asides ≡ 0)
 
--- the seat has just been dealt with the pass of this number; `first` is the table's first view
+-- The seat has just been dealt with the pass of this number: what it knows, its steps and its asides are those of the dealt view. `first`
+-- is the table's first view.
 abbrev pub IsDealtSeat : (table : TableView) → (first : TracedView) → (pass : ℕ) → (seat : SeatView) → Type 0
 IsDealtSeat table first pass seat =
     IsSeatOf table seat × (seat.known ≡ known_of (dealt_at first pass)) × (seat.trace ≡ (trace_of (dealt_at first pass)).events) ×

@@ -19,7 +19,7 @@ use Rattle.rowex_table.specs.Seats.{TableView, SeatView}
 use Rattle.rowex_table.specs.Runs.{Ends, IsTold, Runs, events_of, silent}
 use Rattle.rowex_table.specs.Traces.{IsTableRun, RunBeginsWith, own_acts, taught}
 
--- The gate of a pass is told the event of each of the pass's steps, in order, and nothing else.
+-- Let a pass make some steps, one after the other (`Runs`). Its gate is told the event of each, in order, and nothing else.
 abbrev pub GateIsToldEachStep : {G : Type 0} → (G → Event → G → Type 0) → Type 0
 GateIsToldEachStep {G = G} becomes = (table : TableView) (acts : List Act) (old new : SeatView × G) → Runs table becomes acts old new →
     IsTold becomes (events_of old.0.known.pass acts) old.1 new.1
@@ -29,8 +29,8 @@ abbrev pub with_notes : (Known → List Note) → Known → Known
 with_notes said known = record known { notes = known.notes ++ said known }
 
 -- From `old` to `new` a seat's pass has made exactly these acts, in one run of the table. `steps` are the steps of all passes behind those
--- that the pass knew. They lead on from the core of the steps before. In the end the pass knows what they have taught it, and has the notes
--- that `said` gives.
+-- that the pass knew. They lead on from each core to which the steps before lead. In the end the pass knows what they have taught it, and
+-- has the notes that `said` gives. If it has made an act, or its trace was a run of the table, its trace is one now.
 pub record IsInOneRun (layout : Layout) (acts : List Act) (said : Known → List Note) (old new : SeatView) : Type 0 where
   pub steps : List Event
   pub trace : new.trace ≡ old.trace ++ steps
@@ -39,7 +39,7 @@ pub record IsInOneRun (layout : Layout) (acts : List Act) (said : Known → List
       (new.known ≡ with_notes said (taught old.known.pass before steps old.known))
   pub run : IsTableRun layout old.trace ⊎ (acts ≢ []) → IsTableRun layout new.trace
 
--- Steps of one pass, one after the other, stand in one run of the table.
+-- Steps of one pass, one after the other, stand in one run of the table, and add no notes.
 abbrev pub StepsAreInOneRun : {G : Type 0} → (G → Event → G → Type 0) → Type 0
 StepsAreInOneRun {G = G} becomes = (table : TableView) (acts : List Act) (old new : SeatView × G) → Runs table becomes acts old new →
     IsInOneRun table.layout acts silent old.0 new.0

@@ -30,12 +30,13 @@ OthersStepOn pass earlier later = (more : List Event) × (later ≡ earlier ++ m
 abbrev pub IsTableRun : Layout → List Event → Type 0
 IsTableRun layout run = (core : Core) × EventsLead (opening layout) run core
 
--- the acts of the pass among these steps of all passes
+-- the acts of the pass among these steps of all passes, in their order
 abbrev pub own_acts : (pass : ℕ) → (steps : List Event) → List Act
 own_acts pass [] = []
 own_acts pass (event ∷ events) = if nat_eq event.pass pass then event.act ∷ own_acts pass events else own_acts pass events
 
--- What the pass knows after these steps of all passes, if it knew `known` in the core before them. Only its own steps teach it anything.
+-- What the pass knows after these steps of all passes, if it knew `known` in the core before them. Its own steps teach it as in the core at
+-- which each is made. Others' steps teach it nothing.
 abbrev pub taught : (pass : ℕ) → (core : Core) → (steps : List Event) → (known : Known) → Known
 taught pass core [] known = known
 taught pass core (event ∷ events) known =
@@ -57,8 +58,8 @@ view_of (Pair known trace other other_trace) = a_pair known other
 view_of (Witness front events) = a_witness front
 view_of (Follower known trace front events) = a_follower known front
 
--- The run begins with each trace of the view. Behind a pass's own trace it has steps of other passes alone. A pass that is still to be
--- dealt has made no step in it.
+-- The run begins with each trace of the view. Behind a pass's own trace it has steps of other passes alone. Behind a witness's it may have
+-- any. A pass that is still to be dealt has made no step in the run.
 abbrev pub HasTraces : List Event → TracedView → Type 0
 HasTraces run Spent = Unit {0}
 HasTraces run (Dealer next) = All (λ event. event.pass < next) run
@@ -69,15 +70,15 @@ HasTraces run (Witness front events) = RunBeginsWith run events
 HasTraces run (Follower known trace front events) = OthersStepOn known.pass trace.events run × RunBeginsWith run events
 
 -- The pass, which knew the steps `trace`, makes this step in this core, and knows the steps `next`. The steps `before` are the table's run,
--- which leads from a new table to the core. They begin with `trace` and go on by steps of others. The pass knows them now, and its own step
--- behind them.
+-- which leads from a new table to the core. They begin with `trace` and go on by steps of others. `next` is `before` with the pass's own
+-- step behind them.
 pub record IsNextStep (layout : Layout) (pass : ℕ) (act : Act) (core : Core) (trace next : List Event) : Type 0 where
   pub before : List Event
   pub led : EventsLead (opening layout) before core
   pub others : OthersStepOn pass trace before
   pub next_is : next ≡ before ++ record { pass = pass; act = act } ∷ []
 
--- The pass, which knew the steps `trace`, is shown the steps `run` and the changes `front`. The run is the table's. It leads from a new
+-- The pass, which knew the steps `trace`, is shown the steps `run` and the changes `front`. The run is the table's: it leads from a new
 -- table to a core with just these changes. It begins with `trace` and goes on by steps of others.
 pub record IsShownRun (layout : Layout) (pass : ℕ) (trace run : List Event) (front : List Change) : Type 0 where
   pub core : Core

@@ -15,7 +15,7 @@ use rowex_core::{Act, Gate};
 use std::marker::Brand;
 
 impl HotTable {
-    /// Loads the epoch and returns it.
+    /// Loads the epoch and returns it. So the pass begins a round, whose bound is this epoch.
     pub fn load_epoch<G: Gate>(&self, seat: &mut TableSeat, gate: &mut G) -> u64
         requires own { IsSeatOf self.now seat.old }
         ensures { Steps self.now G.becomes (LoadEpoch result) (seat.old, gate.old) (seat.new, gate.new) }
@@ -24,7 +24,8 @@ impl HotTable {
         self.load_word_at::<Brand, G>(seat, gate, Act::LoadEpoch { word: 0 }, epoch)
     }
 
-    /// Makes the epoch `expected + 1` if it is `expected`, from 1 to 2^60 - 2; else the epoch stays. Returns the epoch that the step found.
+    /// Exchanges the epoch `expected`, from 1 to 2^60 - 2, for the next one. If the epoch is another, it stays. Returns the epoch that the
+    /// step found.
     pub fn advance<G: Gate>(&self, seat: &mut TableSeat, gate: &mut G, expected: u64) -> u64
         requires own { IsSeatOf self.now seat.old }
         requires range { (1 ≤ expected) × (expected + 1 < EPOCHS) }
@@ -36,7 +37,7 @@ impl HotTable {
         self.compare_exchange_at::<Brand, G>(seat, gate, act, epoch, Exchange { expected, new })
     }
 
-    /// Stores `word` as the pass's pin. `word` is the epoch that the pass loaded last, and the pass has no pin before.
+    /// Stores `word` as the pass's pin. `word` is the epoch that the pass loaded last, and at least 1, and the pass has no pin before.
     pub fn set_pin<G: Gate>(&self, seat: &mut TableSeat, gate: &mut G, word: u64)
         requires fits { IsPassOf self.now seat.old }
         requires may { MayStep self.now.layout (λ _. SetPin word) seat.old.known }
@@ -46,7 +47,7 @@ impl HotTable {
         self.store_word_at::<Brand, G>(seat, gate, Act::SetPin { word }, pin, word);
     }
 
-    /// Clears the pass's pin, which is set, by a store of `NO_PIN`. A call ends with this step, and its notes, `said`, come with it.
+    /// Clears the pass's pin, which is set, by a store of `NO_PIN`. A call ends with this step, which appends its notes, `said`.
     pub fn clear_pin<G: Gate>(&self, seat: &mut TableSeat, gate: &mut G)
         ghost said: { Known → List Note }
         requires fits { IsPassOf self.now seat.old }

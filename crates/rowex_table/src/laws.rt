@@ -10,17 +10,19 @@ pub fn gate_is_told_each_step<G: Gate>()
 {}
 
 /// Steps that one pass makes, one after the other, are its own steps in one run of the table, in this order. Steps of others may stand
-/// between. What the pass knows after them is what that run has taught it.
+/// between. What the pass knows after them is what that run has taught it. They add no notes.
 pub fn steps_are_in_one_run<G: Gate>()
     ensures { StepsAreInOneRun G.becomes }
 {}
 
-/// The steps of a call, too, stand in this order in one run of the table. The call's notes come with the last one.
+/// The steps of a call stand in one run of the table, in their order; steps of others may stand between. The call's notes come with its
+/// last step. What the pass knows after that step is these notes, and what the run has taught it.
 pub fn call_steps_are_in_one_run<G: Gate>()
     ensures { CallStepsAreInOneRun G.becomes }
 {}
 
-/// By the rule of the table, take the steps that two passes know of, now or earlier. One of these two lists begins with the other.
+/// In each state that the rule of the table allows, take two lists of steps, known to two passes. Each pass knows of its list now, or knew
+/// of it earlier. One of the two lists begins with the other.
 pub fn traces_are_of_one_run()
     ensures { TracesAreOfOneRun }
 {}

@@ -7,7 +7,7 @@ ghost use Rattle.rowex_table.specs.Rule.{HasEntrySlot};
 use record_words::{FIRST_ENTRY, Location, STATE_OFFSET, VALUE_OFFSET};
 use rowex_core::{Spot, Target};
 
-/// Returns the location of `spot`: the root, the word of slot 0 to 31 of a node record, or the value of a leaf record.
+/// Returns the location of `spot`: the root, a slot of a node record, from 0 to 31, or the value of a leaf record.
 pub(crate) fn spot_location(spot: Spot) -> Location
     requires { HasEntrySlot spot }
     ensures { result ≡ spot_word spot }

@@ -14,9 +14,9 @@ use crate::traces::TracedView;
 use atomic_table::{Join, Play, Split, TableRule};
 use std::marker::{Brand, PhantomData};
 
-/// The rule of a table with a layout. There is a lawful core which the table's words show, and a list of steps that leads to that core from
-/// a new table. If the table's first words show loaded pairs, the list begins with the load. What each seat knows is true of the core and
-/// of the list. No two seats are of one pass, and each pass has a seat.
+/// The rule of a table with a layout. A list of steps leads from a new table to a lawful core, which the table's words show. If the table's
+/// first words show loaded pairs, the list begins with the load. What each seat knows is true of the core and of the list. No two seats are
+/// of one pass, and each pass has a seat or is still to be dealt.
 pub(crate) struct RowexRule;
 
 impl TableRule<(), TracedView, FirstWords> for RowexRule {
@@ -34,6 +34,7 @@ pub(crate) trait Step {
     ghost said: { Known → List Note };
 }
 
+// Each call at `Brand` names its own step in place of these.
 impl Step for Brand {
     ghost layout = { None };
 
@@ -60,7 +61,7 @@ impl<Q: Step> Play<(), TracedView> for Meets<Q> {
     ghost then = { met Q.layout };
 }
 
-/// The load of a word that its pass ignores.
+/// The load of a word that its pass ignores. It counts as a touch, and is no event.
 pub(crate) struct Touching;
 
 impl Play<(), TracedView> for Touching {
@@ -76,7 +77,7 @@ impl Split<TracedView> for Deal {
     ghost right = { dealt };
 }
 
-/// The seats of two passes as one, which part again.
+/// The seats of two passes as one, for a meeting, and that one seat as the two again.
 pub(crate) struct Part;
 
 impl Split<TracedView> for Part {

@@ -15,7 +15,7 @@ use record_words::{EPOCHS, Origins, Tag, obsolete_word, pack_state};
 use rowex_core::{Act, Gate, Rec};
 use std::marker::Brand;
 
-/// A record of a table, with the number of its first word there, found once for several steps.
+/// A record of a table, and the number of its first word there in `start`. It is found once, and serves several steps.
 #[derive(Clone, Copy)]
 pub struct RecordAt {
     pub rec: Rec,
@@ -125,7 +125,7 @@ impl HotTable {
         self.store_word_at::<Brand, G>(seat, gate, act, state, pack_state(Tag::Live));
     }
 
-    /// Makes `rec`, which the pass holds, free.
+    /// Makes `rec`, which the pass holds and gives up without having made it ready, free.
     pub fn release<G: Gate>(&self, seat: &mut TableSeat, gate: &mut G, rec: Rec)
         requires own { IsSeatOf self.now seat.old }
         requires range { HasRecord self.now.layout rec }
@@ -170,8 +170,8 @@ impl HotTable {
         self.load_word_at::<Brand, G>(seat, gate, act, at.start + offset as usize)
     }
 
-    /// Loads the word at `offset` of the record `at`, and ignores what it finds. So the word's cache line is on its way when it is needed.
-    /// This is no step: no gate is told of it. It is counted among the `touches` of the pass.
+    /// Loads the word at `offset` of the record `at`, and ignores what it finds. So the word's cache line comes before it is needed. This
+    /// is no step: no gate is told of it. It is counted among the `touches` of the pass.
     #[inline(always)]
     pub fn touch(&self, seat: &mut TableSeat, at: RecordAt, offset: u8)
         requires own { IsSeatOf self.now seat.old }
@@ -184,7 +184,7 @@ impl HotTable {
             .load::<Touching>(&mut seat.seat, at.start + offset as usize);
     }
 
-    /// Makes `rec` obsolete in `epoch`. The pass has unlinked `rec`, then loaded `epoch`, and no epoch since.
+    /// Makes `rec` obsolete in `epoch`, and so unlocks a node. The pass has unlinked `rec`, then loaded `epoch`, and no epoch since.
     pub fn mark<G: Gate>(&self, seat: &mut TableSeat, gate: &mut G, rec: Rec, epoch: u64)
         requires own { IsSeatOf self.now seat.old }
         requires range { HasRecord self.now.layout rec × (epoch < EPOCHS) }
@@ -217,7 +217,7 @@ impl HotTable {
 
     /// Makes `rec` free if it is obsolete in `epoch`; else its state stays. Returns the state word that the step found: that of `epoch`
     /// exactly if it made `rec` free. The pass has loaded the epoch, and then each pin. `epoch` is below the loaded one and each pin that
-    /// was set.
+    /// was set, so no pinned pass can reach `rec`.
     pub fn give_back<G: Gate>(
         &self,
         seat: &mut TableSeat,
@@ -233,8 +233,9 @@ impl HotTable {
         self.give_back_at(seat, gate, self.locate(rec), epoch)
     }
 
-    /// Does what `give_back` does for the record `at`: makes it free if it is obsolete in `epoch`. Returns the state word that the step
-    /// found.
+    /// Makes the record `at` free if it is obsolete in `epoch`; else its state stays. Returns the state word that the step found: that of
+    /// `epoch` exactly if it made the record free. `epoch` is below the epoch that the pass has loaded and below each pin that it then
+    /// found set, as for `give_back`.
     #[inline(always)]
     pub fn give_back_at<G: Gate>(
         &self,

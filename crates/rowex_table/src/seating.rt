@@ -19,8 +19,8 @@ use std::alloc::{AllocError, Global};
 use std::marker::Brand;
 
 impl HotTable {
-    /// Makes a table of `layout` with an empty index. Returns it with the seats of its passes, in the order of their numbers from 0 on.
-    /// `AllocError` if memory is refused.
+    /// Makes a table of `layout` with an empty index. Returns it with the seats of its passes, all new, in the order of their numbers from
+    /// 0 on. `AllocError` if memory is refused.
     pub fn new(alloc: Global, layout: Layout) -> Result<(HotTable, Vec<TableSeat>), AllocError>
         ensures table { IfOk result (λ made. made.0.layout ≡ layout) }
         ensures count { IfOk result (λ made. length made.1.items ≡ layout.passes) }
@@ -42,8 +42,8 @@ impl HotTable {
     }
 
     /// Makes a table of `layout` and `words`, which show pairs that were loaded. Returns it with the seats of its passes, in the order of
-    /// their numbers from 0 on. Pass 0 has loaded the pairs, by an insertion of each in the order of their keys. `AllocError` if memory is
-    /// refused.
+    /// their numbers from 0 on. Pass 0 has loaded the pairs, by an insertion of each in the order of their keys; the others are new.
+    /// `AllocError` if memory is refused.
     pub fn new_loaded(
         alloc: Global,
         layout: Layout,
@@ -67,8 +67,8 @@ impl HotTable {
         )
     }
 
-    /// Makes the table that `first_words` says. Returns it with the seats of its passes, in the order of their numbers from 0 on.
-    /// `AllocError` if memory is refused.
+    /// Makes the table that `first_words` says, of which the rule of the table holds. Returns it with the seats of its passes, in the order
+    /// of their numbers from 0 on. `AllocError` if memory is refused.
     fn make_with_seats(
         alloc: Global,
         first_words: &FirstWords,
@@ -98,8 +98,9 @@ impl HotTable {
         Ok((HotTable { table, origins }, seats))
     }
 
-    /// Lets the passes of the seats `first` and `second` meet: both have then seen the changes and the steps as they are now. Returns their
-    /// seats, the one of `first` first. No event is made.
+    /// Lets the passes of the seats `first` and `second` meet: both have then seen all changes and steps up to now, the same ones. Returns
+    /// their seats, the one of `first` first. No event is made; `asides` counts one more for each pass. The two seats have different
+    /// passes, since no pass has two.
     pub fn meet_seats(&self, first: TableSeat, second: TableSeat) -> (TableSeat, TableSeat)
         requires { IsSeatOf self.now first × IsSeatOf self.now second }
         ensures own { IsSeatOf self.now result.0 × IsSeatOf self.now result.1 }
@@ -111,7 +112,8 @@ impl HotTable {
         self.meet_seats_as::<Brand>(first, second)
     }
 
-    /// Does what `meet_seats` does, at a table of the layout that `Q` names.
+    /// Lets the passes of the seats `first` and `second` meet, as `meet_seats` does, at a table of the layout that `Q` names. A load of
+    /// word 0, which is ignored, shows both passes the run up to it. Returns their seats, the one of `first` first.
     fn meet_seats_as<Q: Step>(&self, first: TableSeat, second: TableSeat) -> (TableSeat, TableSeat)
         requires own { IsSeatOf self.now first × IsSeatOf self.now second }
         requires layout { Q.layout ≡ Some self.now.layout }

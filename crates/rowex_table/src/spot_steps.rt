@@ -31,7 +31,7 @@ impl HotTable {
         self.load_word_at::<Brand, G>(seat, gate, Act::LoadRef { spot, word: 0 }, entry)
     }
 
-    /// Loads and returns the word of the entry in slot `slot`, 0 to 31, of the node record `node`.
+    /// Loads and returns the word of the entry in slot `slot`, 0 to 31, of the node record `node`. It touches no other word.
     #[inline(always)]
     pub fn load_slot_at<G: Gate>(
         &self,
@@ -94,11 +94,11 @@ impl HotTable {
         self.store_word_at::<Brand, G>(seat, gate, act, state, live);
     }
 
-    /// Stores `word` at `spot`. At the root or in a slot of a node `word` is that of an entry, and the pass has locked the anchor or the
+    /// Stores `word` at `spot`. At the root or in a slot `word` is that of an entry or 0, and the pass has locked the anchor or the slot's
     /// node. At a leaf `word` is a value, and the pass has locked what names the leaf. No other step changes the map.
     ///
-    /// The words then have to show one leaf more, exchanged or less. The pass has made ready the records that come, and has locked each
-    /// node that goes.
+    /// The words then have to show a lawful tree of one leaf more, exchanged or less. The pass has made ready the records that come, and
+    /// has locked each node that goes.
     pub fn publish<G: Gate>(&self, seat: &mut TableSeat, gate: &mut G, spot: Spot, word: u64)
         requires own { IsSeatOf self.now seat.old }
         requires range { HasSpot self.now.layout spot }

@@ -11,7 +11,7 @@ use crate::traces::TracedView;
 use atomic_table::Seat;
 use std::marker::{Brand, Model};
 
-/// What a pass had seen, as a value that may go to another thread. It has no bytes, and no right to any step.
+/// What a pass had seen, its changes and its steps, as a value that may go to another thread. It has no bytes, and no right to any step.
 #[derive(Drop)]
 pub struct TableStamp {
     seat: Seat<(), TracedView>,
@@ -43,7 +43,8 @@ impl HotTable {
         TableStamp { seat }
     }
 
-    /// Lets the pass see the changes and the steps as they are now, all of `stamp` among them. No event is made; `asides` counts one more.
+    /// Lets the pass see all changes and steps up to now, those of `stamp` among them. No event is made; `asides` counts one more. The
+    /// stamp is used up.
     pub fn follow_stamp(&self, seat: &mut TableSeat, stamp: TableStamp)
         requires { IsSeatOf self.now seat.old × IsStampOf self.now stamp }
         ensures same { IsOneSeat seat.old seat.new }
@@ -54,7 +55,8 @@ impl HotTable {
         self.follow_stamp_as::<Brand>(seat, stamp);
     }
 
-    /// Does what `follow_stamp` does, at a table of the layout that `Q` names.
+    /// Lets the pass see all changes and steps up to now, those of `stamp` among them, at a table of the layout that `Q` names. A load of
+    /// word 0, which is ignored, shows the pass the run up to it. `asides` counts one more, and the stamp is used up.
     fn follow_stamp_as<Q: Step>(&self, seat: &mut TableSeat, stamp: TableStamp)
         requires own { IsSeatOf self.now seat.old × IsStampOf self.now stamp }
         requires layout { Q.layout ≡ Some self.now.layout }

@@ -31,7 +31,7 @@ impl HotTable {
     }
 
     /// Loads the table's word with the number `address` as the step `act`, of which `gate` is told, and returns the word. `Q` names the act
-    /// and the notes that come with it. What `act` has as the found word doesn't count.
+    /// and the notes that come with it. What `act` has as the found word doesn't count. The pass touches no other word.
     pub(crate) fn load_word_at<Q: Step, G: Gate>(
         &self,
         seat: &mut TableSeat,
@@ -118,7 +118,7 @@ fn tell_gate<G: Gate>(gate: &mut G, seat: &TableSeat, act: Act)
     gate.at(&Event { pass, act });
 }
 
-/// Returns `act` with `word` as the word that its step found. The act of a store, which finds none, stays as it is.
+/// Returns `act` with `word` as the word that its step found. The act of a store finds none, and stays as it is; so does a bulk load.
 fn act_with_found(act: Act, word: u64) -> Act
     ensures { result ≡ found_by act word }
 {

@@ -10,8 +10,8 @@ use record_words::{Layout, Origins};
 use std::alloc::Global;
 use std::marker::Model;
 
-/// The right of one pass to make steps. What the pass knows, and of which steps of all passes, takes no bytes. It changes when the pass
-/// makes a step or a stamp, meets another or follows a stamp.
+/// The right of one pass to make steps. What the pass knows, and its trace, take no bytes. They change when the pass makes a step or a
+/// stamp, meets another pass or follows a stamp.
 #[derive(Drop)]
 pub struct TableSeat {
     pub(crate) seat: Seat<(), TracedView>,

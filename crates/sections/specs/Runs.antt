@@ -23,14 +23,14 @@ word_in section (Taken ∷ run) = word_in section run
 abbrev pub IsOpen : (section : ℕ) (run : List SectionEvent) → Type 0
 IsOpen section run = 0 < word_in section run
 
--- The event may happen after the run. A section that isn't open may be entered, with a number of moments that had been taken by then. An
--- open one may be left. A moment may be taken while a table can tell one more.
+-- The event may happen after the run. A section that isn't open may be entered, with a number of moments no higher than that of the moments
+-- taken. An open one may be left. A moment may be taken while fewer than MOST_MOMENTS have been, so that each section's word fits 64 bits.
 abbrev pub MayFollow : (run : List SectionEvent) (event : SectionEvent) → Type 0
 MayFollow run (Entered section moments) = (word_in section run ≡ 0) × (moments ≤ moments_in run)
 MayFollow run (Left section) = IsOpen section run
 MayFollow run Taken = moments_in run < MOST_MOMENTS
 
--- each event of the run may follow those before it
+-- each event of the run may follow those that happened before it, which stand behind it in the list
 abbrev pub IsLawfulRun : List SectionEvent → Type 0
 IsLawfulRun [] = Unit {0}
 IsLawfulRun (event ∷ run) = MayFollow run event × IsLawfulRun run
@@ -42,25 +42,27 @@ HasNoneOf section (Entered other moments ∷ run) = (other ≢ section) × HasNo
 HasNoneOf section (Left other ∷ run) = (other ≢ section) × HasNoneOf section run
 HasNoneOf section (Taken ∷ run) = HasNoneOf section run
 
--- the later run is the earlier one, and then further events
+-- the later run is the earlier one with further events, which stand in front of it
 abbrev pub RunGoesOn : (earlier later : List SectionEvent) → Type 0
 RunGoesOn earlier later = (more : List SectionEvent) × (later ≡ more ++ earlier)
 
--- the later run is the earlier one, and then further events, none of which is of this section
+-- the later run is the earlier one with further events in front of it, none of which is of this section
 abbrev pub OthersRunOn : (section : ℕ) (earlier later : List SectionEvent) → Type 0
 OthersRunOn section earlier later = (more : List SectionEvent) × (later ≡ more ++ earlier) × HasNoneOf section more
 
--- The moment of this number is past: each section that was open at any time before it was taken has been left since. Moments are numbered
--- from 1 on, in the order in which they are taken.
+-- The moment of this number is past. Take any section, and any time before the moment was taken at which the section was open: it has been
+-- left since that time. Moments are numbered from 1 on, in the order in which they are taken.
 abbrev pub IsPast : (moment : ℕ) (run : List SectionEvent) → Type 0
 IsPast moment run =
     (section : ℕ) (before since : List SectionEvent) → run ≡ since ++ before → moments_in before < moment → IsOpen section before →
     Contains since (Left section)
 
--- A section with this word isn't open, or was entered after the moment was taken.
+-- A section with this word isn't open, or its owner loaded the number of moments after this one was taken. For the word is one more than
+-- that number.
 abbrev pub IsNewer : (moment word : ℕ) → Type 0
 IsNewer moment word = (word ≡ 0) ⊎ (moment < word)
 
--- The moment is not past as far as words tell. It has not been taken, or a section is open that was entered with fewer moments.
+-- The moment is not past as far as words tell. It has not been taken, or a section is open whose owner loaded the number of moments before
+-- it was taken. Such a section may yet have been entered after it.
 abbrev pub IsHeld : (moment : ℕ) (run : List SectionEvent) → Type 0
 IsHeld moment run = (moments_in run < moment) ⊎ ((section : ℕ) × IsOpen section run × (word_in section run ≤ moment))

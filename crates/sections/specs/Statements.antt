@@ -10,8 +10,8 @@ use Rattle.sections.specs.declared.events.Seated.TheVariants.{Owner}
 use Rattle.sections.specs.Rule.{SectionsRuled}
 use Rattle.sections.specs.Runs.{RunGoesOn}
 
--- By the rule of the table all runs are one. Take a run that the owner of one section knows or has known, and one of another owner. One of
--- the two goes on from the other.
+-- By the rule of the table all runs are one. Take a run that an owner knows or has known, and one of another owner. One of the two goes on
+-- from the other.
 abbrev pub RunsAreOne : Type 0
 RunsAreOne =
     (count : ℕ) (state : State (Unit {0}) Seated) → SectionsRuled count state → (seat other_seat : ℕ) (known other_known : SectionKnowledge) →

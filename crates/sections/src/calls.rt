@@ -18,7 +18,7 @@ impl Section {
 
 impl Sections {
     /// Enters the section, and returns `true`. If it is open already, it stays so, and the result is `false`. Entering takes two atomic
-    /// steps, and one more at the first time.
+    /// steps. At the first time it takes one more, which counts the section.
     pub fn enter(&self, section: &mut Section) -> bool
         requires { IsSectionOf self.now section.old }
         ensures inside { IsInside section.old → (result ≡ false) × (section.new ≡ section.old) }
@@ -47,7 +47,8 @@ impl Sections {
     }
 
     /// Takes a moment, and returns its number, from 1 on. Sections that are open at the call are entered before the moment. It takes two
-    /// atomic steps at most. `section` may be open or not.
+    /// atomic steps at most. `section` may be open or not. Once `MOST_MOMENTS` are taken, each call returns one more than that, and takes
+    /// none.
     pub fn take_moment(&self, section: &mut Section) -> u64
         requires { IsSectionOf self.now section.old }
         ensures { TakesMoment result section.old section.new }
@@ -59,9 +60,9 @@ impl Sections {
         taken + 1
     }
 
-    /// Returns whether each section that was open before the moment with the number `moment` has been left since. It waits for no section.
-    /// It takes two atomic steps, and one for each section up to the last that was ever entered. The result may be `false` for a section
-    /// that was entered as the moment was taken.
+    /// Returns whether each section that was open before the moment with the number `moment` has been left since; `false` if the moment
+    /// isn't taken yet. It waits for no section. It takes two atomic steps at most, and one for each section up to the last that was ever
+    /// entered. The result may be `false` for a section that was entered as the moment was taken.
     pub fn is_past(&self, section: &mut Section, moment: u64) -> bool
         requires { IsSectionOf self.now section.old }
         ensures looks { SeesOthers section.old section.new }
@@ -82,8 +83,9 @@ impl Sections {
     }
 }
 
-/// Returns whether a section with the word `word` isn't open, or was entered when the moment `moment` had been taken. The word of an open
-/// section is one more than the number of moments that had been taken when it was entered. That of any other section is 0.
+/// Returns whether a section with the word `word` isn't open, or its owner loaded the number of moments after `moment` was taken. The word
+/// of an open section is one more than the number loaded, and that of any other section is 0. A section for which the result is `false` is
+/// open.
 fn is_newer(word: u64, moment: u64) -> bool
     ensures newer { result ≡ true → IsNewer moment word }
     ensures older { result ≡ false → (0 < word) × (word ≤ moment) }

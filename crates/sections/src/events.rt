@@ -19,7 +19,7 @@ pub struct SectionKnowledge {
     pub number: u64,
     /// How many sections the table has.
     pub count: u64,
-    /// Whether looks count the section, as they do from its first entry on.
+    /// Whether the section is counted, as it is from its first entry on: the extent is above its number.
     pub counted: bool,
     /// What has happened, up to the last event of which it knows. The newest event comes first.
     pub run: LinkedList<SectionEvent>,

@@ -2,7 +2,8 @@
 
 ghost use Rattle.sections.specs.Statements.{RunsAreOne};
 
-/// By the rule of the table, take the runs that two owners know, now or earlier. One of the two goes on from the other.
+/// In each state that the rule of the table allows, take two runs, known to two owners. Each owner knows its run now, or knew it earlier.
+/// One of the two runs goes on from the other.
 pub fn runs_are_one()
     ensures { RunsAreOne }
 {}

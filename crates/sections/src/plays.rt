@@ -6,8 +6,8 @@ ghost use Rattle.sections.specs.Rule.{SectionsRuled, counting, section_dealt, en
 use crate::events::Seated;
 use atomic_table::{Play, Split, TableRule};
 
-/// The rule of a table of so many sections: there is a lawful run of events which its words show. What each seat knows is true of it,
-/// and no two seats have one section.
+/// The rule of a table of so many sections: its words show a lawful run of events. What each seat knows is true of the run, and no two
+/// seats have one section.
 pub(crate) struct SectionRule;
 
 impl TableRule<(), Seated, u16> for SectionRule {
@@ -67,7 +67,7 @@ impl Play<(), Seated> for Leaving {
     ghost then = { leaving };
 }
 
-/// A moment is taken, unless one was taken since the last load of their number.
+/// A moment is taken, unless another was taken since the seat's last load of their number.
 pub(crate) struct Taking;
 
 impl Play<(), Seated> for Taking {

@@ -8,7 +8,8 @@ use crate::plays::{Counts, Entering, FindsExtent, FindsMoments, FindsWord, Leavi
 use crate::table::{EXTENT, FIRST_SECTION, MOMENTS, MOST_MOMENTS, Section, Sections};
 
 impl Sections {
-    /// Loads and returns the number of moments taken so far.
+    /// Loads and returns the number of moments taken so far, at most `MOST_MOMENTS`. The owner then knows of the events of others up to
+    /// now.
     pub(crate) fn load_moments(&self, section: &mut Section) -> u64
         requires { IsSectionOf self.now section.old }
         ensures looks { SeesOthers section.old section.new }
@@ -20,7 +21,8 @@ impl Sections {
             .load::<FindsMoments>(&mut section.seat, MOMENTS)
     }
 
-    /// Loads and returns the extent: all sections that were ever entered have numbers below it.
+    /// Loads and returns the extent: all sections that were ever entered have numbers below it. It is at most the number of sections. The
+    /// owner then knows of the events of others up to now.
     pub(crate) fn load_extent(&self, section: &mut Section) -> u16
         requires { IsSectionOf self.now section.old }
         ensures looks { SeesOthers section.old section.new }
@@ -34,7 +36,7 @@ impl Sections {
         extent.min(self.count as u64) as u16
     }
 
-    /// Loads and returns the word of the section with the number `of`.
+    /// Loads and returns the word of the section with the number `of`. The owner then knows of the events of others up to now.
     pub(crate) fn load_word(&self, section: &mut Section, of: u16) -> u64
         requires own { IsSectionOf self.now section.old }
         requires range { of < self.now.count }
@@ -47,7 +49,8 @@ impl Sections {
             .load::<FindsWord>(&mut section.seat, place)
     }
 
-    /// Lets other owners' looks count `section` from now on: raises the extent above its number, if it isn't there yet.
+    /// Counts `section`: raises the extent above the section's number, if it is lower. From then on `is_past` loads the section's word. If
+    /// the section is counted already, no step is made.
     pub(crate) fn count_section(&self, section: &mut Section)
         requires { IsSectionOf self.now section.old }
         ensures { StartsCounting section.old section.new }
@@ -62,8 +65,8 @@ impl Sections {
         section.counted = true;
     }
 
-    /// Enters `section`: stores `moments` and one in its word. `section` isn't open, and looks count it already. `moments` is how many
-    /// moments the owner knows to be taken.
+    /// Enters `section`: stores `moments` and one in its word. `section` isn't open, and is counted, so that `is_past` can't miss it.
+    /// `moments` is how many moments the owner knows to be taken.
     pub(crate) fn store_entered(&self, section: &mut Section, moments: u64)
         requires own { IsSectionOf self.now section.old }
         requires outside { ¬ IsInside section.old }
@@ -92,8 +95,9 @@ impl Sections {
         section.word = 0;
     }
 
-    /// Takes a moment if `expected` have been taken up to now, which are fewer than `MOST_MOMENTS`. If more had been taken, nothing
-    /// changes.
+    /// Takes a moment if just `expected` have been taken up to now, which are fewer than `MOST_MOMENTS`; `expected` is how many the owner
+    /// knows of. If more had been taken, nothing changes: then another owner's moment serves as well. The owner then knows of the events of
+    /// others up to now.
     pub(crate) fn take_next(&self, section: &mut Section, expected: u64)
         requires own { IsSectionOf self.now section.old }
         requires fewer { (expected < MOST_MOMENTS) × (expected ≡ moments_in section.old.known.run) }

@@ -11,22 +11,23 @@ use atomic_table::{Seat, Table};
 use std::alloc::{AllocError, Global};
 use std::marker::Model;
 
-/// The most moments that a table tells apart.
+/// The most moments that a table tells apart. A section's word, which may be one more than that, still fits 64 bits.
 pub const MOST_MOMENTS: u64 = 1 << 63;
 
 /// The index of the word with the number of moments taken.
 pub(crate) const MOMENTS: usize = 0;
-/// The index of the word with the extent: all sections that were ever entered have lower numbers.
+/// The index of the word with the extent: all sections that were ever entered have lower numbers. It is eight words behind `MOMENTS`, in
+/// another line of a processor's cache, since moments change more often.
 pub(crate) const EXTENT: usize = 8;
 /// The index of the word of section 0. That of each further section is 8 higher, so that no two are in one line of a processor's cache.
 pub(crate) const FIRST_SECTION: usize = 16;
 
-/// A section of one thread at a time: the right to enter it and to leave it. What its owner knows takes no bytes.
+/// A section, which one thread has at a time: the right to enter it and to leave it. What its owner knows of the run takes no bytes.
 #[derive(Drop)]
 pub struct Section {
     pub(crate) seat: Seat<(), Seated>,
     pub(crate) number: u16,
-    /// Whether looks count the section, as they do from its first entry on.
+    /// Whether the section is counted, as it is from its first entry on: the extent is above its number.
     pub(crate) counted: bool,
     /// The section's word in the table, which only its owner stores.
     pub(crate) word: u64,
