@@ -22,14 +22,14 @@ use Rattle.rowex_table.specs.Runs.{silent}
 use Rattle.rowex_table.specs.Stays.{KeepsRecall}
 use Rattle.publish_laws.specs.Stages.{IsSure}
 
--- A pass may lock a node if it is sure that the node stood in the tree in a version since its pin.
+-- Let a pass be sure that a node stood in the tree, with some height, in a version since its pin. Then it may try the lock of that node.
 abbrev pub LedMayLock : Type 0
 LedMayLock =
     (layout : Layout) (known : Known) (since number height : ℕ) → IsPinnedSince known since →
     IsSure known (λ past. EntryStoodSince past since (Node number height)) → MayLock layout (NodeTarget number) known
 
 -- A pass has locked node `number`. On the other side of the last fork on the key's path, that node has just the entry of node `beside`.
--- Then the pass may lock node `beside`.
+-- Then the pass may try the lock of node `beside`.
 abbrev pub BesideMayLock : Type 0
 BesideMayLock =
     (layout : Layout) (known : Known) (key : Key) (number beside position height : ℕ) (words : List ℕ) →
@@ -37,14 +37,15 @@ BesideMayLock =
     -- the last fork on the path is at `position`
     subtrie_sibling key (node_words_of words).subtrie ≡ Some (position, Place (Node beside height)) → MayLock layout (NodeTarget beside) known
 
--- A pass knows the words of a node that it has locked. A load of one of the node's entries, or of a word of its head, finds the word that
--- the pass knows.
+-- A pass knows the words of a node that it has locked, and nobody else changes them. So a load of one of the node's entries, or of a word
+-- of its head, finds the word that the pass knows.
 abbrev pub LoadsOfLocked : Type 0
 LoadsOfLocked =
     (layout : Layout) (old new : Known) (number : ℕ) (words : List ℕ) → IsOneOf (record { node = number; words = words }) old.locks →
     ((index word : ℕ) → IsEvent layout (LoadRef (Slot number index) word) silent old new → word ≡ get_or words (HEAD_WORDS + index) 0) ×
     ((index word : ℕ) → IsEvent layout (LoadFixed (a_node number) (index + FIELDS_OFFSET) word) silent old new → word ≡ get_or words index 0)
 
--- After each act but a publish, a pin or an unpin, a pass has the same pin and all its facts. It has newly seen only changes of others.
+-- After each act but a publish, a bulk load, a pin or an unpin, a pass has the same pin and all its facts. It has newly seen only changes
+-- of others.
 abbrev pub ActGoesOn : Type 0
 ActGoesOn = (layout : Layout) (old new : Known) (act : Act) → KeepsRecall act → IsEvent layout act silent old new → IsLater old new

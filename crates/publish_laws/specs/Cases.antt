@@ -25,11 +25,11 @@ use Rattle.publish_laws.specs.Stages.{AreBeside, HasLoaded, HasReady, IsLeafTher
 use Rattle.publish_laws.specs.Spots.{HoldsAt, FitsAt, AffectsSpotAlone}
 use Rattle.publish_laws.specs.Rises.{made_of_node, made_of_leaf, IsBuiltAnew, IsSide}
 
--- an entry word can hold the entry, and this is the word that does
+-- the entry has a word, and this is its word
 abbrev pub IsWord : (entry : Entry) → (word : ℕ) → Type 0
 IsWord entry word = HasEntryWord (Some entry) × (entry_word (Some entry) ≡ word)
 
--- An insertion into an empty index may store the new leaf at the root.
+-- An insertion into an empty index may store the new leaf at the root. That adds the key, and unlinks nothing.
 abbrev pub MayAddFirstKey : Type 0
 MayAddFirstKey =
     (layout : Layout) (known : Known) (held : List Locked) (new : Item) (fresh : List ℕ) (word : ℕ) →
@@ -40,7 +40,7 @@ MayAddFirstKey =
     Publishes layout known Root word (added_change known.pass new) None []
 
 -- An insertion that affects one leaf alone may store a new node of that leaf and the new one. In a node it is a leaf pushdown, and at the
--- root it adds the second key.
+-- root it adds the second key. It adds the key, and unlinks nothing.
 abbrev pub MayPair : Type 0
 MayPair =
     (layout : Layout) (known : Known) (held : List Locked) (new : Item) (fresh : List ℕ)
@@ -57,8 +57,8 @@ MayPair =
     IsWord (Node new_node view.height) word →
     Publishes layout known at word (added_change known.pass new) None []
 
--- A new value of a held key may be stored to the leaf, under the lock of what names the leaf: a node, or the anchor. The old value is the
--- one loaded under that lock. No record comes or goes.
+-- A new value of a held key may be stored to the leaf, under the lock of what names the leaf: a node, or the anchor. The value that it
+-- replaces is the one loaded under that lock. No record comes or goes.
 abbrev pub MayStoreValue : Type 0
 MayStoreValue =
     (layout : Layout) (known : Known) (held : List Locked) (key : Key) (leaf word value : ℕ) (at : Spot) → HasReady known held [] →
@@ -67,7 +67,7 @@ MayStoreValue =
     IsLeafThere layout known held [] leaf key → HasLoaded known leaf value → word < 2 ^ 64 →
     Publishes layout known (Value leaf) word (replaced_change known.pass (item leaf key word)) (Some value) []
 
--- A removal may store what is left of the leaf's node, in place of the node: one entry or a new node. The key's value is the one loaded
+-- A removal may store what is left of the leaf's node, in place of the node: one entry or a new node. The value that goes is the one loaded
 -- under the node's lock. Node and leaf are unlinked.
 abbrev pub MayRemove : Type 0
 MayRemove =
@@ -85,7 +85,8 @@ MayRemove =
     Publishes layout known at word (removed_change known.pass (item leaf key value)) (Some value) (a_node node ∷ a_leaf leaf ∷ [])
 
 -- A removal may merge what is left of the leaf's node with the node beside it, into one new node. In the node above, the new node's entry
--- takes the place of the fork between the two. What is left of the node above, one entry or a new node, takes that node's place.
+-- takes the place of the fork between the two. What is left of the node above, one entry or a new node, takes that node's place. The three
+-- old nodes and the leaf are unlinked.
 abbrev pub MayMerge : Type 0
 MayMerge =
     (layout : Layout) (known : Known) (held : List Locked) (news : List Made) (key : Key) →
@@ -105,7 +106,8 @@ MayMerge =
     Publishes layout known at word (removed_change known.pass (item leaf key value)) (Some value)
     (a_node above ∷ a_node node ∷ a_node beside ∷ a_leaf leaf ∷ [])
 
--- A removal of the last key may empty the root. The pass has locked the anchor, and has loaded the leaf's value since.
+-- A removal of the last key may empty the root. The pass has locked the anchor, knows that the leaf is the root, and has loaded the leaf's
+-- value since. The leaf is unlinked.
 abbrev pub MayRemoveLast : Type 0
 MayRemoveLast =
     (layout : Layout) (known : Known) (held : List Locked) (leaf value : ℕ) (key : Key) → HasReady known held [] → known.anchor ≡ Some (Some (Leaf leaf)) →

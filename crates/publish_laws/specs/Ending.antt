@@ -13,8 +13,9 @@ use Rattle.rowex_table.specs.Rule.{MayStep}
 use Rattle.rowex_table.specs.Publishes.{HasPublished}
 use Rattle.rowex_table.specs.Runs.{silent}
 
--- The pass is at the end of an attempt, and has loaded this epoch. Its own records are just `recs`, each unlinked before that load, and
--- each still to be marked. It has locked just the nodes `nodes`.
+-- The pass is at the end of an attempt, and its last load of the epoch found `epoch`. Its own records are just `recs`, each unlinked before
+-- that load, and each still to be marked. It has locked just the nodes `nodes`. Both lists have each once. Of the anchor's lock nothing is
+-- said.
 pub record IsEnding (known : Known) (epoch : ℕ) (recs : List Rec) (nodes : List ℕ) : Type 0 where
   pub own : OwnsJust known.own (IsUnlinkedBefore known.round.version) recs
   pub locks : LocksJust known.locks nodes
@@ -32,49 +33,56 @@ pub record IsAtRest (known : Known) : Type 0 where
   pub locks : known.locks ≡ []
   pub anchor : known.anchor ≡ None
 
--- Of the locked nodes `held`, each listed once, `kept_locks` lists just those that are not among the unlinked records `gone`, each once.
+-- Of the locked nodes `held`, each listed once, `kept_locks` lists just those whose records are not among the unlinked ones, `gone`, each
+-- once.
 abbrev pub KeptAreNotGone : Type 0
 KeptAreNotGone = (held : List ℕ) (gone : List Rec) → AreApart held → AreKept held gone (kept_locks held gone) × AreApart (kept_locks held gone)
 
--- two lists have the same elements
+-- two lists have the same elements, in any order and any number
 abbrev pub HaveSameElements : {X : Type 0} → (xs ys : List X) → Type 0
 HaveSameElements {X} xs ys = ((x : X) → IsOneOf x xs → IsOneOf x ys) × ((x : X) → IsOneOf x ys → IsOneOf x xs)
 
--- After a publish, a load of the epoch begins the end of the attempt (`IsEnding`).
+-- After a publish, a load of the epoch begins the end of the attempt (`IsEnding`). The records that the publish unlinked are to be marked
+-- with that epoch, and the nodes that it kept are to be unlocked. Front and anchor stay as they are.
 abbrev pub EndBegins : Type 0
 EndBegins =
     (layout : Layout) (before old new : Known) (change : Change) (was : Option ℕ) (gone : List Rec) (kept : List ℕ) (epoch : ℕ) →
     HasPublished before old change was gone kept →
     AreApart kept → IsEvent layout (LoadEpoch epoch) silent old new → IsEnding new epoch gone kept × KeepsFrontAndAnchor old new
 
--- A publish that unlinks nothing begins the end of the attempt (`IsEnding`) by itself.
+-- A publish that unlinks nothing begins the end of the attempt (`IsEnding`) by itself: no record is to be marked, so no epoch need be
+-- loaded.
 abbrev pub EndsAtOnce : Type 0
 EndsAtOnce =
     (old new : Known) (change : Change) (was : Option ℕ) (kept : List ℕ) → HasPublished old new change was [] kept → AreApart kept →
     IsEnding new new.round.epoch [] kept
 
--- A pass that ends an attempt may mark the first of its records. Then it has the others still to mark.
+-- A pass that ends an attempt may mark the first of its records with the epoch. Then it has the others still to mark, with the locked
+-- nodes, the front and the anchor's lock as before.
 abbrev pub EndMarks : Type 0
 EndMarks =
     (layout : Layout) (old : Known) (epoch : ℕ) (rec : Rec) (recs : List Rec) (nodes : List ℕ) → IsEnding old epoch (rec ∷ recs) nodes →
     MayStep layout (λ found. Mark rec epoch) old ×
     ((new : Known) → IsEvent layout (Mark rec epoch) silent old new → IsEnding new epoch recs nodes × KeepsFrontAndAnchor old new)
 
--- A pass that ends an attempt may unlock the first of its nodes. Then it has the others still locked.
+-- A pass that ends an attempt may unlock the first of its nodes. Then it has the others still locked, with the records to mark, the front
+-- and the anchor's lock as before.
 abbrev pub EndUnlocks : Type 0
 EndUnlocks =
     (layout : Layout) (old : Known) (epoch : ℕ) (recs : List Rec) (node : ℕ) (nodes : List ℕ) → IsEnding old epoch recs (node ∷ nodes) →
     MayStep layout (λ found. Unlock (NodeTarget node)) old ×
     ((new : Known) → IsEvent layout (Unlock (NodeTarget node)) silent old new → IsEnding new epoch recs nodes × KeepsFrontAndAnchor old new)
 
--- A pass that ends an attempt may unlock the anchor, if it has locked it. Its records to mark and its locked nodes stay the same.
+-- A pass that ends an attempt may unlock the anchor, if it has locked it. Its records to mark, its locked nodes and its front stay the
+-- same.
 abbrev pub EndUnlocksAnchor : Type 0
 EndUnlocksAnchor =
     (layout : Layout) (old : Known) (epoch : ℕ) (recs : List Rec) (nodes : List ℕ) → IsEnding old epoch recs nodes → IsSome old.anchor →
     MayStep layout (λ found. Unlock Anchor) old ×
     ((new : Known) → IsEvent layout (Unlock Anchor) silent old new → IsEnding new epoch recs nodes × (new.front ≡ old.front) × (new.anchor ≡ None))
 
--- A pass that ends an attempt may mark its records and unlock its nodes in any order.
+-- The records that a pass has to mark, and the nodes that it has to unlock, may be listed in any order, each once. So it may mark and
+-- unlock in any order.
 abbrev pub EndInAnyOrder : Type 0
 EndInAnyOrder =
     (known : Known) (epoch : ℕ) (recs other_recs : List Rec) (nodes other_nodes : List ℕ) → IsEnding known epoch recs nodes →

@@ -25,7 +25,8 @@ use Rattle.publish_laws.specs.Spots.{IsSpotOf}
 use Rattle.publish_laws.specs.Rises.{made_of_node, made_of_leaf, IsBuiltAnew, IsSide, HasFoundBelow}
 use Rattle.publish_laws.specs.Cases.{IsWord}
 
--- An insertion may store the one entry that has risen from a locked node, at the spot where that node's own entry stands.
+-- An insertion may store the one entry that has risen from a node, at the locked spot where that node's own entry stands. That adds the
+-- key, and unlinks the records `gone`.
 abbrev pub Insertion : Type 0
 Insertion =
     (layout : Layout) (known : Known) (held : List Locked) (news : List Made) (gone : List Rec) → HasReady known held news → (newcomer : Newcomer) →
@@ -36,7 +37,7 @@ Insertion =
     IsSpotOf known held newcomer.item.key newcomer.mismatch node risen at → IsWord risen word →
     Publishes layout known at word (added_change known.pass newcomer.item) None gone
 
--- A normal insert may store a copy of the node with the new leaf in it. The old node is unlinked.
+-- A normal insert may store a copy of the node with the new leaf in it. That adds the key, and unlinks the old node.
 abbrev pub NormalInsert : Type 0
 NormalInsert =
     (layout : Layout) (known : Known) (held : List Locked) (newcomer : Newcomer) (fresh : List ℕ) →
@@ -53,7 +54,7 @@ NormalInsert =
     Publishes layout known at word (added_change known.pass newcomer.item) None (a_node node ∷ [])
 
 -- An overflow may cut a full node, with the new leaf in it, at its first fork. It stores a new node of the two halves: an intermediate node
--- or, at the root, a new root. The old node is unlinked.
+-- or, at the root, a new root. That adds the key, and unlinks the old node.
 abbrev pub Overflow : Type 0
 Overflow =
     (layout : Layout) (known : Known) (held : List Locked) (newcomer : Newcomer) (fresh : List ℕ) →
@@ -75,8 +76,8 @@ Overflow =
     IsSpotOf known held newcomer.item.key newcomer.mismatch node (Node new_node view.height) at → IsWord (Node new_node view.height) word →
     Publishes layout known at word (added_change known.pass newcomer.item) None (a_node node ∷ [])
 
--- Let a new key differ from the keys below a node at a position before the node's first fork. Then a new node of the old node and the new
--- leaf may be stored in the old one's place. No node is unlinked.
+-- Let a new key differ from the keys below a node at a position that isn't behind the node's first fork. Then a new node of the old node
+-- and the new leaf may be stored in the old one's place. That adds the key, and unlinks nothing.
 abbrev pub MayKeepNodeWhole : Type 0
 MayKeepNodeWhole =
     (layout : Layout) (known : Known) (held : List Locked) (newcomer : Newcomer) (fresh : List ℕ) →
@@ -94,8 +95,8 @@ MayKeepNodeWhole =
     IsSpotOf known held newcomer.item.key newcomer.mismatch node (Node new_node view.height) at → IsWord (Node new_node view.height) word →
     Publishes layout known at word (added_change known.pass newcomer.item) None []
 
--- A pull up may store a copy of the node above, with what has risen from below in it. The node above is unlinked, with the nodes `gone`,
--- which are unlinked further down. What has risen may come from any number of levels below.
+-- A pull up may store a copy of the node above, with what has risen from below in it. What has risen may come from any number of levels
+-- below. The node above is unlinked, with the nodes `gone`, which are those of the levels below.
 abbrev pub PullUp : Type 0
 PullUp =
     (layout : Layout) (known : Known) (held : List Locked) (news : List Made) (gone : List Rec) (newcomer : Newcomer) (above node new_node word : ℕ) →
@@ -111,7 +112,8 @@ PullUp =
     IsSpotOf known held newcomer.item.key newcomer.mismatch above (Node new_node view.height) at → IsWord (Node new_node view.height) word →
     Publishes layout known at word (added_change known.pass newcomer.item) None (a_node above ∷ gone)
 
--- A pull up may end in a node that is full. That node is cut at its first fork, and a new node of its two halves takes its place.
+-- A pull up may end in a node that is full. With what has risen in it, that node is cut at its first fork, and a new node of its two halves
+-- takes its place. It is unlinked, with the nodes `gone` of the levels below.
 abbrev pub PullUpOverflow : Type 0
 PullUpOverflow =
     (layout : Layout) (known : Known) (held : List Locked) (news : List Made) (gone : List Rec) (newcomer : Newcomer)

@@ -24,7 +24,7 @@ use Rattle.rowex_core.specs.Knowing.{IsPinnedSince}
 
 -- New records
 
--- a new record of this number, with the words of this node
+-- a new node record of this number, with the words of this node
 abbrev pub made_of_node : (number : ℕ) → (view : NodeView) → Made
 made_of_node number view = record { rec = a_node number; words = node_words view }
 
@@ -45,7 +45,8 @@ pub data IsSide (trie : Subtrie) : Entry → List Made → Type 0 where
 -- The lowest node
 
 -- The search for the newcomer's key went through this locked node, with these words, and ended at a leaf with the key `newcomer.like`. The
--- two keys first differ at the newcomer's position. The pass's pin is no later than the newcomer's version.
+-- two keys first differ at the newcomer's position. The pass's pin is no later than the newcomer's version. A leaf can hold the newcomer's
+-- key and value.
 pub record HasFoundBelow (known : Known) (held : List Locked) (newcomer : Newcomer) (node : ℕ) (words : List ℕ) : Type 0 where
   pub leaf : HasLeafWords (newcomer.item.key, newcomer.item.value)
   pub pinned : IsPinnedSince known newcomer.since
@@ -57,7 +58,7 @@ pub record HasFoundBelow (known : Known) (held : List Locked) (newcomer : Newcom
 -- Further up
 
 -- Let an insertion affect no more of node `above`, which is locked, than its entry for the node below. Then the first fork of node `above`
--- is before the insertion's position. So of a node above that one, only its entry need be checked.
+-- is before the insertion's position. So when what rises goes on through node `above`, only one entry of the next node up is affected, too.
 abbrev pub AboveGoesOn : Type 0
 AboveGoesOn =
     (layout : Layout) (known : Known) (held : List Locked) (news : List Made) (core : Core) → IsStage layout known held news core →

@@ -16,33 +16,34 @@ use Rattle.rowex_core.specs.declared.known.Known.{Known}
 use Rattle.rowex_core.specs.declared.known.Locked.{Locked}
 use Rattle.rowex_core.specs.Reading.{node_words_of}
 
--- The pass has locked the spot, which is on the key's path, and this entry stands there. Either the spot is the root, and the pass has
--- locked the anchor. Or the spot is a slot of a locked node with these words, and the key's search takes that slot.
+-- This entry stands at the spot, which is on the key's path, and the pass has locked the spot. Either the spot is the root, and the pass
+-- has locked the anchor. Or the spot is a slot of a locked node, and by that node's words the key's search takes that slot.
 pub data HoldsAt (known : Known) (held : List Locked) (key : Key) (entry : Entry) : Spot → Type 0 where
   at_root : known.anchor ≡ Some (Some entry) → HoldsAt known held key entry Root
   in_node : (number slot : ℕ) (words : List ℕ) → IsOneOf (record { node = number; words = words }) held → seek key (node_words_of words).subtrie ≡ entry →
       spot key (node_words_of words).subtrie ≡ slot → HoldsAt known held key entry (Slot number slot)
 
--- The entry may stand at the spot: at the root any may, and in a node one that is lower than the node.
+-- The entry may stand at the spot in place of the one there: at the root any may, and in a node one that is lower than the node.
 abbrev pub FitsAt : {known : Known} {held : List Locked} {key : Key} {old : Entry} {at : Spot} → HoldsAt known held key old at → Entry → Type 0
 FitsAt (at_root root) entry = Unit {0}
 FitsAt (in_node number slot words has names place) entry = IsLowerSubtrie (node_words_of words).fixed.height (Place entry)
 
--- What there is below an entry: for a node the subtrie of its locked words, for a leaf the leaf alone.
+-- What there is below an entry: for a node that is locked, the subtrie of its words, and for a leaf the leaf alone.
 abbrev pub IsSubtrieBelow : (held : List Locked) → (below : Entry) → (trie : Subtrie) → Type 0
 IsSubtrieBelow held (Leaf number) trie = trie ≡ Place (Leaf number)
 IsSubtrieBelow held (Node number height) trie =
     (words : List ℕ) × IsOneOf (record { node = number; words = words }) held × (trie ≡ (node_words_of words).subtrie)
 
--- An insertion of the key, which first differs at this position, affects no more of the spot's node than the entry at the spot.
+-- An insertion of the key, which first differs at this position, affects no more of the spot's node than the entry at the spot. At the root
+-- that is so in any case.
 abbrev pub AffectsSpotAlone : {known : Known} {held : List Locked} {key : Key} {old : Entry} {at : Spot} → HoldsAt known held key old at →
     (position : ℕ) → Type 0
 AffectsSpotAlone (at_root root) position = Unit {0}
 AffectsSpotAlone {held = held} {key = key} {old = old} (in_node number slot words has names place) position =
     (trie : Subtrie) × IsSubtrieBelow held old trie × AffectsOne position key (node_words_of words).subtrie trie
 
--- The entry of the locked node `node` stands at the spot. An insertion at this position affects nothing else there, and may put `new` in
--- that entry's place.
+-- The entry of node `node` stands at the spot, which is locked and on the key's path. An insertion at this position affects nothing else of
+-- the spot's node, and `new` is low enough for that entry's place.
 pub record IsSpotOf (known : Known) (held : List Locked) (key : Key) (position node : ℕ) (new : Entry) (at : Spot) : Type 0 where
   pub height : ℕ
   pub holds : HoldsAt known held key (Node node height) at

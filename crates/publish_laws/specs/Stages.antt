@@ -25,12 +25,13 @@ use Rattle.rowex_core.specs.Sharing.{IsOwned, IsLocked}
 use Rattle.rowex_core.specs.Knowing.{Recalls}
 use Rattle.rowex_table.specs.Made.{Made, held_as, recs_of}
 
--- The pass is sure of the property: it holds of the past of each lawful core in which the pass's front, facts and pin are true.
+-- The pass is sure of the property: it holds of the past of each lawful core in which the pass's front, facts and pin are true. That past
+-- may have versions that the pass hasn't seen.
 abbrev pub IsSure : Known → (Past → Type 0) → Type 0
 IsSure known P = (core : Core) → IsLawful core → Recalls core known → P core.past
 
--- A core at which the pass may publish. What the pass has seen, its facts and its pin are true there. It has locked the nodes `held`, and
--- has made the records `news` ready, all with these words.
+-- A core at which the pass may publish: it is lawful, and has this layout. What the pass has seen, its facts and its pin are true there. It
+-- has locked the nodes `held`, and has made the records `news` ready, all with these words.
 pub record IsStage (layout : Layout) (known : Known) (held : List Locked) (news : List Made) (core : Core) : Type 0 where
   pub lawful : IsLawful core
   pub layout_is : core.layout ≡ layout
@@ -43,7 +44,7 @@ pub record HasReady (known : Known) (held : List Locked) (news : List Made) : Ty
   pub locks : known.locks ≡ held
   pub own : known.own ≡ map (held_as Ready) news
 
--- The words of a leaf record are those of this item's key and value, up to the end of the key.
+-- The words of a leaf record are those of this item's key and value, up to the end of the key. Those behind the key don't matter.
 abbrev pub SpellsLeaf : (item : Item) → (words : List ℕ) → Type 0
 SpellsLeaf item words = HasLeafWords (item.key, item.value) × (leaf_words (item.key, item.value) ≡ up_to_key words)
 
@@ -69,8 +70,8 @@ pub record IsLockedAbove (held : List Locked) (key : Key) (position above node :
   pub entry : seek key (node_words_of upper).subtrie ≡ Node node height
   pub path : AffectsOne position key (node_words_of upper).subtrie (node_words_of lower).subtrie
 
--- Three nodes are locked, as a merge asks. On the key's path, node `above` names node `node`, and that one names leaf `number`. In node
--- `above`, the last fork on the path has just the entry of node `beside` on its other side.
+-- Three nodes are locked, as a merge asks. On the key's path, node `above` names node `node`, and node `node` names leaf `number`. In node
+-- `above`, the last fork on the path, at `position`, has just the entry of node `beside` on its other side.
 pub record AreBeside (held : List Locked) (key : Key) (above node beside number : ℕ) : Type 0 where
   pub upper : List ℕ
   pub lower : List ℕ
@@ -86,7 +87,7 @@ pub record AreBeside (held : List Locked) (key : Key) (above node beside number 
   pub sibling : subtrie_sibling key (node_words_of upper).subtrie ≡ Some (position, Place (Node beside other_height))
 
 -- The subtrie that a merge makes: a fork of what is left of the lower node without the leaf, and of all of the node beside it. The fork is
--- the one that parted the two in the node above.
+-- the one that parted the two in the node above, with the lower node's part on the side of the key's bit.
 abbrev pub merged : {held : List Locked} {key : Key} {above node beside number : ℕ} → AreBeside held key above node beside number → Subtrie
 merged {key = key} three =
     fork_of (bit key three.position) three.position (subtrie_without key (node_words_of three.lower).subtrie) (node_words_of three.other).subtrie

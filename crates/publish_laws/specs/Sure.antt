@@ -14,7 +14,7 @@ use Rattle.rowex_core.specs.Knowing.{IsPinnedSince}
 use Rattle.publish_laws.specs.Rises.{HasFoundBelow}
 
 -- A search went on from a locked node's entry on the key's path, and ended at a leaf. That leaf's key and the newcomer's first differ at
--- the newcomer's position. Then the pass knows what an insertion needs of the path below the node.
+-- the newcomer's position. Then the pass knows what an insertion needs of the path below the node (`HasFoundBelow`).
 abbrev pub DescentFinds : Type 0
 DescentFinds =
     (known : Known) (held : List Locked) (newcomer : Newcomer) (node : ℕ) (words : List ℕ) → HasLeafWords (newcomer.item.key, newcomer.item.value) →

@@ -70,14 +70,16 @@ pub enum TryFault {
 /// nothing. A value that `call` expects is compared again under the locks: if the key has another one then, nothing changes, and the reply
 /// says so.
 ///
-/// Returns an error, with nothing changed, if another pass is at work there (`TryFault::Busy`), or if no record is free
-/// (`TryFault::FullNodes`, `TryFault::FullLeaves`). A removal is never refused as `FullLeaves`. An insertion or an upsert is refused as
-/// full only if the search found the key absent. A removal is refused as full only if the search found the key, with the value expected. An
-/// exchange or an addition is never refused as full.
+/// Returns an error, with nothing changed, in two cases. Another pass held a lock, or had made a change since the pin (`TryFault::Busy`).
+/// Or no record was free (`TryFault::FullNodes`, `TryFault::FullLeaves`). A removal is never refused as `FullLeaves`. In a table with one
+/// pass that has a free node record, a removal isn't refused as `FullNodes` either. An insertion or an upsert is refused as full only if
+/// the search found the key absent. A removal is refused as full only if the search found the key, with the value expected. An exchange or
+/// an addition is never refused as full.
 ///
 /// The pass of `seat` is pinned, has no record and no lock, and has made no change since its pin. At the end it has no record and no lock.
 /// `way` is filled with the nodes that the search went through. A change that unlinks records lists them in `build.gone`. If no record was
-/// free, `build.made` lists those that the attempt had claimed, and has given up.
+/// free, `build.made` lists those that the attempt had claimed, and has given up. In a table with one pass a node record is outside the
+/// tree at the end, if one was before: a later removal may need it.
 ///
 /// An attempt that tries no lock makes at most 58 atomic steps, and 26 for each node on the key's way. One that tries locks makes at most
 /// 124, and 26 for each such node. To these come 297 for each lock tried, four for each leaf record and two for each node record. An
@@ -131,11 +133,17 @@ pub fn attempt<G: Gate>(
     }
 }
 
-/// Makes the change planned in `job`. Returns what the search found, with the value that the key has under the locks. If `call` has nothing
-/// to change at that value, nothing is changed.
+/// Makes the change planned in `job`, under locks that are each tried once. Returns what the search found, with the value that the key has
+/// under the locks. If `call` has nothing to change at that value, nothing is changed. Before and after, the pass has no record and no
+/// lock.
 ///
-/// Returns an error, with nothing changed, if another pass is at work there (`TryFault::Busy`), or if no record was free
-/// (`TryFault::FullNodes`, `TryFault::FullLeaves`). Before and after, the pass has no record and no lock.
+/// Returns an error, with nothing changed, in two cases. Another pass held a lock, or had made a change since the pin (`TryFault::Busy`).
+/// Or no record was free (`TryFault::FullNodes`, `TryFault::FullLeaves`). A new value of a held key is refused only as busy, since it needs
+/// no record, and makes at most `value_steps` steps. A removal needs no leaf record. In a table with one pass that has a free node record,
+/// a removal isn't refused as `FullNodes` either.
+///
+/// In a table with one pass, if a node record was outside the tree, one is at the end, too. By the number of locks tried, `span_steps` and
+/// `change_steps` bound the steps.
 #[inline(always)]
 fn try_plan<G: Gate>(
     table: &HotTable,
@@ -189,11 +197,13 @@ fn try_plan<G: Gate>(
     }
 }
 
-/// Makes the change of `job`, whose nodes are locked and checked. A removal from a node that has one above it on the path is made by
-/// [`make_removal`].
+/// Makes the change of `job`, whose nodes are locked and checked, and whose held value is loaded. A removal from a node that has one above
+/// it on the path is made by [`make_removal`], which may try two more locks. In any case all is unlocked at the end. At most as many steps
+/// are made as `change_steps` allows for all these locks.
 ///
-/// If no record was free, or the key got another value before a removal's store, the change is undone, and the error tells which. In any
-/// case all is unlocked at the end.
+/// If no record was free, or the key got another value before a removal's store, the change is undone, and the error tells which. A new
+/// value of a held key can't fail. A removal needs no leaf record. In a table with one pass that has a free node record, a removal finds
+/// one. In a table with one pass, if a node record was outside the tree, one is at the end, too.
 fn change_span<G: Gate>(
     table: &HotTable,
     seat: &mut TableSeat,
@@ -231,11 +241,16 @@ fn change_span<G: Gate>(
     }
 }
 
-/// Makes the removal of `job`, from a node that has one above it on the path. If one entry is left in the node, that entry takes the node's
-/// place. If more are left, a node record is claimed for them, and [`end_removal`] goes on.
+/// Makes the removal of `job`, from a node that has one above it on the path. The job's nodes are locked and checked, and the found value
+/// is loaded. If one entry is left in the node, that entry takes the node's place. If more are left, a node record is claimed for them, and
+/// [`end_removal`] ends the removal.
 ///
 /// The removal is undone with the error `TryFault::FullNodes` if no node record was free, or with `TryFault::Busy` if the key has got
-/// another value meanwhile.
+/// another value meanwhile. In a table with one pass that has a free node record, the error is never `FullNodes`. In a table with one pass,
+/// if a node record was outside the tree, one is at the end, too. All is unlocked at the end.
+///
+/// At most two locks are tried beside those of the span, for a merge. The steps are at least one fewer than `change_steps` allows for all
+/// these locks.
 fn make_removal<G: Gate>(
     table: &HotTable,
     seat: &mut TableSeat,
@@ -278,9 +293,12 @@ fn make_removal<G: Gate>(
     end_removal(table, seat, gate, build, job, &left)
 }
 
-/// Ends the removal of `job`, for which the record `left.number` is claimed. What is left of the node becomes one node with its sibling. If
-/// that can't be made, what is left takes the node's place alone. If the key has got another value meanwhile, the removal is undone, and
-/// the error is `TryFault::Busy`.
+/// Ends the removal of `job`, for which the record `left.number` is claimed. If one node of what is left and its sibling can be made, it
+/// takes the place of both. For that at most two more locks are tried. Else what is left takes the node's place alone. If the key has got
+/// another value meanwhile, the removal is undone, and the error is `TryFault::Busy`.
+///
+/// All is unlocked at the end. In a table with one pass, if a node record was outside the tree, one is at the end, too. The steps are at
+/// most 84 + 2 * `NODE_FIELDS`, with two more for each node record left to try, and `level_steps` more for each further lock.
 fn end_removal<G: Gate>(
     table: &HotTable,
     seat: &mut TableSeat,
@@ -312,8 +330,12 @@ fn end_removal<G: Gate>(
     publish_or_undo(table, seat, gate, build, job, raised)
 }
 
-/// Publishes the change of `job`, whose records are all made. Before that it loads the value of the found leaf once more, since other locks
-/// have come and gone. If the value isn't the one found, the change is undone, and the error is `TryFault::Busy`.
+/// Publishes the change of `job`, whose records are all made. Before that it loads the value of the found leaf once more: the value loaded
+/// before may be out of date, since further locks were tried. If it isn't the one found, the change is undone, and the error is
+/// `TryFault::Busy`.
+///
+/// All is unlocked at the end. At most one step is made for each new record, for the unlinked leaf and for each lock, and four more. Let
+/// the change unlink a node. In a table with one pass, if a node record was outside the tree, one is at the end, too.
 fn publish_or_undo<G: Gate>(
     table: &HotTable,
     seat: &mut TableSeat,
@@ -341,7 +363,11 @@ fn publish_or_undo<G: Gate>(
 }
 
 /// Locks the nodes that `job` is to change, and checks that they are as the search found them. Returns whether all are locked and as found.
-/// If not, the pass has no lock at the end.
+/// If not, the pass has no lock at the end. Then another pass was in the way of a lock, or has made a change since the search loaded the
+/// root.
+///
+/// Each lock is tried once at most. Three steps at most are made for each lock tried, and one more. In a table with one pass, if a node
+/// record was outside the tree, one is at the end, too. If one was free there before, and all is locked at the end, one is free at the end.
 fn lock_and_check_span<G: Gate>(
     table: &HotTable,
     seat: &mut TableSeat,
@@ -379,7 +405,8 @@ fn lock_and_check_span<G: Gate>(
     false
 }
 
-/// Undoes the change of `job`, which is not published: gives up the records in `build.made`, and unlocks all that the pass has locked.
+/// Undoes the change of `job`, which is not published: gives up the records in `build.made`, all that the pass has. Then it unlocks all
+/// that the pass has locked. Each takes one step.
 fn undo_change<G: Gate>(
     table: &HotTable,
     seat: &mut TableSeat,

@@ -20,8 +20,8 @@
 //! 5. *Build* (`deeds`, `growing`, `taking`, `rising`, `remaking`, `leaves`, `nodes`, `hints`): records are claimed and filled with what
 //!    takes the place of the span. Nobody else can reach them yet. If no record is free, all is given up and undone.
 //! 6. *Merge* (`merging`, `locked`, `widening`): a removal whose node has another above it looks at the last fork on the path there. If its
-//!    other side is one node, the sibling, and what is left fits into one node with it, the sibling and what names the upper node are
-//!    locked, too, and both become one. If anything fails, these locks are given back, and the removal goes on as it was.
+//!    other side is one node, that is the sibling. If what is left fits into one node with the sibling, the sibling and what names the
+//!    upper node are locked, too, and both become one. If anything fails, these locks are given back, and the removal goes on as it was.
 //! 7. *Publish* (`publishing`): the new records are made ready, and one store of an entry's word, or of the root, makes the change
 //!    visible. This store is the change: before it all readers see the old tree, after it the new one.
 //! 8. *End* (`ending`): the epoch is loaded, what the store has unlinked is marked with it, and the rest is unlocked.

@@ -19,7 +19,8 @@ use rowex_table::{HotTable, TableSeat};
 
 /// Locks the nodes of `span` on `way`, and the one above them that gets the new entry, from the lowest upwards. The anchor comes last,
 /// where the span goes up to the root. Each is tried once at most. Returns whether all are locked. If another pass has locked or retired
-/// one, those that were locked are given back.
+/// one, those that were locked are given back, and the pass has no lock. Each lock takes one step, and so does each that is given back.
+/// Lowest first means that what more passes want is held for the shortest time.
 pub(crate) fn lock_span<G: Gate>(
     table: &HotTable,
     seat: &mut TableSeat,
@@ -62,8 +63,9 @@ pub(crate) fn lock_span<G: Gate>(
     false
 }
 
-/// Tries by one step to lock node `number`, and returns whether it did. The pass knows that the node is in the tree if it is live. If the
-/// node is locked or retired already, the locks are as before.
+/// Tries by one step to lock node `number`, and returns whether it did. The pass knows that the node is in the tree if it is live: it was
+/// led there, or has locked the node that names it. If the lock is refused, the pass has the locks and records that it had. Another pass
+/// was in the way then, if this one has no record, hasn't locked the node, and has made no change since its pin.
 pub(crate) fn lock_node<G: Gate>(
     table: &HotTable,
     seat: &mut TableSeat,
@@ -83,7 +85,8 @@ pub(crate) fn lock_node<G: Gate>(
     found == pack_state(Tag::Live)
 }
 
-/// Locks the anchor, which this pass hasn't locked, and returns whether it did. If another pass has locked it, the locks are as before.
+/// Tries by one step to lock the anchor, which this pass hasn't locked, and returns whether it did. If it didn't, another pass had the lock
+/// at that step. The pass keeps its other locks and its records in any case.
 pub(crate) fn lock_anchor<G: Gate>(table: &HotTable, seat: &mut TableSeat, gate: &mut G) -> bool
     requires own { IsSeatOf table.now seat.old }
     requires free { seat.old.known.anchor ≡ None }
@@ -97,7 +100,8 @@ pub(crate) fn lock_anchor<G: Gate>(table: &HotTable, seat: &mut TableSeat, gate:
     found == pack_state(Tag::Live)
 }
 
-/// Unlocks the nodes `steps`, the first one first. These are all nodes that the pass has locked; the anchor's lock stays.
+/// Unlocks the nodes `steps`, the first one first, by a step for each. These are all nodes that the pass has locked; the anchor's lock and
+/// the pass's records stay.
 pub(crate) fn unlock_nodes<G: Gate>(
     table: &HotTable,
     seat: &mut TableSeat,

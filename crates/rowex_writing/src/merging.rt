@@ -56,11 +56,14 @@ struct ClosedFork {
     entry: Entry,
 }
 
-/// Ends the removal of `job` by `merge`, and returns whether it did. There is no merge if both siblings have more than 32 entries together,
-/// or if another pass is at work there. Nor is there one if the found leaf has another value now, or if no record was free for what is left
-/// of the upper node. Without a merge the pass has the record and the locks that it had.
+/// Ends the removal of `job` by `merge`, and returns whether it did. Without a merge the pass has the record and the locks that it had.
+/// There is none in these cases: both siblings have more than 32 entries together; another pass is at work there; the found leaf has
+/// another value now. Nor is there one if the sibling has the number of a node near the span. The last case is that no record was free for
+/// what is left of the upper node.
 ///
-/// The value of the found leaf is loaded once more, after the last lock.
+/// At most two more locks are tried. The value of the found leaf is loaded once more, after the last of these. The steps are at most 53,
+/// with two more for each node record left to try, and `level_steps` more for each further lock. In a table with one pass, if a node record
+/// was outside the tree, one is at the end, too.
 pub(crate) fn try_merge<G: Gate>(
     table: &HotTable,
     seat: &mut TableSeat,
@@ -92,9 +95,11 @@ pub(crate) fn try_merge<G: Gate>(
 }
 
 /// Returns the merge of `left`, what is left of the node that loses a leaf, with its sibling. `None` if the other side of the last fork is
-/// not one node. `None` too if both nodes have more than 33 entries together, the leaf among them. No lock is tried.
+/// not one node. `None` too if both nodes have more than 33 entries together, the leaf among them. No lock is tried, and at most ten words
+/// are loaded. The pass keeps its locks and records.
 ///
-/// A full node has no merge, since 31 entries are left of it, and a sibling has two at least. The sibling isn't locked yet, and may change.
+/// A full node has no merge, since 31 entries are left of it, and a sibling has two at least. The sibling isn't locked yet, and may change:
+/// so its entries are counted again under its lock.
 pub(crate) fn find_merge<'a, G: Gate>(
     table: &HotTable,
     seat: &mut TableSeat,
@@ -132,7 +137,10 @@ pub(crate) fn find_merge<'a, G: Gate>(
 }
 
 /// Ends the removal of `job` by `merge`, under the locks that [`lock_for_merge`] has taken, and returns whether it did. If the merge's
-/// records can't be made, these locks are given back, and the pass has the record that it had.
+/// records can't be made, these locks are given back, and the pass has the record that it had. In a table with one pass, if a node record
+/// was outside the tree, one is at the end, too.
+///
+/// Two steps may try each node record that is left. The others are at most 500, fewer than `level_steps` allows for the two further locks.
 fn merge_under_locks<G: Gate>(
     table: &HotTable,
     seat: &mut TableSeat,
@@ -166,7 +174,7 @@ fn merge_under_locks<G: Gate>(
 
 /// Puts the merged node of both siblings into the record `merge.left.number`. Returns the entry for what is left of the upper node, in a
 /// new record if that has other entries, too. `None` if both siblings have more than 32 entries ([`merge_siblings`]), or if no record was
-/// free. Then the pass has the record that it had.
+/// free. Then the pass has the record that it had. Beside two steps for each node record that is left to try, at most 420 are made.
 fn make_merge_records<G: Gate>(
     table: &HotTable,
     seat: &mut TableSeat,
@@ -203,7 +211,7 @@ fn make_merge_records<G: Gate>(
 }
 
 /// Returns one node of what is left of the lower node and all of its sibling, with a fork of the two at `merge.position`. `None` if they
-/// have more than 32 entries together.
+/// have more than 32 entries together. At most 114 words are loaded, and the pass keeps its locks and records.
 fn merge_siblings<G: Gate>(
     table: &HotTable,
     seat: &mut TableSeat,
@@ -243,7 +251,8 @@ fn merge_sides(bit: bool, position: u16, own: &Node, other: &Node) -> Node
 }
 
 /// Returns the entry for what is left of the node `fork.step.number`, once `fork.entry` has taken the fork's place. That is `fork.entry` if
-/// nothing else is left, else it names a new record. `None` if no node record was free.
+/// nothing else is left. Else it names a new record, the only one added to `build.made`. `None` if no node record was free: none is made
+/// then. Beside two steps for each node record that is left to try, at most 180 are made.
 fn raise_closed_fork<G: Gate>(
     table: &HotTable,
     seat: &mut TableSeat,
@@ -275,7 +284,8 @@ fn raise_closed_fork<G: Gate>(
 }
 
 /// Ends a removal that merges: makes the new records ready, and stores `entry` in place of the entry that names the upper node. Then it
-/// retires the records that [`list_merged_records`] has listed, and unlocks the node above the upper one, or the anchor.
+/// retires the records that [`list_merged_records`] has listed. What is still locked it unlocks: the node above the upper one, or the
+/// anchor. At most 20 steps are made. In a table with one pass a node record is outside the tree then, since the merge unlinks nodes.
 fn publish_merge<G: Gate>(
     table: &HotTable,
     seat: &mut TableSeat,
@@ -301,8 +311,8 @@ fn publish_merge<G: Gate>(
     publish_entry(table, seat, gate, build, &store);
 }
 
-/// Sets `build.gone` to the records that a merge unlinks: those of both nodes of the span of `job`, of the sibling `number`, and of the
-/// leaf.
+/// Sets `build.gone` to the records that a merge unlinks, in this order: the upper node, the lower node, which loses the leaf, its sibling
+/// `number`, and the leaf. `build.made` stays.
 fn list_merged_records(build: &mut Build, job: &Job<'_>, number: u32)
     requires within { (0 < job.now.span.end) × (job.now.span.end < length job.now.way.now) }
     requires found { (leaf value : ℕ) × (job.now.found ≡ FoundLeaf leaf value None) }

@@ -34,7 +34,7 @@ pub(crate) enum Aim {
 }
 
 /// The nodes of the way that get others in their place: those from index `end` on, before `len`, or none. The topmost of the others is
-/// named in the slot that the search took in the node at `end - 1`, or at the root if `end` is 0.
+/// named in the node at `end - 1`, in the slot that the search took there. If `end` is 0, it is named at the root.
 #[derive(Clone, Copy)]
 pub(crate) struct Span {
     pub len: usize,
@@ -99,8 +99,8 @@ pub(crate) enum Outline {
     Beside { position: u16, level: usize },
 }
 
-/// Returns the plan of a call with the aim `aim`, when its search went through `way` and ended at `found`, as far as these tell it. They
-/// tell all of it unless a new leaf goes beside entries of a node that names other nodes.
+/// Returns the plan of a call with the aim `aim`, as far as the way and the end of its search tell the plan. The search went through `way`
+/// and ended at `found`. These two tell all of the plan, unless a new leaf goes beside entries of a node that names other nodes.
 pub(crate) fn plan_call(way: &[PathNode], aim: Aim, found: Found) -> Outline
     ensures { IsOutline way.now aim found result }
 {
@@ -128,7 +128,8 @@ pub(crate) fn plan_call(way: &[PathNode], aim: Aim, found: Found) -> Outline
     }
 }
 
-/// Returns the plan of a removal, when its search went through `way` and found the key.
+/// Returns the plan of a removal, when its search went through `way` and found the key. The last node of `way` is remade without the leaf;
+/// the root is emptied if there is none.
 fn plan_removal(way: &[PathNode]) -> Plan
     ensures { result ≡ a_change (length way.now) (length way.now - 1) (removal_deed way.now) }
 {
@@ -143,7 +144,7 @@ fn plan_removal(way: &[PathNode]) -> Plan
 }
 
 /// Returns the plan of a call with a new leaf, as far as `way` tells it. At `position` the new leaf's key first differs from that of the
-/// found leaf.
+/// found leaf. In a last node with leaves alone, none of the affected entries is a node, so `way` tells all.
 fn plan_new_leaf(way: &[PathNode], position: u16) -> Outline
     ensures { IsBesideFound way.now position result }
 {
@@ -157,8 +158,8 @@ fn plan_new_leaf(way: &[PathNode], position: u16) -> Outline
     Outline::Beside { position, level }
 }
 
-/// Returns the plan of a call whose new leaf goes into the node at `level`, the last of `way`, which has leaves alone. The plan is the same
-/// whichever leaves `position` affects.
+/// Returns the plan of a call whose new leaf goes into the node at `level`, the last of `way`, which has leaves alone (height 1). The plan
+/// is the same whichever leaves `position` affects, since no child node can take the new leaf.
 fn plan_in_lowest_node(way: &[PathNode], position: u16, level: usize) -> Plan
     requires last { level + 1 ≡ length way.now }
     requires low { (s : PathNodeView) → slice_get way.now level ≡ Some s → s.height ≤ 1 }
@@ -173,7 +174,7 @@ fn plan_in_lowest_node(way: &[PathNode], position: u16, level: usize) -> Plan
 }
 
 /// Returns the plan of a call whose new leaf goes beside entries of the node at `level` of `way`: those in the slots `first` to `last`,
-/// which `position` affects.
+/// which `position` affects. The node to change may be another one of `way`, as `choose_case` says.
 pub(crate) fn plan_beside_entries(
     way: &[PathNode],
     position: u16,
@@ -204,8 +205,8 @@ fn change_plan(len: usize, end: usize, deed: Deed) -> Plan
     }
 }
 
-/// Returns the plan of a call with the aim `aim`, when its search went through `way` and ended at `found`. If the entries that a new leaf
-/// affects matter, the head of their node is loaded once more.
+/// Returns the plan of a call with the aim `aim`, when its search went through `way` and ended at `found`. The plan's span is a part of
+/// `way`. Where the plan depends on which entries a new leaf affects, the head of their node is loaded once more, 25 words at most.
 pub(crate) fn find_plan<G: Gate>(
     table: &HotTable,
     seat: &mut TableSeat,

@@ -35,13 +35,15 @@ use Rattle.rowex_reading.specs.Seen.{Sure}
 use Rattle.versions.specs.State.{IsHeldSince, WasAbsentSince}
 use Rattle.rowex_writing.specs.store.Values.{HasMoved}
 
--- the step is a load of a search: of the root, or of a word below it
+-- the step may be one of a search: a load of the root, of an entry of a node, of a leaf's value, or of another word of a record but its
+-- state
 abbrev pub IsOfSearch : Act → Type 0
 IsOfSearch (LoadRef Root word) = Unit {0}
 IsOfSearch act = IsBelowRoot act
 
--- The acts are the steps of one attempt without those on its pin: first the search's, then the rest. None gives a record back, and none
--- tries a lock that was tried before. Their number is bounded by the nodes on the search's path and the locks tried.
+-- The acts are those of one attempt, but for those on its pin: the loads of a search, then the rest. None gives a record back, and none
+-- tries a lock that was tried before. The search loads at most `most_nodes` entries of nodes, and at most `most_locks` locks are tried. The
+-- number of all acts is bounded by these two.
 pub record AreAttemptSteps (layout : Layout) (acts : List Act) : Type 0 where
   pub search : List Act
   pub rest : List Act
@@ -53,28 +55,29 @@ pub record AreAttemptSteps (layout : Layout) (acts : List Act) : Type 0 where
   pub locks : length (targets_of acts) ≤ most_locks
   pub few : length acts ≤ attempt_steps layout (entries_in search) (length (targets_of acts))
 
--- the pass makes the steps of one attempt, without those on its pin, and the gate is told each
+-- The pass makes the steps of one attempt, but for those on its pin (`AreAttemptSteps`), and the gate is told each.
 abbrev pub HasAttempted : {G : Type 0} → (table : TableView) → (becomes : G → Event → G → Type 0) → (old new : SeatView × G) → Type 0
 HasAttempted table becomes old new = (acts : List Act) × AreAttemptSteps table.layout acts × Runs table becomes acts old new
 
--- A call with this reply has changed nothing. In a version since the pass's last load of the root, its key had a value, or none. By that
--- value this is the reply.
+-- In a version since the pass's last load of the root, the call's key had a value, or none. By that value this is the call's reply, and a
+-- call with this reply changes nothing.
 abbrev pub HasLooked : (known : Known) → (call : Call) → (reply : Reply) → Type 0
 HasLooked known call reply = (held : Option ℕ) × HasFound known (key_of call) held × (reply ≡ reply_to call held) × (effect_of call reply ≡ None)
 
--- a call with this reply makes this change, where `was` is the value that its key had before, or none
+-- A call of the pass with this reply makes this change. `was` is the value that the key had before, or none, for which the map gives this
+-- reply.
 abbrev pub IsChangeOf : (pass : ℕ) → (call : Call) → (reply : Reply) → (change : Change) → (was : Option ℕ) → Type 0
 IsChangeOf pass call reply change was =
     (reply ≡ reply_to call was) × (change_of pass (record { place = 0; call = call; reply = reply }) ≡ Some change)
 
--- Why a planned change was not made. Busy: the pass has seen a change made since the job's search, and is at rest. Full: no record of the
--- kind was free.
+-- Why a planned change was not made; the pass is at rest, and its front has grown by changes of others alone. Busy: it has seen a change
+-- made since the job's search loaded the root. Full: no record of the kind was free when one was wanted.
 abbrev pub HasFailed : (layout : Layout) → (job : Job) → (old new : Known) → (made : List Rec) → (fault : TryFault) → Type 0
 HasFailed layout job old new made Busy = IsAtRest new × IsLater old new × HasMoved layout job old new
 HasFailed layout job old new made FullNodes = HasNoRoom layout job.key.now old new made Nodes
 HasFailed layout job old new made FullLeaves = HasNoRoom layout job.key.now old new made Leaves
 
--- the fault of a change for which no record of the kind was free
+-- the fault of an attempt for which no record of this kind was free
 abbrev pub refusal_of : Full → TryFault
 refusal_of Nodes = FullNodes
 refusal_of Leaves = FullLeaves
@@ -85,34 +88,34 @@ abbrev pub HasAnswered : (old new : Known) → (call : Call) → (reply : Reply)
 HasAnswered old new call reply = (HasLooked new call reply × OthersGoOn old.pass old.front new.front) ⊎
     ((change : Change) × (was : Option ℕ) × IsChangeOf old.pass call reply change was × HasChanged old new change was)
 
--- a removal does not return `leaves`, the fault that no leaf record was free
+-- a removal does not return `leaves`, the fault that no leaf record was free; of other calls nothing is said
 abbrev pub LacksNoLeaf : {F : Type 0} → (leaves : F) → (call : Call) → (result : Result Reply F) → Type 0
 LacksNoLeaf leaves (Remove key) result = result ≢ Err leaves
 LacksNoLeaf leaves (RemoveIf key expected) result = result ≢ Err leaves
 LacksNoLeaf leaves call result = Unit {0}
 
--- Why an attempt was refused. Busy: a lock found its target taken by another pass, or the pass has seen a change made since its pin. Full:
--- no node record was free, or no leaf record with room for the key.
+-- Why an attempt was refused. Busy: another pass had locked or unlinked what it had to lock, or the pass has seen a change made since its
+-- pin. Full: no node record was found free since `old`, or no leaf record with room for the key.
 abbrev pub IsAttemptCause : (layout : Layout) → (key : Key) → (old new : Known) → (made : List Rec) → (fault : TryFault) → Type 0
 IsAttemptCause layout key old new made Busy = HasMetLock layout old new ⊎ ((since : ℕ) × IsPinnedSince old since × (since < length new.front))
 IsAttemptCause layout key old new made FullNodes = IsFull layout key old new made Nodes
 IsAttemptCause layout key old new made FullLeaves = IsFull layout key old new made Leaves
 
--- the fault says that no record of some kind was free
+-- the fault says that no record of its kind was free: it is any but busy
 abbrev pub IsFullFault : TryFault → Type 0
 IsFullFault Busy = ⊥
 IsFullFault fault = Unit {0}
 
--- the key was absent in a version since the pass's pin
+-- the pass is sure that the key was absent in a version since its pin
 abbrev pub HasSeenKeyAbsent : Known → Key → Type 0
 HasSeenKeyAbsent known key = (since : ℕ) × IsPinnedSince known since × Sure known (λ past. WasAbsentSince past since key)
 
--- the key had this value in a version since the pass's pin
+-- the pass is sure that the key had this value in a version since its pin
 abbrev pub HasSeenKeyHeld : (known : Known) → (key : Key) → (value : ℕ) → Type 0
 HasSeenKeyHeld known key value = (since : ℕ) × IsPinnedSince known since × Sure known (λ past. IsHeldSince past since key value)
 
--- A call may lack a record. It is an insertion or an upsert, and its key was absent in a version since the pin. Or it is a removal, and its
--- key was held then, with the value that the call expects, if it expects one.
+-- The call may need a record. It is an insertion or an upsert, and the pass is sure that the key was absent in a version since its pin. Or
+-- it is a removal, and the key was held then, with the value that the call expects, if it expects one.
 abbrev pub WantsRecord : Known → Call → Type 0
 WantsRecord known (Insert key value) = HasSeenKeyAbsent known key
 WantsRecord known (Upsert key value) = HasSeenKeyAbsent known key
@@ -124,8 +127,8 @@ WantsRecord known call = ⊥
 abbrev pub IsFullOnlyIfWanting : (known : Known) → (call : Call) → (fault : TryFault) → Type 0
 IsFullOnlyIfWanting known call fault = IsFullFault fault → WantsRecord known call
 
--- The attempt was refused with this fault, for its cause, and the pass has made no change. All changes in its front since `old` are other
--- passes'.
+-- The attempt was refused with this fault, and has its cause (`IsAttemptCause`). It has made no change: the front has grown by changes of
+-- other passes alone since `old`.
 pub record HasRefused (layout : Layout) (key : Key) (old new : Known) (made : List Rec) (fault : TryFault) : Type 0 where
   pub others : OthersGoOn old.pass old.front new.front
   pub cause : IsAttemptCause layout key old new made fault

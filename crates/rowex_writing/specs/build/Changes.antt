@@ -36,7 +36,7 @@ use Rattle.rowex_writing.specs.declared.plan.Full.TheVariants.{Nodes, Leaves}
 
 -- ---- the plan
 
--- the deed for the job's span is planned by what a search for the job's key has found since some version
+-- A search for the job's key took the job's path and ended as the job says. For some aim, what it found plans this deed for the job's span.
 abbrev pub HasPlanned : (layout : Layout) → (known : Known) → (job : Job) → (deed : Deed) → Type 0
 HasPlanned layout known job deed =
     (version : ℕ) × (aim : Aim) × IsJobFrom layout known version job ×
@@ -44,12 +44,12 @@ HasPlanned layout known job deed =
 
 -- ---- the store
 
--- of each leaf among the records `gone`, the pass has loaded the value, and `was` is that value
+-- if a leaf is among the records `gone`, the pass has loaded its value, and `was` is that value
 abbrev pub KnowsWas : (known : Known) → (gone : List Rec) → (was : Option ℕ) → Type 0
 KnowsWas known gone was = (leaf : ℕ) → IsOneOf (a_leaf leaf) gone → (value : ℕ) × (was ≡ Some value) × HasLoaded known leaf value
 
--- Once the records `made` are ready, the pass may make this change by a store of the word at the spot. By then it must have loaded the
--- value of each leaf that is unlinked.
+-- Let the pass go on until the records `made`, all that it has, are ready, with the locks that it has now. Let it have loaded, as `was`,
+-- the value of each leaf that is to be unlinked. Then it may make this change by a store of the word at the spot, which unlinks `gone`.
 pub record MayPublishOnceReady (table : TableView) (seat : SeatView) (made : List Rec) (spot : Spot) (word : ℕ) (done : Change)
     (was : Option ℕ) (gone : List Rec) : Type 0 where
   pub news : List Made
@@ -60,8 +60,9 @@ pub record MayPublishOnceReady (table : TableView) (seat : SeatView) (made : Lis
 
 -- ---- what is left
 
--- The pass has made this change, and `was` is the value that the key had before. In the pass's front the change is the last one, and since
--- `old` only others have made changes before it. The pass's last load of the root was before the change. The pass is at rest.
+-- The pass has made this change, which was legal, and `was` is the value that the key had before. In the pass's front the change is the
+-- last one, and since `old` only others have made changes before it. The pass's last load of the root was before the change. The pass is at
+-- rest.
 pub record HasChanged (old new : Known) (done : Change) (was : Option ℕ) : Type 0 where
   pub rest : IsAtRest new
   pub before : List Change
@@ -71,9 +72,9 @@ pub record HasChanged (old new : Known) (done : Change) (was : Option ℕ) : Typ
   pub fits : Fits (map_of before) done
   pub was_held : value_at (map_of before) done.key ≡ was
 
--- By failed steps since step `since` the pass has found each node record not free. Those in `own` were its own: at most two for each node
--- in `locked`, and one. Those in `locked` it had locked, so they were nobody's. Each other record was another pass's, or nobody's: in the
--- tree or retired.
+-- By failed steps since step `since` the pass has found each node record not free. Those in `own` were its own, at most two for each node
+-- in `locked` and one, as many as a change makes. Those in `locked`, nodes of a path that it had locked, were nobody's. Each other record
+-- was another pass's, or nobody's: in the tree or retired.
 pub record LacksNodes (layout : Layout) (pass : ℕ) (failed : List Failed) (since : ℕ) (own : List Rec) : Type 0 where
   pub locked : List ℕ
   pub few : length own ≤ 2 * length locked + 1
@@ -89,28 +90,32 @@ pub record LacksNodes (layout : Layout) (pass : ℕ) (failed : List Failed) (sin
 abbrev pub LacksLeaves : (layout : Layout) → (key : Key) → (pass : ℕ) → (failed : List Failed) → (since : ℕ) → Type 0
 LacksLeaves layout key pass failed since = AllMissedFrom (IsAnothers layout pass [] []) layout (words_for (length key)) failed since
 
--- No record was free when the pass wanted one: a node record beside those in `made`, or a leaf record with room for this key.
+-- By failed steps since `old` no record of the kind was free when the pass wanted one: a node record beside those in `made`, or a leaf
+-- record with room for the key.
 abbrev pub IsFull : (layout : Layout) → (key : Key) → (old new : Known) → (made : List Rec) → (full : Full) → Type 0
 IsFull layout key old new made Nodes = LacksNodes layout new.pass new.failed old.steps (nodes_among made)
 IsFull layout key old new made Leaves = LacksLeaves layout key new.pass new.failed old.steps
 
--- The pass has made no change, for want of a record beside those that it had made. It has no records of its own and no locks.
+-- The pass has made no change since `old`, since no record of the kind was free beside those in `made`, which it had made. It has no
+-- records of its own and no locks.
 pub record HasNoRoom (layout : Layout) (key : Key) (old new : Known) (made : List Rec) (full : Full) : Type 0 where
   pub rest : IsAtRest new
   pub later : IsLater old new
   pub full_of : IsFull layout key old new made full
 
--- the change that gives the key this value: it replaces the value that the search found, or adds the key if the search found none
+-- The change that gives the key this value. It replaces the value that the search found, which is `was`. If the search found no leaf with
+-- the key, it adds the key, and `was` is none.
 abbrev pub IsPutChange : (pass : ℕ) → (key : Key) → (value : ℕ) → (found : Found) → (done : Change) → (was : Option ℕ) → Type 0
 IsPutChange pass key value (Leaf number held None) done was = (done ≡ record { pass = pass; key = key; value = value; kind = Replaced }) × (was ≡ Some held)
 IsPutChange pass key value found done was = (done ≡ record { pass = pass; key = key; value = value; kind = Added }) × (was ≡ None)
 
--- the change that removes the key, which the search found with a value
+-- The change that removes the key. The search found it with a value, which is `was`, and which the change names.
 abbrev pub IsTakeChange : (pass : ℕ) → (key : Key) → (found : Found) → (done : Change) → (was : Option ℕ) → Type 0
 IsTakeChange pass key (Leaf number held None) done was = (done ≡ record { pass = pass; key = key; value = held; kind = Removed }) × (was ≡ Some held)
 IsTakeChange pass key found done was = ⊥
 
--- the change that a deed makes: the key gets this value, or is removed if the deed is that of a removal
+-- The change that a deed makes. A removal's deed takes the key out, with the value that the search found; any other gives it `value`. `was`
+-- is the value before, or none.
 abbrev pub IsDeedChange : (pass : ℕ) → (deed : Deed) → (key : Key) → (value : ℕ) → (found : Found) → (done : Change) → (was : Option ℕ) →
     Type 0
 IsDeedChange pass Take key value found done was = IsTakeChange pass key found done was

@@ -5,7 +5,7 @@ use Rattle.record_words.specs.declared.records.Rec.TheVariants.{Leaf as a_leaf}
 use Rattle.rowex_core.specs.declared.known.Failed.{Failed}
 use Rattle.rowex_records.specs.Claims.{HasMissedSince}
 
--- By failed steps since step `since`, each leaf record from number `from` to before `upto` was found not free. `Whose` holds of the record
--- and the owner that was found.
+-- By failed steps of number `since` or later, each leaf record from number `from` to before `upto` was found not free. `Whose` holds of
+-- each record and the owner that was found.
 abbrev pub AllMissedBetween : (Rec → Option ℕ → Type 0) → (from upto : ℕ) → List Failed → (since : ℕ) → Type 0
 AllMissedBetween Whose from upto failed since = (number : ℕ) → from ≤ number → number < upto → HasMissedSince Whose failed (a_leaf number) since

@@ -28,16 +28,17 @@ abbrev pub leaf_gone : (number : Option ℕ) → List Rec
 leaf_gone None = []
 leaf_gone (Some number) = a_leaf number ∷ []
 
--- the records to unlink: the nodes of the span before `low`, and the leaf
+-- the records to unlink: the nodes of the span before index `raised.low`, and the leaf of `raised`, if it has one
 abbrev pub gone_of_span : (way : List PathNode) → (span : Span) → (raised : Raised) → List Rec
 gone_of_span way span raised = map (λ (node : PathNode). a_node node.number) (slice_range way span.end raised.low) ++ leaf_gone raised.leaf
 
--- the locked nodes that stay: the one above the span, and those of the span from `low` on
+-- the locked nodes that stay: the one above the span, if there is one, and those of the span from index `raised.low` on
 abbrev pub kept_of_span : (way : List PathNode) → (span : Span) → (raised : Raised) → List PathNode
 kept_of_span way span raised = slice_range way (span.end - 1) span.end ++ slice_range way raised.low span.len
 
--- What is raised takes the place of the job's span. All nodes of the span are to be unlinked, or all but the lowest. Once the records that
--- the pass has made are ready, it may make this change by a store of the raised entry above the span.
+-- What is raised takes the place of the job's span. All nodes of the span are to be unlinked, or all but the lowest. If a leaf is, it is
+-- the found one, whose value is `was`. That leaf and the records in `made` are at most two for each lock. Once these records are ready, the
+-- pass may make this change by a store of the raised entry above the span.
 pub record MayReplace (table : TableView) (seat : SeatView) (made : List Rec) (job : Job) (raised : Raised) (change : Change)
     (was : Option ℕ) : Type 0 where
   pub from : job.span.end ≤ raised.low
@@ -50,22 +51,24 @@ pub record MayReplace (table : TableView) (seat : SeatView) (made : List Rec) (j
   -- the leaf that goes is the found one, and the key had its value
   pub takes : (number : ℕ) → raised.leaf ≡ Some number → (value : ℕ) × (job.found ≡ FoundLeaf number value None) × (was ≡ Some value)
 
--- The pass has made the records that the deed asks for. Once they are ready, it may make the deed's change by a store of the raised entry
--- above the job's span.
+-- The pass has made the records that the deed asks for, and linked none. Once they are ready, it may make the deed's change by a store of
+-- the raised entry above the job's span (`MayReplace`).
 abbrev pub HasRaised : (table : TableView) → (old : Known) → (seat : SeatView) → (made : List Rec) → (job : Job) → (deed : Deed) →
     (raised : Raised) → Type 0
 HasRaised table old seat made job deed raised =
     (change : Change) × (was : Option ℕ) × IsDeedChange old.pass deed job.key.now job.value job.found change was ×
     MayReplace table seat made job raised change was
 
--- A record was wanted since the pass knew `old`, and none was free. The pass has just the records that it has made so far.
+-- Since the pass knew `old`, it wanted a record of the kind `full`, and none was free (`IsFull`). That is a node record beside those in
+-- `made`, or a leaf record with room for the job's key. Its own records are just those in `made`, at most two for each lock of the span.
 pub record HasNoneFree (table : TableView) (old : Known) (seat : SeatView) (made : List Rec) (job : Job) (full : Full) : Type 0 where
   pub not_made : HasNotMade table seat made
   pub few : length made ≤ 2 * locks_of job.span
   pub full_of : IsFull table.layout job.key.now old seat.known made full
 
--- The pass has made what the deed asks for, and linked none of it. Or a record was wanted, and none was free. The steps are no more than
--- the deed's. Before and after are the seat, the gate and what is built.
+-- The pass has gone on under its locks. It has made what the deed asks for, and linked none of it, or a record was wanted and none was
+-- free. It has made at most the steps of `deed_steps`, less those that the deed spares. Before and after are the seat, the gate and what is
+-- built.
 pub record CarriesOut {G : Type 0} (table : TableView) (becomes : G → Event → G → Type 0) (before after : (SeatView × G) × Build) (job : Job) (deed : Deed)
     (answer : Result Raised Full) : Type 0 where
   pub goes : WorksOn table becomes before.0 after.0

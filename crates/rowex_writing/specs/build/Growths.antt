@@ -22,8 +22,9 @@ abbrev pub HasNumber : Entry → Type 0
 HasNumber (Leaf number) = number < 4294967296
 HasNumber (Node number height) = number < 4294967296
 
--- No record is made but the new leaf's. The job's span is locked, and its lowest node may get the leaf. The entry that then rises from the
--- span's topmost node may stand in that node's place, at the spot above.
+-- No record is made but the new leaf's. The job's span, at least one node, is locked, and its lowest node may get the leaf (`IsGrowing`).
+-- An entry of a height that `FitsAbove` allows may stand in the place of the span's topmost node, at the spot above. The path's nodes are
+-- the table's, and no more than a longest key's.
 pub record MayGrow (table : TableView) (seat : SeatView) (made : List Rec) (job : Job) (new : NewLeaf) : Type 0 where
   pub within : (job.span.end < job.span.len) × (job.span.len ≤ length job.way.now)
   pub depth : length job.way.now ≤ 9 * MAX_BYTES

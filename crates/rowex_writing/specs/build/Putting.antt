@@ -8,13 +8,14 @@ use Rattle.record_words.specs.declared.records.Rec.{Rec}
 use Rattle.rowex_core.specs.Cores.{HasRecord}
 use Rattle.rowex_core.specs.declared.known.Known.{Known}
 
--- The spot above node `end` of the path: the root, or the slot that the search took in the node before.
+-- The spot above the node at index `end` of the path: the root, or the slot that the search took in the node before. It is never a leaf's
+-- value.
 abbrev pub IsSpotAbove : (way : List PathNode) → (end : ℕ) → (spot : Spot) → Type 0
 IsSpotAbove way end Root = end ≡ 0
 IsSpotAbove way end (Value leaf) = ⊥
 IsSpotAbove way end (Slot number slot) = (node : PathNode) × (0 < end) × (slice_get way (end - 1) ≡ Some node) × (number ≡ node.number) × (slot ≡ node.slot)
 
--- the table has these records
+-- the table has each of these records
 abbrev pub AreInTable : (layout : Layout) → (recs : List Rec) → Type 0
 AreInTable layout recs = All (HasRecord layout) recs
 

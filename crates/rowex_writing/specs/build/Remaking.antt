@@ -15,16 +15,16 @@ use Rattle.tries.specs.Affected.{subtrie_grown}
 use Rattle.tries.specs.Place.{spot, with_subtrie}
 use Rattle.tries.specs.Tree.{Subtrie, Tree, subtrie, IsTrie, IsBuilt}
 
--- some tree begins with this subtrie, and is a bit trie of lawful nodes
+-- the subtrie is that at the top of some tree, which is a bit trie of lawful nodes
 abbrev pub IsSubtrieOfTree : Subtrie → Type 0
 IsSubtrieOfTree shown = (tree : Tree) × (subtrie tree ≡ shown) × IsTrie tree × IsBuilt tree
 
--- the subtrie with the new leaf in it
+-- the subtrie with the new leaf in it, where its key first differs at the leaf's position
 abbrev pub subtrie_with_leaf : NewLeaf → Subtrie → Subtrie
 subtrie_with_leaf new shown = subtrie_grown new.position new.key.now (Leaf new.number) shown
 
--- The words are those of this node, and the new leaf's key leads to the leaf's slot in it. With the leaf in it, the node's subtrie is one
--- that a lawful tree begins with.
+-- The words are those of this node, and the search for the new leaf's key takes slot `new.slot` in it. With the leaf in it, the node's
+-- subtrie is that at the top of some lawful tree.
 pub record AwaitsLeaf (words : List ℕ) (node : NodeView) (new : NewLeaf) : Type 0 where
   pub is : IsNodeOf words node
   pub leads : spot new.key.now (piece node) ≡ new.slot
@@ -34,13 +34,13 @@ pub record AwaitsLeaf (words : List ℕ) (node : NodeView) (new : NewLeaf) : Typ
 abbrev pub subtrie_with_fork : Fork → Subtrie → Subtrie
 subtrie_with_fork fork shown = with_subtrie fork.key.now (Branch fork.position (Place fork.zero) (Place fork.one)) shown
 
--- the half's entry has at most this height, unless the half is the old node
+-- the half's entry has at most this height; of a half that is the old node nothing is said
 abbrev pub IsLowHalf : (height : ℕ) → (half : Half) → Type 0
 IsLowHalf height (One entry) = height_of entry ≤ height
 IsLowHalf height (Many node) = node.height ≤ height
 IsLowHalf height Same = Unit {0}
 
--- of each half of the cut the entry has at most this height, unless the half is the old node
+-- each half of the cut is at most this high; of a half that is the old node nothing is said
 abbrev pub AreNoHigher : (height : ℕ) → (cut : Cut) → Type 0
 AreNoHigher height cut = IsLowHalf height cut.zero × IsLowHalf height cut.one
 

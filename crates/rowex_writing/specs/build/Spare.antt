@@ -14,18 +14,18 @@ use Rattle.rowex_writing.specs.declared.plan.job.Job.{Job}
 use Rattle.rowex_writing.specs.declared.plan.job.Raised.{Raised}
 
 -- Why a node record is outside the tree after a store that links the records `made` and unlinks the records `gone`. Some node record is
--- free before. Or a node is unlinked. Or one is outside the tree before, and no node is linked.
+-- free before, so it isn't one of those linked. Or a node is unlinked. Or one is outside the tree before, and no node is linked.
 pub data WillSpare (layout : Layout) (seat : SeatView) (made gone : List Rec) : Type 0 where
   by_free : HasFree layout seat → WillSpare layout seat made gone
   by_gone : (number : ℕ) → IsOneOf (a_node number) gone → WillSpare layout seat made gone
   by_kept : HasSpare layout seat → nodes_among made ≡ [] → WillSpare layout seat made gone
 
--- after the store of the job's change, some node record is outside the tree
+-- why some node record is outside the tree after the store of the job's change, by one of the reasons of `WillSpare`
 abbrev pub WillSpareOne : (layout : Layout) → (seat : SeatView) → (made : List Rec) → (job : Job) → (raised : Raised) → Type 0
 WillSpareOne layout seat made job raised = WillSpare layout seat made (gone_of_span job.way.now job.span raised)
 
--- A claim that may try each node record finds one. For that the table must have one pass, which has no record, and some node record must be
--- free.
+-- A claim that may try each node record returns one. For that the table must have one pass, which has no record of its own, and some node
+-- record must be free. Of other claims nothing is said.
 abbrev pub FindsOne : {X : Type 0} → (layout : Layout) → (left : ℕ) → (seat : SeatView) → (result : Option X) → Type 0
 FindsOne layout left seat result = left ≡ layout.nodes → seat.known.own ≡ [] → HasRoom layout seat → result ≢ None
 

@@ -23,7 +23,7 @@ use Rattle.rowex_core.specs.Reading.{node_words_of}
 use Rattle.rowex_writing.specs.locks.Going.{HasLocked}
 use Rattle.compound_node.specs.declared.entries.Entry.{Entry}
 
--- the pass has read that the leaf had this key and value in a version since its pin
+-- the pass is sure that the leaf had this key and value in a version since its pin, by loads of the leaf
 abbrev pub HasReadLeaf : Known → (number : ℕ) (key : Key) (value : ℕ) → Type 0
 HasReadLeaf known number key value = (since : ℕ) × IsPinnedSince known since × Sure known (λ past. IsRead past since number key value)
 
@@ -36,26 +36,28 @@ pub record HasOnlyLeaf (table : TableView) (view : SeatView) (number : ℕ) (key
   pub anchor : view.known.anchor ≡ Some (Some (LeafEntry number))
   pub read : HasReadLeaf view.known number key value
 
--- The job's span is the last node of its path, and that node names the leaf. The pass has locked the node, and what names it.
+-- A search that loaded the root at `version` found the leaf `number` with the job's key and this value. The job's span is the last node of
+-- its path, and that node names the leaf. The pass has locked the node and what names it, checked both, and has no record of its own.
 pub record HasLeafBelow (table : TableView) (seat : SeatView) (version : ℕ) (job : Job) (number value : ℕ) : Type 0 where
   pub taken : HasTakenSpan table seat version job.key.now job.way.now (Leaf number value None) job.span
   pub is_found : job.found ≡ Leaf number value None
   pub len : job.span.len ≡ length job.way.now
   pub last : job.span.end + 1 ≡ job.span.len
 
--- stands in place of a node where a path has none
+-- stands in place of a node where a path has none, with 0 for each part
 abbrev pub no_step : PathNode
 no_step = record { number = 0; height = 0; first_position = 0; count = 0; slot = 0 }
 
--- the last node of a job's path: it names the leaf to remove
+-- the node at index `span.end` of a job's path; for a removal the last one, which names the leaf to remove
 abbrev pub lower : Job → PathNode
 lower job = get_or job.way.now job.span.end no_step
 
--- the last node but one of a job's path: it names the last one
+-- the node before index `span.end` of a job's path; for a removal the last but one, which names the last
 abbrev pub upper : Job → PathNode
 upper job = get_or job.way.now (job.span.end - 1) no_step
 
--- The pass has locked the last two nodes of the path. The lower one names the leaf to remove.
+-- At the view `before` the pass had locked the last two nodes of the job's path. The lower one named the leaf to remove, which has the
+-- job's key, and the pass had no record of its own.
 pub record IsTaking (table : TableView) (job : Job) : Type 0 where
   pub before : SeatView
   pub since : ℕ
@@ -65,24 +67,26 @@ pub record IsTaking (table : TableView) (job : Job) : Type 0 where
   pub below : HasLeafBelow table before since job number value
   pub some : 0 < job.span.end
 
--- The pass has gone on since it locked the last two nodes of the path. It has the same locks, and the values that it had loaded.
+-- The pass has gone on since it locked the last two nodes of the path (`IsTaking`). It has the same pin, facts and locks, and still knows
+-- the values that it had loaded.
 abbrev pub TakesOn : (table : TableView) → (seat : SeatView) → (job : Job) → Type 0
 TakesOn table seat job = (taking : IsTaking table job) × IsSeatOf table seat × IsPossible table.layout seat.known × StaysLocked taking.before.known seat.known
 
--- The pass has gone on since it locked the last two nodes of the path. It has the same locks, but may have lost the values that it had
--- loaded.
+-- The pass has gone on since it locked the last two nodes of the path (`IsTaking`). It has the same pin, facts and locks. The values that
+-- it had loaded it may have lost, since it has tried other locks meanwhile.
 abbrev pub TakesStill : (table : TableView) → (seat : SeatView) → (job : Job) → Type 0
 TakesStill table seat job = (taking : IsTaking table job) × IsSeatOf table seat × IsPossible table.layout seat.known ×
     IsLater taking.before.known seat.known × (seat.known.locks ≡ taking.before.known.locks) × (seat.known.anchor ≡ taking.before.known.anchor)
 
--- The pass has claimed this node record, and has no other record. The words of the record are not yet filled.
+-- The pass has claimed this node record, one of the table's, and has no other record. Its words, as many as a node record has, are not yet
+-- filled.
 pub record HasClaimed (table : TableView) (known : Known) (number : ℕ) : Type 0 where
   pub low : number < table.layout.nodes
   pub words : List ℕ
   pub sized : length words ≡ word_count_of (a_node number)
   pub own : known.own ≡ record { rec = a_node number; holding = Held; words = words } ∷ []
 
--- Without the leaf of the job's key, what is left of the lower node is still a node. `left` are the words of that node.
+-- The lower node is locked. Without the leaf of the job's key, what is left of it is still a node, and `left` are the words of that.
 pub record IsLeftOfNode (known : Known) (job : Job) (left : List ℕ) : Type 0 where
   pub words : List ℕ
   pub has : HasLocked known (lower job).number words

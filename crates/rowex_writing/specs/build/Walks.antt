@@ -15,8 +15,8 @@ use Rattle.rowex_writing.specs.declared.build.kept.Build.{Build}
 abbrev pub HasNoOther : (known : Known) → (made : List Rec) → Type 0
 HasNoOther known made = (rec : Rec) → Contains (records_had known) rec → Contains made rec
 
--- Since step `since` the pass has tried some node records, each once, from `begin` on. It may try `left` more, from `next` on. Each that it
--- has tried was found not free and not its own, or is one that it has made.
+-- Since step `since` the pass has tried some node records, each once, from number `begin` on, with 0 after the last. It may try the `left`
+-- others, from `next` on. Each that it has tried was found not free, and another pass's or nobody's, or is one that it has made.
 pub record IsClaimWalk (layout : Layout) (since : ℕ) (known : Known) (made : List Rec) (next left : ℕ) : Type 0 where
   pub early : since ≤ known.steps
   pub begin : ℕ
@@ -28,21 +28,23 @@ pub record IsClaimWalk (layout : Layout) (since : ℕ) (known : Known) (made : L
       HasMissedSince (IsAnothersBut layout known made) known.failed (a_node (wrapped layout.nodes begin i)) since ⊎
       Contains made (a_node (wrapped layout.nodes begin i))
 
--- since step `since` the pass has tried node records, up to where the build goes on
+-- the pass is on the walk of its change's claims (`IsClaimWalk`): it began at step `since`, has made `build.made`, and goes on as the build
+-- says
 abbrev pub HasWalked : (layout : Layout) → (since : ℕ) → (known : Known) → (build : Build) → Type 0
 HasWalked layout since known build = IsClaimWalk layout since known build.made.items build.nodes.next build.left_nodes
 
--- how many steps a walk adds if no record was free: a look at each record made
+-- How many steps a walk adds at its end. If no record was free, each record made is looked at once more, so that a failed step tells of
+-- every record; else none.
 abbrev pub looks_for : {X : Type 0} → Build → Option X → ℕ
 looks_for after None = length after.made.items
 looks_for after (Some result) = 0
 
--- how many steps a walk adds if its answer is no: a look at each record made
+-- how many steps a walk adds if its answer is no: a look at each record made, as in `looks_for`
 abbrev pub looks_unless : (answer : Bool) → (after : Build) → ℕ
 looks_unless false after = length after.made.items
 looks_unless true after = 0
 
--- the node records among these
+-- the node records among these, in their order
 abbrev pub nodes_among : (made : List Rec) → List Rec
 nodes_among [] = []
 nodes_among (a_node number ∷ made) = a_node number ∷ nodes_among made
@@ -52,8 +54,8 @@ nodes_among (a_leaf number ∷ made) = nodes_among made
 abbrev pub IsOwnOf : (pass : ℕ) → (rec : Rec) → (by : Option ℕ) → Type 0
 IsOwnOf pass rec by = by ≡ Some pass
 
--- By failed steps since step `since` the pass has found each node record not free. None of them was its own but those in `made`. Each
--- record in `made` is listed once, and was found to be the pass's own.
+-- By failed steps since step `since` the pass has found each node record not free. Each was another pass's, or nobody's, or one in `made`.
+-- Each record in `made` is listed once, and was found to be the pass's own.
 pub record HasMissedEach (layout : Layout) (since : ℕ) (known : Known) (made : List Rec) : Type 0 where
   pub missed : AllMissed (IsAnothersBut layout known made) a_node layout.nodes known.failed since
   pub own : All (λ rec. HasMissedSince (IsOwnOf known.pass) known.failed rec since) made
@@ -64,9 +66,9 @@ abbrev pub lacking : {X : Type 0} → Option X → ℕ
 lacking None = 1
 lacking (Some result) = 0
 
--- The pass goes on under its locks, and makes at most `most` records. It makes at most `steps` steps, and two for each number that it tries
--- on its walk. If there is no answer, each node record was found not free since the walk began (`HasMissedEach`). Before and after are the
--- seat, the gate and what is built.
+-- The pass goes on under its locks, and makes at most `most` records; a node record that it lacks counts, too. It makes at most `steps`
+-- steps, two for each number that it tries on its walk, and the looks of `looks_for`. If there is no answer, each node record was found not
+-- free since the walk began. Before and after are the seat, the gate and what is built.
 pub record Makes {G X : Type 0} (most steps : ℕ) (table : TableView) (becomes : G → Event → G → Type 0) (before after : (SeatView × G) × Build)
     (answer : Option X) : Type 0 where
   pub goes : WorksOn table becomes before.0 after.0

@@ -18,20 +18,21 @@ use Rattle.rowex_writing.specs.declared.plan.Aim.{Aim}
 use Rattle.rowex_writing.specs.declared.plan.job.Job.{Job}
 use Rattle.rowex_writing.specs.declared.plan.Deed.{Deed}
 
--- Each node locked for the span still names what the search took there. By the words under its lock, its entry on the key's path is the
--- same.
+-- Each node that is locked for the span, the one above it as well, still names what the search took there. By the words known under its
+-- lock, its entry on the key's path is the same.
 abbrev pub EntriesStand : (known : Known) → (key : Key) → (way : List PathNode) → (found : Found) → (span : Span) → Type 0
 EntriesStand known key way found span = (i : ℕ) (node : PathNode) → span.end ≤ i + 1 → i < span.len → slice_get way i ≡ Some node →
     (words : List ℕ) → HasLocked known node.number words → named way found (i + 1) ≡ Some (seek key (node_words_of words).subtrie)
 
--- Each node locked for the span, and the root under the anchor's lock, still names what the search found there on the key's path.
+-- Each node that is locked for the span, the one above it as well, still names what the search found there on the key's path. So does the
+-- root, by the anchor's lock, if the span goes up to it.
 pub record IsChecked (known : Known) (key : Key) (way : List PathNode) (found : Found) (span : Span) : Type 0 where
   pub root : span.end ≡ 0 → known.anchor ≡ Some (named way found 0)
   pub entries : (i : ℕ) (node : PathNode) → span.end ≤ i + 1 → i < span.len → slice_get way i ≡ Some node →
       (words : List ℕ) → HasLocked known node.number words → named way found (i + 1) ≡ Some (seek key (node_words_of words).subtrie)
 
--- The pass has locked and checked a span of its path, and has no records of its own. Each locked node, and the root under a locked anchor,
--- still names what the search found there.
+-- A search that loaded the root at `version` took the path `way` and ended at `found`. The pass has locked the span, a part of that path.
+-- What it locked still names what the search found there (`IsChecked`). It has no records of its own.
 pub record HasTakenSpan (table : TableView) (view : SeatView) (version : ℕ) (key : Key) (way : List PathNode) (found : Found)
     (span : Span) : Type 0 where
   pub seat : IsSeatOf table view
@@ -42,7 +43,8 @@ pub record HasTakenSpan (table : TableView) (view : SeatView) (version : ℕ) (k
   pub locked : HasLockedSpan view.known way span
   pub checked : IsChecked view.known key way found span
 
--- the pass has locked and checked the job's span, and what its search found plans this deed for that span
+-- The pass has locked and checked the job's span, and has no records of its own. For some aim, what its search found plans this deed for
+-- that span.
 abbrev pub HasTakenPlan : (table : TableView) → (seat : SeatView) → (job : Job) → (deed : Deed) → Type 0
 HasTakenPlan table seat job deed =
     (version : ℕ) × (aim : Aim) × HasTakenSpan table seat version job.key.now job.way.now job.found job.span ×

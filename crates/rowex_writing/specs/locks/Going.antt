@@ -15,27 +15,27 @@ use Rattle.rowex_table.specs.Seats.{TableView, SeatView}
 use Rattle.rowex_table.specs.Stays.{KeepsRecall}
 use Rattle.publish_laws.specs.Loops.{StaysLocked}
 
--- the step is no try of a lock, no publish and no return of a record, and leaves the pin of its pass
+-- The step is no try of a lock, no publish, no bulk load and no return of a record. It neither sets nor clears the pin of its pass.
 abbrev pub IsStepUnderLocks : Act → Type 0
 IsStepUnderLocks (Lock target found) = ⊥
 IsStepUnderLocks (GiveBack rec epoch found) = ⊥
 IsStepUnderLocks act = KeepsRecall act
 
--- The pass makes steps that try no lock, and the gate is told each. The pass keeps its pin, its facts, its locks and the values that it had
--- loaded.
+-- The pass makes steps that try no lock, publish nothing and give no record back (`IsStepUnderLocks`), and the gate is told each. It keeps
+-- its pin, its facts, its locks and the values that it had loaded.
 pub record WorksOn {G : Type 0} (table : TableView) (becomes : G → Event → G → Type 0) (old new : SeatView × G) : Type 0 where
   pub acts : List Act
   pub plain : All IsStepUnderLocks acts
   pub steps : Runs table becomes acts old new
   pub stays : StaysLocked old.0.known new.0.known
 
--- The pass makes steps that try no lock, and the gate is told each. The pass keeps its pin, its facts, its locks, the values that it had
--- loaded, and its own records.
+-- The pass makes steps that try no lock, publish nothing and give no record back (`IsStepUnderLocks`), and the gate is told each. It keeps
+-- its pin, its facts, its locks, the values that it had loaded, and its own records.
 pub record WorksOnKeepingRecords {G : Type 0} (table : TableView) (becomes : G → Event → G → Type 0) (old new : SeatView × G) : Type 0 where
   pub goes : WorksOn table becomes old new
   pub own : new.0.known.own ≡ old.0.known.own
 
--- the pass has locked node `number`, and knows that the node has these words
+-- the pass has locked node `number`, and knows that these are the node's words, all but its state
 abbrev pub HasLocked : (known : Known) → (number : ℕ) → (words : List ℕ) → Type 0
 HasLocked known number words = IsOneOf (record { node = number; words = words }) known.locks
 
@@ -47,7 +47,7 @@ LeadsLocked known number key slot = (words : List ℕ) → HasLocked known numbe
 abbrev pub IsLockedBy : (known : Known) → (number : ℕ) → Type 0
 IsLockedBy known number = (words : List ℕ) × HasLocked known number words
 
--- The words are those of the node `view`, and show its head and its subtrie.
+-- The words are those of the node `view`, whose parts fit into words. Read back, they show its head and its subtrie.
 pub record IsNodeOf (words : List ℕ) (view : NodeView) : Type 0 where
   pub has : HasNodeWords view
   pub spells : node_words view ≡ words

@@ -16,7 +16,8 @@ IsWithinWay job = (job.span.end ≤ job.span.len) × (job.span.len ≤ length jo
 abbrev pub IsJobFrom : (layout : Layout) → (known : Known) → (version : ℕ) → (job : Job) → Type 0
 IsJobFrom layout known version job = IsWayOf layout known version job.key.now job.way.now job.found
 
--- The pass has searched on the job's path, and has locked the job's span.
+-- A search of the pass took the job's path and ended as the job says. The pass has locked just the job's span, which is a part of that
+-- path.
 pub record HoldsSpan (table : TableView) (view : SeatView) (job : Job) : Type 0 where
   pub seat : IsSeatOf table view
   pub possible : IsPossible table.layout view.known

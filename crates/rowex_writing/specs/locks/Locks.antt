@@ -30,20 +30,20 @@ use Rattle.rowex_table.specs.Seats.{TableView, SeatView, IsSeatOf}
 use Rattle.publish_laws.specs.Stages.{IsSure}
 use Rattle.rowex_writing.specs.declared.plan.Span.{Span}
 
--- the step neither sets nor clears the pin, and gives no record back
+-- The step may be one of an attempt: it neither sets nor clears the pin, and gives no record back. Any other step counts.
 abbrev pub IsOfAttempt : Act → Type 0
 IsOfAttempt (SetPin word) = ⊥
 IsOfAttempt ClearPin = ⊥
 IsOfAttempt (GiveBack rec epoch found) = ⊥
 IsOfAttempt act = Unit {0}
 
--- the step is no load of the root, no publish and no return of a record, and leaves the pin of its pass
+-- The step is no load of the root, no publish, no bulk load and no return of a record. It neither sets nor clears the pin of its pass.
 abbrev pub LoadsNoRoot : Act → Type 0
 LoadsNoRoot (LoadRef Root word) = ⊥
 LoadsNoRoot (GiveBack rec epoch found) = ⊥
 LoadsNoRoot act = KeepsRecall act
 
--- the targets that these acts try to lock, in the order of the tries
+-- the targets that these acts try to lock, in the order of the tries; a refused try counts, too
 abbrev pub targets_of : List Act → List Target
 targets_of [] = []
 targets_of (Lock target found ∷ acts) = target ∷ targets_of acts
@@ -53,7 +53,7 @@ targets_of (act ∷ acts) = targets_of acts
 abbrev pub TriesLocksOnce : List Act → Type 0
 TriesLocksOnce acts = AreApart (targets_of acts)
 
--- The pass makes steps of the kind `Is`, and the gate is told each. The steps try just the locks `tried`, in that order.
+-- The pass makes steps, each of the kind `Is`, and the gate is told each. The steps try just the locks `tried`, in that order.
 pub record TriesBy {G : Type 0} (Is : Act → Type 0) (table : TableView) (becomes : G → Event → G → Type 0) (tried : List Target)
     (old new : SeatView × G) : Type 0 where
   pub acts : List Act
@@ -61,27 +61,30 @@ pub record TriesBy {G : Type 0} (Is : Act → Type 0) (table : TableView) (becom
   pub tried_are : targets_of acts ≡ tried
   pub steps : Runs table becomes acts old new
 
--- the pass makes steps of the kind `Is`, which try `locks` different locks, each once
+-- the pass makes steps, each of the kind `Is`, and the gate is told each; they try `locks` different locks, each once
 abbrev pub TriesOnceBy : {G : Type 0} → (Is : Act → Type 0) → (table : TableView) → (becomes : G → Event → G → Type 0) → (locks : ℕ) →
     (old new : SeatView × G) → Type 0
 TriesOnceBy Is table becomes locks old new =
     (tried : List Target) × (run : TriesBy Is table becomes tried old new) × TriesLocksOnce run.acts × (length tried ≡ locks)
 
--- The pass makes steps that load no root, publish nothing and leave its pin. The steps try just the locks `tried`, in that order.
+-- The pass makes steps that load no root, publish nothing, give no record back and leave its pin (`LoadsNoRoot`). The gate is told each.
+-- They try just the locks `tried`, in that order.
 abbrev pub Tries : {G : Type 0} → (table : TableView) → (becomes : G → Event → G → Type 0) → (tried : List Target) →
     (old new : SeatView × G) → Type 0
 Tries table becomes tried old new = TriesBy LoadsNoRoot table becomes tried old new
 
--- The pass makes steps that load no root, try no lock, publish nothing and leave its pin.
+-- The pass makes steps that load no root, try no lock, publish nothing, give no record back and leave its pin. The gate is told each.
 abbrev pub Works : {G : Type 0} → (table : TableView) → (becomes : G → Event → G → Type 0) → (old new : SeatView × G) → Type 0
 Works table becomes old new = Tries table becomes [] old new
 
--- The pass makes steps that load no root, publish nothing and leave its pin. The steps try `locks` different locks, each once.
+-- The pass makes steps that load no root, publish nothing, give no record back and leave its pin (`LoadsNoRoot`). The gate is told each.
+-- They try `locks` different locks, each once.
 abbrev pub TriesOnce : {G : Type 0} → (table : TableView) → (becomes : G → Event → G → Type 0) → (locks : ℕ) → (old new : SeatView × G) →
     Type 0
 TriesOnce table becomes locks old new = TriesOnceBy LoadsNoRoot table becomes locks old new
 
--- The pass makes steps of the kind `Is`. The steps try the locks of just these nodes, each once.
+-- The pass makes steps, each of the kind `Is`, and the gate is told each. They try the lock of each node in `nodes` once, in any order, and
+-- no other lock.
 pub record TriesNodesBy {G : Type 0} (Is : Act → Type 0) (table : TableView) (becomes : G → Event → G → Type 0) (nodes : List ℕ)
     (old new : SeatView × G) : Type 0 where
   pub tried : List Target
@@ -90,7 +93,8 @@ pub record TriesNodesBy {G : Type 0} (Is : Act → Type 0) (table : TableView) (
   pub count : length tried ≡ length nodes
   pub among : (target : Target) → IsOneOf target tried → IsOneOf target (map NodeTarget nodes)
 
--- The pass makes steps that load no root, publish nothing and leave its pin. The steps try the locks of just these nodes, each once.
+-- The pass makes steps that load no root, publish nothing, give no record back and leave its pin (`LoadsNoRoot`). The gate is told each.
+-- They try the lock of each node in `nodes` once, in any order, and no other lock.
 abbrev pub TriesNodes : {G : Type 0} → (table : TableView) → (becomes : G → Event → G → Type 0) → (nodes : List ℕ) →
     (old new : SeatView × G) → Type 0
 TriesNodes table becomes nodes old new = TriesNodesBy LoadsNoRoot table becomes nodes old new
@@ -107,11 +111,12 @@ HasJustLocked known nodes = LocksJust known.locks nodes × AreApart nodes
 abbrev pub numbers_of : List PathNode → List ℕ
 numbers_of steps = map (λ (node : PathNode). node.number) steps
 
--- the table has the nodes of these steps
+-- each step of the path has the number of one of the table's node records
 abbrev pub AreNodes : Layout → List PathNode → Type 0
 AreNodes layout steps = All (λ (node : PathNode). node.number < layout.nodes) steps
 
--- The table has the node of this step. The pass is sure that the node stood in the tree in a version since its pin.
+-- The step's number is that of one of the table's node records. The pass is sure that this record stood in the tree, with some height, in a
+-- version since its pin.
 abbrev pub IsLedStep : (layout : Layout) → (known : Known) → (node : PathNode) → Type 0
 IsLedStep layout known node =
     (node.number < layout.nodes) ×
@@ -121,16 +126,16 @@ IsLedStep layout known node =
 abbrev pub AreLed : (layout : Layout) → (known : Known) → (steps : List PathNode) → Type 0
 AreLed layout known steps = All (IsLedStep layout known) steps
 
--- the nodes to lock for a span of the path: those to remake, and the one above them
+-- the numbers of the nodes to lock for a span of the path: those of its nodes, and of the one above them, if there is one
 abbrev pub span_numbers : List PathNode → Span → List ℕ
 span_numbers way span = numbers_of (slice_range way (span.end - 1) span.len)
 
--- how many locks a span takes: one for each node, and one for the node above or the anchor
+-- how many locks a span takes: one for each of its nodes, and one for the node above, or for the anchor if there is none above
 abbrev pub locks_of : Span → ℕ
 locks_of span = span.len - span.end + 1
 
 -- The pass has locked just the nodes of the span, and the node above them. If the span goes up to the root, it has locked the anchor in
--- place of a node above.
+-- place of a node above. Else it hasn't locked the anchor.
 pub record HasLockedSpan (known : Known) (way : List PathNode) (span : Span) : Type 0 where
   pub nodes : HasJustLocked known (span_numbers way span)
   pub top : span.end ≡ 0 → IsSome known.anchor
@@ -140,8 +145,8 @@ pub record HasLockedSpan (known : Known) (way : List PathNode) (span : Span) : T
 abbrev pub IsTakenWord : (word : ℕ) → Type 0
 IsTakenWord word = (word ≡ state_word LockedTag) ⊎ ((epoch : ℕ) × (word ≡ state_word (Obsolete epoch)))
 
--- One of the failed steps `tried`, since step `since`, was a try of a lock whose target was taken. Another pass of the index had locked
--- that target, or had unlinked it, if it is a retired node.
+-- Among the failed steps `tried` is a try of a lock, of number `since` or later. It found the target's word locked, or that of a retired
+-- node. Another pass of the index had that lock, or had unlinked that node.
 pub record HasMetTaken (layout : Layout) (pass since : ℕ) (tried : List Failed) : Type 0 where
   pub target : Target
   pub failed : Failed
@@ -154,7 +159,7 @@ pub record HasMetTaken (layout : Layout) (pass since : ℕ) (tried : List Failed
   pub word : IsTakenWord failed.word
   pub now : since ≤ failed.step
 
--- since the pass knew `old`, it has tried a lock and found its target taken by another pass
+-- after it knew `old`, the pass has tried a lock that another pass had, or whose node another pass had unlinked
 abbrev pub HasMetLock : (layout : Layout) → (old new : Known) → Type 0
 HasMetLock layout old new = HasMetTaken layout old.pass old.steps new.failed
 
@@ -162,7 +167,7 @@ HasMetLock layout old new = HasMetTaken layout old.pass old.steps new.failed
 abbrev pub NoChangeFrom : (pass first : ℕ) → (changes : List Change) → Type 0
 NoChangeFrom pass first changes = (place : ℕ) (change : Change) → first ≤ place → place < length changes → (get_or changes place change).pass ≢ pass
 
--- the pass has made no change since its pin
+-- if the pass is pinned, it has made no change since its pin
 abbrev pub HasMadeNoChange : Known → Type 0
 HasMadeNoChange known = (pin : Pin) → known.pin ≡ Some pin → NoChangeFrom known.pass pin.version known.front
 
@@ -188,13 +193,13 @@ LocksAnchor old new = IsSome new.anchor × (new.locks ≡ old.locks) × (new.own
 abbrev pub KeepsLocksAndRecords : (old new : Known) → Type 0
 KeepsLocksAndRecords old new = (new.locks ≡ old.locks) × (new.anchor ≡ old.anchor) × (new.own ≡ old.own)
 
--- The pass has gone on since it knew `old`: it has the same pin, facts and own records. Its seat is one of the table's, and what it knows
--- is true of some lawful core.
+-- The pass has gone on since it knew `old`: it has the same pin and own records, and its facts still hold. It has newly seen only changes
+-- of others. Its seat is one of the table's, and what it knows is true of some lawful core.
 abbrev pub KeepsRecords : (table : TableView) → (old : Known) → (seat : SeatView) → Type 0
 KeepsRecords table old seat = IsLater old seat.known × IsSeatOf table seat × IsPossible table.layout seat.known × (seat.known.own ≡ old.own)
 
--- The pass may try the lock of node `number`: it is sure that the node stood in the tree since its pin. It has no record, has not locked
--- the node, and has made no change since its pin. So only another pass may be in the way of the lock.
+-- The pass may try the lock of node `number`: it is sure that the node stood in the tree in a version since its pin. It has no record, has
+-- not locked the node, and has made no change since its pin. So if the lock is refused, another pass is in the way.
 pub record HasNotLocked (known : Known) (number : ℕ) : Type 0 where
   pub since : ℕ
   pub height : ℕ
@@ -208,21 +213,24 @@ pub record HasNotLocked (known : Known) (number : ℕ) : Type 0 where
 abbrev pub IsRefusedLock : (layout : Layout) → (old new : Known) → Type 0
 IsRefusedLock layout old new = HasMetLock layout old new × (new.locks ≡ old.locks) × (new.anchor ≡ old.anchor) × (new.own ≡ old.own)
 
--- the pass knows the same as before of its records, the anchor, the changes, its round and its failed steps
+-- The pass knows the same as before of its records, the anchor, the changes, its round and its failed steps. Its locked nodes may be
+-- others.
 abbrev pub KnowsSameButLocks : (old new : Known) → Type 0
 KnowsSameButLocks old new =
     (new.own ≡ old.own) × (new.anchor ≡ old.anchor) × (new.front ≡ old.front) × (new.round ≡ old.round) × (new.failed ≡ old.failed)
 
--- The pass makes steps that neither set nor clear its pin and give no record back. The steps try just the locks `tried`, in that order.
+-- The pass makes steps that neither set nor clear its pin and give no record back (`IsOfAttempt`). The gate is told each. They try just the
+-- locks `tried`, in that order.
 abbrev pub HasTried : {G : Type 0} → (table : TableView) → (becomes : G → Event → G → Type 0) → (tried : List Target) →
     (old new : SeatView × G) → Type 0
 HasTried table becomes tried old new = TriesBy IsOfAttempt table becomes tried old new
 
--- The pass makes steps that neither set nor clear its pin, give no record back, and try no lock.
+-- The pass makes steps that neither set nor clear its pin, give no record back, and try no lock. They may publish. The gate is told each.
 abbrev pub HasRun : {G : Type 0} → (table : TableView) → (becomes : G → Event → G → Type 0) → (old new : SeatView × G) → Type 0
 HasRun table becomes old new = HasTried table becomes [] old new
 
--- The pass makes steps that neither set nor clear its pin and give no record back. The steps try `locks` different locks, each once.
+-- The pass makes steps that neither set nor clear its pin and give no record back (`IsOfAttempt`). The gate is told each. They try `locks`
+-- different locks, each once.
 abbrev pub HasTriedOnce : {G : Type 0} → (table : TableView) → (becomes : G → Event → G → Type 0) → (locks : ℕ) → (old new : SeatView × G) →
     Type 0
 HasTriedOnce table becomes locks old new = TriesOnceBy IsOfAttempt table becomes locks old new

@@ -11,7 +11,7 @@ use Rattle.rowex_table.specs.Seats.{SeatView}
 use Rattle.rowex_table.specs.Traces.{RunBeginsWith}
 use Rattle.rowex_writing.specs.locks.Locks.{HasMetLock}
 
--- in this core the pass holds the anchor's lock, or that of a node
+-- in this core the pass holds a lock: the anchor's, or that of some node
 abbrev pub HoldsLock : (core : Core) → (pass : ℕ) → Type 0
 HoldsLock core pass = (core.anchor ≡ Some pass) ⊎ ((number : ℕ) × (core.lock number ≡ Some pass))
 
@@ -19,8 +19,8 @@ HoldsLock core pass = (core.anchor ≡ Some pass) ⊎ ((number : ℕ) × (core.l
 abbrev pub HasMadeSince : (core : Core) → (first pass : ℕ) → Type 0
 HasMadeSince core first pass = (place : ℕ) × (change : Change) × (first ≤ place) × (slice_get core.changes place ≡ Some change) × (change.pass ≡ pass)
 
--- At a moment between these views of a seat, another pass of the table held a lock. Or it had made a change from number `first` on. The
--- steps `run` lead to that moment.
+-- Some core between these views of a seat: the steps `run` lead to it from a new table. They begin with the steps of the old view, and the
+-- new view's begin with them. In that core another pass of the table holds a lock, or has made a change from number `first` on.
 pub record HasMetOther (layout : Layout) (first : ℕ) (old new : SeatView) : Type 0 where
   pub run : List Event
   pub core : Core
@@ -32,10 +32,12 @@ pub record HasMetOther (layout : Layout) (first : ℕ) (old new : SeatView) : Ty
   pub below : by < layout.passes
   pub is : HoldsLock core by ⊎ HasMadeSince core first by
 
--- A lock of the pass was refused. At some moment meanwhile another pass held a lock, or had made a change since the pin.
+-- A lock that the pass tried was refused. At some moment between the views another pass of the table held a lock, or had made a change
+-- since the pin.
 abbrev pub IsBlocked : (layout : Layout) → (old new : SeatView) → Type 0
 IsBlocked layout old new = HasMetLock layout old.known new.known × HasMetOther layout (version_of old.known.pin) old new
 
--- At some moment meanwhile another pass held a lock, or had made a change since the pin. Or the pass has seen a change made since its pin.
+-- At some moment between the views another pass of the table held a lock, or had made a change since the pin. Or the pass has seen a change
+-- made since its pin.
 abbrev pub IsHindered : (layout : Layout) → (old new : SeatView) → Type 0
 IsHindered layout old new = HasMetOther layout (version_of old.known.pin) old new ⊎ (version_of old.known.pin < length new.known.front)

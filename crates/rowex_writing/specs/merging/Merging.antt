@@ -41,8 +41,8 @@ use Rattle.rowex_writing.specs.declared.plan.Span.{Span}
 
 -- ---- before the change
 
--- In the upper node, by its words under the lock, the last fork on the key's path has just one slot on its other side. The entry in that
--- slot names the node to merge with.
+-- In the upper node, by its words under the lock, the last fork on the key's path is at `merge.position`. It has just slot `merge.slot` on
+-- its other side, and the entry there is that of node `merge.number`.
 pub record IsNeighbour (known : Known) (job : Job) (merge : Merge) : Type 0 where
   pub words : List ℕ
   pub has : HasLocked known (upper job).number words
@@ -50,14 +50,16 @@ pub record IsNeighbour (known : Known) (job : Job) (merge : Merge) : Type 0 wher
   pub height : ℕ
   pub sibling : subtrie_sibling job.key.now (node_words_of words).subtrie ≡ Some (merge.position, Place (Node merge.number height))
 
--- By the words of the fork's node under its lock, the key's search takes slot `fork.step.slot` there. The last fork on that path has just
--- slot `fork.slot` on its other side. The entry that is to take the fork's place is low enough for the node.
+-- Let the pass have locked the fork's node; without the lock this says nothing. By the node's words the key's search takes slot
+-- `fork.step.slot`. The last fork on that path has just slot `fork.slot` on its other side. `fork.entry`, which is to take the fork's
+-- place, is lower than the node.
 abbrev pub ClosesFork : (known : Known) → (key : Key) → (fork : ClosedFork) → Type 0
 ClosesFork known key fork = (words : List ℕ) → HasLocked known fork.step.number words → (spot key (node_words_of words).subtrie ≡ fork.step.slot) ×
     ((position : ℕ) × (beside fork.step.slot (node_words_of words).subtrie ≡ Some (fork.slot, position))) ×
     StandsBelow (node_words_of words).fixed.height fork.entry
 
--- What is left of a node and its sibling can't be one node: just one entry is left, or the two have more than 32 entries together.
+-- What is left of a node and its sibling don't make one node: what is left is a single entry, or the two have more than 32 entries
+-- together.
 abbrev pub AreNoNode : (left other : Subtrie) → Type 0
 AreNoNode left other = ((entry : Entry) × (left ≡ Place entry)) ⊎ (32 < size left + size other)
 
@@ -73,15 +75,16 @@ abbrev pub IsTargetAbove : (way : List PathNode) → (end : ℕ) → (target : T
 IsTargetAbove way end Anchor = end ≡ 0
 IsTargetAbove way end (NodeTarget number) = (node : PathNode) × (0 < end) × (slice_get way (end - 1) ≡ Some node) × (number ≡ node.number)
 
--- Beside the locks `held` the pass has just one more. It is the lock of what names the node at index `end` of the path: the anchor, or the
--- node before. That one still names what the search found there.
+-- Beside the locks `held` the pass has just one more, of what names the node at index `end` of the path: the anchor, or the node before.
+-- The target of that lock still names what the search found there.
 pub data LocksAbove (held : List Locked) (key : Key) (way : List PathNode) (found : Found) (end : ℕ) (known : Known) : Type 0 where
   by_anchor : end ≡ 0 → known.locks ≡ held → known.anchor ≡ Some (named way found 0) → LocksAbove held key way found end known
   by_node : (node : PathNode) → 0 < end → slice_get way (end - 1) ≡ Some node → LocksLast node.number held known → known.anchor ≡ None →
       ((words : List ℕ) → HasLocked known node.number words → named way found end ≡ Some (seek key (node_words_of words).subtrie)) →
       LocksAbove held key way found end known
 
--- Beside the locks of its span, the pass has locked node `number`, which is beside the lower node, and what names the upper node.
+-- The pass has gone on since it locked the job's span. It has the locks that it had then, and just two more: that of another node,
+-- `number`, and that of what names the upper node (`LocksAbove`). That `number` is the lower node's sibling is not said here.
 pub record HasWiderLocks (table : TableView) (view : SeatView) (job : Job) (number : ℕ) : Type 0 where
   pub taking : IsTaking table job
   pub seat : IsSeatOf table view
@@ -92,32 +95,34 @@ pub record HasWiderLocks (table : TableView) (view : SeatView) (job : Job) (numb
   pub low : number < table.layout.nodes
   pub above : LocksAbove (record { node = number; words = words } ∷ taking.before.known.locks) job.key.now job.way.now job.found (job.span.end - 1) view.known
 
--- Let the pass have tried just the locks of these nodes, each once. Then it has now tried at most two more, each once. It has tried exactly
--- two more if `both` is true.
+-- Let the pass have tried just the locks of these nodes, each once, by steps of an attempt (`IsOfAttempt`) that end at `old`. With the
+-- steps up to `new` it has tried at most two more, those of a merge, and none twice. It has tried exactly two more if `both` is true.
 abbrev pub HasTriedUpToTwoMore : {G : Type 0} → (table : TableView) → (becomes : G → Event → G → Type 0) → (nodes : List ℕ) →
     (both : Bool) → (old new : SeatView × G) → Type 0
 HasTriedUpToTwoMore {G} table becomes nodes both old new = (first : SeatView × G) → TriesNodesBy IsOfAttempt table becomes nodes first old →
     (locks : ℕ) × HasTriedOnce table becomes locks first new × (length nodes ≤ locks) × (locks ≤ length nodes + 2) ×
     (both ≡ true → locks ≡ length nodes + 2)
 
--- Let the pass have tried just the locks of these nodes, each once, and then at most two more. This bounds its steps from `old` to `new`:
--- two for each of the `left` records to try, those to remake a node for each further lock, and `more`.
+-- Let the pass have tried just the locks of these nodes, each once, by steps of an attempt (`IsOfAttempt`) that end at `old`. Up to `new`
+-- it tries at most two more, those of a merge, and none twice. These later steps are at most two for each of `left` records, `level_steps`
+-- for each further lock, and `more`.
 abbrev pub HasFewStepsAfterTries : {G : Type 0} → (table : TableView) → (becomes : G → Event → G → Type 0) → (nodes : List ℕ) →
     (left more : ℕ) → (old new : SeatView × G) → Type 0
 HasFewStepsAfterTries {G} table becomes nodes left more old new = (first : SeatView × G) → TriesNodesBy IsOfAttempt table becomes nodes first old →
     (locks : ℕ) × HasTriedOnce table becomes locks first new × (length nodes ≤ locks) × (locks ≤ length nodes + 2) ×
     (new.0.known.steps ≤ old.0.known.steps + 2 * left + (locks - length nodes) * level_steps + more)
 
--- Let the pass have tried just the locks of these nodes, each once, and then at most two more. Its steps from `old` to `new` are those of a
--- change under all these locks, and at least `room` fewer.
+-- Let the pass have tried just the locks of these nodes, each once, by steps of an attempt (`IsOfAttempt`) that end at `old`. Up to `new`
+-- it tries at most two more, those of a merge, and none twice. These later steps are at least `room` fewer than `change_steps` allows for
+-- all these locks.
 abbrev pub HasChangeStepsAfterTries : {G : Type 0} → (table : TableView) → (becomes : G → Event → G → Type 0) → (nodes : List ℕ) →
     (room : ℕ) → (old new : SeatView × G) → Type 0
 HasChangeStepsAfterTries {G} table becomes nodes room old new = (first : SeatView × G) → TriesNodesBy IsOfAttempt table becomes nodes first old →
     (locks : ℕ) × HasTriedOnce table becomes locks first new × (length nodes ≤ locks) × (locks ≤ length nodes + 2) ×
     (new.0.known.steps + room ≤ old.0.known.steps + change_steps table.layout locks)
 
--- The steps from `old` to `new` are at least `room` fewer than those of a change under its locks. These are the locks of the span, and no
--- lock is tried meanwhile. Or the span is one node below another, and at most two more locks are tried.
+-- The steps from `old` to `new` are at least `room` fewer than `change_steps` allows. Either no lock is tried, and these are the steps for
+-- the span's locks. Or the span is one node with another above, and at most two more locks are tried, each of which adds to the bound.
 abbrev pub EndsChange : {G : Type 0} → (table : TableView) → (becomes : G → Event → G → Type 0) → (job : Job) → (room : ℕ) →
     (old new : SeatView × G) → Type 0
 EndsChange {G} table becomes job room old new =
@@ -130,11 +135,12 @@ EndsChange {G} table becomes job room old new =
 abbrev pub merged_gone : Job → (number leaf : ℕ) → List Rec
 merged_gone job number leaf = a_node (upper job).number ∷ a_node (lower job).number ∷ a_node number ∷ a_leaf leaf ∷ []
 
--- if the search found a leaf with the key, `gone` lists just the records that a merge unlinks
+-- if the search found a leaf with the key, `gone` lists just the records that a merge unlinks, in the order of `merged_gone`
 abbrev pub HasListed : (gone : List Rec) → (job : Job) → (number : ℕ) → Type 0
 HasListed gone job number = (leaf value : ℕ) → job.found ≡ Leaf leaf value None → gone ≡ merged_gone job number leaf
 
--- Once its new records are ready, the pass may make the removal by a store of this entry at the spot above the upper node.
+-- The records `made` are at most two. Once they are ready, the pass may make the removal by a store of this entry at the spot above the
+-- upper node. The store unlinks the upper node, the lower one, its sibling `number` and the found leaf.
 pub record MayMergeInto (table : TableView) (seat : SeatView) (made : List Rec) (job : Job) (number : ℕ) (entry : Entry) : Type 0 where
   pub change : Change
   pub was : Option ℕ

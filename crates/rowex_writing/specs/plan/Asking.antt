@@ -16,13 +16,13 @@ value_in (Exchange key expected value) held = value
 value_in (Add key delta) (Some had) = wrapped_sum had delta
 value_in call held = 0
 
--- the aim, if the key was found with the expected value; else none
+-- the aim, if the key was found with the expected value; else none, also if it was found absent
 abbrev pub aim_where : (expected : ℕ) → (found : Option ℕ) → (aim : Aim) → Option Aim
 aim_where expected None aim = None
 aim_where expected (Some held) aim = if nat_eq held expected then Some aim else None
 
--- What a call aims at, by the value that its key has, or none. An exchange and an addition have the aim of an upsert, or none. A call that
--- only looks has none.
+-- What a call aims at, where `held` is the value that its key has, or none. An exchange and an addition aim at an upsert, and a conditional
+-- removal at a removal. A get has no aim, nor an addition to an absent key, nor a call whose expected value isn't `held`.
 abbrev pub aim_of : (call : Call) → (held : Option ℕ) → Option Aim
 aim_of (Insert key value) held = Some aim.Insert
 aim_of (Upsert key value) held = Some aim.Upsert
@@ -33,7 +33,8 @@ aim_of (Get key) held = None
 aim_of (Remove key) held = Some aim.Remove
 aim_of (RemoveIf key expected) held = aim_where expected held aim.Remove
 
--- The request has the call's aim, and the value that the call gives its key. `held` is the value that the key has, or none.
+-- The request has the call's aim, which isn't none, and the value that the call gives its key. `held` is the value that the key has, or
+-- none.
 abbrev pub IsRequest : (call : Call) → (held : Option ℕ) → (request : Request) → Type 0
 IsRequest call held request = (aim_of call held ≡ Some request.aim) × (request.value ≡ value_in call held)
 

@@ -21,21 +21,23 @@ pub record AffectsJust (key : Key) (position first last : ℕ) (shown : Subtrie)
   pub from : affected_first position (spot key shown) shown ≡ first
   pub upto : affected_count position (spot key shown) shown + first ≡ last + 1
 
--- Let the search have ended at a leaf with another key. Then a new leaf affects the entries in slots `first` to `last` of the node at its
--- level. The pass has read the forks of that node.
+-- Let the search have ended at a leaf with another key. Then a new leaf affects the entries in slots `first` to `last` of the node at the
+-- level of the first bit that differs. The pass has read the forks of that node, since the root's load at `version`. Of another end nothing
+-- is said.
 abbrev pub AreAffected : (known : Known) → (version : ℕ) → (key : Key) → (way : List PathNode) → (found : Found) → (first last : ℕ) → Type 0
 AreAffected known version key way (Leaf number value (Some position)) first last =
     (level : ℕ) (node : PathNode) → IsLevel way position level → slice_get way level ≡ Some node →
     (forks : Subtrie) × Sure known (λ past. HadShapeSince past version node.number forks) × AffectsJust key position first last forks
 AreAffected known version key way found first last = Unit {0}
 
--- the plan for this aim, by the path and the end of the search, and by the forks that the pass has read
+-- The plan for this aim, by the path and the end of a search for the key. If a new leaf's affected entries matter, it is by the forks that
+-- the pass has read since the search loaded the root at `version`.
 abbrev pub IsPlanned : (known : Known) → (version : ℕ) → (key : Key) → (way : List PathNode) → (aim : Aim) → (found : Found) →
     (plan : Plan) → Type 0
 IsPlanned known version key way aim found plan =
     (first : ℕ) × (last : ℕ) × IsPlan way first last aim found plan × AreAffected known version key way found first last
 
--- The pass has loaded the root between `before` and `later`. By that load it had seen all changes that it knew at `before`. At `later` it
+-- The pass last loaded the root between `before` and `later`. By that load it had seen all changes that it knew at `before`. At `later` it
 -- still knows all that it had seen by that load.
 pub record HasLoadedRoot (before later : Known) : Type 0 where
   pub from : before.steps ≤ later.fresh.step

@@ -20,19 +20,19 @@ use Rattle.rowex_writing.specs.declared.build.kept.Build.{Build}
 use Rattle.rowex_core.specs.Events.{IsOfEntry}
 use Rattle.rowex_writing.specs.build.Putting.{AreInTable, IsAnchored}
 
--- The pass has published a change, and made no step since. Just the records `gone` were unlinked by the publish. Just the nodes `kept` are
--- still locked, each listed once.
+-- The pass has published a change, and made no step since. The publish has unlinked just the records `gone`, which are the pass's own now.
+-- The nodes that it has still locked are just `kept`, each listed once.
 abbrev pub HasJustPublished : (new : Known) → (gone : List Rec) → (kept : List ℕ) → Type 0
 HasJustPublished new gone kept = (old : Known) × (change : Change) × (was : Option ℕ) × HasPublished old new change was gone kept × AreApart kept
 
--- The pass's own records are just `recs`, each listed once, and are still to be marked. Each was unlinked before the pass last loaded the
--- epoch, and that load found `epoch`.
+-- The pass's own records are just `recs`, each listed once, and are all still to be marked with `epoch`. The pass has loaded that epoch
+-- last, when each of the records was unlinked already.
 pub record HasToMark (known : Known) (epoch : ℕ) (recs : List Rec) : Type 0 where
   pub own : OwnsJust known.own (IsUnlinkedBefore known.round.version) recs
   pub apart : AreApart recs
   pub epoch_is : epoch ≡ known.round.epoch
 
--- the pass has the same locks, and has seen the same changes
+-- the pass has the same locks, that of the anchor as well, and has seen the same changes
 abbrev pub KeepsLocks : (old new : Known) → Type 0
 KeepsLocks old new = (new.locks ≡ old.locks) × (new.anchor ≡ old.anchor) × (new.front ≡ old.front)
 
@@ -42,9 +42,9 @@ is_root Root = true
 is_root (Slot number slot) = false
 is_root (Value leaf) = false
 
--- Once its new records are ready, the pass may make this change by a store of the entry at the spot. The store unlinks the records that the
--- build lists as gone. `kept` are the other nodes that the pass has locked, each listed once. The anchor is locked exactly if the spot is
--- the root.
+-- Once its new records are ready, the pass may make this change by a store of the entry at the spot, which is the root or a slot. The store
+-- unlinks `build.gone`; if a leaf is among these, the pass has loaded its value, which is `was`. `kept` are its other locked nodes, each
+-- once. The anchor is locked exactly if the spot is the root. The table has the spot and the records.
 pub record MayStore (table : TableView) (seat : SeatView) (build : Build) (kept : List PathNode) (spot : Spot) (entry : Option Entry)
     (change : Change) (was : Option ℕ) : Type 0 where
   pub ready : MayPublishOnceReady table seat build.made.items spot (entry_word entry) change was build.gone.items

@@ -20,13 +20,14 @@ use Rattle.finite_map.specs.declared.Change.{Change}
 use Rattle.rowex_writing.specs.build.Changes.{HasChanged, IsDeedChange}
 use Rattle.rowex_writing.specs.declared.plan.Deed.{Deed}
 
--- what a search found, with `now` as the value of the leaf that has the key; any other end stays the same
+-- What a search found, with `now` as the value of the leaf that has the key. An end without a leaf, or at a leaf with another key, stays
+-- the same.
 abbrev pub revalued : (found : Found) → (now : ℕ) → Found
 revalued (Leaf number value None) now = Leaf number now None
 revalued found now = found
 
--- Under its locks the pass has found what its search found, but for the leaf's value, which may be newer. If the call had an aim by the old
--- value, it has the same aim by the new one.
+-- Under its locks the pass has found what its search found, but for the value of a leaf with the key, which may be newer. If the call had
+-- an aim by the old value, it has that aim by the new one, too.
 pub record IsFoundAgain (call : Call) (found now : Found) : Type 0 where
   pub value : ℕ
   pub is : now ≡ revalued found value
@@ -36,8 +37,8 @@ pub record IsFoundAgain (call : Call) (found now : Found) : Type 0 where
 abbrev pub HoldsFound : (known : Known) → (key : Key) → (found : Found) → Type 0
 HoldsFound known key found = (number value : ℕ) → found ≡ Leaf number value None → value_at (map_of known.front) key ≡ Some value
 
--- Under its locks the pass has found another value of the key, by which the call has nothing to change. The key had that value in a version
--- since the pass's last load of the root.
+-- Under its locks the pass has found a value of the key by which the call has nothing to change. The key had that value in a version since
+-- the pass's last load of the root. The pass has newly seen only changes of others.
 pub record HasFoundOther (old new : Known) (call : Call) (key : Key) (now : Found) : Type 0 where
   pub later : IsLater old new
   pub value : ℕ
@@ -45,15 +46,16 @@ pub record HasFoundOther (old new : Known) (call : Call) (key : Key) (now : Foun
   pub held : HasFound new key (Some value)
   pub aimless : aim_of call (Some value) ≡ None
 
--- if the search found a leaf with the key, the pass has loaded that leaf's value since its last lock
+-- If the search found a leaf with the key, the pass has loaded the value in `found` from that leaf. It has since neither locked, unlocked,
+-- published nor marked.
 abbrev pub HasLoadedFound : Known → Found → Type 0
 HasLoadedFound known found = (number value : ℕ) → found ≡ Leaf number value None → HasLoaded known number value
 
--- the pass has seen a change that was made after the job's search loaded the root
+-- the pass has seen a change that was made after the job's search loaded the root; `old` is what it knew after that search
 abbrev pub HasMoved : (layout : Layout) → (job : Job) → (old new : Known) → Type 0
 HasMoved layout job old new = (version : ℕ) → IsJobFrom layout old version job → version < length new.front
 
--- the pass has made the change that the deed asks for: the key has this value, or is absent
+-- the pass has made the change that the deed asks for: the key has this value now, or is absent after a removal
 abbrev pub HasDoneDeed : (old new : Known) → (deed : Deed) → (key : Key) → (value : ℕ) → (found : Found) → Type 0
 HasDoneDeed old new deed key value found =
     (change : Change) × (was : Option ℕ) × IsDeedChange old.pass deed key value found change was × HasChanged old new change was

@@ -21,9 +21,12 @@ use rowex_core::Gate;
 use rowex_reading::Found;
 use rowex_table::{HotTable, TableSeat};
 
-/// Makes the records of the change of `job`, which other passes don't see yet. Returns what is to take the place of the nodes of
-/// `job.span`, which are locked and checked. If no record of a kind was free, the error is that kind: the records made by then stay in
-/// `build.made`. `job.deed` is neither `Deed::Value` nor `Deed::Take`.
+/// Makes the records of the change of `job`, which other passes don't see yet, by at most `deed_steps` steps. Returns what is to take the
+/// place of the nodes of `job.span`, which are locked and checked. `job.deed` is neither `Deed::Value` nor `Deed::Take`.
+///
+/// If no record of a kind was free, the error is that kind: the records made by then stay in `build.made`. A removal needs no leaf record.
+/// In a table with one pass that has a free node record, a removal has no error. In a table with one pass, if a node record was outside the
+/// tree, one is after the change's store, too.
 pub(crate) fn carry_out_deed<G: Gate>(
     table: &HotTable,
     seat: &mut TableSeat,
@@ -49,7 +52,8 @@ pub(crate) fn carry_out_deed<G: Gate>(
     }
 }
 
-/// Makes and returns the new leaf, which is to be all of the tree. The error is `Full::Leaves` if no leaf record with room was free.
+/// Makes and returns the new leaf, which is to be all of the tree. The error is `Full::Leaves` if no leaf record with room was free; no
+/// node record is needed. In a table with one pass, if a node record was outside the tree, one is after the change's store, too.
 pub(crate) fn put_new_leaf<G: Gate>(
     table: &HotTable,
     seat: &mut TableSeat,
@@ -76,7 +80,8 @@ pub(crate) fn put_new_leaf<G: Gate>(
 /// found leaf's place.
 ///
 /// The error is `Full::Leaves` if no leaf record with room was free. It is `Full::Nodes` if no node record was free, or if no other one
-/// stays free for removals. The records made by then stay in `build.made`.
+/// stays free for removals. The records made by then stay in `build.made`. In a table with one pass, if a node record was outside the tree,
+/// one is after the change's store, too.
 pub(crate) fn push_leaf_down<G: Gate>(
     table: &HotTable,
     seat: &mut TableSeat,

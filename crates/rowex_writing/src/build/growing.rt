@@ -26,7 +26,7 @@ use rowex_table::{HotTable, TableSeat};
 
 /// Makes the new leaf, and what the nodes of `job.span` become with it. In the lowest of them the leaf goes beside the entries that
 /// `position` affects. Returns what is to take the nodes' place. If no record of a kind was free, the error is that kind: the records made
-/// by then stay in `build.made`.
+/// by then stay in `build.made`. In a table with one pass, if a node record was outside the tree, one is after the change's store, too.
 pub(crate) fn grow_node<G: Gate>(
     table: &HotTable,
     seat: &mut TableSeat,
@@ -52,7 +52,8 @@ pub(crate) fn grow_node<G: Gate>(
 }
 
 /// Makes and returns what replaces the nodes of `job.span` when the lowest gets `new`, a leaf whose record is made. The error is
-/// `Full::Nodes` if no node record was free, or if no other one stays free for removals: the records made by then stay in `build.made`.
+/// `Full::Nodes` if no node record was free, or if no other one stays free for removals: the records made by then stay in `build.made`. The
+/// steps are at most those of `deed_steps` less those of `leaf_steps`.
 fn grow_with_leaf<G: Gate>(
     table: &HotTable,
     seat: &mut TableSeat,

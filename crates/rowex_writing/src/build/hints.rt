@@ -26,18 +26,18 @@ const MOST_SPARE: u32 = 256;
 pub struct Hint {
     /// Numbers that the pass has given back, as far as they find room here: claims begin with the last of these.
     pub spare: Vec<u32>,
-    /// The number with which claims go on where none of these is free.
+    /// The number with which a walk of claims goes on, if no spare one is free.
     pub next: u32,
-    /// Where they begin when they don't go on.
+    /// Where a walk of claims begins.
     pub stretch: Stretch,
-    /// How many claims of a leaf record still try these records last, since a claim found none of them free. That claim sets it to the
-    /// number of the records. So in the long run a claim looks at one of them.
+    /// How many claims of a leaf record still try the records of this class last. A claim that finds none of them free sets it to their
+    /// number, and each claim lowers it. So in the long run a claim looks at one of them, however many are in use.
     pub skips: u32,
 }
 
 impl Hint {
-    /// Returns a hint without spare numbers for a kind or class of `records` records, whose claims begin at the number `next`. `AllocError`
-    /// if its memory is refused. No later call on the hint asks for memory.
+    /// Returns a hint without spare numbers, for a kind or class of `records` records. Its claims begin at the number `next`, and skip
+    /// nothing. `AllocError` if its memory is refused. No later call on the hint asks for memory.
     pub fn begin_at(alloc: Global, next: u32, records: u32) -> Result<Hint, AllocError>
         ensures spare { IfOk result (λ hint. hint.spare.items ≡ []) }
         ensures next { IfOk result (λ hint. hint.next ≡ next) }
@@ -52,7 +52,7 @@ impl Hint {
     }
 
     /// Notes that the pass gave back the record `number`. The number is added to the spare ones, if these have room; the next claim begins
-    /// with it. In any case claims no longer skip the records of this hint.
+    /// with it. In any case claims no longer skip the records of this hint, and `next` stays.
     pub fn give_back(&mut self, number: u32)
         ensures kept { length self.old.spare.items < vec_capacity self.old.spare → self.new.spare.items ≡ self.old.spare.items ++ number ∷ [] }
         ensures full { vec_capacity self.old.spare ≤ length self.old.spare.items → self.new.spare.items ≡ self.old.spare.items }
@@ -70,8 +70,8 @@ impl Hint {
 
 /// Where a pass claims records of a kind, where none is spare. These are plain numbers, which promise nothing.
 ///
-/// The pass claims one record after the other, and the stretch is what it has come by. Where more than an eighth of that was given back,
-/// it claims there again. So a table takes memory for what is in use, and little more.
+/// The pass claims one record after the other, and the stretch is the range of those that it has claimed so. Where more than an eighth of
+/// that range was given back, it claims there again. So a table takes memory for what is in use, and little more.
 #[derive(Drop)]
 pub struct Stretch {
     /// The number with which the stretch begins.
@@ -80,11 +80,12 @@ pub struct Stretch {
     end: u32,
     /// The number after that of the record that was claimed again last.
     again: u32,
-    /// About how many records of the stretch are free: that many did the pass give back, and claim no more.
+    /// About how many records of the stretch are free: how many the pass has given back, less those that it has claimed again. `u32::MAX`
+    /// if the last claim found none free behind the stretch.
     given: u32,
 }
 
-/// Of so many records of the stretch one has to be free before claims are made there again.
+/// Claims go back into the stretch once more than one of so many of its records was given back.
 const SHARE: u32 = 8;
 
 impl Stretch {
@@ -113,8 +114,8 @@ impl Stretch {
         }
     }
 
-    /// Returns the number with which the next claim begins. If more than an eighth of the stretch was given back, it is one of the stretch,
-    /// else the first one behind the stretch.
+    /// Returns the number with which the next claim begins. It is `again` if more than an eighth of the stretch counts as free (`given`).
+    /// Else it is `end`, the first number behind the stretch.
     pub fn start(&self) -> u32
         ensures { (result ≡ self.now.again) ⊎ (result ≡ self.now.end) }
     {
@@ -126,7 +127,7 @@ impl Stretch {
     }
 
     /// Notes that the pass gave back a record that is not kept as spare. The record may be of another pass's stretch: other passes give
-    /// back about as many of this one.
+    /// back about as many of this one. The count stops at `u32::MAX`, and nothing else changes.
     pub fn note_given(&mut self)
         ensures given { self.new.given ≡ min (self.old.given + 1) (2 ^ 32 - 1) }
         ensures same { (self.new.first ≡ self.old.first) × (self.new.end ≡ self.old.end) × (self.new.again ≡ self.old.again) }
@@ -134,12 +135,13 @@ impl Stretch {
         self.given = self.given.saturating_add(1);
     }
 
-    /// Notes that a claim which began at the number `start` has claimed the record `number`.
+    /// Notes that a claim which began at the number `start` has claimed the record `number`. If `number` is in the stretch, both ends of
+    /// the stretch stay. If it is behind, it becomes the last one.
     ///
-    /// If the claim began in the stretch and ended behind it, the records between were not free. The next claim begins at the stretch's
-    /// first number. If this claim began there, too, no record of the stretch is free. If the claim began behind the stretch and ended in
-    /// it, no record behind the stretch was free: from then on claims go on in the stretch. A stretch begins anew at a `number` before its
-    /// first one.
+    /// If the claim began in the stretch and ended behind it, the records between were not free. Then the next claim begins at the
+    /// stretch's first number. If the claim began at that first number, no record of the stretch is free. If it began behind the stretch
+    /// and ended in it, no record behind was free: from then on claims go on in the stretch. A `number` before the stretch begins a new
+    /// one.
     pub fn advance_past_claim(&mut self, start: u32, number: u32)
         ensures within { self.old.first ≤ number → number < self.old.end → (self.new.first ≡ self.old.first) × (self.new.end ≡ self.old.end) }
         ensures behind { self.old.first ≤ self.old.end → self.old.end ≤ number → number + 1 < 2 ^ 32 → self.new.end ≡ number + 1 }
@@ -164,10 +166,11 @@ impl Stretch {
     }
 }
 
-/// Claims a record of `kind` and returns its number, counted from the first of the kind on. `None` if none was free.
+/// Claims a record of `kind` and returns its number, counted from the first of the kind on. `None` if none was free: then failed steps of
+/// this call tell of each record who may own it.
 ///
 /// The last spare number of `hint` is tried first, and is no longer spare. Then each record is tried once, from where `hint.stretch` says.
-/// Inline, so that `kind` is known when it is compiled.
+/// Each try takes at most two steps. Inline, so that `kind` is known when it is compiled.
 #[inline(always)]
 pub(crate) fn claim_by_hint<G: Gate>(
     table: &HotTable,
@@ -194,8 +197,8 @@ pub(crate) fn claim_by_hint<G: Gate>(
     Some(number)
 }
 
-/// Takes the last number out of `spare`, and returns it if the pass could claim that record of `kind`. `None` if it couldn't, or if `spare`
-/// was empty. Inline, so that `kind` is known when it is compiled.
+/// Takes the last number out of `spare`, and returns it if the pass could claim that record of `kind`, by two steps at most. `None` if it
+/// couldn't, or if `spare` was empty. Inline, so that `kind` is known when it is compiled.
 #[inline(always)]
 fn claim_spare_record<G: Gate>(
     table: &HotTable,
@@ -221,7 +224,10 @@ fn claim_spare_record<G: Gate>(
 /// Claims the next free node record on the walk of a change's claims, and returns its number. `None` if none of those left was free.
 ///
 /// The last spare number of `hint` is tried first, and is no longer spare. Then at most `left` records are tried, each once, from
-/// `hint.next` on. `left` becomes less by the number of these tries, and `hint.next` is the number after one claimed so.
+/// `hint.next` on. Each try takes at most two steps. `left` becomes less by the number of these tries without the spare one. If one of
+/// these claims a record, `hint.next` is the number behind it.
+///
+/// In a table with one pass that has no record of its own, a walk that may still try each record finds one if one is free.
 pub(crate) fn claim_node_on_walk<G: Gate>(
     table: &HotTable,
     seat: &mut TableSeat,

@@ -29,7 +29,8 @@ pub struct Build {
 }
 
 impl Build {
-    /// Begins a change's claims of node records, in a table that has `nodes` of them: each may be tried once. Inline, since it is short.
+    /// Begins a change's claims of node records, in a table that has `nodes` of them: each may be tried once. The records in `made` stay.
+    /// Inline, since it is short.
     #[inline(always)]
     pub(crate) fn begin_claims(&mut self, nodes: u32)
         ensures made { self.new.made.items ≡ self.old.made.items }

@@ -26,7 +26,8 @@ use rowex_table::{HotTable, TableSeat};
 use std::ops::Range;
 
 /// Makes a record for the leaf of `job.key` and `job.value`, the first record of a change, and returns its number. `build.made` is this
-/// record alone then. `None` if no leaf record with room for the key was free: `build.made` is empty then.
+/// record alone then. `None` if no leaf record with room for the key was free: `build.made` is empty then. At most `leaf_steps` steps are
+/// made.
 pub(crate) fn make_leaf<G: Gate>(
     table: &HotTable,
     seat: &mut TableSeat,
@@ -57,10 +58,11 @@ pub(crate) fn make_leaf<G: Gate>(
     Some(number)
 }
 
-/// Claims a leaf record of at least `words` words and returns its number. `None` if none was free. `classes` has the hint of each class.
+/// Claims a leaf record of at least `words` words and returns its number. `None` if none was free: then failed steps of this call tell of
+/// each such record who may own it. `classes` has the hint of each class.
 ///
 /// The classes whose records are large enough are tried one after the other, the smallest first. Those among the smallest that are to be
-/// skipped are tried after the others.
+/// skipped are tried after the others. At most four steps are made for each leaf record of the table.
 fn claim_leaf<G: Gate>(
     table: &HotTable,
     seat: &mut TableSeat,
@@ -89,7 +91,7 @@ fn claim_leaf<G: Gate>(
 }
 
 /// Returns the number of the first leaf record, from `first` on, whose class is not to be skipped; `layout.leaves` if there is none. Each
-/// class that is skipped has one claim less to skip in its hint in `classes`.
+/// class passed over has one claim less to skip in its hint in `classes`.
 fn skip_classes(layout: Layout, classes: &mut [Hint; LEAF_CLASSES], first: u32) -> u32
     requires { first ≤ layout.leaves }
     ensures { (first ≤ result) × (result ≤ layout.leaves) }
@@ -106,9 +108,11 @@ fn skip_classes(layout: Layout, classes: &mut [Hint; LEAF_CLASSES], first: u32) 
     from
 }
 
-/// Claims a leaf record with one of `numbers`, in the smallest class that has one free, and returns the number. `None` if none was free. A
-/// class with none free is skipped by later claims, as its hint in `classes` says then. Inline, so that the class of the first number is
-/// known when it is compiled.
+/// Claims a leaf record with one of `numbers`, in the smallest class that has one free, and returns the number. `None` if none was free:
+/// then failed steps of this call tell of each who may own it. At most four steps are made for each of `numbers`.
+///
+/// A class with none free is skipped by as many later claims as it has records, by its hint in `classes`: so a full class costs little.
+/// Inline, so that the class of the first number is known when it is compiled.
 #[inline(always)]
 fn claim_leaf_between<G: Gate>(
     table: &HotTable,

@@ -32,8 +32,9 @@ use rowex_table::{HotTable, TableSeat};
 /// Makes a record for `node`, adds it to `build.made`, and returns the entry that names it. `None` if no node record was free: none is
 /// added.
 ///
-/// The claim tries the last spare record, and then `build.left_nodes` others at most, from `build.nodes.next` on. At a change's first claim
-/// these are all node records.
+/// The claim tries the last spare record, and then `build.left_nodes` others at most, from `build.nodes.next` on, by at most two steps
+/// each. At a change's first claim these are all node records. Beside the walk's tries at most `node_steps` steps are made. If no record
+/// was free, the states of the records in `build.made` are loaded, too.
 pub(crate) fn make_node<G: Gate>(
     table: &HotTable,
     seat: &mut TableSeat,
@@ -55,7 +56,8 @@ pub(crate) fn make_node<G: Gate>(
 }
 
 /// Makes a node record of `words`, which are those of a node, adds the record to `build.made`, and returns the entry that names it. `None`
-/// if no node record was free: none is added. Claims go on as in [`make_node`].
+/// if no node record was free: none is added. Claims go on as in [`make_node`]. In a table with one pass, which has claimed nothing yet,
+/// the first claim of a change finds a record if one is free.
 pub(crate) fn make_node_from_words<G: Gate>(
     table: &HotTable,
     seat: &mut TableSeat,
@@ -109,9 +111,9 @@ pub(crate) fn make_node_with_leaf<G: Gate>(
     make_node_from_words(table, seat, gate, build, words)
 }
 
-/// Returns the entry for `half`, one side of the cut of the node that `old` names. That is the one entry of the side, or `old` if the side
-/// is the node as it was. For another node it names a new record, which is added to `build.made`. `None` if a record was wanted and none
-/// was free: none is added.
+/// Returns the entry for `half`, one side of the cut of the node that `old` names. A side that is one entry gives that entry, and a side
+/// that is the node as it was gives `old`. For a side that is a new node, a record is made and added to `build.made`, and the entry names
+/// it. `None` if a record was wanted and none was free: none is added.
 fn make_half_entry<G: Gate>(
     table: &HotTable,
     seat: &mut TableSeat,
@@ -160,10 +162,12 @@ pub(crate) fn make_fork_of_cut<G: Gate>(
     })
 }
 
-/// Claims a node record and returns its number. `None` if each was found not free since the change began its claims.
+/// Claims a node record and returns its number. `None` if each was found not free since the change began its claims. `build.made` stays in
+/// either case.
 ///
-/// All claims of a change try each node record once at most, spare ones aside. Where none is left to try, each was found not free, or the
-/// change has claimed it. The states of the records in `build.made` are loaded then.
+/// All claims of a change try each node record once at most, spare ones aside, and each try takes at most two steps. Where none is left to
+/// try, each was found not free, or the change has claimed it. The states of the records in `build.made` are loaded then. In a table with
+/// one pass, which has claimed nothing yet, the first claim of a change finds a record if one is free.
 pub(crate) fn claim_node<G: Gate>(
     table: &HotTable,
     seat: &mut TableSeat,
@@ -190,8 +194,8 @@ pub(crate) fn claim_node<G: Gate>(
     None
 }
 
-/// Returns whether a node record is free beside those that the change has claimed. That record is not claimed, but left for removals.
-/// `false` if each node record was found not free since the change began its claims.
+/// Returns whether a node record was found free beside those that the change has claimed. That record is not claimed, but left for
+/// removals. `false` if each node record was found not free since the change began its claims. `build.made` stays.
 ///
 /// The last spare record is looked at first. Then the walk of the claims goes on, and the next claim begins with the record found. If none
 /// is found, the states of the records in `build.made` are loaded, too.
@@ -246,8 +250,8 @@ fn is_last_free<G: Gate>(
     table.load_state(seat, gate, Rec::Node(number)) == pack_state(Tag::Free)
 }
 
-/// Loads the state of each record in `made`, all of them records that this pass has made. The trace has each load as a failed claim, of a
-/// record that the pass itself holds.
+/// Loads the state of each record in `made`, all of them records that this pass has made. Each load is remembered as a failed step, which
+/// found the record to be the pass's own. So the failed steps of a refusal tell of each node record.
 fn load_states<G: Gate>(table: &HotTable, seat: &mut TableSeat, gate: &mut G, made: &[Rec])
     requires building { (news : List Made) × IsBuilding table.now seat.old made.now news }
     ensures goes { WorksOn table.now G.becomes (seat.old, gate.old) (seat.new, gate.new) }

@@ -57,7 +57,8 @@ pub(crate) fn add_leaf_to_words(words: &mut [u64; NODE_FIELDS], new: &NewLeaf<'_
     }
 }
 
-/// Does what [`add_leaf_to_words`] does, in the same words. Inline, so that it is compiled for each kind of head.
+/// Changes `words`, those of a node with leaves alone and room for one more, to those of the node with the leaf `new`, as
+/// [`add_leaf_to_words`] promises. Inline, so that it is compiled for each kind of head.
 #[inline(always)]
 fn add_leaf_beside(words: &mut [u64; NODE_FIELDS], new: &NewLeaf<'_>)
     requires takes { (node : NodeView) × AwaitsLeaf words.old node new.now × CanTakeLeaf node }
@@ -68,8 +69,9 @@ fn add_leaf_beside(words: &mut [u64; NODE_FIELDS], new: &NewLeaf<'_>)
     record_words::add_leaf(words, first, last, new.position, bit, new.number);
 }
 
-/// Returns the two sides of the first fork that the full node `node` has once the leaf `new` is added. One side is `node` as it is, exactly
-/// if `new.position` is before the first fork of `node`.
+/// Returns the two sides of the first fork that the full node `node` has once the leaf `new` is added. The search for `new.key` in `node`
+/// takes the slot `new.slot`. One side is `node` as it is, exactly if `new.position` is before the first fork of `node`. No side is higher
+/// than `node`.
 pub(crate) fn cut_with_leaf(node: &Node, new: &NewLeaf<'_>) -> Cut
     requires full { length node.now.entries ≡ MAX_ENTRIES }
     requires leads { spot new.now.key.now (piece node.now) ≡ new.now.slot }
@@ -116,7 +118,8 @@ pub(crate) fn add_fork(node: &mut Node, fork: &Fork<'_>)
 }
 
 /// Returns the two sides of the first fork that the full node `node` has once `fork` is in it. `fork` takes the place of the entry to which
-/// the search for `fork.key` leads. Neither side is `node` as it is.
+/// the search for `fork.key` leads. Both entries of `fork` are lower than `node`. Neither side is `node` as it is, and neither is higher
+/// than `node`.
 pub(crate) fn cut_with_fork(node: &Node, fork: &Fork<'_>) -> Cut
     requires full { length node.now.entries ≡ MAX_ENTRIES }
     requires tree { IsSubtrieOfTree (subtrie_with_fork fork.now (piece node.now)) }

@@ -35,8 +35,9 @@ use record_words::{MAX_ENTRIES, NODE_FIELDS, can_take_leaf, drop_entry, read_nod
 use rowex_core::Gate;
 use rowex_table::{HotTable, TableSeat};
 
-/// Makes and returns what replaces the locked node `number` when it gets `fork`: one entry, or a fork of two if the node was full. `None`
-/// if no node record was free: one that was made by then stays in `build.made`. The locked record stays as it is.
+/// Makes and returns what replaces the locked node `number` when it gets `fork`: one entry, or a fork of two if the node was full. No entry
+/// that is returned is higher than the node. `None` if no node record was free: one that was made by then stays in `build.made`. The locked
+/// record stays as it is. Beside the steps of claims, at most `level_steps` are made.
 fn raise_node_with_fork<G: Gate>(
     table: &HotTable,
     seat: &mut TableSeat,
@@ -82,8 +83,9 @@ pub(crate) struct LoadedNode {
     pub words: [u64; NODE_FIELDS],
 }
 
-/// Does what [`remake_node_with_leaf`] does, for any node, by way of a `Node` made of `loaded.words`. `None` if no node record was free:
-/// one that was made by then stays in `build.made`.
+/// Makes and returns what replaces the node `loaded` when it gets the leaf `new`, and whether the node stays, as [`remake_node_with_leaf`]
+/// promises. It serves any node, by way of a `Node` made of `loaded.words`. `None` if no node record was free: one that was made by then
+/// stays in `build.made`.
 fn remake_node_with_leaf_by_value<G: Gate>(
     table: &HotTable,
     seat: &mut TableSeat,
@@ -136,8 +138,8 @@ fn remake_node_with_leaf<G: Gate>(
 }
 
 /// Makes and returns what replaces the locked node `number`, the lowest of a span, when it gets the leaf `new`: one entry, or a fork of two
-/// if the node was full. The flag tells whether the node stays, as one side of that fork. `None` if no node record was free: one that was
-/// made by then stays in `build.made`.
+/// if the node was full. The flag tells whether the node stays, as one side of that fork. No entry that is returned is higher than the
+/// node. `None` if no node record was free: one that was made by then stays in `build.made`.
 fn raise_lowest_node_with_leaf<G: Gate>(
     table: &HotTable,
     seat: &mut TableSeat,
@@ -180,8 +182,9 @@ fn is_whole_node(half: &Half) -> bool
     }
 }
 
-/// Returns one entry for `risen`, which replaces a locked node. An entry stays itself, and a fork becomes a new node of two. `None` if no
-/// node record was free for that node. Inline, since mostly it is an entry already.
+/// Returns one entry for `risen`, which replaces a locked node. An entry stays itself, and a fork becomes a new node of two. That node is
+/// at most one higher than the higher of its entries. `None` if no node record was free for that node. Inline, since mostly it is an entry
+/// already.
 #[inline(always)]
 fn make_one_entry<G: Gate>(
     table: &HotTable,
@@ -211,8 +214,8 @@ fn make_one_entry<G: Gate>(
     }
 }
 
-/// What has risen to the node at index `level` of a way: `risen` takes its place, for the key of the search. It is to rise on to the node
-/// at `end`, which is `level` or less.
+/// What has risen to the node at index `level` of a way: `risen` takes that node's place, for the key of the search. It is to rise on to
+/// the node at index `end`, which is `level` or less.
 #[derive(Drop)]
 pub(crate) struct Rise<'a> {
     pub key: &'a Key,
@@ -242,9 +245,12 @@ fn risen_fork<'a>(rise: &Rise<'a>) -> Fork<'a>
     }
 }
 
-/// Returns the one entry that replaces the node at `rise.end` of `way`, when `rise.risen` replaces the node at `rise.level`. Where
-/// `rise.level` is above `rise.end` in number, `rise.risen` is a fork, which goes into the next node up the way. `None` if no node record
-/// was free: those made by then stay in `build.made`. Inline, since mostly the two nodes are one.
+/// Returns the one entry that replaces the node at `rise.end` of `way`, when `rise.risen` replaces the node at `rise.level`. If
+/// `rise.level` is the greater index, `rise.risen` is a fork, which goes into the next node up the way. The entry is at most one higher
+/// than the node at `rise.end`, and no higher if that node has fewer than 32 entries.
+///
+/// `None` if no node record was free: those made by then stay in `build.made`. Beside the steps of claims, `level_steps` are enough for
+/// each level above, and `node_steps` for the last record. Inline, since mostly the two nodes are one.
 #[inline(always)]
 fn raise_to_end<G: Gate>(
     table: &HotTable,
@@ -280,7 +286,8 @@ fn raise_to_end<G: Gate>(
 }
 
 /// Returns the one entry that takes the place of the span's topmost node, at `job.span.end`, when its lowest node gets the leaf `new`. The
-/// flag tells whether the lowest node stays as it is. `None` if no node record was free: those made by then stay in `build.made`.
+/// flag tells whether the lowest node stays as it is. The entry is at most one higher than the topmost node, and no higher if that has
+/// fewer than 32 entries. `None` if no node record was free: those made by then stay in `build.made`.
 pub(crate) fn raise_with_leaf<G: Gate>(
     table: &HotTable,
     seat: &mut TableSeat,
@@ -346,8 +353,9 @@ pub(crate) fn load_without_leaf<G: Gate>(
     drop_entry(words, step.slot)
 }
 
-/// Returns the entry for what is left of the locked node `step.number` without the leaf in `step.slot`. That is the only entry left, or it
-/// names a new record. `None` if no node record was free: none is made then. Some key's search leads to that leaf.
+/// Returns the entry for what is left of the locked node `step.number` without the leaf in `step.slot`, to which some key's search leads.
+/// That is the only entry left, or it names a new record. `None` if no node record was free: none is made then. In a table with one pass,
+/// which has claimed nothing yet, the first claim of a change finds a record if one is free.
 pub(crate) fn make_entry_without_leaf<G: Gate>(
     table: &HotTable,
     seat: &mut TableSeat,

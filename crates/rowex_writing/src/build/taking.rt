@@ -31,8 +31,11 @@ use rowex_reading::Found;
 use rowex_records::fill_node;
 use rowex_table::{HotTable, TableSeat};
 
-/// Makes what is left of the found leaf's node without the leaf, and returns the entry for that, which is to take the node's place. The
-/// error is `Full::Nodes` if no node record was free for what is left.
+/// Makes what is left of the found leaf's node without the leaf, and returns the entry for that, which is to take the node's place. Node
+/// and leaf are to be unlinked. The error is `Full::Nodes` if no node record was free for what is left.
+///
+/// In a table with one pass that has a free node record, there is no error. In a table with one pass, if a node record was outside the
+/// tree, one is after the change's store, too. The steps are at most `level_steps` + 1, and two for each node record tried.
 pub(crate) fn make_without_leaf<G: Gate>(
     table: &HotTable,
     seat: &mut TableSeat,
@@ -52,7 +55,8 @@ pub(crate) fn make_without_leaf<G: Gate>(
     remake_without_leaf(table, seat, gate, build, job)
 }
 
-/// Returns what takes the place of the found leaf, which is all of the tree: the root is to be empty. No record is made for that.
+/// Returns what takes the place of the found leaf, which is all of the tree: the root is to be empty. No record is made for that, so
+/// `build.made` is empty then.
 pub(crate) fn empty_root(build: &mut Build, job: &Job<'_>) -> Raised
     requires found { (leaf value : ℕ) × (job.now.found ≡ FoundLeaf leaf value None) }
     ensures made { build.new.made.items ≡ [] }
@@ -69,8 +73,9 @@ pub(crate) fn empty_root(build: &mut Build, job: &Job<'_>) -> Raised
     }
 }
 
-/// Makes what is left of the span's node without the found leaf, and returns the entry for that, which is to replace the node. The error is
-/// `Full::Nodes` if no node record was free for what is left.
+/// Makes what is left of the span's node without the found leaf, and returns the entry for that, which is to replace the node. The node and
+/// the leaf are to be unlinked. The error is `Full::Nodes` if no node record was free for what is left. In a table with one pass that has a
+/// free node record, there is no error. The steps are at most `level_steps` + 1, and two for each node record tried.
 fn remake_without_leaf<G: Gate>(
     table: &HotTable,
     seat: &mut TableSeat,
@@ -97,8 +102,9 @@ fn remake_without_leaf<G: Gate>(
     Ok(raised_for_leftover(job, entry))
 }
 
-/// Claims a node record for what the removal of `job` leaves of the lower node of its span, and returns the record's number. If what is
-/// left is merged with its sibling, the record is for the merged node. `None` if no node record was free.
+/// Claims a node record for what the removal of `job` leaves of its lower node, and returns the record's number. If what is left is merged
+/// with its sibling, the record is for the merged node. `None` if no node record was free. In a table with one pass that has a free one,
+/// the result is a number. The steps are at most two for each node record tried, and two for a spare one.
 pub(crate) fn claim_for_leftover<G: Gate>(
     table: &HotTable,
     seat: &mut TableSeat,
@@ -120,8 +126,8 @@ pub(crate) fn claim_for_leftover<G: Gate>(
     Some(number)
 }
 
-/// Fills the claimed record `left.number` with `left.words`. Returns what is to take the place of the lower node of the span of `job`: the
-/// entry of that record. `build.made` lists this record alone then.
+/// Fills the claimed record `left.number` with `left.words`, by at most two steps for each word. Returns what is to take the place of the
+/// node that loses the leaf: the entry of that record. Node and leaf are to be unlinked. `build.made` lists this record alone then.
 pub(crate) fn fill_leftover<G: Gate>(
     table: &HotTable,
     seat: &mut TableSeat,
@@ -149,7 +155,8 @@ pub(crate) fn fill_leftover<G: Gate>(
     raised_for_leftover(job, entry)
 }
 
-/// Returns what takes the place of the lower node of the span of `job`. `entry` is all that is left of that node without the found leaf.
+/// Returns what takes the place of the span's only node, which loses the found leaf of `job`. `entry` is all that is left of that node, and
+/// its record's number fits 32 bits. The node and the leaf are to be unlinked.
 pub(crate) fn raised_for_leftover(job: &Job<'_>, entry: Entry) -> Raised
     requires found { (leaf value : ℕ) × (job.now.found ≡ FoundLeaf leaf value None) }
     ensures same { (leaf value : ℕ) → job.now.found ≡ FoundLeaf leaf value None →

@@ -23,9 +23,9 @@ use rowex_core::{Gate, Spot};
 use rowex_reading::{Found, load_root};
 use rowex_table::{HotTable, TableSeat};
 
-/// Returns whether each node locked for the span of `job` still names what the search found there, and the root too, if the anchor is
-/// locked. Each is loaded once, from the top down, up to the first that names something else. If one does, another pass has made a change
-/// since the search loaded the root.
+/// Returns whether each node locked for the span of `job` still names what the search found there. If the anchor is locked, the root is
+/// checked, too. Each is loaded once, from the top down, up to the first that names something else. If one does, another pass has made a
+/// change since the search loaded the root. The pass keeps its locks and records.
 pub(crate) fn check_span<G: Gate>(
     table: &HotTable,
     seat: &mut TableSeat,
@@ -66,7 +66,8 @@ pub(crate) fn naming_entry(way: &[PathNode], found: Found, index: usize) -> Opti
     }
 }
 
-/// Returns whether the root is `root`, an empty one for `None`, by one load under the anchor's lock.
+/// Returns whether the root is `root`, an empty one for `None`, by one load under the anchor's lock. Let the pass be sure that the root was
+/// `root` in some version since version m. If the root is another one now, the pass has seen a change made after version m.
 pub(crate) fn root_stands<G: Gate>(
     table: &HotTable,
     seat: &mut TableSeat,
@@ -87,7 +88,7 @@ pub(crate) fn root_stands<G: Gate>(
 }
 
 /// Returns whether each node that is locked for the span of `job` has the entry that the search took in it. Each entry is loaded once, from
-/// the top down, up to the first that is another.
+/// the top down, up to the first that is another. If one is, another pass has made a change since the search loaded the root.
 fn entries_stand<G: Gate>(
     table: &HotTable,
     seat: &mut TableSeat,
@@ -111,7 +112,8 @@ fn entries_stand<G: Gate>(
     true
 }
 
-/// Returns whether the locked node `step.number` has `entry` in `step.slot`, by one load.
+/// Returns whether the locked node `step.number` has `entry` in `step.slot`, by one load. Let the pass be sure that `entry` stood there in
+/// some version since version m. If another entry stands there now, the pass has seen a change made after version m.
 pub(crate) fn entry_stands<G: Gate>(
     table: &HotTable,
     seat: &mut TableSeat,

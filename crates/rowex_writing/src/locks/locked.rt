@@ -31,8 +31,8 @@ struct NodeLoads {
 }
 
 /// Loads the words of the locked node `number`, all but its state, into `words`, which are 0 before. Words of the head that its kind
-/// doesn't use become all ones without a load. Words of slots are loaded in groups of `SLOT_GROUP`, as far as there are entries; those
-/// behind stay 0.
+/// doesn't use become all ones without a load, as they are in the record. Words of slots are loaded in groups of `SLOT_GROUP`, as far as
+/// there are entries; those behind stay 0.
 pub(crate) fn load_locked_node_words<G: Gate>(
     table: &HotTable,
     seat: &mut TableSeat,
@@ -176,7 +176,8 @@ pub(crate) fn load_sibling<G: Gate>(
     }
 }
 
-/// Returns the slot beside `slot` of the locked node of `loads`, as [`load_sibling`] does. Inline, so that it is compiled for each kind of
+/// Returns the slot beside `slot` of the locked node of `loads`, and the column of the fork between the two. `None` if the other side of
+/// the last fork on the path to `slot` has several slots. At most four rows are loaded. Inline, so that it is compiled for each kind of
 /// head.
 #[inline(always)]
 fn load_rows_beside<G: Gate>(
@@ -201,7 +202,8 @@ fn load_rows_beside<G: Gate>(
     find_sibling(slot, before, own, after, second)
 }
 
-/// Loads and returns the position of the column `column` of the locked node `number`; 65,535 if the node has no such column.
+/// Loads and returns the position of the column `column` of the locked node `number`; 65,535 if the node has no such column. At most three
+/// words are loaded: the numbers, the positions and the masks.
 pub(crate) fn load_position<G: Gate>(
     table: &HotTable,
     seat: &mut TableSeat,
@@ -271,7 +273,7 @@ fn load_slot_group<G: Gate>(
     }
 }
 
-/// Loads the words of the locked node `number`, and returns that node as a value.
+/// Loads the words of the locked node `number`, at most `NODE_FIELDS`, and returns that node as a value.
 pub(crate) fn read_locked_node<G: Gate>(
     table: &HotTable,
     seat: &mut TableSeat,

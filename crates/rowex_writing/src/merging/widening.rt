@@ -1,4 +1,4 @@
-//! Locks beyond those of a removal's span: of the sibling of its lower node, and of what names its upper node.
+//! Locks that a merge needs beside those of its removal: of the lower node's sibling, and of what names the upper node.
 
 ghost use Rattle.std.specs.Prelude.{◌≡◌, ◌<◌, ◌≤◌, ◌+◌, ◌-◌, ◌∷◌, [], ℕ, List, true, false, None, Some, IsSome, length};
 ghost use Rattle.tries.specs.Place.{entry_at};
@@ -27,9 +27,12 @@ use insert_cases::PathNode;
 use rowex_core::{Gate, Target};
 use rowex_table::{HotTable, TableSeat};
 
-/// Locks node `number`, the sibling of the lower node of a removal's span. Then it locks what names the upper node, and checks that the
-/// upper node is still named there. Each lock is tried once at most. Returns whether both are locked. Neither stays locked if `number` is a
-/// node near the span ([`is_near_span`]), a lock is refused, or something else is named.
+/// Locks node `number`, the sibling of the node that loses the leaf. Then it locks what names the upper node, in which both stand, and
+/// checks that the upper node is still named there. Returns whether both are locked. Neither stays locked if `number` is a node near the
+/// span ([`is_near_span`]), a lock is refused, or something else is named.
+///
+/// Each lock is tried once at most, and at most five steps are made. The pass's other locks and its records stay. In a table with one pass,
+/// if a node record was outside the tree, one is at the end, too.
 pub(crate) fn lock_for_merge<G: Gate>(
     table: &HotTable,
     seat: &mut TableSeat,
@@ -60,7 +63,8 @@ pub(crate) fn lock_for_merge<G: Gate>(
     false
 }
 
-/// Returns whether `number` is that of a node of the span of `job`, or of one of the two nodes above the span on the path.
+/// Returns whether `number` is that of a node of the span of `job`, or of one of the two nodes above the span. These nodes are locked
+/// already, or are to be locked next, and no lock is tried twice.
 fn is_near_span(job: &Job<'_>, number: u32) -> bool
     requires within { (job.now.span.end ≤ job.now.span.len) × (job.now.span.len ≤ length job.now.way.now) }
     ensures near { result ≡ true → ¬ IsFarFromSpan job.now.way.now job.now.span number }
@@ -74,8 +78,12 @@ fn is_near_span(job: &Job<'_>, number: u32) -> bool
     false
 }
 
-/// Locks what names the upper node of a removal's span: the node above it, or the anchor. Checks that the upper node is still named there.
-/// Returns whether the lock is held. If the lock is refused, or something else is named, the locks are as before.
+/// Locks what names the upper node of a removal, which is the one above its span: the node above that, or the anchor. Checks that the upper
+/// node is still named there. Returns whether the lock is held. If the lock is refused, or something else is named, the locks are as
+/// before.
+///
+/// The pass keeps its records. At most three steps are made: the try, a load and an unlock. In a table with one pass, if a node record was
+/// outside the tree, one is at the end, too.
 fn lock_target_above<G: Gate>(
     table: &HotTable,
     seat: &mut TableSeat,
@@ -103,8 +111,9 @@ fn lock_target_above<G: Gate>(
     lock_node_with_entry(table, seat, gate, job.way[end - 1], named)
 }
 
-/// Locks the anchor, and checks that the root is `root`. Returns whether the anchor is locked. If the lock is refused, or the root is
-/// another, the locks are as before.
+/// Locks the anchor, and checks that the root is `root`, an empty one for `None`. Returns whether the anchor is locked. If the lock is
+/// refused, or the root is another, the locks are as before. The pass keeps its records, and makes at most three steps. In a table with one
+/// pass, if a node record was outside the tree, one is at the end, too.
 fn lock_root<G: Gate>(
     table: &HotTable,
     seat: &mut TableSeat,
@@ -132,7 +141,8 @@ fn lock_root<G: Gate>(
 }
 
 /// Locks node `step.number`, and checks that its entry in `step.slot` is `entry`. Returns whether the node is locked. If the lock is
-/// refused, or the entry is another, the locks are as before.
+/// refused, or the entry is another, the locks are as before. The pass keeps its records, and makes at most three steps. In a table with
+/// one pass, if a node record was outside the tree, one is at the end, too.
 fn lock_node_with_entry<G: Gate>(
     table: &HotTable,
     seat: &mut TableSeat,
@@ -162,7 +172,7 @@ fn lock_node_with_entry<G: Gate>(
     false
 }
 
-/// Unlocks node `number`, which the pass has locked last.
+/// Unlocks node `number`, which the pass has locked last, by one step. The pass's other locks and its records stay.
 fn unlock_last_node<G: Gate>(table: &HotTable, seat: &mut TableSeat, gate: &mut G, number: u32)
     requires own { IsSeatOf table.now seat.old }
     requires range { number < table.now.layout.nodes }
@@ -175,7 +185,8 @@ fn unlock_last_node<G: Gate>(table: &HotTable, seat: &mut TableSeat, gate: &mut 
     table.unlock(seat, gate, Target::Node(number));
 }
 
-/// Unlocks the node at `end - 1` of `way`, or the anchor if `end` is 0: the last lock that the pass has taken.
+/// Unlocks the node at `end - 1` of `way`, or the anchor if `end` is 0, by one step. That is the last lock that the pass has taken. The
+/// pass's other locks and its records stay.
 fn unlock_target_above<G: Gate>(
     table: &HotTable,
     seat: &mut TableSeat,
@@ -200,7 +211,9 @@ fn unlock_target_above<G: Gate>(
     }
 }
 
-/// Unlocks what [`lock_for_merge`] has locked: first what names the upper node of the span of `job`, then node `number`.
+/// Unlocks what [`lock_for_merge`] has locked, by two steps: first what names the upper node of the removal `job`, then node `number`. The
+/// locks are then those from before, and the pass's records stay. In a table with one pass, if a node record was outside the tree, one is
+/// at the end, too.
 pub(crate) fn release_merge_locks<G: Gate>(
     table: &HotTable,
     seat: &mut TableSeat,

@@ -19,7 +19,8 @@ use rowex_records::give_up_records;
 use rowex_table::{HotTable, TableSeat};
 
 /// Loads the epoch, straight after the publish of `store`, and marks with it the records `gone`, which that store has unlinked. Then it
-/// unlocks the nodes `store.kept`, the first one first, and the anchor, if the root was stored. The pass has no record and no lock then.
+/// unlocks the nodes `store.kept`, the first one first, and the anchor, if the root was stored. The pass has no record and no lock then,
+/// and has seen no further change. Each record and node takes one step, and so do the epoch and the anchor.
 #[inline(always)]
 pub(crate) fn retire_and_unlock<G: Gate>(
     table: &HotTable,
@@ -48,7 +49,7 @@ pub(crate) fn retire_and_unlock<G: Gate>(
 }
 
 /// Unlocks the nodes `kept`, the first one first, and the anchor, if `anchor` says that it is locked. These are all that the pass has
-/// locked.
+/// locked, and it has no record: it is at rest then. It has seen no further change.
 pub(crate) fn unlock_kept<G: Gate>(
     table: &HotTable,
     seat: &mut TableSeat,
@@ -73,7 +74,8 @@ pub(crate) fn unlock_kept<G: Gate>(
 }
 
 /// Takes back a change that was not published: gives up the records `held`, which are all that the pass has. Then it unlocks the nodes of
-/// the span of `job` and the one above them, or the anchor if the span goes up to the root. These are all that the pass has locked.
+/// the span of `job` and the one above them. If the span goes up to the root, it unlocks the anchor in place of that node. These are all
+/// that the pass has locked. Each record and each lock takes one step.
 pub(crate) fn release_records_and_locks<G: Gate>(
     table: &HotTable,
     seat: &mut TableSeat,
@@ -96,7 +98,8 @@ pub(crate) fn release_records_and_locks<G: Gate>(
     }
 }
 
-/// Marks the records `recs`, all that the pass has unlinked, with `epoch`, which the pass has just loaded.
+/// Marks the records `recs`, all that the pass has unlinked, with `epoch`, which the pass has just loaded, by one step each. The pass has
+/// no record then. Its locks, and the changes that it has seen, stay.
 #[inline(always)]
 fn mark_records<G: Gate>(
     table: &HotTable,

@@ -34,7 +34,7 @@ use rowex_core::{Gate, Rec, Spot};
 use rowex_records::make_ready;
 use rowex_table::{HotTable, TableSeat};
 
-/// Makes the records in `made`, all those of a change, ready to be linked, the last one first. `made` is empty then.
+/// Makes the records in `made`, all those of a change, ready to be linked, the last one first, by one step each. `made` is empty then.
 #[inline(always)]
 fn ready_records<G: Gate>(
     table: &HotTable,
@@ -52,7 +52,8 @@ fn ready_records<G: Gate>(
     }
 }
 
-/// Returns the word of `entry`, or that of an empty root for `None`. `entry` has a word: the height of a node is at least 1.
+/// Returns the word of `entry`, or that of an empty root for `None`. `entry` has a word: the height of a node is at least 1, and number and
+/// height fit.
 fn stored_word(entry: Option<Entry>) -> u64
     requires { HasEntryWord (entry_of (entry_word entry)) }
     ensures { result ≡ entry_word entry }
@@ -66,6 +67,11 @@ fn stored_word(entry: Option<Entry>) -> u64
 
 /// Publishes the change of `job`: makes the records in `build.made` ready, stores the word of `raised.entry` above the span, and marks the
 /// records that the store unlinks. Then it unlocks the nodes that stay, the one above the span first, and the anchor, if that is locked.
+/// The pass has no record and no lock then.
+///
+/// At most one step is made for each new record, for the unlinked leaf and for each lock, and three more. In a table with one pass a node
+/// record is outside the tree at the end, if one was free before, or a node is unlinked. The same holds if one was outside before, and no
+/// node is linked.
 pub(crate) fn publish_change<G: Gate>(
     table: &HotTable,
     seat: &mut TableSeat,
@@ -97,7 +103,11 @@ pub(crate) fn publish_change<G: Gate>(
 }
 
 /// Makes the one store of a change: makes the records in `build.made` ready, stores the word of `store.entry`, and marks the records in
-/// `build.gone`, which the store unlinks. Then it unlocks the nodes `store.kept`, and the anchor, if the root is stored.
+/// `build.gone`, which the store unlinks. Then it unlocks the nodes `store.kept`, and the anchor, if the root is stored. Each of these
+/// records and nodes takes one step, and three are for the store, the epoch and the anchor.
+///
+/// In a table with one pass a node record is outside the tree at the end, if one was free before, or a node is unlinked. The same holds if
+/// one was outside before, and no node is linked.
 #[inline(always)]
 pub(crate) fn publish_entry<G: Gate>(
     table: &HotTable,
@@ -119,7 +129,8 @@ pub(crate) fn publish_entry<G: Gate>(
     retire_and_unlock(table, seat, gate, build.gone.as_slice(), store);
 }
 
-/// Sets `build.gone` to the records that a change unlinks: those of the nodes `steps`, and the leaf record `leaf`, if there is one.
+/// Sets `build.gone` to the records that a change unlinks: those of the nodes `steps`, at most 2,160, and the leaf record `leaf`, if there
+/// is one. `build.made` stays.
 #[inline(always)]
 fn list_gone_records(build: &mut Build, steps: &[PathNode], leaf: Option<u32>)
     requires { length steps.now ≤ 2160 }
@@ -136,7 +147,7 @@ fn list_gone_records(build: &mut Build, steps: &[PathNode], leaf: Option<u32>)
 }
 
 /// Returns the locked nodes of `way` that a change keeps. These are the one above `span`, if there is one, and the span's lowest, if `low`
-/// is the index of that. If the lowest goes too, `low` is `span.len`.
+/// is its index. If the lowest node is unlinked as well, `low` is `span.len`.
 #[inline(always)]
 fn list_kept_nodes(way: &[PathNode], span: Span, low: usize) -> ArrayVec<PathNode, 2>
     requires { (span.end ≤ low) × (low ≤ span.len) × (span.len ≤ low + 1) × (span.len ≤ length way.now) }

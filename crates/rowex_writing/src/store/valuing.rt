@@ -22,7 +22,8 @@ use rowex_reading::Found;
 use rowex_table::{HotTable, TableSeat};
 
 /// Returns what the search of `job` found, with the value that the leaf has now, if the leaf has the key. The value is loaded under the
-/// lock of what names the leaf. So it is the key's value after all changes that the pass has seen.
+/// lock of what names the leaf. So it is the key's value after all changes that the pass has seen. No step is made if no leaf has the key.
+/// The pass keeps its locks and records.
 pub(crate) fn load_found_again<G: Gate>(
     table: &HotTable,
     seat: &mut TableSeat,
@@ -80,7 +81,8 @@ pub(crate) fn is_unchanged<G: Gate>(
 }
 
 /// Stores the value of `job` to the leaf that has the key, and unlocks all that is locked. That store is the change. No record is claimed,
-/// and none is unlinked.
+/// and none is unlinked, so the epoch isn't loaded. At most one step is made for each lock, and two more. In a table with one pass, if a
+/// node record was outside the tree, one is at the end, too.
 pub(crate) fn store_value<G: Gate>(
     table: &HotTable,
     seat: &mut TableSeat,
