@@ -10,14 +10,15 @@ use Rattle.rowex_table.specs.Seats.{SeatView}
 use Rattle.rowex_table.specs.Traces.{OthersStepOn, RunBeginsWith}
 use Rattle.rowex_writing.specs.locks.Others.{HoldsLock, HasMetOther}
 
--- In this core the pass holds no lock and no pin, and no record that it has claimed or unlinked.
+-- In this core the pass holds nothing: no lock of a node or of the anchor, no record that it has claimed or unlinked, and no pin.
 pub record HoldsNone (core : Core) (pass : ℕ) : Type 0 where
   pub locks : ¬ (HoldsLock core pass)
   pub own : (rec : Rec) → holder_of (core.fate rec) ≢ Some pass
   pub pin : core.pins pass ≡ None
 
--- A call of the pass was alone, from its seat `old` to its seat `new`. When the call began, the steps `before` had been made, and no other
--- pass held a lock, a pin or a record. All steps of the table behind these are the pass's own.
+-- A call of the pass was alone, from its seat `old` to its seat `new`. When the call began, the steps `before` had been made. These are
+-- what the pass knew at `old`, and steps of others. In the core after them no other pass held a lock, a pin or a record. All steps of the
+-- table behind them are the pass's own.
 pub record RunsAlone (layout : Layout) (pass : ℕ) (old new : SeatView) : Type 0 where
   pub before : List Event
   pub others : OthersStepOn pass old.trace before
@@ -28,9 +29,9 @@ pub record RunsAlone (layout : Layout) (pass : ℕ) (old new : SeatView) : Type 
   pub until : new.trace ≡ before ++ own
   pub each : All (λ event. event.pass ≡ pass) own
 
--- Another pass was in the way of a call of the pass of this number, from its seat `old` to its seat `new`. The call had made its first
--- step, and then set its pin in the core `pinned`. At a moment since then the other pass had a lock, or had made a change that `pinned`
--- doesn't have.
+-- Another pass was in the way of a call of pass `number`, from its seat `old` to its seat `new`. `at` is a moment of that pass at or behind
+-- the call's first step, and `pinned` the core then. Between `at` and `new` the other pass had a lock, or had made a change that `pinned`
+-- doesn't have. That the pass set its pin at that moment is not said here.
 pub record HasBeenHindered (layout : Layout) (number : ℕ) (old new : SeatView) : Type 0 where
   pub before : List Event
   pub first : Event

@@ -33,8 +33,8 @@ abbrev pub got : Option ℕ → Reply
 got None = Absent
 got (Some value) = Value value
 
--- A call has loaded the root. The front of its pass has only grown, by changes of the index's passes, and begins with what the last load of
--- the root showed. That load was made in this call.
+-- A call has loaded the root. The front of its pass has only grown since `old`, and all its changes are by passes of the index. The last
+-- load of the root was in this call: it showed all that the pass had seen at `old`, and the pass still knows what it showed.
 pub record GoesOn (layout : Layout) (old new : PassView) : Type 0 where
   pub number : new.number ≡ old.number
   pub front : BeginsWith new.front old.front
@@ -43,8 +43,8 @@ pub record GoesOn (layout : Layout) (old new : PassView) : Type 0 where
   pub now : (old.steps ≤ new.fresh.step) × (new.fresh.step < new.steps)
   pub makers : AreByPasses layout new.front
 
--- The call was answered with this reply, and is noted last. All calls of the pass are legal. The note's place is at least the length of the
--- front at the last load of the root, and at most its length now.
+-- The call was answered with this reply, and is noted last, behind the notes from before. All calls of the pass are legal. The note's place
+-- is at least the length of the front at the last load of the root, and at most its length now.
 pub record IsNoted (layout : Layout) (old new : PassView) (call : Call) (reply : Reply) : Type 0 where
   pub on : GoesOn layout old new
   pub place : ℕ
@@ -53,20 +53,21 @@ pub record IsNoted (layout : Layout) (old new : PassView) (call : Call) (reply :
   pub high : place ≤ length new.front
   pub legal : LegalCalls new.front new.number new.notes
 
--- the range from one key to another, of which a scan lists at most `limit` pairs
+-- the range from one key to another, both of which belong to it, and of which a scan lists at most `limit` pairs
 abbrev pub range_from : (from upto : Key) (limit : ℕ) → Range
 range_from from upto limit = record { from = from; upto = upto; limit = limit }
 
--- A scan was answered, and adds no note. It is lawful while the front grew from the last load of the root to the scan's end. `IsLawful` is
--- the law of scans upwards, or that of scans downwards.
+-- A scan was answered, and adds no note. The law `IsLawful`, of scans upwards or downwards, holds of it between two fronts: that at the
+-- last load of the root, and that at the scan's end. All calls of the pass are legal.
 pub record IsScannedBy (IsLawful : ScanLaw) (layout : Layout) (old new : PassView) (range : Range) (scan : Scan) : Type 0 where
   pub on : GoesOn layout old new
   pub notes : new.notes ≡ old.notes
   pub lawful : IsLawful new.fresh.front new.front range.from range.upto range.limit scan
   pub legal : LegalCalls new.front new.number new.notes
 
--- A scan into a list was answered with these pairs, and with `more`, which says whether there is a further key. It adds no note. A scan
--- with these pairs is lawful while the front grew from the last load of the root to the scan's end.
+-- A scan into a list was answered with these pairs, and with `more`, which says whether there is a further key. It adds no note. The law
+-- `IsLawful` holds of a scan with these pairs, from the front at the last load of the root to that at the scan's end. All calls of the pass
+-- are legal.
 pub record IsListedBy (IsLawful : ScanLaw) (layout : Layout) (old new : PassView) (range : Range) (pairs : List (Key × ℕ)) (more : Bool) : Type 0 where
   pub on : GoesOn layout old new
   pub notes : new.notes ≡ old.notes
@@ -75,26 +76,27 @@ pub record IsListedBy (IsLawful : ScanLaw) (layout : Layout) (old new : PassView
   pub legal : LegalCalls new.front new.number new.notes
 
 -- A scan into a list was refused memory after these pairs, which are fewer than its limit. They are what a scan with their number as its
--- limit would list.
+-- limit would list, with a further key behind.
 abbrev pub IsListedInPartBy : (IsLawful : ScanLaw) (layout : Layout) (old new : PassView) (range : Range) (pairs : List (Key × ℕ)) → Type 0
 IsListedInPartBy IsLawful layout old new range pairs =
     (length pairs < range.limit) × IsListedBy IsLawful layout old new (limited range (length pairs)) pairs true
 
--- a scan of the keys from `from` to `upto` with limit 1 found the pair `found`, or none
+-- a scan of the keys from `from` to `upto` with limit 1, of which the law `IsLawful` holds, found the pair `found`, or none
 abbrev pub IsFoundBy : (IsLawful : ScanLaw) (layout : Layout) (old new : PassView) (from upto : Key) (found : Option (Key × ℕ)) → Type 0
 IsFoundBy IsLawful layout old new from upto found =
     (more : Bool) × IsListedBy IsLawful layout old new (range_from from upto 1) (option_to_list found) more
 
--- A scan upwards was answered, as `IsScannedBy` says.
+-- A scan upwards was answered, as `IsScannedBy` says: it adds no note, and is lawful since the last load of the root.
 abbrev pub IsScanned : (layout : Layout) (old new : PassView) (range : Range) (scan : Scan) → Type 0
 IsScanned = IsScannedBy IsLawfulScan
 
--- A scan upwards into a list was answered, with whether there is a further key, as `IsListedBy` says.
+-- A scan upwards into a list was answered, as `IsListedBy` says, with whether there is a further key. It adds no note, and is lawful since
+-- the last load of the root.
 abbrev pub IsListed : (layout : Layout) (old new : PassView) (range : Range) (pairs : List (Key × ℕ)) (more : Bool) → Type 0
 IsListed = IsListedBy IsLawfulScan
 
--- A range was counted as `number` pairs, which is at most the limit. That adds no note. Some scan of the range with so many pairs would be
--- lawful.
+-- A range was counted as `number` pairs, which is at most the limit. That adds no note. Some scan upwards of the range with so many pairs,
+-- whatever these are, would be lawful since the last load of the root.
 pub record IsRangeCounted (layout : Layout) (old new : PassView) (range : Range) (number : ℕ) : Type 0 where
   pub few : number ≤ range.limit
   pub pairs : List (Key × ℕ)
@@ -103,7 +105,7 @@ pub record IsRangeCounted (layout : Layout) (old new : PassView) (range : Range)
   pub listed : IsListed layout old new range pairs more
 
 -- The values of a range were listed, at most as many as the limit, and `more` says whether there is a further one. That adds no note. They
--- are the values of the pairs of a scan of the range that would be lawful.
+-- are the values, in order, of a scan upwards of the range that would be lawful since the last load of the root.
 pub record AreValuesListed (layout : Layout) (old new : PassView) (range : Range) (values : List ℕ) (more : Bool) : Type 0 where
   pub few : length values ≤ range.limit
   pub pairs : List (Key × ℕ)
@@ -111,17 +113,17 @@ pub record AreValuesListed (layout : Layout) (old new : PassView) (range : Range
   pub listed : IsListed layout old new range pairs more
 
 -- A list of a range's values was refused memory after these values, which are fewer than its limit. They are what a list with their number
--- as its limit would have.
+-- as its limit would have, with a further one behind.
 abbrev pub AreValuesListedInPart : (layout : Layout) (old new : PassView) (range : Range) (values : List ℕ) → Type 0
 AreValuesListedInPart layout old new range values =
     (length values < range.limit) × AreValuesListed layout old new (limited range (length values)) values true
 
--- A scan upwards into a list was refused memory after these pairs, as `IsListedInPartBy` says.
+-- A scan upwards into a list was refused memory after these pairs, fewer than its limit, as `IsListedInPartBy` says.
 abbrev pub IsListedInPart : (layout : Layout) (old new : PassView) (range : Range) (pairs : List (Key × ℕ)) → Type 0
 IsListedInPart = IsListedInPartBy IsLawfulScan
 
--- A scan whose limit isn't 0 was refused memory for a pair that it had found. Some key of its range was in the index in a version since the
--- scan's last load of the root.
+-- A scan whose limit isn't 0 was refused memory for a pair that it had found. So some key of its range was in the index between the scan's
+-- last load of the root and its end.
 pub record HasFoundPair (layout : Layout) (old new : PassView) (range : Range) : Type 0 where
   pub on : GoesOn layout old new
   pub room : 0 < range.limit
@@ -130,7 +132,8 @@ pub record HasFoundPair (layout : Layout) (old new : PassView) (range : Range) :
   pub within : IsTrue (is_within range.from range.upto key)
   pub held : IsHeldBetween new.fresh.front new.front key value
 
--- A call was refused, or asked nothing of the map. It adds no note. The front has only grown, and all calls of the pass are legal.
+-- A call was refused, or asked nothing of the map. It adds no note. The front has only grown, all its changes are by passes of the index,
+-- and all calls of the pass are legal.
 pub record IsUnnoted (layout : Layout) (old new : PassView) : Type 0 where
   pub number : new.number ≡ old.number
   pub front : BeginsWith new.front old.front
@@ -138,8 +141,8 @@ pub record IsUnnoted (layout : Layout) (old new : PassView) : Type 0 where
   pub legal : LegalCalls new.front new.number new.notes
   pub makers : AreByPasses layout new.front
 
--- The pass has seen a change that another pass of the index has made since a pin of this call. It is the pin under which the call last
--- loaded the root.
+-- The pass has seen a change that another pass of the index made, after the pin under which this call last loaded the root. That load was
+-- in this call.
 pub record IsOvertaken (layout : Layout) (old new : PassView) : Type 0 where
   pub loaded : old.steps ≤ new.fresh.step
   pub change : Change
@@ -149,23 +152,24 @@ pub record IsOvertaken (layout : Layout) (old new : PassView) : Type 0 where
   pub another : change.pass ≢ new.number
   pub below : change.pass < layout.passes
 
--- Another pass of the index was in the way of the call (`met`). It had locked or retired a record that the call tried to lock. Or it had
--- made a change since the pin under which the call last loaded the root. `hindered` says the same by the steps of the table.
+-- Another pass of the index was in the way of the call. It had locked or unlinked what the call tried to lock (`met`). Or it had made a
+-- change since the pin under which the call last loaded the root. `hindered` says it by the steps of the table: in a core of this call
+-- another pass had a lock, or had made a change since.
 pub record HasConflict (layout : Layout) (old new : PassView) : Type 0 where
   pub pass : new.number < layout.passes
   pub met : HasMetTaken layout new.number old.steps new.failed ⊎ IsOvertaken layout old new
   pub hindered : HasBeenHindered layout new.number old.seat new.seat
 
--- Why a call was refused. If it was busy, another pass was in its way. If it was full, it found no node record free, or no leaf record with
--- room for its key. None of these leaf records was the pass's own. Of the node records, at most two for each node that it had locked were,
--- and one more.
+-- Why a call was refused. Busy: another pass was in its way. Full: it found each node record not free, or each leaf record with room for
+-- its key, at that record's turn. None of these leaf records was its own. Of the node records those in `own` were, at most two for each
+-- node that it had locked, and one.
 abbrev pub IsCause : (layout : Layout) (key : Key) (old new : PassView) (fault : TryFault) → Type 0
 IsCause layout key old new Busy = HasConflict layout old new
 IsCause layout key old new FullNodes = (own : List Rec) × LacksNodes layout new.number new.failed old.steps own
 IsCause layout key old new FullLeaves = LacksLeaves layout key new.number new.failed old.steps
 
--- After the first `place` changes of the front the key had the value `held`, or was absent. Among these changes are all that the pass had
--- seen before the call. So are all that were made before the pin of its last load of the root.
+-- After the first `place` changes of the front the key had the value `held`, or was absent. All that the pass had seen before the call are
+-- among these changes. So are all that were made before the pin of its last load of the root.
 pub record WasFound (key : Key) (held : Option ℕ) (old new : PassView) : Type 0 where
   pub place : ℕ
   pub begun : length old.front ≤ place
@@ -182,7 +186,8 @@ MayTake (Remove key) old new = (value : ℕ) × WasFound key (Some value) old ne
 MayTake (RemoveIf key expected) old new = WasFound key (Some expected) old new
 MayTake call old new = ⊥
 
--- The call was refused: it has changed nothing, and adds no note. It was full only if it may take a record.
+-- The call was refused with this fault: it has changed nothing, and adds no note. It was full only if it may take a record, by what its
+-- search found (`MayTake`).
 pub record IsRefused (layout : Layout) (call : Call) (old new : PassView) (fault : TryFault) : Type 0 where
   pub unnoted : IsUnnoted layout old new
   pub full : IsFullFault fault → MayTake call old new
@@ -192,7 +197,7 @@ pub record IsRefusedFor (layout : Layout) (call : Call) (old new : PassView) (fa
   pub refused : IsRefused layout call old new fault
   pub cause : IsCause layout (key_of call) old new fault
 
--- the fault of a try that found no record of this kind free
+-- the fault of a call that found no record of this kind free
 abbrev pub fault_of : Full → TryFault
 fault_of Nodes = FullNodes
 fault_of Leaves = FullLeaves
@@ -209,7 +214,8 @@ MayRefuse (Remove key) FullLeaves = ⊥
 MayRefuse (RemoveIf key expected) FullLeaves = ⊥
 MayRefuse call fault = Unit {0}
 
--- the call may find no record of this kind free
+-- the call may find no record of this kind free, and be refused for that: no get, exchange or addition may, and no removal for want of
+-- leaves
 abbrev pub MayLack : (call : Call) (full : Full) → Type 0
 MayLack call full = MayRefuse call (fault_of full)
 

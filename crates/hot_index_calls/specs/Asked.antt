@@ -22,8 +22,8 @@ use Rattle.hot_index_calls.specs.Traces.{HasEnded, IsAttempt}
 abbrev pub IsIdle : (table : TableView) (seat : SeatView) → Type 0
 IsIdle table seat = IsSeatOf table seat × IsSettled seat.known
 
--- The call has ended: its pass is between two calls again, and has loaded the root in the call. The call was answered and noted, or
--- refused.
+-- The call has ended: its pass is between two calls again, and has loaded the root in the call. The call was answered and noted, or refused
+-- for a cause. A removal lacks no leaf record.
 pub record HasReplied (table : TableView) (call : Call) (result : Result Reply TryFault) (old new : SeatView) : Type 0 where
   pub idle : IsIdle table new
   pub noted : IfOk result (IsNoted table.layout (pass_of old) (pass_of new) call)
@@ -31,22 +31,22 @@ pub record HasReplied (table : TableView) (call : Call) (result : Result Reply T
   pub leafless : LacksNoLeaf FullLeaves call result
   pub loaded : old.known.steps ≤ new.known.fresh.step
 
--- Let the call be refused for want of a node record. It found each node record not free when the record's turn came. The pass's own among
--- them were the node records of `made`.
+-- If the call was refused for want of a node record, it found each node record not free when that record's turn came. The pass's own among
+-- them were the node records of `made`. Of another result nothing is said.
 abbrev pub HasLacked : (table : TableView) (made : List Rec) (result : Result Reply TryFault) (old new : SeatView) → Type 0
 HasLacked table made result old new =
     result ≡ Err FullNodes → LacksNodes table.layout new.known.pass new.known.failed old.known.steps (nodes_among made)
 
 -- The pass has made a call with this result, by steps of which `Are` holds, and then one that clears its pin. With this last step comes the
--- call's note, if the call was answered.
+-- call's note, if the call was answered. The pass is between two calls again.
 pub record HasAsked {G : Type 0} (table : TableView) (becomes : G → Event → G → Type 0) (Are : SeatView × G → SeatView × G → List Act → Type 0)
     (call : Call) (result : Result Reply TryFault) (old new : SeatView × G) : Type 0 where
   pub replied : HasReplied table call result old.0 new.0
   pub ended : HasEnded table becomes (Are old new) (change_notes call result) old new
   pub later : old.0.known.steps ≤ new.0.known.steps
 
--- The pass has made an attempt that does nothing: it has set its pin and cleared it. That is three steps. All else that it knows stays the
--- same.
+-- The pass has made an attempt of three steps that does nothing: it has loaded the epoch, set its pin, and cleared it. It is between two
+-- calls again. Its notes, its failed steps and what its last load of the root showed are as before. It may have seen more changes.
 pub record HasRested {G : Type 0} (table : TableView) (becomes : G → Event → G → Type 0) (old new : SeatView × G) : Type 0 where
   pub idle : IsIdle table new.0
   pub unnoted : IsUnnoted table.layout (pass_of old.0) (pass_of new.0)

@@ -34,11 +34,13 @@ use Rattle.hot_index_calls.specs.Traces.{HasMadeGetSteps, HasMadeScanSteps, HasM
 abbrev pub IsOutcome : (asked : Call) (result : Result Reply TryFault) (index : TableView) (old new : PassView) → Type 0
 IsOutcome asked result index old new = MatchResult result (IsNoted index.layout old new asked) (IsRefused index.layout asked old new)
 
--- if the call was refused, the fault has a cause, as `IsCause` says
+-- if the call was refused, its fault has a cause, as `IsCause` says; of an answered call nothing is said
 abbrev pub HasCause : (asked : Call) (result : Result Reply TryFault) (index : TableView) (old new : PassView) → Type 0
 HasCause asked result index old new = IfErr result (IsCause index.layout (key_of asked) old new)
 
--- What a change that doesn't wait ensures: one clause a field. `leafless` says that a removal lacks no leaf record.
+-- What a change that doesn't wait ensures. The pass stays the index's (`own`). The call was answered and noted, or refused, with nothing
+-- changed (`call`), and a fault has a cause (`cause`). A removal lacks no leaf record (`leafless`). The steps are bounded (`made`). In an
+-- index of one pass a removal finds a node record, if one was outside the tree, and leaves one there (`room`).
 pub record IsTried {G : Type 0} (asked : Call) (result : Result Reply TryFault) (index : TableView) (becomes : G → Event → G → Type 0)
     (old new : PassView × G) : Type 0 where
   pub own : Owns index new.0
@@ -54,20 +56,23 @@ GetsOr (Get key) Gets Changes = Gets
 GetsOr asked Gets Changes = Changes
 
 -- The steps of a call that doesn't wait. A get makes those of a get, and a change those of its attempts and rounds. Their number is
--- bounded, and the gate was told each.
+-- bounded, the gate was told each, and the last load of the root showed all changes made by then.
 abbrev pub GetsOrMakes : {G : Type 0} → (asked : Call) (result : Result Reply TryFault) (index : TableView)
     (becomes : G → Event → G → Type 0) (old new : PassView × G) → Type 0
 GetsOrMakes asked result index becomes old new =
     GetsOr asked (HasMadeGetSteps index becomes old new) (HasMadeChangeSteps index becomes asked result old new)
 
--- A change was tried once. If it found no record free, all records were counted after the try, and the result is what this count says.
+-- A change was tried once, without waiting. If it was answered, or found another pass in its way, no step follows. If it found no record
+-- free, all records were counted, and the result is what this count says. But a removal with several passes may be held back without a
+-- count.
 pub record IsTriedAndCounted {G : Type 0} (asked : Call) (result : Result Reply Refusal) (index : TableView) (becomes : G → Event → G → Type 0)
     (old new : PassView × G) : Type 0 where
   pub mid : PassView × G
   pub tried : IsTried asked (as_tried result) index becomes old mid
   pub told : FollowsTry asked result index becomes old mid new
 
--- Tries of the change were made, one after the other, and were refused as `refusals` says. None of these refusals is final.
+-- Tries of the change were made, one after the other, from `old` to `new`, and were refused as `refusals` says, in order. None of these
+-- refusals is final.
 abbrev pub AreTriesRefused : {G : Type 0} → (asked : Call) (refusals : List Refusal) (index : TableView) (becomes : G → Event → G → Type 0)
     (old new : PassView × G) → Type 0
 AreTriesRefused asked [] index becomes old new = new ≡ old
@@ -75,13 +80,13 @@ AreTriesRefused {G = G} asked (refusal ∷ refusals) index becomes old new =
     (middle : PassView × G) × IsTriedAndCounted asked (Err refusal) index becomes old middle × IsPassing refusal ×
     AreTriesRefused asked refusals index becomes middle new
 
--- The result of a change that waits is that of its last try: a reply, or a refusal that is final.
+-- the result of a change that waits is that of its last try, `last`: a reply, or a refusal that is full by some counts
 abbrev pub IsResultOfLast : (result : Result Reply Full) (last : Result Reply Refusal) → Type 0
 IsResultOfLast (Ok reply) last = last ≡ Ok reply
 IsResultOfLast (Err full) last = (counts : RecordCounts) × (last ≡ Err (IsFull full counts))
 
--- A change that waits makes tries, and no other step. After a try that found no record free, all records are counted. A try that is busy or
--- held back is followed by another, and any other is the last. In an index of one pass there is one try.
+-- A change that waits makes tries, and no other step but the counts of records after them (`IsTriedAndCounted`). A try that is busy or held
+-- back is followed by another, and any other is the last. In an index of one pass there is one try.
 pub record MakesTries {G : Type 0} (asked : Call) (result : Result Reply Full) (index : TableView) (becomes : G → Event → G → Type 0)
     (old new : PassView × G) : Type 0 where
   pub refusals : List Refusal
@@ -92,7 +97,10 @@ pub record MakesTries {G : Type 0} (asked : Call) (result : Result Reply Full) (
   pub tried : IsTriedAndCounted asked outcome index becomes last new
   pub is_last : IsResultOfLast result outcome
 
--- What a change that waits ensures: one clause a field. `call` and `cause` say what the last try came to.
+-- What a change that waits ensures. The pass stays the index's (`own`). The last try was answered and noted, or refused, with nothing
+-- changed (`call`), and a fault has a cause (`cause`). A removal lacks no leaf record (`leafless`), and with several passes it has a reply
+-- (`kept`). Its steps are those of its tries (`tries`, `told`). In an index of one pass a removal finds a node record, if one was outside
+-- the tree, and leaves one there (`room`).
 pub record IsWaitedFor {G : Type 0} (asked : Call) (result : Result Reply Full) (index : TableView) (becomes : G → Event → G → Type 0)
     (old new : PassView × G) : Type 0 where
   pub own : Owns index new.0
@@ -104,20 +112,21 @@ pub record IsWaitedFor {G : Type 0} (asked : Call) (result : Result Reply Full) 
   pub told : HasMadeCallSteps index becomes old new
   pub room : LeavesRoom index.layout asked (last_try result) old.0.seat new.0.seat
 
--- The steps of a call that waits. A get makes those of a get, and a change those of its tries.
+-- The steps of a call that waits. A get makes those of a get, and a change those of its tries (`MakesTries`), which have no bound together.
 abbrev pub GetsOrTries : {G : Type 0} → (asked : Call) (result : Result Reply Full) (index : TableView) (becomes : G → Event → G → Type 0)
     (old new : PassView × G) → Type 0
 GetsOrTries asked result index becomes old new = GetsOr asked (HasMadeGetSteps index becomes old new) (MakesTries asked result index becomes old new)
 
 -- The steps of a call that doesn't wait, and counts records. A get makes those of a get, and a change those of one try. If the try found no
--- record free, a count of all records follows.
+-- record free, a count of all records follows, but for a removal with several passes.
 abbrev pub GetsOrCounts : {G : Type 0} → (asked : Call) (result : Result Reply Refusal) (index : TableView)
     (becomes : G → Event → G → Type 0) (old new : PassView × G) → Type 0
 GetsOrCounts asked result index becomes old new =
     GetsOr asked (HasMadeGetSteps index becomes old new) (IsTriedAndCounted asked result index becomes old new)
 
--- What a read of a range ensures: one clause a field. It has an answer, of which `IsAnswer` holds. Or memory was refused for a pair that it
--- had found, and `IsPart` holds. The number of its steps is bounded, and the gate was told each.
+-- What a read of a range ensures. The pass stays the index's (`own`). The read has an answer, of which `IsAnswer` holds (`ok`). Or memory
+-- was refused for a pair that it had found (`memory`): then it adds no note (`err`), and `IsPart` holds (`part`). Its steps are those of a
+-- scan (`read`), bounded by the limit (`steps`), and the gate was told each.
 pub record IsRangeReadWith {A E G : Type 0} (IsAnswer : Layout → PassView → PassView → A → Type 0) (IsPart : Layout → PassView → PassView → Type 0)
     (range : Range) (result : Result A E) (index : TableView) (becomes : G → Event → G → Type 0) (old new : PassView × G) : Type 0 where
   pub own : Owns index new.0
@@ -132,45 +141,47 @@ pub record IsRangeReadWith {A E G : Type 0} (IsAnswer : Layout → PassView → 
 abbrev pub no_part : (layout : Layout) (old new : PassView) → Type 0
 no_part layout old new = Unit {0}
 
--- A range was read, with no gate. Of the part that was read before memory was refused, nothing is said.
+-- A range was read, as `IsRangeReadWith` says, with no gate. Of the part that was read before memory was refused, nothing is said.
 abbrev pub IsRangeRead : {A E : Type 0} → (IsAnswer : Layout → PassView → PassView → A → Type 0) (range : Range) (result : Result A E)
     (index : TableView) (old new : PassView) → Type 0
 IsRangeRead IsAnswer range result index old new = IsRangeReadWith IsAnswer no_part range result index untold (old, tt) (new, tt)
 
--- a scan was made of which the law `IsLawful` holds, and a gate was told its steps
+-- a scan of the range was made of which the law `IsLawful` holds, or memory was refused for a pair; the gate was told its steps
 abbrev pub IsScanReadBy : {E G : Type 0} → (IsLawful : ScanLaw) (range : Range) (result : Result Scan E) (index : TableView)
     (becomes : G → Event → G → Type 0) (old new : PassView × G) → Type 0
 IsScanReadBy IsLawful range result index becomes old new =
     IsRangeReadWith (λ layout was now. IsScannedBy IsLawful layout was now range) no_part range result index becomes old new
 
--- a lawful scan upwards was made, and a gate was told its steps
+-- a lawful scan upwards was made, or memory was refused for a pair; the gate was told its steps
 abbrev pub IsScanReadWith : {E G : Type 0} → (range : Range) (result : Result Scan E) (index : TableView)
     (becomes : G → Event → G → Type 0) (old new : PassView × G) → Type 0
 IsScanReadWith range result index becomes old new = IsScanReadBy IsLawfulScan range result index becomes old new
 
--- a lawful scan upwards was made
+-- a lawful scan upwards was made, with no gate, or memory was refused for a pair
 abbrev pub IsScanRead : {E : Type 0} → (range : Range) (result : Result Scan E) (index : TableView) (old new : PassView) → Type 0
 IsScanRead range result index old new = IsScanReadWith range result index untold (old, tt) (new, tt)
 
--- a scan into a list was made of which the law `IsLawful` holds, and a gate was told its steps
+-- A scan into a list was made of which the law `IsLawful` holds. Or memory was refused for a pair, and the list has those before it. The
+-- gate was told its steps.
 abbrev pub IsListReadBy : {E G : Type 0} → (IsLawful : ScanLaw) (range : Range) (pairs : List (Key × ℕ)) (result : Result Bool E)
     (index : TableView) (becomes : G → Event → G → Type 0) (old new : PassView × G) → Type 0
 IsListReadBy IsLawful range pairs result index becomes old new =
     IsRangeReadWith (λ layout was now. IsListedBy IsLawful layout was now range pairs)
     (λ layout was now. IsListedInPartBy IsLawful layout was now range pairs) range result index becomes old new
 
--- a lawful scan upwards into a list was made, and a gate was told its steps
+-- A lawful scan upwards into a list was made. Or memory was refused for a pair, and the list has those before it. The gate was told its
+-- steps.
 abbrev pub IsListReadWith : {E G : Type 0} → (range : Range) (pairs : List (Key × ℕ)) (result : Result Bool E) (index : TableView)
     (becomes : G → Event → G → Type 0) (old new : PassView × G) → Type 0
 IsListReadWith range pairs result index becomes old new = IsListReadBy IsLawfulScan range pairs result index becomes old new
 
--- a lawful scan upwards into a list was made
+-- A lawful scan upwards into a list was made, with no gate. Or memory was refused for a pair, and the list has those before it.
 abbrev pub IsListRead : {E : Type 0} → (range : Range) (pairs : List (Key × ℕ)) (result : Result Bool E) (index : TableView)
     (old new : PassView) → Type 0
 IsListRead range pairs result index old new = IsListReadWith range pairs result index untold (old, tt) (new, tt)
 
--- A range was counted as `number` pairs, which needs no memory, and a gate was told the steps. They are at most as many as those of a scan
--- whose limit is the range's, or 16 more than `number` if that is less.
+-- A range was counted as `number` pairs, which needs no memory, and the gate was told the steps. They are at most those of a scan whose
+-- limit is the range's, or 16 more than `number` if that is less.
 abbrev pub IsCountReadWith : {G : Type 0} → (range : Range) (number : ℕ) (index : TableView) (becomes : G → Event → G → Type 0)
     (old new : PassView × G) → Type 0
 IsCountReadWith range number index becomes old new =
@@ -181,13 +192,14 @@ IsCountReadWith range number index becomes old new =
 abbrev pub IsCountRead : (range : Range) (number : ℕ) (index : TableView) (old new : PassView) → Type 0
 IsCountRead range number index old new = IsCountReadWith range number index untold (old, tt) (new, tt)
 
--- the values of a range were listed, and a gate was told the steps
+-- The values of a range were listed. Or memory was refused for one, and the list has those before it. The gate was told the steps, which
+-- are those of a scan.
 abbrev pub IsValuesReadWith : {E G : Type 0} → (range : Range) (values : List ℕ) (result : Result Bool E) (index : TableView)
     (becomes : G → Event → G → Type 0) (old new : PassView × G) → Type 0
 IsValuesReadWith range values result index becomes old new =
     IsRangeReadWith (λ layout was now. AreValuesListed layout was now range values) (λ layout was now. AreValuesListedInPart layout was now range values)
     range result index becomes old new
 
--- the values of a range were listed, with no gate
+-- The values of a range were listed, with no gate. Or memory was refused for one, and the list has those before it.
 abbrev pub IsValuesRead : {E : Type 0} → (range : Range) (values : List ℕ) (result : Result Bool E) (index : TableView) (old new : PassView) → Type 0
 IsValuesRead range values result index old new = IsValuesReadWith range values result index untold (old, tt) (new, tt)

@@ -7,29 +7,31 @@ use Rattle.record_words.specs.declared.layout.Layout.{Layout}
 use Rattle.rowex_scanning.specs.Counts.{scan_loads}
 use Rattle.rowex_writing.specs.plan.Counts.{most_steps_of}
 
--- how many steps a round of collection makes at most: three on the epoch, one for each pin, and two for each record
+-- how many steps a round of collection makes at most: three on the epoch, one for each pin, and two for each record, a load of its state
+-- and an exchange
 abbrev pub round_steps : Layout → ℕ
 round_steps layout = 3 + layout.passes + 2 * (layout.nodes + layout.leaves)
 
--- how many steps an attempt at this call makes at most: two that set its pin, one that clears it, and the others
+-- how many steps an attempt at this call makes at most: two that load the epoch and set the pin, one that clears it, and the others
 abbrev pub once_steps : (call : Call) (layout : Layout) → ℕ
 once_steps call layout = most_steps_of call layout + 3
 
--- How many steps a call makes at most in its two attempts, with a round of collection between them. An exchange and an addition, which are
--- never full, make one attempt.
+-- How many steps a call makes at most in its two attempts, with a round of collection between them. A small round before them is not
+-- counted here. An exchange and an addition, which are never full, make one attempt.
 abbrev pub twice_steps : (call : Call) (layout : Layout) → ℕ
 twice_steps (Exchange key expected value) layout = once_steps (Exchange key expected value) layout
 twice_steps (Add key delta) layout = once_steps (Add key delta) layout
 twice_steps call layout = 2 * once_steps call layout + round_steps layout
 
--- how many steps a small round makes at most: three on the epoch, one for each pin, and two for each record that it visits
+-- how many steps a small round makes at most: three on the epoch, one for each pin, and two for each of the `MOST_VISITED` records that it
+-- may visit
 abbrev pub small_steps : Layout → ℕ
 small_steps layout = 3 + layout.passes + 2 * MOST_VISITED
 
--- how many steps a call that doesn't wait makes at most: those of a small round, and of up to two attempts
+-- how many steps a call that doesn't wait makes at most: those of a small round before it, and of its attempts with a round between
 abbrev pub try_steps : (call : Call) (layout : Layout) → ℕ
 try_steps call layout = small_steps layout + twice_steps call layout
 
--- how many steps a scan makes at most: three for its pin, one for the root, and its loads below
+-- how many steps a scan makes at most: two that set its pin and one that clears it, one for the root, and its loads below
 abbrev pub scan_steps : (limit : ℕ) → ℕ
 scan_steps limit = 4 + scan_loads limit

@@ -14,19 +14,19 @@ use Rattle.rowex_table.specs.Seats.{SeatView}
 use Rattle.rowex_writing.specs.declared.attempts.TryFault.{TryFault}
 use Rattle.rowex_writing.specs.declared.attempts.TryFault.TheVariants.{FullLeaves, FullNodes}
 
--- a record of this fate is in the tree, or retired
+-- a record of this fate is in the tree, or retired: unlinked, whether marked or not yet
 abbrev pub IsUsed : Fate → Type 0
 IsUsed (InTree since) = Unit {0}
 IsUsed (Unlinked since last pass) = Unit {0}
 IsUsed (Marked since last epoch) = Unit {0}
 IsUsed fate = ⊥
 
--- Let the steps that the table's only pass knows be all steps of the table. After them the record is in the tree or retired.
+-- If the table has one pass, the record is in the tree or retired after that pass's trace.
 abbrev pub IsUsedAt : (layout : Layout) (seat : SeatView) (rec : Rec) → Type 0
 IsUsedAt layout seat rec = (core : Core) → IsLone layout seat core → IsUsed (core.fate rec)
 
--- Let a call be refused as full in an index of one pass. If it lacked a node record, all node records but those of `own` are in the tree or
--- retired after it. If it lacked a leaf record, all leaf records with room for the key are so.
+-- Let a call be refused as full in an index of one pass. If it lacked a node record, each node record that is not in `own` is in the tree
+-- or retired after the call. If it lacked a leaf record, each leaf record with room for the key is.
 pub record LeavesUsed (layout : Layout) (key : Key) (own : List Rec) (result : Result Reply TryFault) (seat : SeatView) : Type 0 where
   pub nodes : layout.passes ≡ 1 → result ≡ Err FullNodes → (number : ℕ) → number < layout.nodes → ¬ (Contains own (a_node number)) →
       IsUsedAt layout seat (a_node number)

@@ -16,14 +16,14 @@ use Rattle.hot_index_calls.specs.Answers.{GoesOn, got}
 use Rattle.hot_index_calls.specs.Passes.{PassView}
 use Rattle.hot_index_calls.specs.Traces.{HasRead}
 
--- the gets of these keys, each with the reply that says what the get found
+-- the gets of these keys, each with the reply that says what the get found; a key without an answer is left out
 abbrev pub gets : (keys : List Key) (found : List (Option ℕ)) → List (Call × Reply)
 gets [] found = []
 gets (key ∷ keys) [] = []
 gets (key ∷ keys) (value ∷ found) = (Get key, got value) ∷ gets keys found
 
--- The calls were answered with these replies, and each is noted, in some order. All calls of the pass are legal. The place of each new note
--- is no lower than the number of changes that the last load of the root showed.
+-- The calls were answered with these replies, and each is noted once, in some order, behind the notes from before. All calls of the pass
+-- are legal. The place of each new note is no lower than the number of changes that the last load of the root showed.
 pub record AreNoted (layout : Layout) (old new : PassView) (calls : List (Call × Reply)) : Type 0 where
   pub on : GoesOn layout old new
   pub added : List Note
@@ -32,8 +32,9 @@ pub record AreNoted (layout : Layout) (old new : PassView) (calls : List (Call �
   pub low : All (λ note. length new.fresh.front ≤ note.place) added
   pub legal : LegalCalls new.front new.number new.notes
 
--- The steps of one call that looks up `count` keys. It loads the root once, and one entry in each node on the path of a key. It makes at
--- most 26 steps for each entry, 32 for each key, and 4 others. It touches at most eleven words for each entry.
+-- The steps of one call that looks up `count` keys. It loads the root once, and one entry in each node on the path of a key, at most 2,160
+-- for each key. It makes at most 26 steps for each entry, 32 for each key, and 4 others: two that set the pin, the root, and one that
+-- clears the pin. It touches at most eleven words for each entry.
 pub record HasMadeGetManySteps {G : Type 0} (index : TableView) (becomes : G → Event → G → Type 0) (count : ℕ) (old new : PassView × G) : Type 0 where
   pub read : HasRead index becomes old new
   pub depth : entries_in read.loads ≤ count * (9 * MAX_BYTES)

@@ -11,7 +11,7 @@ use Rattle.finite_map.specs.Fronts.{map_of}
 use Rattle.rowex_core.specs.declared.known.Known.{Known}
 use Rattle.rowex_reading.specs.Seen.{since}
 
--- whether two replies are the same
+-- whether two replies are the same, with the same value if they have one
 abbrev pub same_reply : Reply → Reply → Bool
 same_reply Inserted Inserted = true
 same_reply (Exists value) (Exists other) = nat_eq value other
@@ -24,7 +24,8 @@ same_reply Absent Absent = true
 same_reply (Removed value) (Removed other) = nat_eq value other
 same_reply _ _ = false
 
--- The first number that passes the test, from `low` to `low + more`. If none below the last does, it is the last.
+-- The first number that passes the test, from `low` up to, but without, `low + more`. If none does, it is `low + more`, which is not
+-- tested.
 abbrev pub first_from : (test : ℕ → Bool) (low more : ℕ) → ℕ
 first_from test low zero = low
 first_from test low (suc more) = if test low then low else first_from test (low + 1) more
@@ -43,7 +44,7 @@ abbrev pub place_by : (changed : Bool) (call : Call) (reply : Reply) (known : Kn
 place_by true call reply known = length known.front - 1
 place_by false call reply known = place_of known.front (since known) call reply
 
--- the note of a call that may change the map, as a list; an empty one if the call was refused
+-- the note of a call that may change the map, as a list; none if the call was refused
 abbrev pub change_notes : {F : Type 0} → (call : Call) (result : Result Reply F) (known : Known) → List Note
 change_notes call (Ok reply) known = record { place = place_by (is_some (effect_of call reply)) call reply known; call = call; reply = reply } ∷ []
 change_notes call (Err fault) known = []

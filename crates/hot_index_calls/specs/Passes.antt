@@ -26,7 +26,7 @@ pub record PassView : Type 0 where
   pub touches : ℕ
   pub failed : List Failed
 
--- the pass of a seat
+-- what contracts see of the pass of a seat
 abbrev pub pass_of : SeatView → PassView
 pass_of seat = record {
   seat = seat;
@@ -40,7 +40,7 @@ pass_of seat = record {
   failed = seat.known.failed;
 }
 
--- the pass belongs to this index
+-- the pass belongs to this index: the number of its table is the index's
 abbrev pub Owns : (index : TableView) (pass : PassView) → Type 0
 Owns index pass = pass.table ≡ index.id
 
@@ -48,8 +48,8 @@ Owns index pass = pass.table ≡ index.id
 abbrev pub AreByPasses : (layout : Layout) (changes : List Change) → Type 0
 AreByPasses layout changes = All (λ change. change.pass < layout.passes) changes
 
--- The pass is between two calls: it has no record of its own, no lock and no pin. Its front begins with what its last load of
--- the root showed, which was an earlier step. Its calls are legal in its front.
+-- The pass is between two calls: it has no record of its own, no lock and no pin. Its front begins with what its last load of the root
+-- showed, and that load is one of its steps, or none was made. Its calls are legal in its front.
 pub record IsSettled (known : Known) : Type 0 where
   pub own : known.own ≡ []
   pub locks : known.locks ≡ []
@@ -59,7 +59,7 @@ pub record IsSettled (known : Known) : Type 0 where
   pub loaded : known.fresh.step < known.steps
   pub legal : LegalCalls known.front known.pass known.notes
 
--- the pass has this number, has made no call and no step, and knows no step of any pass
+-- The pass has this number, and has made no call, no step and no aside. It has seen no change, and knows no step of any pass.
 abbrev pub IsNewPass : (number : ℕ) (pass : PassView) → Type 0
 IsNewPass number pass =
     (pass.number ≡ number) × (pass.front ≡ []) × (pass.notes ≡ []) × (pass.seat.known ≡ opening_of number) × (pass.seat.trace ≡ []) × (pass.seat.asides ≡ 0)

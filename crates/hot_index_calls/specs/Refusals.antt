@@ -23,18 +23,18 @@ use Rattle.hot_index_calls.specs.declared.census.StateCounts.{StateCounts}
 use Rattle.hot_index_calls.specs.declared.refusals.Refusal.{Refusal}
 use Rattle.hot_index_calls.specs.declared.refusals.Refusal.TheVariants.{Busy as IsBusy, HeldBack, Full as IsFull}
 
--- Of the records of one kind or class, fewer than `needs` are free. None is claimed, and none is retired.
+-- Of the records of one kind or class, fewer than `needs` are free, and no others may come back: none is claimed, and none is retired.
 pub record AreShort (needs : ℕ) (counts : StateCounts) : Type 0 where
   pub free : counts.free < needs
   pub held : counts.held ≡ 0
   pub obsolete : counts.obsolete ≡ 0
 
--- Of the records of one kind or class, none is claimed, and none is retired.
+-- Of the records of one kind or class, none is claimed, and none is retired: each is free or live.
 pub record AreAtRest (counts : StateCounts) : Type 0 where
   pub held : counts.held ≡ 0
   pub obsolete : counts.obsolete ≡ 0
 
--- No record is claimed, and none is retired.
+-- Of the nodes and of each class of leaves, no record is claimed, and none is retired.
 pub record AreAllAtRest (counts : RecordCounts) : Type 0 where
   pub nodes : AreAtRest counts.nodes
   pub short : AreAtRest counts.short
@@ -51,19 +51,19 @@ pub record OfLeaves (IsSo : StateCounts → Type 0) (length : ℕ) (counts : Rec
   pub wide : length ≤ WIDE_BYTES → IsSo counts.wide
   pub long : IsSo counts.long
 
--- By the counts, the index is full for a change that lacks a record of the kind `lacks`. The change needs `needs` node records, or one leaf
--- record with room for a key of this length.
+-- By the counts, the index is full for a change that lacks a record of the kind `lacks`. Of node records fewer than `needs` are free, and
+-- none may come back. Of leaf records with room for a key of this length none is free, and none may come back.
 abbrev pub IsShortOf : (lacks : Full) (needs length : ℕ) (counts : RecordCounts) → Type 0
 IsShortOf Nodes needs length counts = AreShort needs counts.nodes
 IsShortOf Leaves needs length counts = OfLeaves (AreShort 1) length counts
 
--- The refusal of a change that lacks a record of the kind `lacks` is final. The index is full by the counts, or has no other pass that
--- might give a record back.
+-- The refusal of a change that lacks a record of the kind `lacks` is final. Either the index is full by the counts (`IsShortOf`). Or it has
+-- one pass, so that no other might give a record back.
 abbrev pub IsFinal : (passes : ℕ) (lacks : Full) (needs length : ℕ) (counts : RecordCounts) → Type 0
 IsFinal passes lacks needs length counts = (passes ≡ 1) ⊎ IsShortOf lacks needs length counts
 
--- The counts decide on the refusal of a change that lacks a record of the kind `lacks`. If the refusal would not be final, the call is held
--- back.
+-- What a change that lacks a record of the kind `lacks` is refused with, by the counts made after it. If it is final by these (`IsFinal`),
+-- the refusal is `IsFull`, with the counts. Else it is `HeldBack`. It is never busy, and it names the kind that the change lacked.
 abbrev pub IsRefusalByCounts : (passes : ℕ) (lacks : Full) (needs length : ℕ) (counts : RecordCounts) (refusal : Refusal) → Type 0
 IsRefusalByCounts passes lacks needs length counts IsBusy = ⊥
 IsRefusalByCounts passes lacks needs length counts (HeldBack full) = (full ≡ lacks) × ¬ (IsFinal passes lacks needs length counts)
@@ -75,25 +75,26 @@ IsPassing IsBusy = Unit {0}
 IsPassing (HeldBack lacks) = Unit {0}
 IsPassing (IsFull lacks counts) = ⊥
 
--- the fault of a try whose refusal this is
+-- the fault of the try that was refused so; held back and full have the same one
 abbrev pub fault_in : Refusal → TryFault
 fault_in IsBusy = Busy
 fault_in (HeldBack lacks) = fault_of lacks
 fault_in (IsFull lacks counts) = fault_of lacks
 
--- the result of a try, taken from the result after the count of records
+-- the result of a try before the count of records: a reply, or the fault of the refusal
 abbrev pub as_tried : Result Reply Refusal → Result Reply TryFault
 as_tried (Ok reply) = Ok reply
 as_tried (Err refusal) = Err (fault_in refusal)
 
--- A try that lacks a record of the kind `lacks` needs `needs` of them. Of node records that is one more than it had claimed. Of leaf
--- records nothing is said.
+-- A try that lacked a record of the kind `lacks` needs `needs` of them. Of node records that is one more than it had claimed and given up,
+-- by its failed steps. Of leaf records nothing is said, since a change takes one.
 abbrev pub NeedsBeside : (layout : Layout) (old new : PassView) (lacks : Full) (needs : ℕ) → Type 0
 NeedsBeside layout old new Nodes needs = (own : List Rec) × LacksNodes layout new.number new.failed old.steps own × (needs ≡ suc (length own))
 NeedsBeside layout old new Leaves needs = Unit {0}
 
--- After a try, from `old` to `middle`, all records were counted, and the counts decide on the refusal. In an index of one pass no record is
--- claimed or retired then, and fewer are free than the try needs. That holds while epochs are not used up (`IsEarly`).
+-- After a try, from `old` to `middle`, all records were counted, and the counts decide on the refusal (`IsRefusalByCounts`). In an index of
+-- one pass no record is claimed or retired then, and fewer are free than the try needs. These two hold while epochs are not used up
+-- (`IsEarly`).
 pub record IsCountedAfter {G : Type 0} (call : Call) (lacks : Full) (refusal : Refusal) (index : TableView) (becomes : G → Event → G → Type 0)
     (old middle new : PassView × G) : Type 0 where
   pub needs : ℕ
@@ -104,13 +105,13 @@ pub record IsCountedAfter {G : Type 0} (call : Call) (lacks : Full) (refusal : R
   pub alone : index.layout.passes ≡ 1 → IsEarly new.0.seat → AreAllAtRest counts
   pub short : index.layout.passes ≡ 1 → IsEarly new.0.seat → IsShortOf lacks needs (length (key_of call)) counts
 
--- The call is a removal in an index of several passes. Insertions leave one node record for removals. So a removal that finds none free is
--- held back: another call has that record, or keeps a retired one from reuse.
+-- The call is a removal in an index of several passes. Insertions leave one node record for removals. So if a removal finds none free, it
+-- is held back: another call has that record, or keeps a retired one from reuse.
 abbrev pub HasNodeLeft : (passes : ℕ) (call : Call) → Type 0
 HasNodeLeft passes call = (1 < passes) × IsRemoval call
 
--- What follows a refused try, from `old` to `middle`. After a busy one nothing is counted. Nor is anything after a removal that is held
--- back since it found no node record (`HasNodeLeft`). After any other refusal all records are counted.
+-- What follows a refused try, from `old` to `middle`. After a busy one nothing is counted. A removal with several passes (`HasNodeLeft`)
+-- may be held back without a count, and is never full. After any other refusal all records are counted, and the counts give the refusal.
 abbrev pub FollowsRefusal : {G : Type 0} → (call : Call) (index : TableView) (becomes : G → Event → G → Type 0)
     (old middle new : PassView × G) (refusal : Refusal) → Type 0
 FollowsRefusal call index becomes old middle new IsBusy = new ≡ middle

@@ -29,7 +29,7 @@ use Rattle.hot_index_calls.specs.Counts.{round_steps, try_steps}
 use Rattle.hot_index_calls.specs.Noting.{change_notes}
 use Rattle.hot_index_calls.specs.Passes.{PassView, pass_of}
 
--- a gate that is told nothing
+-- what becomes of the gate of a call that has none: nothing is said
 abbrev pub untold : (before : Unit {0}) (event : Event) (after : Unit {0}) → Type 0
 untold before event after = Unit {0}
 
@@ -53,31 +53,34 @@ pub record HasRead {G : Type 0} (index : TableView) (becomes : G → Event → G
   pub told : IsTold becomes (events_of old.0.number (reading epoch root loads ++ ClearPin ∷ [])) old.1 new.1
 
 -- The steps of a get. It loads one entry in each node on its key's path, at most 2,160: nine for each byte of the longest key. It makes at
--- most 26 steps for each such load, and 36 others. For each such load it touches at most four words.
+-- most 26 steps for each such load, and 36 others: 32 at the leaf, and four on pin and root. For each such load it touches at most four
+-- words.
 pub record HasMadeGetSteps {G : Type 0} (index : TableView) (becomes : G → Event → G → Type 0) (old new : PassView × G) : Type 0 where
   pub read : HasRead index becomes old new
   pub depth : entries_in read.loads ≤ 9 * MAX_BYTES
   pub few : new.0.steps ≤ old.0.steps + 36 + 26 * entries_in read.loads
   pub touched : new.0.touches ≤ old.0.touches + search_touches * entries_in read.loads
 
--- The steps of a scan. It loads one entry for each node that it visits, and one for each leaf. It makes at most 26 steps for each such
--- entry, 8 for each pair of its limit, and 101 others. It touches at most eleven words for each such entry.
+-- The steps of a scan. It loads one entry for each node that it visits, and one for each leaf; the limit bounds their number. It makes at
+-- most 26 steps for each such entry, 8 for each pair of its limit, and 101 others. It touches at most eleven words for each such entry.
 pub record HasMadeScanSteps {G : Type 0} (index : TableView) (becomes : G → Event → G → Type 0) (limit : ℕ) (old new : PassView × G) : Type 0 where
   pub read : HasRead index becomes old new
   pub most : entries_in read.loads ≤ scan_entries limit
   pub few : new.0.steps ≤ old.0.steps + 101 + 26 * entries_in read.loads + 8 * limit
   pub touched : new.0.touches ≤ old.0.touches + entry_touches * entries_in read.loads
 
--- The acts of an attempt at a change, but for the last, which clears the pin. It sets the pin, and tries each lock once at most. The number
--- of acts is bounded by the entries that its search loads, the locks that it tries, and the records of the table.
+-- The acts of an attempt at a change, but for the last, which clears the pin. The attempt loads the epoch and sets the pin, and tries each
+-- lock once at most. The number of acts is bounded by the entries that its search loads, the locks that it tries, and the records of the
+-- table.
 pub record IsAttempt (layout : Layout) (acts : List Act) : Type 0 where
   pub epoch : ℕ
   pub rest : List Act
   pub acts_are : acts ≡ LoadEpoch epoch ∷ SetPin epoch ∷ rest
   pub steps : AreAttemptSteps layout rest
 
--- The acts of a round of collection. It loads the epoch, raises it, loads it again, and loads each pin. Then it visits each record, nodes
--- first.
+-- The acts of a round of collection. It loads the epoch, tries once to raise it, unless it is the last, loads it again, and loads each pin.
+-- Then it visits each record, nodes first: for one that is marked below `bound`, an exchange is to give it back. That `bound` is the least
+-- of what the round loaded is not said here.
 pub record AreRoundSteps (layout : Layout) (acts : List Act) : Type 0 where
   pub epoch : ℕ
   pub found : ℕ
@@ -91,7 +94,7 @@ pub record AreRoundSteps (layout : Layout) (acts : List Act) : Type 0 where
   pub visits_nodes : InTurn (λ number. Visits bound (a_node number)) layout.nodes nodes
   pub visits_leaves : InTurn (λ number. Visits bound (a_leaf number)) layout.leaves leaves
 
--- The acts of a small round of collection. It begins as a whole round does, and then visits at most `most` records.
+-- The acts of a small round of collection. It begins as a whole round does (`AreRoundSteps`), and then visits at most `most` records.
 pub record AreSmallSteps (layout : Layout) (most : ℕ) (acts : List Act) : Type 0 where
   pub epoch : ℕ
   pub found : ℕ
@@ -105,12 +108,12 @@ pub record AreSmallSteps (layout : Layout) (most : ℕ) (acts : List Act) : Type
   pub visits_each : VisitEach bound recs visits
   pub few : length recs ≤ most
 
--- The acts between two attempts at a change: those of a round of collection. With several passes the round may be spared, and visit no
--- record.
+-- The acts between two attempts at a change: those of a round of collection. With several passes the round may be spared: it begins as one,
+-- and visits no record.
 abbrev pub AreStepsBetween : (layout : Layout) (acts : List Act) → Type 0
 AreStepsBetween layout acts = AreRoundSteps layout acts ⊎ ((1 < layout.passes) × AreSmallSteps layout 0 acts)
 
--- the number of records of this kind: `nodes` or `leaves`
+-- the number of this kind: `nodes` for nodes, `leaves` for leaves
 abbrev pub of_kind : Full → (nodes leaves : ℕ) → ℕ
 of_kind Nodes nodes leaves = nodes
 of_kind Leaves nodes leaves = leaves
@@ -122,7 +125,7 @@ GiveNoneBetween layout kind acts =
     ((1 < layout.passes) × AreSmallSteps layout 0 acts)
 
 -- The call's result follows from what its pass did from the seat `old` to the seat `new`. If the call was answered, it is noted. If it was
--- refused, the cause of its fault lies between these seats.
+-- refused, it has changed nothing, and the cause of its fault lies between these seats.
 abbrev pub StandsSince : (layout : Layout) (call : Call) (result : Result Reply TryFault) (old new : SeatView) → Type 0
 StandsSince layout call result old new =
     IfOk result (IsNoted layout (pass_of old) (pass_of new) call) × IfErr result (IsRefusedFor layout call (pass_of old) (pass_of new))
@@ -131,9 +134,9 @@ StandsSince layout call result old new =
 abbrev pub IsOneAttempt : {G : Type 0} → (table : TableView) (old new : SeatView × G) (acts : List Act) → Type 0
 IsOneAttempt table old new acts = IsAttempt table.layout acts
 
--- The acts of two attempts, with a whole or spared round of collection between them. The first attempt was full. The call's result is that
--- of the second, and its note comes with the last step. But if the round gave back no record of the kind that the first attempt lacked, the
--- cause of a refusal may lie in both.
+-- The acts of two attempts, with a whole or spared round of collection between them. The first attempt was refused as full. The call's
+-- result is that of the second, and its note comes with the last step. But if the round gave back no record of the kind that the first
+-- attempt lacked, the cause of a refusal may lie in both.
 pub record AreTwoAttempts {G : Type 0} (table : TableView) (becomes : G → Event → G → Type 0) (call : Call) (result : Result Reply TryFault)
     (old new : SeatView × G) (acts : List Act) : Type 0 where
   pub first : List Act
@@ -159,13 +162,13 @@ is_full (Err Busy) = false
 is_full (Err FullNodes) = true
 is_full (Err FullLeaves) = true
 
--- The acts of one attempt, which was not full. Or those of two, with a round of collection between them, if the first was full.
+-- The acts of one attempt, which was not refused as full. Or those of two, with a round of collection between them, if the first was.
 abbrev pub AreTries : {G : Type 0} → (table : TableView) (becomes : G → Event → G → Type 0) (call : Call) (result : Result Reply TryFault)
     (old new : SeatView × G) (acts : List Act) → Type 0
 AreTries table becomes call result old new acts =
     (IsAttempt table.layout acts × (is_full result ≡ false)) ⊎ AreTwoAttempts table becomes call result old new acts
 
--- The acts of a change but for the last: a small round or none, and then its attempts.
+-- The acts of a change but for the last, which clears the pin: a small round or none, and then its attempts (`AreTries`).
 pub record AreAttempts {G : Type 0} (table : TableView) (becomes : G → Event → G → Type 0) (call : Call) (result : Result Reply TryFault)
     (old new : SeatView × G) (acts : List Act) : Type 0 where
   pub before : List Act
@@ -176,16 +179,17 @@ pub record AreAttempts {G : Type 0} (table : TableView) (becomes : G → Event �
   pub steps : Runs table becomes before old tidied
   pub tries : AreTries table becomes call result tidied new rest
 
--- the pass makes a small round, or no step
+-- the pass makes a small round of collection, which visits at most `MOST_VISITED` records, or no step
 abbrev pub Tidies : {G : Type 0} → (table : TableView) (becomes : G → Event → G → Type 0) (old new : SeatView × G) → Type 0
 Tidies table becomes old new = (new ≡ old) ⊎ IsSmallRound table becomes MOST_VISITED old new
 
--- the pass makes a whole round of collection or, with several passes, a spared one
+-- the pass makes a whole round of collection or, with several passes, one that is spared and visits no record
 abbrev pub Collects : {G : Type 0} → (table : TableView) (becomes : G → Event → G → Type 0) (old new : SeatView × G) → Type 0
 Collects table becomes old new =
     ((nodes : ℕ) × (leaves : ℕ) × IsRound table becomes old new nodes leaves) ⊎ ((1 < table.layout.passes) × IsSparedRound table becomes old new)
 
--- the pass makes a whole round of collection that gives back no record of this kind or, with several passes, a spared one
+-- The pass makes a whole round of collection that gives back no record of this kind. Or, with several passes, it makes a spared one, which
+-- gives back none at all.
 abbrev pub CollectsNone : {G : Type 0} → (table : TableView) (becomes : G → Event → G → Type 0) (kind : Full) (old new : SeatView × G) → Type 0
 CollectsNone table becomes kind old new =
     ((nodes : ℕ) × (leaves : ℕ) × IsRound table becomes old new nodes leaves × (of_kind kind nodes leaves ≡ 0)) ⊎
@@ -212,7 +216,7 @@ pub record HasMadeChangeSteps {G : Type 0} (index : TableView) (becomes : G → 
   pub few : new.0.steps ≤ old.0.steps + try_steps call index.layout
   pub touched : new.0.touches ≤ old.0.touches + entry_touches * entries_in acts
 
--- the call makes steps, one after the other, and with the last come the notes that `said` gives
+-- The pass makes steps, at least one, and the gate is told each. With the last come the notes that `said` gives.
 abbrev pub HasStepped : {G : Type 0} → (table : TableView) (becomes : G → Event → G → Type 0) (said : Known → List Note)
     (old new : SeatView × G) → Type 0
 HasStepped table becomes said old new = (acts : List Act) × (last : Act) × Ends table becomes acts last said old new
@@ -229,8 +233,8 @@ pub record HasMadeCallSteps {G : Type 0} (index : TableView) (becomes : G → Ev
   pub sees : SeesAllOfRun index.layout old.0.seat new.0.seat
   pub told : IsTold becomes (events_of old.0.number (acts ++ last ∷ [])) old.1 new.1
 
--- The pass makes one round of collection, which gives back `nodes` node records and `leaves` leaf records. The front stays the same. The
--- gate is told each step, and their number is bounded.
+-- The pass makes one whole round of collection, which gives back `nodes` node records and `leaves` leaf records. The front stays the same.
+-- The gate is told each step, and their number is bounded by `round_steps`.
 pub record HasCollected {G : Type 0} (index : TableView) (becomes : G → Event → G → Type 0) (old new : PassView × G) (nodes leaves : ℕ) : Type 0 where
   pub begins : old.0 ≡ pass_of old.0.seat
   pub ends : new.0 ≡ pass_of new.0.seat

@@ -45,7 +45,8 @@ pub struct RecordCounts {
 }
 
 /// Returns how many records of each kind and class are in each state, and the bytes of the table. The state of each record is loaded once,
-/// each at a moment of its own, those of nodes first. `gate` is told each load.
+/// each at a moment of its own, those of nodes first. So while other passes make steps, the counts are of no single moment. Each record
+/// that isn't free becomes one of the pass's failed steps. `gate` is told each load, and the pin stays.
 pub fn count_records<G: Gate>(table: &HotTable, seat: &mut TableSeat, gate: &mut G) -> RecordCounts
     requires { IsSeatOf table.now seat.old }
     ensures pin { seat.new.known.pin ≡ seat.old.known.pin }
@@ -69,7 +70,7 @@ pub fn count_records<G: Gate>(table: &HotTable, seat: &mut TableSeat, gate: &mut
     }
 }
 
-/// Loads the state of each node record once, and returns how many are in each state. `gate` is told each load.
+/// Loads the state of each node record once, and returns how many are in each state. `gate` is told each load, and the pin stays.
 fn count_nodes<G: Gate>(table: &HotTable, seat: &mut TableSeat, gate: &mut G) -> StateCounts
     requires { IsSeatOf table.now seat.old }
     ensures pin { seat.new.known.pin ≡ seat.old.known.pin }
@@ -84,7 +85,7 @@ fn count_nodes<G: Gate>(table: &HotTable, seat: &mut TableSeat, gate: &mut G) ->
 }
 
 /// Loads the state of each leaf record from number `first` on and below `behind` once, and returns how many are in each state. `gate` is
-/// told each load.
+/// told each load, and the pin stays.
 fn count_leaves<G: Gate>(
     table: &HotTable,
     seat: &mut TableSeat,
@@ -117,7 +118,8 @@ fn zero_counts() -> StateCounts
     }
 }
 
-/// Returns `counts` with one more record, whose state word is `word`. A locked node counts as live. All counts together stay below 2^32.
+/// Returns `counts` with one more record, whose state word is `word`. A locked node counts as live. All counts together stay below 2^32, as
+/// there are fewer records of a kind.
 fn count_state(counts: StateCounts, word: u64) -> StateCounts
     requires few { counts.free + counts.held + counts.live + counts.obsolete + 1 < 2 ^ 32 }
     requires state { IsSpelling HasStateWord state_word word }

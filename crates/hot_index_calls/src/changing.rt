@@ -35,8 +35,15 @@ use std::sync::Wait;
 use std::thread;
 
 /// Tries to make the change `call` by two attempts at most. Before the first, a small round of collection is made if one is due. `gate` is
-/// told each step. Returns the reply, or why the last attempt was refused: nothing has changed then. The pass is between two calls, before
-/// and after.
+/// told each step; there are at most `try_steps`. Returns the reply, or why the last attempt was refused: nothing has changed then. The
+/// pass is between two calls, before and after.
+///
+/// If no node record was free, `scratch.build.made` has the records that the last attempt had claimed and given up. In an index of one
+/// pass, let a node record be outside the tree before. One is at the end, too, and a removal finds a node record while epochs are not used
+/// up.
+///
+/// Let a call be full in an index of one pass. Each record of the kind that it lacked is in the tree or retired at the end, but for those
+/// that it had claimed. While epochs are not used up, none is retired then.
 pub fn try_change<G: Gate>(
     table: &HotTable,
     seat: &mut TableSeat,
@@ -57,8 +64,9 @@ pub fn try_change<G: Gate>(
     try_twice(table, seat, gate, scratch, call)
 }
 
-/// Makes a small round of collection if the pass has retired enough records. The next claims begin with the records that the round gave
-/// back.
+/// Makes a small round of collection if the pass has retired enough records since its last one. The next claims begin with the records that
+/// the round gave back. Without a round it makes no step. In an index of one pass, if a node record was outside the tree, one is at the
+/// end, too.
 fn collect_due<G: Gate>(table: &HotTable, seat: &mut TableSeat, gate: &mut G, scratch: &mut Scratch)
     requires idle { IsIdle table.now seat.old }
     ensures idle { IsIdle table.now seat.new }
@@ -73,10 +81,14 @@ fn collect_due<G: Gate>(table: &HotTable, seat: &mut TableSeat, gate: &mut G, sc
 }
 
 /// Tries to make the change `call`. If no record was free, it makes a round of collection and tries once more. Returns the reply, or why
-/// the last attempt was refused. If a second attempt could find no record, a pin and an unpin stand for it, and the refusal is the first
-/// one's.
+/// the last attempt was refused. If a second attempt could find no record, a pin and an unpin stand for it, and the refusal is that of the
+/// first attempt. At most `twice_steps` steps are made.
 ///
-/// If no record was free, `scratch.build.made` lists the records that the last attempt had claimed.
+/// If no node record was free, `scratch.build.made` lists the records that the last attempt had claimed. In an index of one pass, let a
+/// node record be outside the tree before. One is at the end, too, and a removal finds a node record while epochs are not used up.
+///
+/// Let a call be full in an index of one pass. Each record of the kind that it lacked is in the tree or retired at the end, but for those
+/// that it had claimed. While epochs are not used up, none is retired then.
 #[inline(always)]
 fn try_twice<G: Gate>(
     table: &HotTable,
@@ -106,7 +118,8 @@ fn try_twice<G: Gate>(
 }
 
 /// Makes a round of collection for a call that found no record of the kind `lacks` free. `removes` says whether the call is to remove a
-/// key. Returns whether a second attempt may find a record.
+/// key. Returns whether a second attempt may find a record. With one pass the result is `true` for each removal. If it is `false`, the
+/// round gave back no record of the kind. The pass has no pin, and `scratch.build.made` stays.
 ///
 /// In an index of several passes the round visits no record where it could give none back. The result is `false` then: what another pass
 /// has freed meanwhile is found by the count that follows.
@@ -169,9 +182,9 @@ fn has_found_free(round: Collected, kind: Full) -> bool
     }
 }
 
-/// Returns whether a record of one kind may be free after a round that gave back `given` of that kind, in an index of `passes` passes. It
-/// may be one of those given back. If the round `found` one free, it may be one that another pass gave back meanwhile. If the call
-/// `removes` a key, it may be the node record that is left for removals.
+/// Returns whether a record of one kind may be free after a round that gave back `given` of that kind, in an index of `passes` passes. One
+/// of those given back may be. If the round `found` one free, another pass may have given it back meanwhile. If the call `removes` a key,
+/// the node record that is left for removals may be free.
 fn may_find_free_record(passes: u32, given: u32, found: bool, removes: bool) -> bool
     ensures may { IsTrue result ↔ (((1 < passes) × IsTrue found) ⊎ (0 < given) ⊎ IsTrue removes) }
     ensures not { result ≡ false → (given ≡ 0) × (removes ≡ false) }
@@ -201,8 +214,9 @@ fn has_node_left(passes: u32, call: &Call) -> bool
     passes > 1 && is_removal(call)
 }
 
-/// Pins the pass and clears the pin: an attempt of three steps that does nothing. It stands for a second attempt that could find no record.
-/// No note is added, and what the first attempt found not free stays known.
+/// Pins the pass and clears the pin: an attempt of three steps that does nothing. It stands for a second attempt that could find no record,
+/// so that each full call has the steps of two attempts. No note is added, and what the first attempt found not free stays known. In an
+/// index of one pass, if a node record was outside the tree, one is at the end, too.
 fn pin_and_unpin<G: Gate>(table: &HotTable, seat: &mut TableSeat, gate: &mut G)
     requires idle { IsIdle table.now seat.old }
     ensures rested { HasRested table.now G.becomes (seat.old, gate.old) (seat.new, gate.new) }
@@ -212,11 +226,13 @@ fn pin_and_unpin<G: Gate>(table: &HotTable, seat: &mut TableSeat, gate: &mut G)
     unpin(table, seat, gate);
 }
 
-/// Tries to make the change `call` as [`try_change`] does. `Refusal::Busy` if another pass was in its way. If no record was free, it counts
-/// all records then, and returns `Full` or `HeldBack` by the counts. But a removal in an index of several passes is `HeldBack` at once,
-/// without a count, since insertions leave a node record for it. A refused call has changed nothing.
+/// Tries to make the change `call` by two attempts at most, with the rounds of collection of [`try_change`]. The error is `Refusal::Busy`
+/// if another pass was in the call's way. If no record was free, all records are counted, and the error is `Full` or `HeldBack` by the
+/// counts. But a removal in an index of several passes is `HeldBack` at once, without a count, since insertions leave a node record for it.
+/// A refused call has changed nothing.
 ///
-/// `gate` is told each step. The pass is between two calls, before and after.
+/// In an index of one pass, let a node record be outside the tree before. One is at the end, too, and a removal lacks no node record while
+/// epochs are not used up. `gate` is told each step. The pass is between two calls, before and after.
 pub fn try_and_count<G: Gate>(
     table: &HotTable,
     seat: &mut TableSeat,
@@ -250,11 +266,12 @@ pub fn try_and_count<G: Gate>(
     }
 }
 
-/// Tries to make the change `call` until it is made, or refused for want of records. It tries again as long as another pass is in its way,
-/// or records are held back. `rt` allows it to wait. Returns the reply, or the kind of records of which none was free: nothing has changed
-/// then. A removal in an index of several passes always gets a reply.
+/// Tries to make the change `call` until it is made, or refused for want of records. It tries again as long as another pass is in the
+/// call's way, or records are held back. `rt` allows it to wait. Returns the reply, or the kind of records of which none was free: nothing
+/// has changed then. In an index of one pass it tries once. A removal in an index of several passes is never refused.
 ///
-/// `gate` is told each step. The pass is between two calls, before and after.
+/// In an index of one pass, let a node record be outside the tree before. One is at the end, too, and a removal lacks no node record while
+/// epochs are not used up. `gate` is told each step. The pass is between two calls, before and after.
 pub fn retry_change<R: Wait, G: Gate>(
     rt: &R,
     table: &HotTable,
@@ -286,7 +303,11 @@ pub fn retry_change<R: Wait, G: Gate>(
 }
 
 /// Makes one attempt at `call`, with the pass pinned, and notes its reply if it has one. Returns the reply, or why the attempt was refused.
-/// What the attempt has unlinked goes into limbo.
+/// What the attempt has unlinked goes into limbo. The pass is between two calls, before and after. At most `once_steps` steps are made.
+///
+/// If no node record was free, `scratch.build.made` lists those that the attempt had claimed. In an index of one pass, if a node record was
+/// outside the tree, one is at the end, too. If one is free there, a removal finds one. After a full attempt there, each record of the kind
+/// that it lacked is in the tree or retired, but for those that it had claimed.
 #[inline(always)]
 fn make_attempt<G: Gate>(
     table: &HotTable,
@@ -318,8 +339,8 @@ fn make_attempt<G: Gate>(
     outcome
 }
 
-/// Clears the pin at the end of an attempt. The notes `said` come with this step: the reply's one, or none. The caller's proof makes `said`
-/// of `_call` and `_outcome`, which the code doesn't read.
+/// Clears the pin at the end of an attempt. The notes `said` come with this step: that of the reply, or none for a refusal. The caller's
+/// proof makes `said` of `_call` and `_outcome`, which the code doesn't read.
 fn end_attempt<G: Gate>(
     table: &HotTable,
     seat: &mut TableSeat,

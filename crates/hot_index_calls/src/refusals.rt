@@ -13,14 +13,15 @@ use record_words::{LARGE_BYTES, MEDIUM_BYTES, SHORT_BYTES, WIDE_BYTES};
 use rowex_core::Rec;
 use rowex_writing::{Full, TryFault};
 
-/// Why a try was refused that counts the records where it found none free. It has changed nothing then.
+/// Why a change was refused that doesn't wait. Where a try finds no record free, a count of all records decides between the last two.
+/// Nothing has changed then.
 #[derive(Clone, Copy)]
 pub enum Refusal {
-    /// Another pass was in its way.
+    /// Another pass was in the way of the try.
     Busy,
     /// No record of the kind was free. But by the count one may come back: another pass has claimed one, or one is retired, or enough are
-    /// free. Or the call removes a key, and the index has several passes: insertions leave a node record for it, which another call has, or
-    /// holds back.
+    /// free now. For a removal with several passes it needs no count: insertions leave a node record for removals, and another call has
+    /// that record, or keeps it retired.
     HeldBack(Full),
     /// No record of the kind was free. By the count fewer are free than the change needs, and none may come back; or the index has one
     /// pass.
@@ -28,8 +29,8 @@ pub enum Refusal {
 }
 
 /// Returns the refusal of a try that found no record of the kind `lacks` free, by `counts`, which were made after it. The try needs `needs`
-/// node records, or one leaf record with room for a key of `size` bytes. `passes` is the number of passes of the index: if it is 1, or
-/// `counts` show too few records, the refusal is `Full`. Else it is `HeldBack`.
+/// node records, or one leaf record with room for a key of `size` bytes. `passes` is the number of passes of the index. If it is 1, or
+/// `counts` show too few records and none that may come back, the refusal is `Full`. Else it is `HeldBack`.
 pub(crate) fn judge_lack(
     passes: u32,
     lacks: Full,
@@ -59,7 +60,7 @@ pub(crate) fn lack_of(fault: TryFault) -> Option<Full>
 }
 
 /// Returns the kind of record with which a waiting call is refused, when one of its tries was refused with `refusal`. `None` if the call
-/// tries again.
+/// tries again, since the try was busy or held back.
 pub(crate) fn final_refusal(refusal: Refusal) -> Option<Full>
     ensures some { IfSome result (λ full. (counts : CountsView) × (refusal ≡ IsFull full counts)) }
     ensures none { result ≡ None → IsPassing refusal }
@@ -92,7 +93,7 @@ fn count_if_node(rec: Rec) -> usize
 }
 
 /// Returns whether `counts` show that an index is full for a change that lacks a record of the kind `lacks`. The change needs `needs` node
-/// records, or one leaf record with room for a key of `size` bytes.
+/// records, or one leaf record with room for a key of `size` bytes. Fewer must be free, and none may be held or obsolete.
 fn is_short_of(lacks: Full, needs: usize, size: usize, counts: &RecordCounts) -> bool
     ensures { IsTrue result ↔ IsShortOf lacks needs size counts.now }
 {
@@ -102,7 +103,8 @@ fn is_short_of(lacks: Full, needs: usize, size: usize, counts: &RecordCounts) ->
     }
 }
 
-/// Returns whether `counts`, those of one kind and class, show fewer free records than `needs`, and no held or obsolete one.
+/// Returns whether `counts`, those of one kind and class, show fewer free records than `needs`, and no held or obsolete one, which may come
+/// back.
 fn are_short(needs: usize, counts: &StateCounts) -> bool
     ensures { IsTrue result ↔ AreShort needs counts.now }
 {

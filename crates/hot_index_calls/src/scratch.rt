@@ -14,11 +14,11 @@ use rowex_reading::MOST_NODES;
 use rowex_writing::{Build, Hint, Stretch};
 use std::alloc::{AllocError, Global};
 
-/// The records that a pass claims first of a kind or class have so many words at most: 128 KiB.
+/// The small part of a pass, of the records of one kind or class, has so many words at most: 128 KiB.
 const FIRST_WORDS: u32 = 16_384;
 
-/// The first records of a new table that no load has taken, of the nodes and of each class of leaves. A load takes its last few nodes
-/// behind that number. These are plain numbers, which promise nothing.
+/// The number of the first record of a new table that no load has taken, of the nodes and of each class of leaves. Of nodes it is that
+/// before the load is finished, which takes a few more behind it. These are plain numbers, which promise nothing.
 #[derive(Clone, Copy)]
 pub struct FirstFree {
     /// The number of a node record.
@@ -48,8 +48,8 @@ impl FirstFree {
 
 /// What a pass claims of the records of one kind or class. These are plain numbers, which promise nothing.
 ///
-/// A pass has a part of its own, so that two that claim many records don't try for the same ones. But it begins with a small part. Those of
-/// all passes stand side by side where the records begin: passes that claim few share pages, huge ones too.
+/// A pass has a part of its own, so that two that claim many records don't try for the same ones. But it begins with a small part. The
+/// small parts of all passes stand side by side where the records begin: passes that claim few share pages, huge ones too.
 #[derive(Clone, Copy)]
 struct Share {
     /// How many records there are.
@@ -59,15 +59,15 @@ struct Share {
     loaded: u32,
     /// The number of the first record of the small part.
     first: u32,
-    /// The number behind its last one; the greatest one, once the pass has left it.
+    /// The number behind its last one. It is 4,294,967,295 once the pass has left the small part, or if that is all of the pass's share.
     end: u32,
     /// The number of the first record of the pass's own part.
     own: u32,
 }
 
 impl Share {
-    /// Returns the parts of `records` records, of one kind or class, in which pass `number` of `passes` passes claims. The first `loaded`
-    /// records have a loaded key each. The small part has at most `most` records.
+    /// Returns the parts of `records` records, of one kind or class, in which pass `number` of `passes` passes claims. A load has
+    /// taken the first `loaded` records. The small part has at most `most` records.
     fn of(number: u16, passes: u32, records: u32, loaded: u32, most: u32) -> Share {
         let number = u32::from(number);
         let share = records.checked_div(passes).unwrap_or(0);
@@ -93,8 +93,8 @@ impl Share {
         Ok(hint)
     }
 
-    /// Lets the claims of `hint` go on in the pass's own part, if they have come past the small one. Returns the share that is to be kept
-    /// from then on.
+    /// Lets the claims of `hint` go on in the pass's own part, if they have come past the small one. Returns the share to keep from then
+    /// on: in it the small part counts as left.
     fn leave_first_part(self, hint: &mut Hint) -> Share {
         if hint.stretch.start() < self.end {
             return self;
@@ -117,15 +117,15 @@ pub struct Scratch {
     pub build: Build,
     /// What the pass has retired and not given back yet.
     pub limbo: Limbo,
-    /// What it claims of the node records.
+    /// Which node records the pass claims.
     nodes: Share,
-    /// What it claims of the leaf records of each class, the smallest first.
+    /// Which leaf records of each class the pass claims, the smallest class first.
     leaves: [Share; LEAF_CLASSES],
 }
 
 impl Scratch {
-    /// Moves the records that the last attempt has unlinked into limbo, as far as that has room, and empties their list. Records that found
-    /// no room are found by full rounds.
+    /// Moves the records that the last attempt has unlinked into limbo, as far as that has room, and empties their list. Records for which
+    /// it had no room are found by full rounds. `build.made` stays.
     pub fn move_unlinked_to_limbo(&mut self)
         ensures gone { self.new.build.gone.items ≡ [] }
         ensures made { self.new.build.made.items ≡ self.old.build.made.items }
@@ -136,7 +136,7 @@ impl Scratch {
     }
 
     /// Lets the next claims begin with the records that the last small round gave back. After these, claims go on in the pass's own parts,
-    /// if it has claimed those of its small ones. `layout` is that of the table.
+    /// where they have come past its small ones. `layout` is that of the table. `build.made` and `build.gone` stay.
     pub fn reuse_given_records(&mut self, layout: Layout)
         ensures made { self.new.build.made.items ≡ self.old.build.made.items }
         ensures gone { self.new.build.gone.items ≡ self.old.build.gone.items }
@@ -148,7 +148,8 @@ impl Scratch {
         self.leave_first_parts();
     }
 
-    /// Lets the claims of each kind and class go on in the pass's own part, if they have come past its small one.
+    /// Lets the claims of each kind and class go on in the pass's own part, if they have come past its small one. `build.made` and
+    /// `build.gone` stay.
     fn leave_first_parts(&mut self)
         ensures made { self.new.build.made.items ≡ self.old.build.made.items }
         ensures gone { self.new.build.gone.items ≡ self.old.build.gone.items }
@@ -161,7 +162,8 @@ impl Scratch {
         }
     }
 
-    /// Lets claims try each class of leaf records in its turn again: after a full round each may have a free record.
+    /// Lets claims try each class of leaf records in its turn again: after a full round each may have a free record. Claims of nodes skip
+    /// nothing. `build.made` stays.
     pub fn reset_skips(&mut self)
         ensures made { self.new.build.made.items ≡ self.old.build.made.items }
     {
@@ -172,7 +174,7 @@ impl Scratch {
 }
 
 /// Adds `rec` to the spare numbers of its kind and class, so that the next claim there tries `rec` first. If that list is full, `rec` isn't
-/// kept. In any case claims skip that class no more. `layout` is that of the table.
+/// kept. In any case claims skip that class no more. `layout` is that of the table. `build.made` and `build.gone` stay.
 fn keep_spare(build: &mut Build, layout: Layout, rec: Rec)
     ensures { (build.new.made.items ≡ build.old.made.items) × (build.new.gone.items ≡ build.old.gone.items) }
 {

@@ -23,7 +23,8 @@ pub(crate) const MOST_AHEAD: u8 = 16;
 /// If an index has fewer leaf records, a walk touches none of them: they are in a processor's cache mostly.
 const LEAST_LEAVES: u32 = 32_768;
 
-/// The word of a leaf that is touched behind its value: the last one, or this one, a line further, if it comes before.
+/// Beside the leaf's value the word of this index is touched, which is a cache line further on. If the leaf's last word comes before it,
+/// that word is touched instead.
 const NEXT_LINE: usize = VALUE_OFFSET as usize + CACHE_LINE_WORDS;
 
 /// If the limit leaves fewer pairs, a walk looks at one slot at a time.
@@ -38,8 +39,8 @@ pub(crate) struct Ahead {
     pub node: Option<u32>,
 }
 
-/// At how many slots a walk that has taken `taken` pairs looks together: those of the pairs that `limit` leaves, and one more.
-/// `MOST_AHEAD` at most, and one if fewer than `LEAST_PAIRS` are left.
+/// Returns at how many slots a walk that has taken `taken` pairs looks together: those of the pairs that `limit` leaves, and one more,
+/// which tells whether there is a further pair. `MOST_AHEAD` at most, and one if fewer than `LEAST_PAIRS` are left.
 #[inline(always)]
 fn most_slots(limit: usize, taken: usize) -> u8
     requires { taken ≤ limit }
@@ -58,11 +59,12 @@ fn most_slots(limit: usize, taken: usize) -> u8
 }
 
 /// Loads the entries in the next slots of the node `top`, in the scan's direction, up to the first that leads to a node. It looks at
-/// [`most_slots`] slots, or fewer if fewer are to come, but one at least. The leaves' numbers go to the first of `leaves`. Returns how many
-/// leaves these are, and that node, if there is one. Where the leaves' records begin goes to the first of `starts`. `sink` has the pairs so
-/// far.
+/// [`most_slots`] slots, or fewer if fewer are to come, but one at least. Returns how many leaves these are, and the node behind them, if
+/// it came to one. `sink` has the pairs so far, no more than the limit. At most one load is made for each slot looked at, and one more for
+/// each leaf.
 ///
-/// The numbers are written to the walk's own array: one that is returned would be copied, and a copy waits for the stores of its elements.
+/// The leaves' numbers go to the first of `leaves`, and the words at which their records begin to the first of `starts`. They are written
+/// to the walk's own arrays: an array that is returned would be copied, and a copy waits for the stores of its elements.
 #[inline(always)]
 pub(crate) fn load_entries_ahead<G: Gate, S: Tallies>(
     scan: &Scan,
@@ -97,8 +99,9 @@ pub(crate) fn load_entries_ahead<G: Gate, S: Tallies>(
     }
 }
 
-/// Does what [`load_entries_ahead`] does. The sink asks for the lines of leaves if `TOUCHES` says so: what is compiled for one value of it
-/// has a loop without that question. For a count, which reads no start, the compiler leaves out what finds the records.
+/// Loads the entries in the next slots of the node `top`, as [`load_entries_ahead`] promises. The sink asks for the lines of leaves if
+/// `TOUCHES` says so: what is compiled for one value of `TOUCHES` has a loop without that question. For a count, which reads no start, the
+/// compiler leaves out what finds the records.
 #[inline(always)]
 fn load_entries<G: Gate, S: Tallies, const TOUCHES: bool>(
     scan: &Scan,
@@ -154,7 +157,8 @@ fn load_entries<G: Gate, S: Tallies, const TOUCHES: bool>(
     Ahead { count, node: None }
 }
 
-/// Asks for the first cache lines of `leaf`, which is read soon, if `touches` says so. So those of several leaves come side by side.
+/// Touches at most two words of `leaf` if `touches` says so, so that its first cache lines come. The leaf is read soon: so the lines of
+/// several leaves come side by side.
 #[inline(always)]
 pub(crate) fn touch_leaf(scan: &Scan, seat: &mut TableSeat, leaf: RecordAt, touches: bool)
     requires own { IsSeatOf scan.now.table.now seat.old }

@@ -1,5 +1,5 @@
-//! The number of the pairs of a range. Entries of a node are in key order, so one leaf that is not past the range tells so of those
-//! before it, which are counted unread.
+//! The number of the pairs of a range. Entries of a node are in key order: if one leaf is not past the range, none before it
+//! is, and these are counted unread.
 
 ghost use Rattle.std.specs.Prelude.{◌*◌, ◌≡◌, ◌≤◌, ◌+◌, ℕ, IsSome, IsTrue, false, length};
 ghost use Rattle.compound_node.specs.declared.entries.Entry.TheVariants.{Leaf as LeafEntry};
@@ -42,19 +42,23 @@ impl Tallies for Number {
 
     ghost may_refuse = { ⊥ };
 
+    /// Asks for no line, since a count reads few of the leaves.
     #[inline(always)]
     fn touch_leaf(&self, _scan: &Scan, _seat: &mut TableSeat, _leaf: RecordAt, _touches: bool) {}
 
+    /// Returns how many pairs were counted.
     #[inline(always)]
     fn size(&self) -> usize {
         self.count
     }
 
+    /// Does nothing: a number needs no memory, so none is refused.
     #[inline(always)]
     fn make_room(&mut self, _count: usize) -> Result<(), AllocError> {
         Ok(())
     }
 
+    /// Counts the pair, whatever its key and value are.
     #[inline(always)]
     fn take_pair(&mut self, _places: &[u8; MAX_BYTES], _length: usize, _value: u64) {
         self.count += 1;
@@ -62,6 +66,8 @@ impl Tallies for Number {
 }
 
 impl Sink for Number {
+    /// Counts those of `leaves` that are not past the range, as far as the limit leaves room. Mostly it reads the last one alone. It never
+    /// returns an error.
     #[inline(always)]
     fn take_leaves<G: Gate>(
         &mut self,
@@ -89,8 +95,9 @@ impl Sink for Number {
 
 /// Counts the pairs of `range`, `range.limit` at most. Returns their number, and whether there is a further one.
 ///
-/// The pass makes loads alone. Of the leaves that come together in a node it reads the last one. If that is past the range, it reads as
-/// many as a search among them takes. `way` is room for the nodes of its way, and need not be empty.
+/// The pass makes loads alone, at most those of a scan whose limit is that number and 16, or `range.limit` if that is less. Of the leaves
+/// that come together in a node it reads the last one. If that is past the range, it reads as many as a search among them takes. No memory
+/// is asked for. `way` is room for the nodes of its way, and need not be empty.
 #[inline(always)]
 pub fn count_root<G: Gate>(
     table: &HotTable,
@@ -113,8 +120,9 @@ pub fn count_root<G: Gate>(
     }
 }
 
-/// Of `leaves`, which come next in a node, how many come before the first one whose key is past the range. It reads the last leaf, and if
-/// that is past the range, some of the others. `places` is room for a key's bytes, and `gate` is told of each load.
+/// Returns how many of `leaves`, which come next in a node, come before the first one whose key is past the range. It reads the last leaf.
+/// If that is past the range, it reads some of the others, by halves: their keys are in the scan's order. `places` is room for a key's
+/// bytes, and `gate` is told of each load.
 #[inline(always)]
 pub(crate) fn count_leaves_within<G: Gate>(
     scan: &Scan,
@@ -151,7 +159,8 @@ pub(crate) fn count_leaves_within<G: Gate>(
     within
 }
 
-/// Whether the key of leaf `number` is past the range. It reads the leaf. `places` is room for the key's bytes.
+/// Returns whether the key of leaf `number` is past the range. It reads the leaf, to which the walk was led, by at most `LEAF_FIELDS`
+/// loads. `places` is room for the key's bytes.
 #[inline(always)]
 fn is_leaf_past<G: Gate>(
     scan: &Scan,

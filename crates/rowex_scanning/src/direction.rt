@@ -12,7 +12,7 @@ ghost use Rattle.version_laws.specs.Directions.{gap_behind as gap_behind_of, fir
 use insert_cases::PathNode;
 use packed_pairs::Direction;
 
-/// How many entries are to come in the node `top`, for a walk in the direction `direction` that stands at its gap `top.slot`.
+/// Returns how many entries are to come in the node `top`, for a walk in the direction `direction` that stands at its gap `top.slot`.
 #[inline(always)]
 pub(crate) fn entries_to_come(direction: Direction, top: &PathNode) -> u8
     requires { top.now.slot ≤ top.now.count }
@@ -24,7 +24,8 @@ pub(crate) fn entries_to_come(direction: Direction, top: &PathNode) -> u8
     }
 }
 
-/// The gap at which a walk in the direction `direction` stands in the node `top` after the next `entries` entries.
+/// Returns the gap at which a walk in the direction `direction` stands in the node `top` after the next `entries` entries. At least so many
+/// are to come.
 #[inline(always)]
 pub(crate) fn gap_after_entries(direction: Direction, top: PathNode, entries: u8) -> u8
     requires fits { top.slot ≤ top.count }
@@ -37,7 +38,8 @@ pub(crate) fn gap_after_entries(direction: Direction, top: PathNode, entries: u8
     }
 }
 
-/// The slot in the node `top` of the entry that comes after the next `entries` ones, for a walk in the direction `direction`.
+/// Returns the slot in the node `top` of the entry that comes after the next `entries` ones, for a walk in the direction `direction`. More
+/// than these are to come.
 #[inline(always)]
 pub(crate) fn slot_ahead(direction: Direction, top: PathNode, entries: u8) -> u8
     requires fits { top.slot ≤ top.count }
@@ -50,8 +52,8 @@ pub(crate) fn slot_ahead(direction: Direction, top: PathNode, entries: u8) -> u8
     }
 }
 
-/// The slots of a node's entries, one after another as a walk comes to them. A step leads from each to the next one, modulo 256, so that none
-/// asks for the direction.
+/// The slots of a node's entries, one after another as a walk comes to them. A step leads from each to the next one, modulo 256, so that a
+/// loop over them never asks for the direction.
 #[derive(Drop)]
 pub(crate) struct Slots {
     /// The slot of the next entry, if one is to come.
@@ -61,7 +63,7 @@ pub(crate) struct Slots {
 }
 
 impl Slots {
-    /// The slots of the entries that are to come in the node `top`, one at least, for a walk in the direction `direction`.
+    /// Returns the slots of the entries that are to come in the node `top`, one at least, for a walk in the direction `direction`.
     #[inline(always)]
     pub(crate) fn to_come(direction: Direction, top: PathNode) -> Slots
         requires fits { top.slot ≤ top.count }
@@ -80,7 +82,7 @@ impl Slots {
         }
     }
 
-    /// The slot of the next entry.
+    /// Returns the slot of the next entry, and goes on to the one behind. It is a slot of the node only as long as an entry is to come.
     #[inline(always)]
     pub(crate) fn next_slot(&mut self) -> u8
         ensures { (direction : Way) (count gap entries : ℕ) → entries < to_come_of direction count gap → AreSlots direction count gap entries self.old →
@@ -92,7 +94,7 @@ impl Slots {
     }
 }
 
-/// The gap at which a walk in the direction `direction` stands after the entry in `slot`.
+/// Returns the gap at which a walk in the direction `direction` stands after the entry in `slot`.
 #[inline(always)]
 pub(crate) fn gap_behind_slot(direction: Direction, slot: u8) -> u8
     requires { slot < 32 }
@@ -104,7 +106,7 @@ pub(crate) fn gap_behind_slot(direction: Direction, slot: u8) -> u8
     }
 }
 
-/// The gap at which a walk in the direction `direction` enters a node of `count` entries.
+/// Returns the gap at which a walk in the direction `direction` enters a node of `count` entries: all of them are to come.
 #[inline(always)]
 pub(crate) fn first_gap(direction: Direction, count: u8) -> u8
     ensures { result ≡ first_gap_of direction count }
@@ -115,8 +117,8 @@ pub(crate) fn first_gap(direction: Direction, count: u8) -> u8
     }
 }
 
-/// Whether a scan in the direction `direction` passes the key with the bytes `first` before that with the bytes `second`. `false` if they
-/// are one key.
+/// Returns whether a scan in the direction `direction` comes to the key with the bytes `first` before that with the bytes `second`. `false`
+/// if they are one key.
 #[inline(always)]
 pub(crate) fn is_earlier_key(direction: Direction, first: &[u8], second: &[u8]) -> bool
     requires keys { IsKey first.now × IsKey second.now }
@@ -129,8 +131,8 @@ pub(crate) fn is_earlier_key(direction: Direction, first: &[u8], second: &[u8]) 
     }
 }
 
-/// Whether the key with the bytes `first` is before that with the bytes `second`, as their first different bit says. Their first different
-/// byte says the same. `false` if they are one key.
+/// Returns whether the key with the bytes `first` is before that with the bytes `second`. The order of keys is that of their first
+/// different bit; their first different byte gives the same order. `false` if they are one key.
 pub(crate) fn is_key_before(first: &[u8], second: &[u8]) -> bool
     requires keys { IsKey first.now × IsKey second.now }
     ensures before { IsTrue result → IsBefore first.now second.now }

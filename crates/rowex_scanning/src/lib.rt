@@ -5,7 +5,7 @@
 //!
 //! The walk keeps its way as frames, and is sure of `IsScanBy`. It starts before or behind the entries that the first difference affects;
 //! if that is one, its place is never loaded again (`IsPastKey`). The walk is proved once for both directions. A count knows its pairs by
-//! their number alone (`Tally`): leaves before one of the range belong to it.
+//! their number alone (`Tally`): of leaves that come together, those before one of the range are of the range, too.
 #![tactic(auto)]
 
 mod ahead;

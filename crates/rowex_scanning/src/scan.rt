@@ -45,7 +45,7 @@ pub(crate) struct Places {
     pub next: [u8; MAX_BYTES],
 }
 
-/// What becomes of a scan at a pair.
+/// What becomes of a scan at a pair, or at several leaves.
 #[derive(Clone, Copy)]
 pub(crate) enum Verdict {
     /// The scan goes on.
@@ -56,7 +56,7 @@ pub(crate) enum Verdict {
     Full,
 }
 
-/// The key of `range` that comes first in its direction: `range.from` upwards, `range.upto` downwards.
+/// Returns the key of `range` that comes first in its direction: `range.from` upwards, `range.upto` downwards.
 #[inline(always)]
 pub(crate) fn first_key<'a>(range: &'a Range) -> &'a Key
     ensures { result.now ≡ first_key_of range.now }
@@ -67,8 +67,8 @@ pub(crate) fn first_key<'a>(range: &'a Range) -> &'a Key
     }
 }
 
-/// Whether the key with the bytes `key` is past the last key of `range` in its direction. In a scan upwards two numbers of eight bytes
-/// mostly tell that it is not.
+/// Returns whether the key with the bytes `key` is past the last key of `range` in its direction. In a scan upwards the first eight bytes
+/// of both, compared as numbers, mostly tell that it is not.
 #[inline(always)]
 pub(crate) fn is_past_range(range: &Range, key: &[u8]) -> bool
     requires key { IsKey key.now }
@@ -87,7 +87,8 @@ pub(crate) fn is_past_range(range: &Range, key: &[u8]) -> bool
     }
 }
 
-/// The first eight bytes of `key` as a number, of which the first byte is the highest. The key has at least eight.
+/// Returns the first eight bytes of `key` as a number, of which the first byte is the highest. So the order of the numbers is that of the
+/// bytes. The key has at least eight.
 #[inline(always)]
 fn first_word(key: &[u8]) -> u64
     requires { 8 ≤ length key.now }

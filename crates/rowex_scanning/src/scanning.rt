@@ -38,8 +38,8 @@ use std::alloc::AllocError;
 /// there is a further one.
 ///
 /// An error if memory is refused. Then `pairs` has the first of these pairs, fewer than the limit, and there is a further one. The pass
-/// makes loads alone. `way` is room for the nodes of its way, and need not be empty. Inline, so that a caller has a walk of its own
-/// direction.
+/// makes loads alone, no more than `scan_loads` allows for the limit, and that of the root. `way` is room for the nodes of its way, and
+/// need not be empty. Inline, so that a caller has a walk of its own direction.
 #[inline(always)]
 pub fn scan_root<G: Gate>(
     table: &HotTable,
@@ -64,7 +64,11 @@ pub fn scan_root<G: Gate>(
     scan
 }
 
-/// Does what [`scan_root`] does, but lists the values of the pairs alone.
+/// Lists the values of the first pairs of `range` in its direction, `range.limit` at most, into `values`, whose earlier values are dropped.
+/// They are in the order of their keys in the scan's direction. Returns whether there is a further pair.
+///
+/// An error if memory is refused. Then `values` has those of the first of these pairs, fewer than the limit, and there is a further one.
+/// Loads, and the room in `way`, are as in [`scan_root`].
 #[inline(always)]
 pub fn scan_values<G: Gate>(
     table: &HotTable,
@@ -87,7 +91,8 @@ pub fn scan_values<G: Gate>(
 }
 
 /// Gives `sink`, which has no pair before, the first pairs of `range` in its direction, `range.limit` at most. Returns whether there is a
-/// further one. An error if memory is refused. Inline, as [`scan_root`] is.
+/// further one. An error if memory is refused; the pairs given before stay, fewer than the limit. The loads are bounded by the limit, and
+/// by the number of pairs given and 16 more. Inline, so that a caller has a walk of its own direction.
 #[inline(always)]
 pub(crate) fn walk_root<G: Gate, S: Sink>(
     table: &HotTable,
@@ -135,8 +140,9 @@ pub(crate) fn walk_root<G: Gate, S: Sink>(
     }
 }
 
-/// Scans from a root that is leaf `number`: gives its pair to `sink`, if it belongs to the range and the limit leaves room. Returns whether
-/// it belongs there and has no room. An error if memory is refused.
+/// Scans from a root that is leaf `number`: gives its pair to `sink`, if the pair belongs to the range and the limit isn't 0. Returns
+/// whether the pair belongs to the range and the limit is 0: then it is a further one. An error if memory is refused; no pair is given
+/// then. At most `LEAF_FIELDS` loads are made.
 #[inline(always)]
 fn scan_leaf<G: Gate, S: Sink>(
     scan: &Scan,
@@ -170,8 +176,9 @@ fn scan_leaf<G: Gate, S: Sink>(
     }
 }
 
-/// Scans from a root that is a node. The search for the range's first key went through `way` and ended at `found`. Fills `sink`,
-/// which has no pair before, and returns whether there is a further one. An error if memory is refused.
+/// Scans from a root that is a node. The search for the range's first key went through `way` and ended at `found`. Gives the pairs to
+/// `sink`, which has none before, and returns whether there is a further one. An error if memory is refused; the pairs given before stay.
+/// The loads are bounded by the limit, and by the number of pairs given and 16 more.
 #[inline(always)]
 fn scan_node<G: Gate, S: Sink>(
     scan: &Scan,
@@ -208,11 +215,12 @@ fn scan_node<G: Gate, S: Sink>(
     walk_slots(scan, seat, gate, way, sink)
 }
 
-/// Walks over the slots of the last node of `way`, from the gap in its `slot` on, and of the nodes above, in the scan's direction. Gives
-/// the pairs of the range to `sink`, and returns whether there is a further one. An error if memory is refused.
+/// Walks over the slots of the last node of `way`, from the gap in its `slot` on, and then of the nodes above. Gives the pairs of the range
+/// to `sink`, in the scan's direction, and returns whether there is a further one. An error if memory is refused; the pairs given before
+/// stay. The loads are bounded by the limit, and by the number of pairs given and 16 more.
 ///
-/// It looks at several slots together, so that it doesn't wait for each leaf alone. The bytes of each key go to the same array, whatever it
-/// has.
+/// It looks at several slots together, so that it doesn't wait for each leaf alone. All keys are read into the same arrays, whatever a sink
+/// keeps of them.
 #[inline(always)]
 fn walk_slots<G: Gate, S: Sink>(
     scan: &Scan,
@@ -268,8 +276,9 @@ fn walk_slots<G: Gate, S: Sink>(
     }
 }
 
-/// Loads the head of node `number`. Returns the node of a walk that stands at the gap before its first entry in the direction `direction`.
-/// Inline, so that the walk has the node's parts in registers: a processor waits where parts are stored one by one and then read as one.
+/// Loads the head of node `number`, to which the walk was led, by 25 loads at most. Returns the node as one of the walk's path, at the gap
+/// before its first entry in the direction `direction`. Inline, so that the walk has the node's parts in registers: a processor waits where
+/// parts are stored one by one and then read as one.
 #[inline(always)]
 fn enter_node_at_gap<G: Gate>(
     table: &HotTable,

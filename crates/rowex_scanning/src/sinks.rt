@@ -26,17 +26,17 @@ pub(crate) trait Tallies {
     ghost use Rattle.std.specs.Prelude.{ℕ};
     ghost use Rattle.rowex_scanning.specs.Tallies.{Tally};
 
-    /// How many pairs were taken, and what it says of them.
+    /// How many pairs were taken, and what the sink tells of them.
     ghost tally: { Self → Tally };
 
-    /// For how many more pairs it has room.
+    /// For how many more pairs the sink has room.
     ghost room: { Self → ℕ };
 
     /// Whether memory may be refused for a pair.
     ghost may_refuse: { Type 0 };
 
-    /// Asks for the cache lines of `leaf`, which comes next on the walk, if `touches` says so. A sink that doesn't read each leaf asks for
-    /// none.
+    /// Touches at most two words of `leaf`, which comes next on the walk, if `touches` says so, so that its cache lines come. A sink that
+    /// doesn't read each leaf touches none.
     #[inline(always)]
     fn touch_leaf(&self, scan: &Scan, seat: &mut TableSeat, leaf: RecordAt, touches: bool)
         requires own { IsSeatOf scan.now.table.now seat.old }
@@ -47,11 +47,12 @@ pub(crate) trait Tallies {
         touch_leaf(scan, seat, leaf, touches);
     }
 
-    /// How many pairs were taken.
+    /// Returns how many pairs were taken.
     fn size(&self) -> usize
         ensures { result ≡ (tally self.now).size };
 
-    /// Makes room for `count` more pairs, no more than a node has entries. An error if memory is refused for them.
+    /// Makes room for `count` more pairs, no more than a node has entries. An error if memory is refused for them. For 0 pairs there is no
+    /// error. The pairs taken stay in either case.
     fn make_room(&mut self, count: usize) -> Result<(), AllocError>
         requires few { count ≤ 32 }
         requires fits { (tally self.old).size + count < 2 ^ 64 }
@@ -60,7 +61,8 @@ pub(crate) trait Tallies {
         ensures some { OnErr result (0 < count) }
         ensures refused { OnErr result may_refuse };
 
-    /// Takes the pair of `value` and of the key in the first `length` bytes of `places`, for which there is room.
+    /// Takes the pair of `value` and of the key in the first `length` bytes of `places`, for which there is room. The room then has at most
+    /// one pair less.
     fn take_pair(&mut self, places: &[u8; MAX_BYTES], length: usize, value: u64)
         requires key { IsKey (take length places.now) }
         requires fits { length ≤ MAX_BYTES }
@@ -72,9 +74,11 @@ pub(crate) trait Tallies {
 /// What a walk gives its leaves to, a group at a time.
 pub(crate) trait Sink: Tallies {
     /// Takes the pairs of `leaves`, which come next on the walk, and returns `Further`. At a leaf past the range it stops and returns
-    /// `Past`; at one of the range for which the limit leaves no room, `Full`. An error if memory is refused; the pairs before it stay.
-    /// The limit leaves room for all leaves but one at least. Their records begin at `starts`. `places` is room for keys, and `gate` is
-    /// told of each load.
+    /// `Past`; at one of the range for which the limit leaves no room, `Full`. An error if memory is refused; the pairs before it stay,
+    /// fewer than the limit.
+    ///
+    /// The limit leaves room for all of the leaves, or for all but one. Their records begin at `starts`. At most `LEAF_FIELDS` loads are
+    /// made for each leaf, and `gate` is told of each. `places` is room for keys.
     fn take_leaves<G: Gate>(
         &mut self,
         scan: &Scan,
@@ -109,16 +113,19 @@ impl Tallies for Filling {
 
     ghost may_refuse = { Unit {0} };
 
+    /// Returns how many pairs the list has.
     #[inline(always)]
     fn size(&self) -> usize {
         self.len()
     }
 
+    /// Reserves memory for `count` more pairs.
     #[inline(always)]
     fn make_room(&mut self, count: usize) -> Result<(), AllocError> {
         self.reserve(count)
     }
 
+    /// Appends the pair of `value` and of the key in the first `length` bytes of `places`.
     #[inline(always)]
     fn take_pair(&mut self, places: &[u8; MAX_BYTES], length: usize, value: u64) {
         self.push(places, length, value);
@@ -138,16 +145,19 @@ impl Tallies for Vec<u64> {
 
     ghost may_refuse = { Unit {0} };
 
+    /// Returns how many values the list has.
     #[inline(always)]
     fn size(&self) -> usize {
         self.len()
     }
 
+    /// Reserves memory for `count` more values.
     #[inline(always)]
     fn make_room(&mut self, count: usize) -> Result<(), AllocError> {
         self.reserve(count)
     }
 
+    /// Appends the value, and drops the key.
     #[inline(always)]
     fn take_pair(&mut self, _places: &[u8; MAX_BYTES], _length: usize, value: u64) {
         self.push_reserved(value);

@@ -34,10 +34,10 @@ pub(crate) struct SearchEnd {
     pub mismatch: Option<u16>,
 }
 
-/// Finds where `scan` starts on `way`, the way of the search for its first key, which ended at `found`.
+/// Finds where `scan` starts on `way`, the way of the search for its first key, which ended at `found`. At most one head is loaded.
 ///
-/// A scan downwards starts left of the gap at which one upwards does. If the found leaf has the key, or stands just left of that gap, it
-/// comes first, and the scan goes on left of it. Inline, so that the walk behind it still knows its direction.
+/// A scan downwards starts left of the gap at which one upwards does. The found leaf comes first if it has the key, or stands just left of
+/// that gap, and the scan goes on left of it. Inline, so that the walk behind it still knows its direction.
 #[inline(always)]
 pub(crate) fn find_start<G: Gate>(
     scan: &Scan,
@@ -68,11 +68,12 @@ pub(crate) fn find_start<G: Gate>(
     }
 }
 
-/// Finds where a scan upwards from the first key of `scan` starts on `way`, the way of that key's search, which ended at `found`. If that
-/// leaf has the key, the scan starts there.
+/// Finds where a scan upwards from the first key of `scan` starts on `way`, the way of that key's search, which ended at `found`. If the
+/// found leaf has the key, the scan starts there. At most one head is loaded.
 ///
-/// Else the leaf's key first differs from it at `found.mismatch`, and so do the keys of all entries that this position affects. All other
-/// keys part from it before that position. So the scan starts at the first affected entry, or behind the last if the key has a 1 there.
+/// Else the leaf's key first differs from the key sought at `found.mismatch`, and so do the keys of all entries that this position affects.
+/// All other keys differ from the key sought before that position. So the scan starts at the first affected entry, or behind the last if
+/// the key sought has a 1 there. If it starts before an entry that alone is affected, that entry is the found leaf.
 ///
 /// Always inline: a call that takes `scan` makes the compiler read the scan's direction again at each slot.
 #[inline(always)]

@@ -23,10 +23,12 @@ use rowex_reading::load_leaf;
 use rowex_table::{RecordAt, TableSeat};
 use std::alloc::AllocError;
 
-/// Takes the pairs of `leaves`, whose records begin at `starts`, as `Sink::take_leaves` says.
+/// Takes the pairs of `leaves`, which come next on the walk, and returns `Further`. At a leaf past the range it stops and returns `Past`;
+/// at one of the range for which the limit leaves no room, `Full`. An error if memory is refused; the pairs before it stay. The limit
+/// leaves room for all of the leaves, or for all but one. Their records begin at `starts`.
 ///
-/// The last leaf is read first. Keys rise with the walk, or fall: where its key is not past the range, no other is, and none of them is
-/// compared. Only leaves of which the last is past go one by one.
+/// The last leaf is read first. The leaves' keys are in the scan's order: if the last one isn't past the range, no other is, and none of
+/// them is compared. If it is past, the others go one by one.
 #[inline(always)]
 pub(crate) fn take_each_leaf<G: Gate, S: Tallies>(
     scan: &Scan,
@@ -78,8 +80,8 @@ pub(crate) fn take_each_leaf<G: Gate, S: Tallies>(
     Ok(Verdict::Further)
 }
 
-/// Takes the pairs of `leaves` but that of the last one, whose key is not past the range, so that none of the others is compared. There is
-/// room for them, by the limit and in `sink`.
+/// Takes the pairs of `leaves` but that of the last one, by at most `LEAF_FIELDS` loads for each. The last one's key is not past the range,
+/// so no other key is compared with the range's end. There is room for the pairs, by the limit and in `sink`.
 #[inline(always)]
 fn take_leaves_before_last<G: Gate, S: Tallies>(
     scan: &Scan,
@@ -110,7 +112,9 @@ fn take_leaves_before_last<G: Gate, S: Tallies>(
     }
 }
 
-/// Takes the pairs of `leaves` one by one, and compares each with the range's end, as `Sink::take_leaves` says.
+/// Takes the pairs of `leaves` one by one, compares each key with the range's end, and returns `Further` if none ends the scan. It stops at
+/// a leaf past the range, and returns `Past`. At a leaf of the range for which the limit leaves no room, it returns `Full`. An error if
+/// memory is refused; the pairs before it stay.
 #[inline(always)]
 fn take_leaves_to_end<G: Gate, S: Tallies>(
     scan: &Scan,
@@ -141,8 +145,9 @@ fn take_leaves_to_end<G: Gate, S: Tallies>(
     Ok(Verdict::Further)
 }
 
-/// Loads leaf `number`, to which the walk was led. Returns its key's length in bytes and its value. Writes the bytes of the key to the
-/// first of `places`.
+/// Loads leaf `number`, to which the walk was led, by at most `LEAF_FIELDS` loads. Returns its key's length in bytes and its value. Writes
+/// the bytes of the key to the first of `places`; what stands behind them is not said. The leaf had both in some version since the pass was
+/// led there.
 #[inline(always)]
 pub(crate) fn load_scanned_leaf<G: Gate>(
     scan: &Scan,
@@ -162,7 +167,8 @@ pub(crate) fn load_scanned_leaf<G: Gate>(
     load_leaf_at(scan, seat, gate, number, leaf.start, places)
 }
 
-/// Does what [`load_scanned_leaf`] does for leaf `number`, whose record begins at the word `start`.
+/// Loads leaf `number`, whose record begins at the word `start`. Returns its key's length in bytes and its value. Writes the bytes of the
+/// key to the first of `places`, as [`load_scanned_leaf`] does.
 #[inline(always)]
 fn load_leaf_at<G: Gate>(
     scan: &Scan,
@@ -186,8 +192,9 @@ fn load_leaf_at<G: Gate>(
     load_leaf(scan.table, seat, gate, leaf, places)
 }
 
-/// Loads leaf `number`, whose record begins at the word `start`, and gives its pair to `sink`, as [`take_pair_in_range`] does. Its key does
-/// not come before `scan.range`. Returns what becomes of the scan. An error if memory is refused. `places` is room for the key's bytes.
+/// Loads leaf `number`, whose record begins at the word `start`. Gives its pair to `sink` and returns `Further`. Gives none and returns
+/// `Past` where the key is past the range, or `Full` where it is of the range and the limit is reached. If memory is refused, gives none
+/// and returns an error. The key does not come before `scan.range`. `places` is room for its bytes.
 #[inline(always)]
 pub(crate) fn take_leaf<G: Gate, S: Tallies>(
     scan: &Scan,
@@ -214,9 +221,9 @@ pub(crate) fn take_leaf<G: Gate, S: Tallies>(
 }
 
 /// Gives the pair of `value` and of the key in the first `length` bytes of `places` to `sink`, and returns `Further`. Gives none and
-/// returns `Past` where the key is past `range`, or `Full` where it is of the range and the limit is reached. An error, and none given, if
-/// memory is refused. The key does not come before the range. Inline, so that the key's bytes go at once from where they were read to their
-/// place among the pairs.
+/// returns `Past` where the key is past `range`, or `Full` where it is of the range and the limit is reached. If memory is refused, gives
+/// none and returns an error. The key does not come before the range. Inline, so that the key's bytes go at once from where they were read
+/// to their place among the pairs.
 #[inline(always)]
 pub(crate) fn take_pair_in_range<S: Tallies>(
     sink: &mut S,
