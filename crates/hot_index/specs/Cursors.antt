@@ -18,8 +18,8 @@ GoesOnAt from pairs next = ((pairs ≡ []) × (next ≡ from)) ⊎ ((last : Key)
 abbrev pub IsAtEnd : (pairs : List (Key × ℕ)) → Type 0
 IsAtEnd pairs = (last : Key) × IsLastKey pairs last × NoKeyAbove last
 
--- What is left for a cursor that had `rest` and has listed these pairs, where `more` says whether there is a further key. If so, it is the
--- keys from where the cursor goes on. If not, or if the last listed key is the greatest of all, nothing is left.
+-- What is left for a cursor that had `rest` and has listed these pairs, where `more` says whether there is a further key. If so, the keys
+-- from where the cursor goes on to the end of `rest` are left. If not, or if the last listed key is the greatest of all, nothing is left.
 abbrev pub IsLeft : (rest : Rest) (pairs : List (Key × ℕ)) (more : Bool) (left : Option Rest) → Type 0
 IsLeft rest pairs true left =
     ((next : Key) × (left ≡ Some (rest_of next rest.upto)) × GoesOnAt rest.from pairs next) ⊎ ((left ≡ None) × IsAtEnd pairs)

@@ -11,7 +11,7 @@ with_one_kept nodes = min (nodes + 1) 4294967295
 abbrev pub kept_stock : Stock → Stock
 kept_stock stock = record stock { nodes = with_one_kept stock.nodes }
 
--- The table has the layout that was asked for, with the kept node record.
+-- The table has the layout that was asked for, but one node record more: the kept one. If 2^32 - 1 were asked for, it has no more.
 pub record HasOneKept (asked layout : Layout) : Type 0 where
   pub passes : layout.passes ≡ asked.passes
   pub nodes : layout.nodes ≡ with_one_kept asked.nodes

@@ -23,7 +23,7 @@ use Rattle.rowex_table.specs.Seats.{IsLoaderSeat, TableView}
 use Rattle.publish_laws.specs.Lone.{HasSpare}
 use Rattle.hot_index_calls.specs.Passes.{IsNewPass, PassView}
 
--- The load has taken this pair, behind its earlier ones. The pair has the leaf record of some number.
+-- The load has taken this pair, behind its earlier ones, and nothing else of it has changed. The pair has the leaf record of some number.
 abbrev pub HasTakenPair : (key : Key) (value : ℕ) (old new : LoadView) → Type 0
 HasTakenPair key value old new = (number : ℕ) × (new ≡ with_item old (item number key value))
 
@@ -31,7 +31,7 @@ HasTakenPair key value old new = (number : ℕ) × (new ≡ with_item old (item 
 abbrev pub HasNoLeafFor : (layout : Layout) (key : Key) → Type 0
 HasNoLeafFor layout key = (number : ℕ) → number < layout.leaves → leaf_size layout number < words_for (length key)
 
--- the count of keys is that of a pass that has inserted these pairs
+-- the count of keys is that of a pass, of whatever number, that has inserted these pairs and made no other call
 abbrev pub CountsItems : (items : List Item) (count : KeyCount) → Type 0
 CountsItems items count = (pass : ℕ) → IsCountOf pass (added_notes 0 items) count
 
@@ -45,8 +45,8 @@ pairs_noted place [] = []
 pairs_noted place (pair ∷ pairs) = record { place = place; call = Insert pair.0 pair.1; reply = Inserted } ∷ pairs_noted (suc place) pairs
 
 -- Pass 0 of an index that was made of these pairs. It has inserted each pair, in their order, and has seen nothing else. Its calls are
--- legal, and the map has just these pairs. The load is its one step (`seat`). Some node record stands in no tree (`out`). In an index of
--- one pass such a record stays (`spare`).
+-- legal, and the map has just these pairs. The load of some words is its one step (`load`, `seat`). Some node record stands in no tree
+-- (`out`), so that a removal finds one. In an index of one pass it stays so (`spare`).
 pub record IsLoaderPass (index : TableView) (pairs : List (Key × ℕ)) (pass : PassView) : Type 0 where
   pub number : pass.number ≡ 0
   pub front : pass.front ≡ map inserted_pair pairs

@@ -15,7 +15,8 @@ pub record IsSettledWith (known : Known) (count : KeyCount) : Type 0 where
 abbrev pub HasNoCall : SeatView → Type 0
 HasNoCall seat = IsSettled seat.known × (seat.known.notes ≡ [])
 
--- The passes of these seats are between two calls. `count` is that of the first pass's calls. No other pass has an answered call.
+-- The passes of these seats are between two calls. `count` is that of the first pass's calls. No other pass has an answered call. So it is
+-- once an index is made, empty or by a load.
 abbrev pub AreSettled : (count : KeyCount) (seats : List SeatView) → Type 0
 AreSettled count [] = Unit {0}
 AreSettled count (seat ∷ seats) = IsSettledWith seat.known count × All HasNoCall seats

@@ -41,19 +41,19 @@ AllLongFullMeansNoneFree =
 abbrev pub OnePassIsNeverBusy : Type 0
 OnePassIsNeverBusy = (layout : Layout) (key : Key) (old new : PassView) → layout.passes ≡ 1 → ¬ (IsCause layout key old new Busy)
 
--- No pass owns the record, so it is in the tree or retired. `by` is the pass that owns it, if one does.
+-- No pass owns the record. So if the record was found not free, it was in the tree or retired. `by` is the pass that owned it, if one did.
 abbrev pub IsNobodys : (rec : Rec) (by : Option ℕ) → Type 0
 IsNobodys rec by = by ≡ None
 
--- Each node record was in the tree or retired when the call looked at it, but for those of `own`. These are at most 4,321, and the call may
--- have claimed them itself.
+-- Each node record was in the tree or retired when the call looked at it, but for those of `own`. These the call may have claimed itself.
+-- They are at most 4,321: two for each of the 2,160 nodes that a path has at most, and one more.
 abbrev pub AreTakenButOwn : (layout : Layout) (old new : PassView) → Type 0
 AreTakenButOwn layout old new =
     (own : List Rec) × (length own ≤ 2 * most_nodes + 1) ×
     AllMissed (λ rec by. IsNobodys rec by ⊎ Contains own rec) a_node layout.nodes new.failed old.steps
 
 -- At least a third of the node records but one were in the tree or retired when the call looked at them. `nodes` lists their numbers, each
--- once.
+-- once. All others may be the call's own: two for each of these that it had locked, and one more.
 pub record ThirdIsTaken (layout : Layout) (old new : PassView) : Type 0 where
   pub nodes : List ℕ
   pub apart : AreApart nodes
@@ -61,35 +61,36 @@ pub record ThirdIsTaken (layout : Layout) (old new : PassView) : Type 0 where
   pub each : (node : ℕ) → IsOneOf node nodes → (node < layout.nodes) × HasMissedSince IsNobodys new.failed (a_node node) old.steps
 
 -- Let a call of an index's only pass be refused as full. If it lacked a leaf record, each with room for its key was in the tree or retired
--- when the call looked at it. If it lacked a node record, so were at least a third of the node records but one. Of all node records so was
--- each but those that the call may have claimed itself.
+-- when the call looked at it. If it lacked a node record, at least a third of the node records but one were in the tree or retired
+-- (`ThirdIsTaken`). So was each node record but those that the call may have claimed itself (`AreTakenButOwn`).
 abbrev pub OnePassFullMeansTaken : Type 0
 OnePassFullMeansTaken =
     (layout : Layout) (key : Key) (old new : PassView) → layout.passes ≡ 1 → new.number < layout.passes →
     (IsCause layout key old new FullLeaves → AllMissedFrom IsNobodys layout (words_for (length key)) new.failed old.steps) ×
     (IsCause layout key old new FullNodes → ThirdIsTaken layout old new × AreTakenButOwn layout old new)
 
--- the call may give its key a value: it is no removal
+-- The call is no removal. So if it changes the map, it gives its key a value. A get is such a call, too, but is never refused.
 abbrev pub IsNoRemoval : Call → Type 0
 IsNoRemoval (Remove key) = ⊥
 IsNoRemoval (RemoveIf key expected) = ⊥
 IsNoRemoval call = Unit {0}
 
--- A call that gives its key a value is never refused as full if the map had the key all the while. That is after each count of changes,
--- from all that the pass had seen before the call to all at its end.
+-- A call that gives its key a value is never refused as full if the map had the key all the while. The map must have had it after each
+-- number of changes: from the number that the pass had seen before the call to the number that it has seen at the call's end.
 abbrev pub HeldIsNeverFull : Type 0
 HeldIsNeverFull =
     (layout : Layout) (call : Call) (old new : PassView) (fault : TryFault) → IsRefused layout call old new fault → IsNoRemoval call →
     ((count : ℕ) → length old.front ≤ count → count ≤ length new.front → value_at (map_of (take count new.front)) (key_of call) ≢ None) → fault ≡ Busy
 
--- A removal is never refused as full if its key was absent all the while. That is after each count of changes, from all that the pass had
--- seen before the call to all at its end.
+-- A removal is never refused as full if its key was absent all the while. The key must have been absent after each number of changes: from
+-- the number that the pass had seen before the call to the number that it has seen at the call's end.
 abbrev pub AbsentIsNeverFull : Type 0
 AbsentIsNeverFull =
     (layout : Layout) (call : Call) (old new : PassView) (fault : TryFault) → IsRefused layout call old new fault → IsRemoval call →
     ((count : ℕ) → length old.front ≤ count → count ≤ length new.front → value_at (map_of (take count new.front)) (key_of call) ≡ None) → fault ≡ Busy
 
--- In an index of one pass, let a call that gives its key a value be refused. Its key was absent before the call.
+-- In an index of one pass, let a call that gives its key a value be refused, for whatever reason. Its key was absent before the call. The
+-- premise on the pass's earlier calls, that they are legal, holds between any two calls.
 abbrev pub OnePassRefusesOnlyNewKeys : Type 0
 OnePassRefusesOnlyNewKeys =
     (layout : Layout) (call : Call) (old new : PassView) (fault : TryFault) → layout.passes ≡ 1 → new.number < layout.passes →
@@ -112,15 +113,17 @@ HasSettledCount front number count =
     (pass : PassView) × (pass.number ≡ number) × LegalCalls pass.front pass.number pass.notes × OthersGoOn pass.number pass.front front ×
     IsCountOf pass.number pass.notes count
 
--- If no pass is changing the index, the counts of all its passes, in the order of their numbers, fit its front (`AreCounts`). So they add
--- up to the number of its keys, which `total` returns.
+-- If no pass is changing the index, the counts of all its passes, in the order of their numbers, fit the index's front (`AreCounts`). So
+-- they add up to the number of its keys, which `total` returns. The front must be legal, with changes by passes of the index alone. Each
+-- pass must have seen all changes of its own (`HasSettledCount`).
 abbrev pub CountsAddUp : Type 0
 CountsAddUp =
     (layout : Layout) (front : List Change) (counts : List KeyCount) → LegalFront front → AreByPasses layout front → length counts ≡ layout.passes →
     ((pass : ℕ) (count : KeyCount) → slice_get counts pass ≡ Some count → HasSettledCount front pass count) → AreCounts front counts
 
 -- An index of one pass keeps a spare node record, which stands in no tree. So a removal is not refused for want of a node record. A new
--- index has a spare one. Reads, rounds of collection, counts and showings leave one spare, if one was. So does each change (`LeavesRoom`).
+-- index has a spare one. Reads, rounds of collection, counts, meetings and stamps leave one spare, if one was. So does each change
+-- (`LeavesRoom`).
 pub record OnePassKeepsSpare {G : Type 0} (becomes : G → Event → G → Type 0) : Type 0 where
   pub begins : (layout : Layout) (number : ℕ) (pass : PassView) → 0 < layout.nodes → IsNewPass number pass → HasSpare layout pass.seat
   pub reads : (index : TableView) (old new : PassView × G) → HasRead index becomes old new → KeepsSpare index.layout old.0.seat new.0.seat

@@ -18,8 +18,8 @@ impl Index {
     /// Adds `delta` to the value of `key`, modulo 2 to the power of 64: returns `Was` with the value before. For an absent key it changes
     /// nothing, and returns `Absent`.
     ///
-    /// It searches once. It never blocks, and makes no more steps than `try_exchange` may. It takes no record, so it is refused only as
-    /// `Busy`.
+    /// It never blocks. It takes no record, so it is refused only as `Busy`, with nothing changed. It makes one attempt, with no more steps
+    /// than `try_exchange` may make.
     pub fn try_add(&self, pass: &mut Pass, key: &Key, delta: u64) -> Result<Reply, TryFault>
         requires { Owns self.now pass.old }
         ensures tried { IsTried (Add key.now delta) result self.now untold (pass.old, tt) (pass.new, tt) }
@@ -28,7 +28,8 @@ impl Index {
         self.try_add_with(pass, key, delta, &mut NoGate)
     }
 
-    /// Adds `delta` to the value of `key`, if it has one, and returns what `try_add` does. Reports each of its steps to `gate`.
+    /// Adds `delta` to the value of `key`, if it has one, as `try_add` does. Returns `Was` with the value before, `Absent`, or the refusal
+    /// `Busy`. Reports each of its steps to `gate`.
     pub fn try_add_with<G: Gate>(
         &self,
         pass: &mut Pass,

@@ -33,7 +33,8 @@ impl Index {
         self.try_call_with(pass, call, &mut NoGate)
     }
 
-    /// Makes `call`, and returns what `try_call` does. Reports each of its steps to `gate`.
+    /// Makes `call`, as `try_call` does, and returns the reply, or a refusal that such a call may have. Reports each of its steps to
+    /// `gate`. The steps are no more than `try_insert` may make, for a get too.
     pub fn try_call_with<G: Gate>(
         &self,
         pass: &mut Pass,
@@ -56,9 +57,9 @@ impl Index {
         }
     }
 
-    /// Makes `call`, and returns what `try_call` does. If a change found no record free, all records are counted then, as by `census`, with
-    /// one step more for each. The refusal says what the count shows: `Full`, or `HeldBack` if a record may come back. A removal in an
-    /// index of several passes is `HeldBack` without a count.
+    /// Makes `call`, as `try_call` does, and returns the reply, or a refusal that such a call may have. If a change lacked a record, all
+    /// records are counted after it, as by `census`, with one step more for each. By the count the refusal is `Full`, or `HeldBack` if a
+    /// record may come back; in an index of one pass it is `Full`. A removal in an index of several passes is `HeldBack` without a count.
     pub fn try_counted(&self, pass: &mut Pass, call: &Call) -> Result<Reply, Refusal>
         requires { Owns self.now pass.old }
         ensures own { Owns self.now pass.new }
@@ -73,8 +74,7 @@ impl Index {
         }
     }
 
-    /// Makes `call`, as `get`, `insert`, `upsert`, `exchange`, `add`, `remove` or `remove_if` does. It reports each of its steps to
-    /// `gate`.
+    /// Makes `call`, as `get`, `insert`, `upsert`, `exchange`, `add`, `remove` or `remove_if` does. Reports each of its steps to `gate`.
     ///
     /// The reply to a get is `Value` or `Absent`. A call is refused for the same reasons as `insert`. But `Get`, `Exchange` and `Add` are
     /// never refused, and a removal never returns `Full::Leaves`.

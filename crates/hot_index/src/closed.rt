@@ -33,7 +33,8 @@ impl Model for ClosedPass {
 }
 
 impl ClosedPass {
-    /// Returns how many keys the calls of the pass have put in, less how many they have taken out, modulo 2^64, as `Pass::count` does.
+    /// Returns how many keys the calls of the pass have put in, less how many they have taken out, modulo 2^64. These calls are legal in
+    /// what the pass has seen, as `Pass::count` says.
     pub fn count(&self) -> KeyCount
         ensures count { IsCountOf self.now.number self.now.notes result }
         ensures legal { LegalCalls self.now.front self.now.number self.now.notes }
@@ -41,8 +42,8 @@ impl ClosedPass {
         self.count
     }
 
-    /// Opens the pass for calls at `index`, its own index, with buffers that `alloc` gives. If memory is refused, the error has the closed
-    /// pass.
+    /// Opens the pass for calls at `index`, its own index, with buffers that `alloc` gives. All that contracts see of the pass stays. If
+    /// memory is refused, the error has the closed pass, as it was.
     pub fn open(self, alloc: Global, index: &Index) -> Result<Pass, AllocFailed<ClosedPass>>
         ensures opened { IfOk result (λ pass. pass ≡ self) }
         ensures kept { IfErr result (λ refused. refused.value ≡ self) }
@@ -59,7 +60,7 @@ impl ClosedPass {
 }
 
 impl Pass {
-    /// Closes the pass, and frees its buffers. Its number, its calls and what it has seen stay the same.
+    /// Closes the pass, and frees its buffers. All that contracts see of it stays: its number, its calls and what it has seen.
     pub fn close(self) -> ClosedPass
         ensures { result ≡ self }
     {
@@ -97,7 +98,8 @@ impl<I: ShowsIndex> ClosedHandle<I> {
         ClosedHandle { index, pass }
     }
 
-    /// Returns how many keys the calls of the pass have put in, less how many they have taken out, modulo 2^64, as `Pass::count` does.
+    /// Returns how many keys the calls of the pass have put in, less how many they have taken out, modulo 2^64. These calls are legal in
+    /// what the pass has seen, as `Pass::count` says.
     pub fn count(&self) -> KeyCount
         ensures count { IsCountOf self.now.pass.number self.now.pass.notes result }
         ensures legal { LegalCalls self.now.pass.front self.now.pass.number self.now.pass.notes }
@@ -105,7 +107,8 @@ impl<I: ShowsIndex> ClosedHandle<I> {
         self.pass.count()
     }
 
-    /// Opens the handle for calls, with buffers that `alloc` gives. If memory is refused, the error has the closed handle.
+    /// Opens the handle for calls, with buffers that `alloc` gives. All that contracts see of it stays. If memory is refused, the error has
+    /// the closed handle, as it was.
     pub fn open(self, alloc: Global) -> Result<Handle<I>, AllocFailed<ClosedHandle<I>>>
         ensures opened { IfOk result (λ handle. handle ≡ self) }
         ensures kept { IfErr result (λ refused. refused.value ≡ self) }

@@ -29,8 +29,8 @@ pub enum IndexFault {
 }
 
 /// Makes an empty index with `passes` passes (1 to 64), `nodes` node records (1 to 65,535) and `leaves` leaf records (1 to 262,143).
-/// Returns it with its passes in the order of their numbers, from 0 on. The error is `Layout` with the first of the three numbers, in this
-/// order, that is out of range. It is `Memory` if memory is refused.
+/// Returns it with its passes, which are new, in the order of their numbers, from 0 on. The error is `Layout` exactly if a number is out of
+/// range, with the first such of the three. It is `Memory` if all are in range and memory is refused.
 ///
 /// The index has one node record more, for removals: with one pass insertions leave it free. All leaf records are long. So a call that
 /// lacks one has found each of them taken (`laws::all_long_full_means_none_free`).
@@ -52,11 +52,11 @@ pub fn create(
     make_index_with_open_passes(alloc, Layout::of(passes, nodes, leaves))
 }
 
-/// Makes an empty index with `passes` passes (1 to 1,024) and the records of `stock`. Returns it with its passes in the order of their
-/// numbers, from 0 on.
+/// Makes an empty index with `passes` passes (1 to 1,024) and the records of `stock`. Returns it with its passes, which are new, in the
+/// order of their numbers, from 0 on.
 ///
-/// A stock has 1 to 4,294,967,295 node records, and 1 to 4,294,967,295 leaf records of all classes together. The error is `Layout` with the
-/// first that is out of range, of passes, nodes and leaves. It is `Memory` if memory is refused.
+/// A stock has 1 to 4,294,967,295 node records, and 1 to 4,294,967,295 leaf records of all classes together. The error is `Layout` exactly
+/// if a number is out of range, with the first such of passes, nodes and leaves. It is `Memory` if all are in range and memory is refused.
 ///
 /// The index has one node record more, as after `create`; if the stock has 4,294,967,295, it has no more. `Layout::bytes` of
 /// `keep_one_node` returns the bytes of the table. Twice as many are in use while it is made.
@@ -76,7 +76,9 @@ pub fn create_with(
     make_index_with_open_passes(alloc, Layout::with_stock(passes, stock))
 }
 
-/// Makes the index that `create_with` makes, with the same errors, but with closed passes. Each takes 16 bytes until it is opened.
+/// Makes an empty index with `passes` passes, the records of `stock` and one node record more, as `create_with` does, with its bounds and
+/// errors. Returns it with its passes, new and closed, in the order of their numbers, from 0 on. A closed pass takes 16 bytes until it is
+/// opened.
 pub fn create_closed(
     alloc: Global,
     passes: u32,
@@ -93,8 +95,8 @@ pub fn create_closed(
     make_index_with_closed_passes(alloc, Layout::with_stock(passes, stock))
 }
 
-/// Makes the index of the layout `found`, with open passes in the order of their numbers. If `found` is a fault, the error is `Layout` with
-/// that fault. It is `Memory` if memory is refused.
+/// Makes an index of the layout `found`, with one node record more (`keep_one_node`). Returns it with its new passes, open, in the order of
+/// their numbers. The error is `Layout` exactly if `found` is a fault, with that fault. It is `Memory` if memory is refused.
 fn make_index_with_open_passes(
     alloc: Global,
     found: Result<Layout, LayoutFault>,
@@ -115,7 +117,8 @@ fn make_index_with_open_passes(
     }
 }
 
-/// Opens the passes `closed` for calls at `index`, and returns them in their order; `AllocError` if memory is refused.
+/// Opens the passes `closed` for calls at `index`, and returns them in their order, otherwise as they were; `AllocError` if memory is
+/// refused.
 fn open_passes(
     alloc: Global,
     index: &Index,
@@ -130,8 +133,8 @@ fn open_passes(
     Ok(passes)
 }
 
-/// Makes the index of the layout `found`, with closed passes in the order of their numbers. If `found` is a fault, the error is `Layout`
-/// with that fault. It is `Memory` if memory is refused.
+/// Makes an index of the layout `found`, with one node record more (`keep_one_node`). Returns it with its new passes, closed, in the order
+/// of their numbers. The error is `Layout` exactly if `found` is a fault, with that fault. It is `Memory` if memory is refused.
 fn make_index_with_closed_passes(
     alloc: Global,
     found: Result<Layout, LayoutFault>,
@@ -151,8 +154,8 @@ fn make_index_with_closed_passes(
     }
 }
 
-/// Returns the layout of the index that is made when one asks for `layout`. It has one node record more, for removals; if `layout` has
-/// 4,294,967,295 already, no more.
+/// Returns the layout of the index that is made when `layout` is asked for. It has one node record more, so that a removal finds one; if
+/// `layout` has 4,294,967,295 already, no more. All else is as in `layout`.
 pub fn keep_one_node(layout: Layout) -> Layout
     ensures { HasOneKept layout result }
 {
@@ -167,7 +170,7 @@ pub fn keep_one_node(layout: Layout) -> Layout
     }
 }
 
-/// Makes the index of `layout`, with closed passes in the order of their numbers; `AllocError` if memory is refused.
+/// Makes the index of just `layout`, with its new passes, closed, in the order of their numbers; `AllocError` if memory is refused.
 fn make_index(alloc: Global, layout: Layout) -> Result<(Index, Vec<ClosedPass>), AllocError>
     ensures layout { IfOk result (λ made. made.0.layout ≡ layout) }
     ensures count { IfOk result (λ made. length made.1.items ≡ layout.passes) }
@@ -180,8 +183,9 @@ fn make_index(alloc: Global, layout: Layout) -> Result<(Index, Vec<ClosedPass>),
     Ok((Index { table, free }, passes))
 }
 
-/// Returns closed passes of `seats`, in their order; `AllocError` if memory is refused. The first pass has the count `first` of its keys,
-/// and each other one the count of no call.
+/// Returns closed passes of `seats`, in their order; `AllocError` if memory is refused. The passes must be between two calls. `first` must
+/// be the count of keys of the first pass's answered calls, which are those of a load, or none. No other pass may have an answered call, so
+/// each begins with the count of no call.
 pub(crate) fn make_closed_passes(
     alloc: Global,
     seats: Vec<TableSeat>,

@@ -60,9 +60,9 @@ impl Cursor {
     /// Lists the next pairs of the range, at most `limit`, into `pairs`, whose earlier pairs are dropped. Returns whether there are more.
     /// If not, the cursor is at its end, and each later call lists nothing and makes no step.
     ///
-    /// Before its end, each call is a `scan_into` of the keys that are left, with its promise and bound on steps. The next call goes on at
-    /// the least key above the last one listed. So a key that was inserted between two calls is listed if it lies above the last one
-    /// listed, and not if it lies below.
+    /// Before the end, each call is a `scan_into` of the keys that are left, with the promise and the bound on steps of one. The next call
+    /// goes on at the least key above the last one listed, or where it was if none was listed. So a key that was inserted between two calls
+    /// is listed if it lies above the last one listed, and not if it lies below.
     ///
     /// `AllocError` if memory is refused. The cursor stays where it is then, and `pairs` holds the first pairs, as after a `scan_into`.
     pub fn next_into(
@@ -94,9 +94,8 @@ impl Cursor {
     }
 }
 
-/// Returns what is left of the keys `rest` after a part of the list with `pairs`. It is what comes above the last pair's key, or all of
-/// `rest` if there is no pair. `None` if `more` is false, since the range then has no more pairs. `None` too if no key comes above the last
-/// one.
+/// Returns what is left of the keys `rest` after a part of the list with `pairs`. That is the keys above the last pair's, or all of `rest`
+/// if there is no pair. It is `None` if `more` is false, since the range then has no more pairs, or if no key comes above the last pair's.
 fn rest_after_part(rest: &Rest, pairs: &Pairs, more: bool) -> Option<Rest>
     ensures { IsLeft rest.now pairs.now more result }
 {

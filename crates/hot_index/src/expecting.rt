@@ -18,7 +18,8 @@ impl Index {
     /// Compare and exchange: gives `key` the value `value` if it has the value `expected`, and returns `Exchanged`. Else it changes
     /// nothing, and returns `Differs` with the key's value, or `Absent`.
     ///
-    /// It never blocks, and makes at most 56,488 steps, and one for each pass. It takes no record, so it is refused only as `Busy`.
+    /// It never blocks. It takes no record, so it is refused only as `Busy`, with nothing changed. It makes one attempt, after a small
+    /// round of collection if one is due. The call makes at most 56,488 steps, and one for each pass.
     pub fn try_exchange(
         &self,
         pass: &mut Pass,
@@ -33,8 +34,8 @@ impl Index {
         self.try_exchange_with(pass, key, expected, value, &mut NoGate)
     }
 
-    /// Gives `key` the value `value` if it has the value `expected`, and returns what `try_exchange` does. Reports each of its steps to
-    /// `gate`.
+    /// Gives `key` the value `value` if it has the value `expected`, as `try_exchange` does. Returns `Exchanged`, `Differs` with the key's
+    /// value, `Absent`, or the refusal `Busy`. Reports each of its steps to `gate`.
     pub fn try_exchange_with<G: Gate>(
         &self,
         pass: &mut Pass,
@@ -74,11 +75,11 @@ impl Index {
         )
     }
 
-    /// Removes `key` if it has the value `expected` , and returns `Removed` with that value. Else it changes nothing, and returns `Differs`
+    /// Removes `key` if it has the value `expected`, and returns `Removed` with that value. Else it changes nothing, and returns `Differs`
     /// with the key's value, or `Absent`.
     ///
-    /// It never blocks, makes no more steps than `try_insert` may, and is refused for the same reasons as `try_remove`. It returns
-    /// `FullNodes` only if its search found the key with the value `expected`.
+    /// It never blocks, makes no more steps than `try_insert` may, and is refused for the same reasons as `try_remove`, with nothing
+    /// changed. It returns `FullNodes` only if its search found the key with the value `expected`.
     pub fn try_remove_if(
         &self,
         pass: &mut Pass,
@@ -91,7 +92,8 @@ impl Index {
         self.try_remove_if_with(pass, key, expected, &mut NoGate)
     }
 
-    /// Removes `key` if it has the value `expected`, and returns what `try_remove_if` does. Reports each of its steps to `gate`.
+    /// Removes `key` if it has the value `expected`, as `try_remove_if` does. Returns `Removed` with that value, `Differs` with the key's
+    /// value, `Absent`, or why the call was refused. Reports each of its steps to `gate`.
     pub fn try_remove_if_with<G: Gate>(
         &self,
         pass: &mut Pass,
@@ -105,11 +107,12 @@ impl Index {
         self.try_change_with(pass, gate, &Call::RemoveIf(key.copy(), expected))
     }
 
-    /// Removes `key` if it has the value `expected` , and returns `Removed` with that value. Else it changes nothing, and returns `Differs`
+    /// Removes `key` if it has the value `expected`, and returns `Removed` with that value. Else it changes nothing, and returns `Differs`
     /// with the key's value, or `Absent`.
     ///
-    /// Where `try_remove_if` would return `Busy`, or records are held back, the call begins again, as `remove` does. It is refused only
-    /// with `Full::Nodes`, and never in an index of several passes.
+    /// Where `try_remove_if` would return `Busy`, or records may come back, the call begins again, as `remove` does. It is refused only
+    /// with `Full::Nodes`, with nothing changed. In an index of several passes it is never refused, and in one of one pass only where
+    /// `remove` may be.
     pub fn remove_if<R: Wait>(
         &self,
         rt: &R,

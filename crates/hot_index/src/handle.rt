@@ -66,8 +66,8 @@ impl ShowsIndex for Arc<Index, Global> {
     }
 }
 
-/// A pass with its index, as a reference or a share. Its methods are the index's calls without a gate. Make any other call by its
-/// parts, as in `handle.index.get_with(&mut handle.pass, key, gate)`.
+/// A pass with its index, as a reference or a share. Its methods are the index's calls without a gate, and leave it at its index. Make any
+/// other call by its parts, as in `handle.index.get_with(&mut handle.pass, key, gate)`.
 #[derive(Drop)]
 pub struct Handle<I: ShowsIndex> {
     /// A reference to the index, or a share of it.
@@ -96,7 +96,7 @@ impl<I: ShowsIndex> Handle<I> {
         Handle { index, pass }
     }
 
-    /// Returns the reference to the index, or the share of it, and the pass.
+    /// Takes the handle apart: returns the reference to the index, or the share of it, and the pass, which belongs to this index.
     pub fn into_parts(self) -> (I, Pass)
         ensures index { I.shown result.0 ≡ self.index }
         ensures pass { result.1 ≡ self.pass }
@@ -113,6 +113,7 @@ impl<I: ShowsIndex> Handle<I> {
     }
 
     /// Returns how many keys the calls of the pass have put in, less how many they have taken out, modulo 2^64, as `Pass::count` does.
+    /// These calls are legal in what the pass has seen.
     pub fn count(&self) -> KeyCount
         ensures count { IsCountOf self.now.pass.number self.now.pass.notes result }
         ensures legal { LegalCalls self.now.pass.front self.now.pass.number self.now.pass.notes }
@@ -128,8 +129,8 @@ impl<I: ShowsIndex> Handle<I> {
         self.index.show().get(&mut self.pass, key)
     }
 
-    /// Looks up `keys`, and writes to `found`, in the order of the keys, the value of each or `None`, as `Index::get_many` does. `found` is
-    /// as long as `keys`.
+    /// Looks up each of `keys`, and writes its value, or `None`, to `found`, in the order of the keys, as `Index::get_many` does. `found`
+    /// must be as long as `keys`.
     pub fn get_many(&mut self, keys: &[Key], found: &mut [Option<u64>])
         requires { length found.old ≡ length keys.now }
         ensures call { Stays (λ index k j. AreNoted index.layout k j (gets keys.now found.new)) self.old self.new }
@@ -139,7 +140,7 @@ impl<I: ShowsIndex> Handle<I> {
     }
 
     /// Inserts `key` with `value` if the key is absent, as `Index::insert` does. Returns `Inserted`, or `Exists` with the key's value. The
-    /// error is the kind of records of which none was free.
+    /// call waits where it must. The error is the kind of records of which none was free: nothing has changed then.
     pub fn insert<R: Wait>(&mut self, rt: &R, key: &Key, value: u64) -> Result<Reply, Full>
         ensures { Stays (λ index k j. IsWaitedFor (Insert key.now value) result index untold (k, tt) (j, tt)) self.old self.new }
     {
@@ -147,7 +148,7 @@ impl<I: ShowsIndex> Handle<I> {
     }
 
     /// Gives `key` the value `value`, whether it has one or not, as `Index::upsert` does. Returns `New`, or `Was` with the value before.
-    /// The error is the kind of records of which none was free.
+    /// The call waits where it must. The error is the kind of records of which none was free: nothing has changed then.
     pub fn upsert<R: Wait>(&mut self, rt: &R, key: &Key, value: u64) -> Result<Reply, Full>
         ensures { Stays (λ index k j. IsWaitedFor (Upsert key.now value) result index untold (k, tt) (j, tt)) self.old self.new }
     {
@@ -155,7 +156,7 @@ impl<I: ShowsIndex> Handle<I> {
     }
 
     /// Gives `key` the value `value` if it has the value `expected`, as `Index::exchange` does. Returns `Exchanged`, `Differs` with the
-    /// key's value, or `Absent`. It is never refused.
+    /// key's value, or `Absent`. The call waits where it must, and is never refused.
     pub fn exchange<R: Wait>(
         &mut self,
         rt: &R,
@@ -171,8 +172,8 @@ impl<I: ShowsIndex> Handle<I> {
             .exchange(rt, &mut self.pass, key, expected, value)
     }
 
-    /// Adds `delta` to the value of `key`, if it has one, as `Index::add` does. Returns `Was` with the value before, or `Absent`. It is
-    /// never refused.
+    /// Adds `delta` to the value of `key`, if it has one, as `Index::add` does. Returns `Was` with the value before, or `Absent`. The call
+    /// waits where it must, and is never refused.
     pub fn add<R: Wait>(&mut self, rt: &R, key: &Key, delta: u64) -> Result<Reply, Full>
         ensures waited { Stays (λ index k j. IsWaitedFor (Add key.now delta) result index untold (k, tt) (j, tt)) self.old self.new }
         ensures made { IsOk result }
@@ -180,8 +181,8 @@ impl<I: ShowsIndex> Handle<I> {
         self.index.show().add(rt, &mut self.pass, key, delta)
     }
 
-    /// Removes `key`, as `Index::remove` does. Returns `Removed` with the value before, or `Absent`. The error is `Full::Nodes` if no node
-    /// record was free.
+    /// Removes `key`, as `Index::remove` does. Returns `Removed` with the value before, or `Absent`. The call waits where it must. The
+    /// error is `Full::Nodes` if no node record was free: nothing has changed then. In an index of several passes there is no error.
     pub fn remove<R: Wait>(&mut self, rt: &R, key: &Key) -> Result<Reply, Full>
         ensures { Stays (λ index k j. IsWaitedFor (Remove key.now) result index untold (k, tt) (j, tt)) self.old self.new }
     {
@@ -189,7 +190,8 @@ impl<I: ShowsIndex> Handle<I> {
     }
 
     /// Removes `key` if it has the value `expected`, as `Index::remove_if` does. Returns `Removed` with that value, `Differs` with the
-    /// key's value, or `Absent`. The error is `Full::Nodes` if no node record was free.
+    /// key's value, or `Absent`. The call waits where it must. The error is `Full::Nodes` if no node record was free: nothing has changed
+    /// then. In an index of several passes there is no error.
     pub fn remove_if<R: Wait>(&mut self, rt: &R, key: &Key, expected: u64) -> Result<Reply, Full>
         ensures { Stays (λ index k j. IsWaitedFor (RemoveIf key.now expected) result index untold (k, tt) (j, tt)) self.old self.new }
     {
@@ -252,7 +254,8 @@ impl<I: ShowsIndex> Handle<I> {
             .try_remove_if(&mut self.pass, key, expected)
     }
 
-    /// Tries to make `call`, and returns the reply, or why the call was refused, as `Index::try_call` does. A get is never refused.
+    /// Tries to make `call`, and returns the reply, or why the call was refused, as `Index::try_call` does. A get is never refused, an
+    /// exchange or an addition only as busy, and a removal never for want of leaf records.
     pub fn try_call(&mut self, call: &Call) -> Result<Reply, TryFault>
         ensures call { Stays (IsOutcome call.now result) self.old self.new }
         ensures cause { Stays (HasCause call.now result) self.old self.new }
@@ -262,7 +265,9 @@ impl<I: ShowsIndex> Handle<I> {
         self.index.show().try_call(&mut self.pass, call)
     }
 
-    /// Tries to make `call`, and counts all records if it found none free, as `Index::try_counted` does. A get is never refused.
+    /// Tries to make `call`, as `Index::try_counted` does, and returns the reply, or why the call was refused. If the try found no record
+    /// free, all records are counted, and the count tells whether one may come back. A get is never refused, an exchange or an addition
+    /// only as busy, and a removal never for want of leaf records.
     pub fn try_counted(&mut self, call: &Call) -> Result<Reply, Refusal>
         ensures call { Stays (IsOutcome call.now (as_tried result)) self.old self.new }
         ensures cause { Stays (HasCause call.now (as_tried result)) self.old self.new }
@@ -273,7 +278,7 @@ impl<I: ShowsIndex> Handle<I> {
     }
 
     /// Returns the first `limit` pairs with keys from `from` to `upto`, both included, and whether there are more, as `Index::scan` does.
-    /// `AllocError` if memory is refused.
+    /// `AllocError` if memory is refused for what was found.
     pub fn scan(
         &mut self,
         alloc: Global,
@@ -289,7 +294,8 @@ impl<I: ShowsIndex> Handle<I> {
     }
 
     /// Replaces what `pairs` holds with the first `limit` pairs with keys from `from` to `upto`, both included, as `Index::scan_into` does.
-    /// Returns whether there are more. `AllocError` if memory is refused: `pairs` then holds the first of these pairs, fewer than `limit`.
+    /// Returns whether there are more. `AllocError` if memory is refused for what was found: `pairs` then holds the first of these pairs,
+    /// fewer than `limit`.
     pub fn scan_into(
         &mut self,
         from: &Key,
@@ -305,8 +311,8 @@ impl<I: ShowsIndex> Handle<I> {
     }
 
     /// Replaces what `pairs` holds with the first pairs of `range` in its direction, at most as many as its limit, as `Index::range_into`
-    /// does. Returns whether there are more. `AllocError` if memory is refused: `pairs` then holds the first of these pairs, fewer than the
-    /// limit.
+    /// does. Returns whether there are more. `AllocError` if memory is refused for what was found: `pairs` then holds the first of these
+    /// pairs, fewer than the limit.
     pub fn range_into(&mut self, range: &Range, pairs: &mut Pairs) -> Result<bool, AllocError>
         ensures call { Stays (λ index k j. IsListReadBy (IsLawfulBy range.now.direction) (asked_range range.now) pairs.new result index untold (k, tt) (j, tt))
             self.old self.new }
@@ -315,8 +321,8 @@ impl<I: ShowsIndex> Handle<I> {
     }
 
     /// Replaces what `values` holds with the values of the first `limit` pairs with keys from `from` to `upto`, as
-    /// `Index::scan_values_into` does. Returns whether there are more. `AllocError` if memory is refused: `values` then holds the first of
-    /// these values, fewer than `limit`.
+    /// `Index::scan_values_into` does. Returns whether there are more. `AllocError` if memory is refused for what was found: `values` then
+    /// holds the first of these values, fewer than `limit`.
     pub fn scan_values_into(
         &mut self,
         from: &Key,
@@ -339,7 +345,8 @@ impl<I: ShowsIndex> Handle<I> {
     }
 
     /// Replaces what `pairs` holds with the first `limit` pairs whose keys begin with `prefix`, as `Index::prefix_into` does. Returns
-    /// whether there are more. `AllocError` if memory is refused: `pairs` then holds the first of these pairs, fewer than `limit`.
+    /// whether there are more. `AllocError` if memory is refused for what was found: `pairs` then holds the first of these pairs, fewer
+    /// than `limit`.
     pub fn prefix_into(
         &mut self,
         prefix: &Key,
@@ -354,8 +361,8 @@ impl<I: ShowsIndex> Handle<I> {
     }
 
     /// Replaces what `pairs` holds with the last `limit` pairs with keys from `from` to `upto`, downwards, as `Index::scan_reverse_into`
-    /// does. Returns whether there are more. `AllocError` if memory is refused: `pairs` then holds the first of these pairs, fewer than
-    /// `limit`.
+    /// does. Returns whether there are more. `AllocError` if memory is refused for what was found: `pairs` then holds the first of these
+    /// pairs, fewer than `limit`.
     pub fn scan_reverse_into(
         &mut self,
         from: &Key,
@@ -372,7 +379,7 @@ impl<I: ShowsIndex> Handle<I> {
     }
 
     /// Returns the last `limit` pairs with keys from `from` to `upto`, downwards, and whether there are more, as `Index::scan_reverse`
-    /// does. `AllocError` if memory is refused.
+    /// does. `AllocError` if memory is refused for what was found.
     pub fn scan_reverse(
         &mut self,
         alloc: Global,
@@ -388,7 +395,7 @@ impl<I: ShowsIndex> Handle<I> {
     }
 
     /// Returns the first pair whose key is `from` or above, as `Index::first` does; `None` if none was found. `AllocError` if memory is
-    /// refused.
+    /// refused for what was found.
     pub fn first(&mut self, alloc: Global, from: &Key) -> Result<Option<(Key, u64)>, AllocError>
         ensures { Stays (IsRangeRead (λ layout k j. IsFirstFound layout k j from.now) (range_from from.now (last_with []) 1) result) self.old self.new }
     {
@@ -396,7 +403,7 @@ impl<I: ShowsIndex> Handle<I> {
     }
 
     /// Returns the last pair whose key is `upto` or below, as `Index::last` does; `None` if none was found. `AllocError` if memory is
-    /// refused.
+    /// refused for what was found.
     pub fn last(&mut self, alloc: Global, upto: &Key) -> Result<Option<(Key, u64)>, AllocError>
         ensures { Stays (IsRangeRead (λ layout k j. IsLastFound layout k j upto.now) (range_from [] upto.now 1) result) self.old self.new }
     {
@@ -419,7 +426,8 @@ impl<I: ShowsIndex> Handle<I> {
         self.index.show().census(&mut self.pass)
     }
 
-    /// Lets the pass meet the pass of `other`, a handle at the same index, as `Index::meet` does. Returns both handles, this one first.
+    /// Lets the pass meet the pass of `other`, which must be a handle at the same index, as `Index::meet` does. Both passes have then seen
+    /// the same changes, and know of the same steps. All else that they know is as it was. Returns both handles, this one first.
     pub fn meet(self, other: Handle<I>) -> (Handle<I>, Handle<I>)
         requires { other.index ≡ self.index }
         ensures index { (result.0.index ≡ self.index) × (result.1.index ≡ self.index) }
@@ -435,7 +443,7 @@ impl<I: ShowsIndex> Handle<I> {
     }
 }
 
-/// Returns handles of `passes` at `index`, in their order; `AllocError` if memory is refused.
+/// Returns handles of `passes` at `index`, in their order. The passes must be of this index. `AllocError` if memory is refused.
 pub fn handles_of<'a>(
     alloc: Global,
     index: &'a Index,

@@ -46,8 +46,9 @@ impl Model for Index {
     ghost view = { λ i. i.table };
 }
 
-/// The right of one thread to use an index. At run time it holds a number and some buffers that its calls reuse. Contracts see what
-/// the pass knows: its seat in the table, the changes that it has seen, and its completed calls.
+/// The right of one thread to use an index. At run time it holds a number and some buffers that its calls reuse. A call takes a pass of its
+/// own index, and leaves it one (`Owns`). Contracts see what the pass knows: its seat in the table, the changes that it has seen, and its
+/// completed calls.
 #[derive(Drop)]
 pub struct Pass {
     pub(crate) seat: TableSeat,
@@ -74,8 +75,9 @@ impl Pass {
         self.seat.number()
     }
 
-    /// Returns how many keys the calls of the pass have put in, less how many they have taken out, modulo 2^64. The `total` of the counts
-    /// of all passes is the number of keys, if no pass is changing the index.
+    /// Returns how many keys the calls of the pass have put in, less how many they have taken out, modulo 2^64. These calls are legal in
+    /// what the pass has seen. If no pass is changing the index, the `total` of the counts of all passes is the number of keys, modulo 2^64
+    /// (`laws::counts_add_up`).
     pub fn count(&self) -> KeyCount
         ensures count { IsCountOf self.now.number self.now.notes result }
         ensures legal { LegalCalls self.now.front self.now.number self.now.notes }
@@ -85,7 +87,8 @@ impl Pass {
 }
 
 impl Index {
-    /// Returns the value of `key`, or `None` if it is absent.
+    /// Returns the value of `key`, or `None` if it is absent: what the map had at some moment of the call. A change whose call had returned
+    /// before is seen.
     ///
     /// It takes no lock and never blocks. It makes at most 36 atomic steps, and 26 for each node on the path to the key, whatever others
     /// do. Beside these steps it touches at most four words of each such node: touched words are loaded and ignored. A path has at most
@@ -123,19 +126,22 @@ impl Index {
     /// Inserts `key` with `value` if the key is absent, and returns `Inserted`. Else it changes nothing, and returns `Exists` with the
     /// key's value.
     ///
-    /// It never blocks. It makes at most two attempts, with a round of collection between them. An attempt that tries no lock makes at most
-    /// 61 atomic steps, and 26 for each entry of a node that its search loads. Any other makes at most 127, and 26 for each such entry. To
-    /// these come 297 for each lock that it tries, 2 for each node record and 4 for each leaf record. So a call makes at most 1,396,470
-    /// steps, and 2 for each pass, 6 for each node record and 10 for each leaf record.
+    /// It never blocks. It makes at most two attempts, with a round of collection between them, and a small round before them if one is
+    /// due. An attempt that tries no lock makes at most 61 atomic steps, and 26 for each entry of a node that its search loads. Any other
+    /// makes at most 127, 26 for each such entry, and 297 for each lock that it tries. To these come at most 2 for each node record and 4
+    /// for each leaf record. The small round makes at most 259, and one for each pass. The other makes at most 3, one for each pass and 2
+    /// for each record. Together these are at most 1,396,470 steps, 2 for each pass, 6 for each node record and 10 for each leaf record.
     ///
     /// It returns `Busy` only if another pass has locked or retired what it wants to lock, or has made a change. That change came since the
     /// pin under which the call loaded the root last. So an index of one pass is never busy, nor a call alone (`laws::alone_calls_end`).
     ///
     /// It returns `FullNodes` only if it found each node record not free when its turn came, beside those that it had claimed itself. One
-    /// that is free is left for the removals. For `FullLeaves` the same holds of each leaf record with room for the key. It makes the round
-    /// of collection first. Then it looks again, unless the round gave back none of the kind, and found none free or the index has one
-    /// pass. With several passes the round visits nothing while its bound is that of the pass's last such round. Then it doesn't look
-    /// again.
+    /// that is free is left for the removals: in an index of one pass, if a node record was outside the tree, one is at the end, too. It
+    /// returns `FullLeaves` only if it found each leaf record with room for the key not free when its turn came.
+    ///
+    /// Before it returns either, it makes the round between the attempts. It makes the second attempt if the round gave back a record of
+    /// the kind, or, with several passes, found one free. With several passes the round visits nothing if its bound hasn't risen since the
+    /// pass's last such round. Then there is no second attempt.
     ///
     /// A refused call has changed nothing, and holds no lock and no record.
     pub fn try_insert(&self, pass: &mut Pass, key: &Key, value: u64) -> Result<Reply, TryFault>
@@ -147,8 +153,9 @@ impl Index {
 
     /// Gives `key` the value `value`, whether it has one or not. Returns `New`, or `Was` with the value that the key had.
     ///
-    /// It never blocks, makes no more steps than `try_insert` may, and is refused for the same reasons. But it returns `FullNodes` or
-    /// `FullLeaves` only if its search found the key absent: the new value of a held key takes no record (`laws::held_is_never_full`).
+    /// It never blocks, and makes no more steps than `try_insert` may. It is refused for the same reasons, has then changed nothing, and
+    /// leaves a node record for removals as `try_insert` does. But it returns `FullNodes` or `FullLeaves` only if its search found the key
+    /// absent: the new value of a held key takes no record (`laws::held_is_never_full`).
     pub fn try_upsert(&self, pass: &mut Pass, key: &Key, value: u64) -> Result<Reply, TryFault>
         requires { Owns self.now pass.old }
         ensures { IsTried (Upsert key.now value) result self.now untold (pass.old, tt) (pass.new, tt) }
@@ -158,8 +165,12 @@ impl Index {
 
     /// Removes `key`. Returns `Removed` with the value that the key had, or `Absent`.
     ///
-    /// It never blocks, makes no more steps than `try_insert` may, and is refused for the same reasons. It needs no leaf record, so it
-    /// never returns `FullLeaves`. It returns `FullNodes` only if its search found the key (`laws::absent_is_never_full`).
+    /// It never blocks, makes no more steps than `try_insert` may, and is refused for the same reasons. A refused call has changed nothing.
+    /// It needs no leaf record, so it never returns `FullLeaves`. It returns `FullNodes` only if its search found the key
+    /// (`laws::absent_is_never_full`).
+    ///
+    /// In an index of one pass let a node record be outside the tree when the call begins. One is at the end, too. The call doesn't return
+    /// `FullNodes` while the pass knows fewer than 2^60 - 2 steps.
     pub fn try_remove(&self, pass: &mut Pass, key: &Key) -> Result<Reply, TryFault>
         requires { Owns self.now pass.old }
         ensures { IsTried (Remove key.now) result self.now untold (pass.old, tt) (pass.new, tt) }
@@ -168,14 +179,15 @@ impl Index {
     }
 
     /// Inserts `key` with `value` if the key is absent, and returns `Inserted`. Else it changes nothing, and returns `Exists` with the
-    /// key's value. `rt` allows it to wait.
+    /// key's value. `rt` allows the call to wait.
     ///
-    /// Where `try_insert` would return `Busy`, it lets other threads run and begins again, as often as need be. Where no record is free, it
-    /// counts all records, as `census` does. It begins again if by that count a record may come back. One may if one is held or obsolete,
-    /// or as many are free as it needs. In an index of one pass it makes one try.
+    /// Where `try_insert` would return `Busy`, it lets other threads run and begins again, as often as need be: its steps have no bound.
+    /// Where no record is free, it counts all records, as `census` does. It begins again if by that count a record may come back. One may
+    /// if one is held or obsolete, or as many are free as it needs. In an index of one pass it makes one try.
     ///
-    /// It returns `Full` only if its last try found no node record free, or no leaf record with room for the key, as `try_insert` says. The
-    /// count after it must say so. It has changed nothing then, and holds no lock and no record.
+    /// It returns `Full` only if its last try found no node record free, or no leaf record with room for the key, as `try_insert` says.
+    /// With several passes the count after that try says so, too. A refused call has changed nothing, and holds no lock and no record. A
+    /// node record is left for the removals, as by `try_insert`.
     pub fn insert<R: Wait>(
         &self,
         rt: &R,
@@ -192,7 +204,7 @@ impl Index {
     /// Gives `key` the value `value`, whether it has one or not. Returns `New`, or `Was` with the value that the key had.
     ///
     /// It begins again as `insert` does, when another pass is in its way or records may come back. It is refused for the same reasons, and
-    /// only if its last search found the key absent.
+    /// only if its last search found the key absent. It has changed nothing then.
     pub fn upsert<R: Wait>(
         &self,
         rt: &R,
@@ -209,11 +221,11 @@ impl Index {
     /// Removes `key`. Returns `Removed` with the value that the key had, or `Absent`.
     ///
     /// Where `try_remove` would return `Busy`, or records may come back, the call begins again, as `insert` does. It is refused only with
-    /// `Full::Nodes`: a removal needs no leaf record.
+    /// `Full::Nodes`, since a removal needs no leaf record, and has changed nothing then.
     ///
-    /// Insertions leave a node record for it. So in an index of several passes it begins again wherever it finds none free, and gets a
-    /// reply in the end. In an index of one pass it is not refused while fewer than 2^60 steps have been made (`room`,
-    /// `laws::one_pass_keeps_spare`).
+    /// Insertions leave a node record for it. So in an index of several passes it begins again wherever it finds none free, and is never
+    /// refused. In an index of one pass a node record stays outside the tree (`laws::one_pass_keeps_spare`). So the call is not refused
+    /// while fewer than 2^60 - 2 steps have been made (`room`).
     pub fn remove<R: Wait>(&self, rt: &R, pass: &mut Pass, key: &Key) -> Result<Reply, Full>
         requires { Owns self.now pass.old }
         ensures { IsWaitedFor (Remove key.now) result self.now untold (pass.old, tt) (pass.new, tt) }
@@ -221,9 +233,9 @@ impl Index {
         self.retry_change_with(rt, pass, &mut NoGate, &Call::Remove(key.copy()))
     }
 
-    /// Lets `first` and `second` meet, and returns both, in this order. Each has then seen what the other had seen, and all that was
-    /// published before. Both know of the same steps, and the meeting is counted among the `asides` of each. All else that they know is as
-    /// it was.
+    /// Lets `first` and `second`, two passes of the index, meet, and returns both, in this order. Each has then seen what the other had
+    /// seen, and all that was published before. Both have seen the same changes, and know of the same steps. The calls of both stand
+    /// together in one sequential history. The meeting is counted among the `asides` of each. All else that they know is as it was.
     ///
     /// It loads one word three times, and ignores its content. These loads count as no steps of either pass, and no gate is told of them.
     pub fn meet(&self, first: Pass, second: Pass) -> (Pass, Pass)
@@ -252,12 +264,13 @@ impl Index {
         )
     }
 
-    /// Makes one round of collection. It advances the epoch, if no other pass does so meanwhile, loads it, and visits each record of the
-    /// index once. It gives back each record that was retired in an epoch below the loaded one and below each pin that is set. No running
-    /// call can reach such a record. Returns how many it gave back.
+    /// Makes one round of collection. It tries once to raise the epoch, which another pass may do instead, and loads it. At the last epoch,
+    /// 2^60 - 1, it doesn't try. Then it visits each record of the index once. It gives back each that was retired in an epoch below the
+    /// loaded one and below each pin that is set: no running call can reach it. Returns how many node records and leaf records it gave
+    /// back.
     ///
-    /// It takes no lock, allocates nothing and never blocks. It makes at most 3 atomic steps, with one more for each pass and two more
-    /// for each record.
+    /// It takes no lock, allocates nothing and never blocks. It makes at most 3 atomic steps, one more for each pass, and two more for each
+    /// record. It asks nothing of the map: the pass has seen no further change, and its completed calls are the same.
     pub fn collect(&self, pass: &mut Pass) -> Given
         requires { Owns self.now pass.old }
         ensures own { Owns self.now pass.new }
@@ -270,8 +283,9 @@ impl Index {
     /// Counts how many node records, and leaf records of each class, are free, held, live and obsolete. Returns these counts with the
     /// bytes of the table. So a program can see why its index is full, and what the next one needs.
     ///
-    /// It takes no lock, allocates nothing, changes nothing and never blocks. It makes one atomic step for each record, the load of
-    /// its state. Others go on meanwhile, so the counts are of no single moment.
+    /// It takes no lock, allocates nothing, changes nothing and never blocks. It makes one atomic step for each record, the load of its
+    /// state. Others go on meanwhile, so the counts are of no single moment. The pass has seen no further change, and its completed calls
+    /// are the same.
     pub fn census(&self, pass: &mut Pass) -> RecordCounts
         requires { Owns self.now pass.old }
         ensures own { Owns self.now pass.new }
@@ -295,7 +309,8 @@ impl Index {
         found
     }
 
-    /// Looks up each of `keys` once, and writes the values to `found`, as `get_many` does. Reports each of its steps to `gate`.
+    /// Looks up each of `keys` once, and writes the value of each, or `None`, to `found`, as `get_many` does. `found` must be as long as
+    /// `keys`. Reports each of its steps to `gate`.
     pub fn get_many_with<G: Gate>(
         &self,
         pass: &mut Pass,
@@ -314,7 +329,8 @@ impl Index {
         end_gets(&self.table, &mut pass.seat, gate, keys, found);
     }
 
-    /// Inserts `key` with `value` if the key is absent, and returns what `try_insert` does. Reports each of its steps to `gate`.
+    /// Inserts `key` with `value` if the key is absent, as `try_insert` does. Returns `Inserted`, `Exists` with the key's value, or why the
+    /// call was refused. Reports each of its steps to `gate`.
     pub fn try_insert_with<G: Gate>(
         &self,
         pass: &mut Pass,
@@ -328,7 +344,8 @@ impl Index {
         self.try_change_with(pass, gate, &Call::Insert(key.copy(), value))
     }
 
-    /// Gives `key` the value `value`, whether it has one or not, and returns what `try_upsert` does. Reports each of its steps to `gate`.
+    /// Gives `key` the value `value`, whether it has one or not, as `try_upsert` does. Returns `New`, `Was` with the value before, or why
+    /// the call was refused. Reports each of its steps to `gate`.
     pub fn try_upsert_with<G: Gate>(
         &self,
         pass: &mut Pass,
@@ -342,7 +359,8 @@ impl Index {
         self.try_change_with(pass, gate, &Call::Upsert(key.copy(), value))
     }
 
-    /// Removes `key`, and returns what `try_remove` does. Reports each of its steps to `gate`.
+    /// Removes `key`, as `try_remove` does. Returns `Removed` with the value before, `Absent`, or why the call was refused. Reports each of
+    /// its steps to `gate`.
     pub fn try_remove_with<G: Gate>(
         &self,
         pass: &mut Pass,
@@ -366,7 +384,8 @@ impl Index {
         round.given
     }
 
-    /// Counts the records in each state, and returns what `census` does. Reports each of its steps to `gate`.
+    /// Counts how many records of each kind and class are in each state, and returns the counts with the table's bytes, as `census` does.
+    /// Reports each of its steps to `gate`.
     pub fn census_with<G: Gate>(&self, pass: &mut Pass, gate: &mut G) -> RecordCounts
         requires { Owns self.now pass.old }
         ensures own { Owns self.now pass.new }
@@ -376,8 +395,9 @@ impl Index {
         count_records(&self.table, &mut pass.seat, gate)
     }
 
-    /// Tries to make the change `call`, at most twice, and reports each step to `gate`. Returns the reply, or why the call was refused. The
-    /// pass's `count` changes by the key that the call has put in or taken out.
+    /// Tries to make the change `call`: after a small round of collection, if one is due, in at most two attempts. Reports each step to
+    /// `gate`. Returns the reply, or why the call was refused, with nothing changed. The pass's `count` changes by the key that the call
+    /// has put in or taken out.
     pub(crate) fn try_change_with<G: Gate>(
         &self,
         pass: &mut Pass,
@@ -392,9 +412,9 @@ impl Index {
         answer
     }
 
-    /// Tries to make the change `call`, as `try_change_with` does. If no record was free, all records are counted then, and the refusal is
-    /// `Full` or `HeldBack` by the count. A removal in an index of several passes is `HeldBack` then, with no count. `count` changes as in
-    /// `try_change_with`.
+    /// Tries to make the change `call`, as `try_change_with` does. If the try lacked a record, all records are counted after it, and by the
+    /// count the refusal is `Full` or `HeldBack`. A removal in an index of several passes is `HeldBack` without a count, and no removal
+    /// lacks a leaf record. Reports each step to `gate`. The pass's `count` changes as in `try_change_with`.
     pub(crate) fn try_and_count_with<G: Gate>(
         &self,
         pass: &mut Pass,
@@ -413,8 +433,9 @@ impl Index {
         answer
     }
 
-    /// Makes the change `call`, and reports each step to `gate`. It begins again as long as another pass is in its way, or records are held
-    /// back. Returns the reply, or the kind of records of which none was free. The pass's `count` changes as in `try_change_with`.
+    /// Makes the change `call`, and reports each step to `gate`. The call begins again as long as another pass is in its way, or records
+    /// are held back. Returns the reply, or the kind of records of which its last try found none free, with nothing changed. The pass's
+    /// `count` changes as in `try_change_with`.
     pub(crate) fn retry_change_with<R: Wait, G: Gate>(
         &self,
         rt: &R,

@@ -21,14 +21,15 @@ impl KeyCount {
         KeyCount { keys: 0 }
     }
 
-    /// Adds how many keys a call of the pass with the reply `reply` has put in, less how many it has taken out.
+    /// Adds how many keys a call with the reply `reply` has put in, less how many it has taken out. If this was the count of a pass's
+    /// answered calls, it is now that of these and one more. To this one some map gives the reply.
     pub fn note(&mut self, reply: Reply)
         ensures { CountsReply reply self.old self.new }
     {
         self.keys = self.keys.wrapping_add(net(reply));
     }
 
-    /// Counts a call of the pass that returned `answer`: a reply as `note` does. For a refusal the count stays.
+    /// Counts a call of the pass that returned `answer`: a reply as `note` does, and a refusal not at all.
     pub fn note_answer<F>(&mut self, answer: &Result<Reply, F>)
         ensures { CountsAnswer answer.now self.old self.new }
     {
@@ -49,8 +50,8 @@ fn net(reply: Reply) -> u64
     }
 }
 
-/// Returns how many keys the map has, if these are fewer than 2^64 and no pass is changing it. `counts` are those of all passes, in the
-/// order of their numbers.
+/// Returns the sum of `counts`, modulo 2^64. If `counts` are those of all passes, in the order of their numbers, the sum is how many keys
+/// the map has. The map must have fewer than 2^64 keys, and no pass may be changing it.
 pub fn total(counts: &[KeyCount]) -> u64
     ensures { (front : List Change) → AreCounts front counts.now → length (map_of front) < 2 ^ 64 → result ≡ length (map_of front) }
 {

@@ -5,8 +5,8 @@ ghost use Rattle.hot_index.specs.Statements.{AbsentIsNeverFull, AllLongFullMeans
 
 use rowex_core::Gate;
 
-/// Let all leaf records of an index be long, as `create` makes them. A call that returns `FullLeaves` has found each of them not free since
-/// it began. None was claimed by its own pass.
+/// Let all leaf records of an index be long, as `create` makes them. A call that returns `FullLeaves` has found each leaf record not free,
+/// at that record's turn in the call. None of them was claimed by the call's own pass.
 pub fn all_long_full_means_none_free()
     ensures { AllLongFullMeansNoneFree }
 {}
@@ -16,16 +16,16 @@ pub fn one_pass_is_never_busy()
     ensures { OnePassIsNeverBusy }
 {}
 
-/// Let a call be alone: no other pass had a lock, a record of its own or a pin when the call began, and none makes a step while it runs. It
-/// is never busy. If it takes no record, as one that gives a held key a new value, it gets its reply. A form that waits makes just one try
-/// then.
+/// Let a call be alone. When it began, no other pass had a lock, a record of its own or a pin. While it runs, no other pass makes a step.
+/// The call is never busy. If it takes no record, as one that gives a held key a new value, it gets its reply. A form that waits makes just
+/// one try then. The first call of a new index is alone, if no other pass makes a step.
 pub fn alone_calls_end<G: Gate>()
     ensures { AloneCallsEnd G.becomes }
 {}
 
-/// In an index of one pass a call returns `FullLeaves` only if each leaf record with room for the key was in the tree or retired. It
-/// returns `FullNodes` only if at least a third of the node records but one were in the tree or retired. All of them but 4,321 were, too:
-/// so many the call may have claimed itself.
+/// In an index of one pass a call returns `FullLeaves` only if each leaf record with room for its key was in the tree or retired. It returns
+/// `FullNodes` only if at least a third of the node records but one were in the tree or retired. At most 4,321 node records weren't, which
+/// the call may have claimed itself. This is said of each record at the moment when the call looked at it.
 pub fn one_pass_full_means_taken()
     ensures { OnePassFullMeansTaken }
 {}
@@ -41,7 +41,8 @@ pub fn absent_is_never_full()
     ensures { AbsentIsNeverFull }
 {}
 
-/// In an index of one pass a call that gives its key a value is refused only if the key is absent. So a new value of a held key never is.
+/// In an index of one pass a call that gives its key a value is refused only if the key was absent before the call. So a new value of a
+/// held key is never refused. The pass's earlier calls must be legal, as they are between any two calls.
 pub fn one_pass_refuses_only_new_keys()
     ensures { OnePassRefusesOnlyNewKeys }
 {}
@@ -52,15 +53,15 @@ pub fn returned_before_begun()
     ensures { ReturnedBeforeBegun }
 {}
 
-/// If no pass is changing an index, the counts of all its passes, in the order of their numbers, are those of its front. So their `total`
-/// is the number of the index's keys, if there are fewer than 2^64.
+/// If no pass is changing an index, the counts of all its passes, in the order of their numbers, fit the changes made so far. These must be
+/// legal, and made by passes of the index alone. So the counts' `total` is the number of the index's keys, if there are fewer than 2^64.
 pub fn counts_add_up()
     ensures { CountsAddUp }
 {}
 
-/// In an index of one pass one node record stands in no tree: when the index is new, and after each call of its pass. `Load::finish` says
-/// so of an index that was loaded. So by clause `room` no removal that waits is refused for want of a node record, while fewer than 2^60
-/// steps have been made.
+/// In an index of one pass some node record stands in no tree: when the index is new, and after each call of its pass. `Load::finish` says
+/// so of an index that was loaded. So by clause `room` no removal is refused for want of a node record, while fewer than 2^60 - 2 steps
+/// have been made.
 pub fn one_pass_keeps_spare<G: Gate>()
     ensures { OnePassKeepsSpare G.becomes }
 {}

@@ -46,8 +46,9 @@ impl Model for Load {
 }
 
 impl Load {
-    /// Begins an index with `passes` passes (1 to 1,024) and the records of `stock`, with the bounds and the faults of `create_with`. No
-    /// pair has been pushed.
+    /// Begins an index with `passes` passes (1 to 1,024), the records of `stock`, and one node record more for removals, as `create_with`
+    /// makes it. No pair has been pushed. The error is `Layout` exactly if a number is out of range, with the first such of passes, nodes
+    /// and leaves. It is `Memory` if all are in range and memory is refused.
     pub fn new(alloc: Global, passes: u32, stock: Stock) -> Result<Load, IndexFault>
         ensures layout { IfOk result (λ load. (load.layout.passes ≡ passes) × HasStock load.layout (kept_stock stock)) }
         ensures none { IfOk result (λ load. load.items ≡ []) }
@@ -82,9 +83,10 @@ impl Load {
     /// Pushes `key` with `value`, behind the pairs that were pushed before. If the pair is refused, the load stays as it was, and the next
     /// pair may be pushed.
     ///
-    /// The error is `NotRising` exactly if the key isn't above the last one. It is `LeavesFull` if each leaf record with room for the key
-    /// is taken. It is `NodesFull` if too few node records may be left. That is never so while there are fewer pairs than node records, nor
-    /// for the first 32 pairs. It is `Memory` if memory is refused.
+    /// The error is `NotRising` exactly if the key isn't above the last one. It is `LeavesFull` only if each leaf record with room for the
+    /// key is taken. It is `NodesFull` if too few node records may be left. That is never so while there are fewer pairs than node records.
+    /// Nor is it for the first 32 pairs of an index with two node records or more, and `new` begins no other. It is `Memory` if memory is
+    /// refused.
     pub fn push(&mut self, key: &Key, value: u64) -> Result<(), LoadFault>
         ensures taken { OnOk result (HasTakenPair key.now value self.old self.new) }
         ensures refused { OnErr result (self.new ≡ self.old) }
@@ -106,8 +108,9 @@ impl Load {
         self.layout.first_leaf_with(count_leaf_words(key)) < self.layout.leaves
     }
 
-    /// Makes the index of the pairs that were pushed. Returns it with its passes, closed, in their order, from 0 on. Pass 0 has inserted
-    /// each pair in the order of the keys, and its `count` is their number. All others are new. `AllocError` if memory is refused.
+    /// Makes the index of the pairs that were pushed, with the layout of the load. Returns it with its passes, closed, in their order, from
+    /// 0 on. Pass 0 has inserted each pair in the order of the keys, and its `count` is their number. All others are new. Some node record
+    /// stands in no tree, so that a removal finds one. `AllocError` if memory is refused.
     pub fn finish(self, alloc: Global) -> Result<(Index, Vec<ClosedPass>), AllocError>
         ensures layout { IfOk result (λ made. made.0.layout ≡ self.layout) }
         ensures count { IfOk result (λ made. length made.1.items ≡ self.layout.passes) }

@@ -11,15 +11,15 @@ use key_bits::Key;
 use rowex_core::{Gate, NoGate};
 use rowex_scanning::{Direction, Range, count_root};
 
-/// How many keys a count counts at most. No list has more.
+/// How many keys a count counts at most. A list can have no more pairs, and a count is that of a list.
 const MOST_COUNTED: usize = (1 << 63) - 1;
 
 impl Index {
     /// Returns how many keys there are from `from` to `upto`, both included; at most 2^63 - 1.
     ///
     /// It takes no lock and never blocks, and it needs no memory. It reads the entries of nodes, and few of the leaves. Entries are in key
-    /// order, so a leaf that belongs to the range tells so of those before it in its node. It makes at most 169,567 steps, and 60 for each
-    /// key that it counts.
+    /// order, so a leaf that belongs to the range shows the same of the entries before it in its node. It makes at most 169,567 steps, and
+    /// 60 for each key that it counts.
     ///
     /// It is no snapshot. The number is that of the pairs of a list that a `scan` could give instead. So each key that was there all along
     /// is counted, and each that is counted was there at some moment of the call.

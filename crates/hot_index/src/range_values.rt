@@ -15,8 +15,8 @@ impl Index {
     /// Lists the values of the first `limit` pairs whose keys are from `from` to `upto`, both included, into `values`, in key order. The
     /// earlier content of `values` is dropped. Returns whether the range has more.
     ///
-    /// It is a `scan_into` that keeps no keys, with the same promise and bound on steps. `AllocError` if memory is refused: `values` then
-    /// has those of the first of these pairs, fewer than `limit`.
+    /// It is a `scan_into` that keeps no keys, with the same promise and bound on steps. `AllocError` if memory is refused for a value that
+    /// was found: `values` then has the values before it, fewer than `limit`.
     pub fn scan_values_into(
         &self,
         pass: &mut Pass,
@@ -31,8 +31,9 @@ impl Index {
         self.scan_values_into_with(pass, from, upto, limit, values, &mut NoGate)
     }
 
-    /// Lists the values of the first `limit` pairs from `from` to `upto` into `values`, and returns what `scan_values_into` does. Reports
-    /// each of its steps to `gate`.
+    /// Lists the values of the first `limit` pairs from `from` to `upto` into `values`, as `scan_values_into` does, and returns whether the
+    /// range has more. `AllocError` if memory is refused for a value that was found: `values` then has the values before it, fewer than
+    /// `limit`. Reports each of its steps to `gate`.
     pub fn scan_values_into_with<G: Gate>(
         &self,
         pass: &mut Pass,

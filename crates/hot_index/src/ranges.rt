@@ -16,7 +16,8 @@ use std::alloc::{AllocError, Global};
 
 impl Index {
     /// Lists the first `limit` pairs whose keys begin with `prefix` into `pairs`, whose earlier pairs are dropped, in key order. Returns
-    /// whether there are more. `AllocError` if memory is refused: `pairs` then holds the first of these pairs, fewer than `limit`.
+    /// whether there are more. `AllocError` if memory is refused for a pair that was found: `pairs` then holds the first of these pairs,
+    /// fewer than `limit`.
     ///
     /// It is a `scan_into` from the prefix to the last key that begins with it, with the same promise and bound on steps. That range has
     /// exactly the keys with the prefix (`key_ranges::laws::prefix_is_a_range`).

@@ -22,8 +22,9 @@ impl Index {
     ///
     /// It is `scan` in the other direction: it takes no lock, never blocks, and makes no more steps than `scan` may.
     ///
-    /// It is no snapshot. Each pair was in the index at some moment of the call. No key is missing that was there all along; if there are
-    /// more, no key down to the last one listed. To go on, scan up to the `previous_key` of the last pair's key.
+    /// It is no snapshot. Each pair was in the index at some moment of the call. No key of the range that was there all along is missing.
+    /// If the range has more, this is said only of keys down to the last one listed. To go on, scan up to the `previous_key` of the last
+    /// pair's key.
     ///
     /// `AllocError` if memory is refused; only pairs found need memory.
     pub fn scan_reverse(
@@ -46,11 +47,12 @@ impl Index {
         self.scan_range(alloc, pass, &range, &mut NoGate)
     }
 
-    /// Lists what `scan_reverse` does into `pairs`, whose earlier pairs are dropped. The pair with the greatest key comes first. Returns
-    /// whether the range has more below.
+    /// Lists the last `limit` pairs with keys from `from` to `upto` into `pairs`, as `scan_reverse` lists them. The earlier pairs of
+    /// `pairs` are dropped. The pair with the greatest key comes first. Returns whether the range has more below. The promise and the bound
+    /// on steps are those of `scan_reverse`.
     ///
-    /// `AllocError` if memory is refused. `pairs` then holds the first of these pairs, fewer than `limit`, and the range has more below. A
-    /// scan with the number of these pairs as its limit lists the same.
+    /// `AllocError` if memory is refused for a pair that was found. `pairs` then holds the first of these pairs, fewer than `limit`, and
+    /// the range has more below. A scan with the number of these pairs as its limit lists the same.
     pub fn scan_reverse_into(
         &self,
         pass: &mut Pass,
@@ -84,8 +86,9 @@ impl Index {
         self.find_first_pair(alloc, pass, Direction::Downwards, &empty, upto)
     }
 
-    /// Lists the last `limit` pairs from `from` to `upto` into `pairs`, downwards, and returns what `scan_reverse_into` does. Reports each
-    /// of its steps to `gate`.
+    /// Lists the last `limit` pairs from `from` to `upto` into `pairs`, downwards, as `scan_reverse_into` does, and returns whether the
+    /// range has more below. `AllocError` if memory is refused for a pair that was found: `pairs` then holds the pairs before it, fewer
+    /// than `limit`. Reports each of its steps to `gate`.
     pub fn scan_reverse_into_with<G: Gate>(
         &self,
         pass: &mut Pass,

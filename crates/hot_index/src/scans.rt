@@ -22,10 +22,10 @@ impl Index {
     ///
     /// It takes no lock and never blocks. It makes at most 101 atomic steps, 8 for each pair of the limit, and 26 for each entry of a node
     /// that it loads. It loads at most 6,481 entries, and two for each pair of the limit. That is at most 168,607 steps, and 60 for each
-    /// pair, whatever others insert meanwhile.
+    /// pair of the limit, whatever others insert meanwhile. Beside these steps it touches at most eleven words for each loaded entry.
     ///
-    /// It is no snapshot. Each pair was in the index at some moment of the call. No key is missing that was there all along; if there are
-    /// more, no key up to the last one listed.
+    /// It is no snapshot. Each pair was in the index at some moment of the call. No key of the range that was there all along is missing.
+    /// If the range has more, this is said only of keys up to the last one listed.
     ///
     /// `AllocError` if memory is refused; only pairs found need memory.
     pub fn scan(
@@ -65,13 +65,14 @@ impl Index {
         self.scan_range(alloc, pass, &range, gate)
     }
 
-    /// Lists what `scan` does into `pairs`, whose earlier pairs are dropped. Returns whether the range has more.
+    /// Lists the first `limit` pairs with keys from `from` to `upto` into `pairs`, as `scan` lists them. The earlier pairs of `pairs` are
+    /// dropped. Returns whether the range has more. The promise and the bound on steps are those of `scan`.
     ///
     /// A list that is used again keeps its memory, and a key takes no more bytes of the list than it has. So this is the form for frequent
     /// scans.
     ///
-    /// `AllocError` if memory is refused. `pairs` then holds the first pairs, fewer than `limit`, and the range has more. A scan with the
-    /// number of these pairs as its limit lists the same.
+    /// `AllocError` if memory is refused for a pair that was found. `pairs` then holds the first pairs, fewer than `limit`, and the range
+    /// has more. A scan with the number of these pairs as its limit lists the same.
     pub fn scan_into(
         &self,
         pass: &mut Pass,
@@ -86,8 +87,9 @@ impl Index {
         self.scan_into_with(pass, from, upto, limit, pairs, &mut NoGate)
     }
 
-    /// Lists the first `limit` pairs from `from` to `upto` into `pairs`, and returns what `scan_into` does. Reports each of its steps to
-    /// `gate`.
+    /// Lists the first `limit` pairs from `from` to `upto` into `pairs`, as `scan_into` does, and returns whether the range has more.
+    /// `AllocError` if memory is refused for a pair that was found: `pairs` then holds the pairs before it, fewer than `limit`. Reports
+    /// each of its steps to `gate`.
     pub fn scan_into_with<G: Gate>(
         &self,
         pass: &mut Pass,
@@ -110,10 +112,11 @@ impl Index {
     }
 
     /// Lists the first pairs of `range` in its direction, at most as many as its limit, into `pairs`, whose earlier pairs are dropped.
-    /// Returns whether the range has more in that direction. `AllocError` if memory is refused: `pairs` then holds a part, as `scan_into`
-    /// says.
+    /// Returns whether the range has more in that direction. `AllocError` if memory is refused for a pair that was found: `pairs` then
+    /// holds a part, as `scan_into` says.
     ///
-    /// It is a `scan_into` or a `scan_reverse_into`, by the direction. A caller of both directions has one walk compiled for them.
+    /// It is a `scan_into` or a `scan_reverse_into`, by the direction. A caller that needs both directions calls this form, so that the
+    /// code of the walk is compiled in once for both.
     pub fn range_into(
         &self,
         pass: &mut Pass,
@@ -127,8 +130,9 @@ impl Index {
     }
 
     /// Lists the first pairs of `range` in its direction, at most as many as its limit, into `pairs`, whose earlier pairs are dropped.
-    /// `gate` is told each step. Returns whether the range has more. `AllocError` if memory is refused: `pairs` then holds a part, as
-    /// `scan_into` says. Inline, so that each direction has code of its own.
+    /// `gate` is told each step. The steps are no more than `scan` may make. Returns whether the range has more in that direction.
+    /// `AllocError` if memory is refused for a pair that was found: `pairs` then holds a part, as `scan_into` says. Inline, so that each
+    /// direction has code of its own.
     #[inline(always)]
     pub(crate) fn list_range<G: Gate>(
         &self,
@@ -154,7 +158,7 @@ impl Index {
     }
 
     /// Returns the first pairs of `range` in its direction, at most as many as its limit, and whether the range has more. `AllocError` if
-    /// memory is refused. `gate` is told each step. Inline, as `list_range` is.
+    /// memory is refused for a pair that was found. `gate` is told each step. Inline, as `list_range` is.
     #[inline(always)]
     pub(crate) fn scan_range<G: Gate>(
         &self,

@@ -25,8 +25,8 @@ impl Model for Stamp {
 }
 
 impl Index {
-    /// Returns a stamp of all that `pass` has seen, its own changes included. The stamp is counted among the `asides` of the pass; all else
-    /// of the pass stays. The call makes one load, which counts as no step.
+    /// Returns a stamp, of this index, of all changes that `pass` has seen, its own included, and of all steps that it knows. The stamp is
+    /// counted among the `asides` of the pass; all else of the pass stays. The call makes one load, which counts as no step.
     pub fn stamp(&self, pass: &mut Pass) -> Stamp
         requires { Owns self.now pass.old }
         ensures same { HasStamped pass.old pass.new }
@@ -39,9 +39,10 @@ impl Index {
         Stamp { stamp }
     }
 
-    /// Lets `pass` see all changes made so far, with those that `stamp` tells of. So its later calls come after the calls that the stamp's
-    /// pass had completed (`laws::returned_before_begun`). This is counted among the `asides` of `pass`; nothing else of it changes. The
-    /// call makes two loads, which count as no steps.
+    /// Lets `pass` see all changes made so far, among them those that `stamp` tells of. The stamp must be of the same index. The pass's
+    /// later calls then come after the calls that the stamp's pass had completed (`laws::returned_before_begun`). The pass then knows the
+    /// steps that made these changes, too, and counts the following among its `asides`. Nothing else of it changes. The call makes two
+    /// loads, which count as no steps.
     pub fn follow(&self, pass: &mut Pass, stamp: Stamp)
         requires own { Owns self.now pass.old }
         requires stamp { IsStampFrom self.now stamp }

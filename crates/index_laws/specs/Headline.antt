@@ -4,9 +4,9 @@
 -- What no contract can say, and so is no promise here:
 -- - that the code runs, and that a call returns at all;
 -- - what a call does that never returns, but for its steps on the table;
--- - when a call begins and ends, by the clock. The kit says of its table that each atomic step is one step of it, and that it has one
--- state between any two of them. By its rule all steps are one list, of which each pass knows a part. Contracts of steps say how they follow
--- one another in the list. So what they tell is an execution (`traced`).
+-- - when a call begins and ends, by the clock. The kit says of its table that each atomic step is one step of it, and that it has one state
+-- between any two of them. By its rule all steps are one list, of which each pass knows a part. Contracts of steps say how they follow one
+-- another in the list. So what they tell is an execution (`traced`).
 use Rattle.std.specs.Prelude.{◌≡◌, ◌≢◌, ◌⊎◌, ℕ, ◌+◌, ◌*◌, ◌<◌, ◌≤◌, All, List, [], ◌∷◌, ◌++◌, Result, Some, map}
 use Rattle.key_bits.specs.declared.TheConstants.{MAX_BYTES}
 use Rattle.finite_map.specs.declared.Call.{Call}
@@ -70,7 +70,7 @@ OneHistory =
     AreWoven (calls_of one_after.notes) (calls_of other_after.notes) (calls_in (weave one_after.front (one_after.notes ++ other_after.notes)))
 
 -- If a bulk load made the table, the calls of pass 0 are the insertions of the load's pairs, in the order of their keys. Each returned
--- `Inserted`, and together they are a legal history of a finite map. No key of the load stands twice.
+-- `Inserted`, and together they are a legal history of a finite map. The keys rise, so none stands twice.
 abbrev pub LoadedHistory : Type 0
 LoadedHistory =
     (table : TableView) (words : List ℕ) (seat : SeatView) → IsLoad table.layout words → IsLoaderSeat table words seat →
@@ -79,8 +79,8 @@ LoadedHistory =
     map (λ item. answered (Insert item.key item.value) Inserted) (items_of (loaded_tree table.layout words))) ×
     IsRising (content (loaded_tree table.layout words))
 
--- In a run, let a call be answered by some time. Its reply is the map's at a moment from its invocation to this time. So it misses no
--- change made before its invocation.
+-- In a run, let a call with one key be answered by some time. Its reply is the map's at a moment from its invocation to this time. So it
+-- misses no change made before its invocation.
 abbrev pub Freshness : Type 0
 Freshness =
     (layout : Layout) (last : ℕ) (at : ℕ → Configuration) (happens : ℕ → Happening) → IsWholeRun layout last at happens →
@@ -97,9 +97,10 @@ FreshnessOfMany =
     (notes : List Note) → HasAnsweredMany layout call (pass_of start) (pass_of end) notes →
     All (λ note. (moment : ℕ) × (call.since ≤ moment) × (moment ≤ time) × (note.reply ≡ reply_of (map_at at moment) note.call)) notes
 
--- In a run, let a scan be answered by some time. It is lawful while the front of its pass grew from its last load of the root to its end.
--- Each pair was in the map at a time of the scan. No key of the range is missing that was in the map all the while. If the scan has more,
--- that is said only of keys no further than its last pair. So it is with scans into a list, also with one that was refused memory.
+-- In a run, let a scan be answered by some time, with its pairs or into a list. It is lawful while the front of its pass grew from the last
+-- load of the root to the end. Each pair was in the map at a time of the scan. No key of the range is missing that was in the map all the
+-- while. If the scan has more, that is said only of keys no further than its last pair (`IsReached`). A scan into a list that was refused
+-- memory counts as one with a lower limit. `IsLawful` and `IsReached` are those of scans upwards, or of scans downwards.
 abbrev pub ScansShow : (IsLawful : ScanLaw) (IsReached : Map → List ℕ → Type 0) → Type 0
 ScansShow IsLawful IsReached =
     (layout : Layout) (last : ℕ) (at : ℕ → Configuration) (happens : ℕ → Happening) → IsWholeRun layout last at happens →
@@ -108,8 +109,8 @@ ScansShow IsLawful IsReached =
     IsListedBy IsLawful layout (pass_of start) (pass_of end) (range_from from upto limit) scan.pairs.items scan.more →
     IsLawful (pass_of end).fresh.front (pass_of end).front from upto limit scan × IsScanInTime IsReached at call.since time from upto scan
 
--- A refused call has changed nothing, and its fault has a cause (`IsCause`). Another pass was in its way, or no record that would have
--- served was free. In an index of one pass no call is busy.
+-- A refused call of a pass whose earlier calls are legal has changed nothing and adds no note. Its fault has a cause (`IsCause`): another
+-- pass was in its way, or no record that would have served was free. In an index of one pass no call is busy.
 abbrev pub Refusals : Type 0
 Refusals =
     (layout : Layout) (call : Call) (old new : PassView) (fault : TryFault) → IsRefusedFor layout call old new fault →
@@ -125,15 +126,17 @@ pub record NeverFull : Type 0 where
   pub absent : AbsentIsNeverFull
   pub alone : OnePassRefusesOnlyNewKeys
 
--- Which faults no call has. A get is never refused. An exchange and an addition are never full. A removal never lacks a leaf record.
+-- Which faults no call has, by what `MayRefuse` leaves. A get is never refused. An exchange and an addition are never full. A removal never
+-- lacks a leaf record.
 abbrev pub FaultsByCall : Type 0
 FaultsByCall =
     (call : Call) (fault : TryFault) → MayRefuse call fault → (key : List ℕ) →
     (call ≢ Get key) × (fault ≡ FullLeaves → call ≢ Remove key) × (fault ≡ FullLeaves → (expected : ℕ) → call ≢ RemoveIf key expected) ×
     (fault ≢ Busy → (expected value : ℕ) → call ≢ Exchange key expected value) × (fault ≢ Busy → (delta : ℕ) → call ≢ Add key delta)
 
--- Bounds on the atomic steps of each call that waits for no other pass. Such are gets, tries of changes, scans, rounds of collection, and
--- counts of all records.
+-- Bounds on the atomic steps of each call that waits for no other pass: gets, tries of changes, scans, rounds of collection, and counts of
+-- all records. A key's path has at most `9 * MAX_BYTES` nodes, since each node has a fork at a further bit of the key. At each node a
+-- search makes at most 26 steps.
 pub record BoundedSteps : Type 0 where
   pub get : (index : TableView) (old new : PassView) → HasMadeGetSteps index untold (old, tt) (new, tt) →
       new.steps ≤ old.steps + 36 + 26 * (9 * MAX_BYTES)
@@ -149,9 +152,9 @@ pub record BoundedSteps : Type 0 where
   pub count : (index : TableView) (counts : RecordCounts) (old new : PassView) → HasCounted index untold (old, tt) (new, tt) counts →
       new.steps ≤ old.steps + (index.layout.nodes + index.layout.leaves)
 
--- Bounds on the words that a call touches beside its steps. A get touches at most four for each node on its key's path, and a call of many
--- gets eleven. A path has at most 2,160 nodes. A scan touches at most eleven words for each entry that it loads, and a try of a change
--- eleven for each step.
+-- Bounds on the words that a call touches beside its steps. A get touches at most four for each node on its key's path, of which there are
+-- at most 2,160. A call of many gets touches at most eleven for each such node. A scan touches at most eleven words for each entry that it
+-- loads, and a try of a change eleven for each step.
 pub record BoundedTouches : Type 0 where
   pub get : (index : TableView) (old new : PassView) → HasMadeGetSteps index untold (old, tt) (new, tt) →
       new.touches ≤ old.touches + 4 * (9 * MAX_BYTES)
@@ -177,7 +180,7 @@ ValuesInReach =
 pub record Headline : Type 0 where
   pub history : History
   pub one_history : OneHistory
-  -- passes that have seen the same share one legal history, in which each call that they have lived through stands once
+  -- passes that have seen the same share one legal history, in which each of their answered calls stands once
   pub one_history_of_all : OneHistoryOfAll
   -- the history of a table that a bulk load made begins with the insertions of the load; in an execution these are one call
   pub loaded_history : LoadedHistory

@@ -32,9 +32,10 @@ use Rattle.index_laws.specs.Traced.{Instant, IsTracedExecution, configuration_of
 
 -- What one pass has done
 
--- How a call of the pass ended that asks these calls of the map: with the happening of the type. The seat of the pass was `start` when the
--- call began, and is `end` when it ends. The call was answered as one call, or as look-ups. Or it asked nothing of the map, was the load of
--- the table, or was refused.
+-- How a call of the pass ended that asked the map for `calls`. The happening of the type is that end. The pass had the seat `start` when
+-- the call began, and has `end` now. `answered`: the call asked one call, whose note is the response. `looked_up`: it asked look-ups, each
+-- of which has a note. `quiet`: it asked nothing and added no note, and the pass's notes are legal. `loaded`: it was the bulk load that
+-- made the table. `refused`: it asked one call, and was refused with a fault that this call may have.
 pub data HasEndedAs (layout : Layout) (pass : ℕ) (calls : List Call) (start end : SeatView) : Happening → Type 0 where
   answered : (asked : Call) (reply : Reply) → calls ≡ asked ∷ [] → (noted : IsNoted layout (pass_of start) (pass_of end) asked reply) →
       HasEndedAs layout pass calls start end (responds pass (record { place = noted.place; call = asked; reply = reply } ∷ []))
@@ -46,28 +47,32 @@ pub data HasEndedAs (layout : Layout) (pass : ℕ) (calls : List Call) (start en
   refused : (asked : Call) (fault : TryFault) → calls ≡ asked ∷ [] →
       IsRefusedFor layout asked (pass_of start) (pass_of end) fault → MayRefuse asked fault → HasEndedAs layout pass calls start end (refuses pass)
 
--- these acts of the pass as happenings: steps with no notes
+-- these acts of the pass as happenings: each is a step with no notes
 abbrev pub steps_of : (pass : ℕ) (acts : List Act) → List Happening
 steps_of pass acts = map (λ act. steps pass act []) acts
 
--- the notes that come with the last step of a call, whose steps `Ends` tells
+-- The notes that come with the last step of a call, whose steps `Ends` gives. They are what `said` gives for what the pass knows by this
+-- step.
 abbrev pub notes_of_end : (table : TableView) (acts : List Act) (last : Act) (said : Known → List Note) (start end : SeatView) →
     Ends table untold acts last said (start, tt) (end, tt) → List Note
 notes_of_end table acts last said start end ends = said (learned ends.2.event.core last ends.0.0.known)
 
--- A whole call of the pass as happenings. It is invoked, makes the steps `acts`, and then the step `last` with these notes. It ends as
--- `ended` says.
+-- A whole call of the pass as happenings. It is invoked for `calls`, makes the steps `acts` without notes, and the step `last` with
+-- `notes`. It ends with the happening `ended`.
 abbrev pub call_of : (pass : ℕ) (calls : List Call) (acts : List Act) (last : Act) (notes : List Note) (ended : Happening) → List Happening
 call_of pass calls acts last notes ended = invokes pass calls ∷ (steps_of pass acts ++ steps pass last notes ∷ ended ∷ [])
 
--- The bulk load that makes a table of these words, as happenings: a call of the pass, which asks many insertions and makes one step.
+-- The bulk load that makes a table of these words, as happenings. It is a call of the pass that asks for many insertions and makes one
+-- step. The insertions' notes come with this step, and are the response.
 abbrev pub load_call : (layout : Layout) (pass : ℕ) (words : List ℕ) → List Happening
 load_call layout pass words =
     let notes = insertion_notes layout words in invokes pass (insertions layout words) ∷ steps pass (load_of words) notes ∷ responds pass notes ∷ []
 
--- What the pass of the table has done since it was new, up to the seat of the type, as happenings. If the table was loaded, pass 0 has made
--- the load first. Calls made the steps that contracts name (`HasRead`, `HasMadeChangeSteps`, `HasMadeCallSteps`), and ended as these say.
--- The pass may have met another (`IsShownAll`, `HasSeenMore`), followed a stamp (`HasCaughtUp`), or made one (`HasStamped`).
+-- The happenings of the type are what the pass has done since it was new, up to the seat of the type. `new`: it has done nothing. `loader`:
+-- pass 0 has made the bulk load of the table. `called`: it has made one call more, whose steps contracts name (`HasRead`,
+-- `HasMadeChangeSteps`, `HasMadeCallSteps`), and which has ended (`HasEndedAs`). `shown`: it has met another pass or followed a stamp
+-- (`HasSeenMore`, `HasCaughtUp`). Of what it knows only the front and the trace have grown. `stamped`: it has made a stamp (`HasStamped`),
+-- which shows its own front.
 pub data HasGoneThrough (table : TableView) (pass : ℕ) : List Happening → SeatView → Type 0 where
   new : {start : SeatView} → IsNewSeatOf table pass start → HasGoneThrough table pass [] start
   loader : {start : SeatView} → pass ≡ 0 → (words : List ℕ) → IsLoad table.layout words → IsLoaderSeat table words start →
@@ -84,8 +89,9 @@ pub data HasGoneThrough (table : TableView) (pass : ℕ) : List Happening → Se
 
 -- What all passes have done
 
--- Each pass of the table has done what `done` says, up to its seat of `seat`. The run is one of the table. For each pass it is the steps
--- that the seat knows, and then steps of other passes. So all steps of all passes stand in the run.
+-- The run is one of the table: its steps are legal, one after the other, from a new table on. Each pass of the table has done what `done`
+-- gives for it, and then has the seat that `seat` gives. The run begins with this seat's trace, and goes on by steps of other passes alone.
+-- So the run has all steps of all passes, and no others.
 pub record HaveEndedInOneRun (table : TableView) (run : List Event) (done : ℕ → List Happening) (seat : ℕ → SeatView) : Type 0 where
   pub led : IsTableRun table.layout run
   pub each : (pass : ℕ) → pass < table.layout.passes → HasGoneThrough table pass (done pass) (seat pass)
@@ -110,16 +116,18 @@ abbrev pub IsStepOf : (pass : ℕ) (happening : Happening) → Type 0
 IsStepOf pass (steps maker act notes) = maker ≡ pass
 IsStepOf pass _ = ⊥
 
--- Two happenings, of which the second follows the first, keep calls whole. If the first invokes a call, the second is a step of its pass.
--- If the second ends a call, the first is a step of its pass.
+-- What is asked of two happenings, of which `next` comes right after `happening`. If the first invokes a call, the second is a step of the
+-- invoking pass. If the second ends a call, the first is a step of the pass whose call ends. Of any other two nothing is asked, so calls of
+-- several passes may overlap.
 abbrev pub KeepCallsWhole : (happening next : Happening) → Type 0
 KeepCallsWhole (invokes pass calls) next = IsStepOf pass next
 KeepCallsWhole happening (responds pass notes) = IsStepOf pass happening
 KeepCallsWhole happening (refuses pass) = IsStepOf pass happening
 KeepCallsWhole happening next = Unit {0}
 
--- An execution of the run, in which each pass does just what `done` says, up to its seat of `seat`. No call is pending at the last time.
--- Each call is invoked right before its first step, and ends right after its last. So calls stand in the order of their steps.
+-- An execution by contracts alone up to the time `last`, whose steps by then are `run`. By then each pass has done just what `done` gives
+-- for it. It has the seat that `seat` gives, and no pending call. Each call is invoked right before its first step, and ends right after
+-- its last. So calls follow one another in the execution as their steps do in the run.
 pub record IsExecutionOf (table : TableView) (run : List Event) (done : ℕ → List Happening) (seat : ℕ → SeatView)
     (last : ℕ) (at : ℕ → Instant) (happens : ℕ → Happening) : Type 0 where
   pub traced : IsTracedExecution table last at happens
@@ -129,7 +137,8 @@ pub record IsExecutionOf (table : TableView) (run : List Event) (done : ℕ → 
   pub idle : (pass : ℕ) → pass < table.layout.passes → (at last).pending pass ≡ None
   pub next_to : (time : ℕ) → suc time < last → KeepCallsWhole (happens time) (happens (suc time))
 
--- If the traces of all passes have ended in one run, what the passes have done is an execution. It is linearizable.
+-- Let the traces of all passes of a table have ended in one run. There is an execution of the run in which each pass does just what it has
+-- done (`IsExecutionOf`). It is linearizable.
 abbrev pub OneRunIsAnExecution : Type 0
 OneRunIsAnExecution =
     (table : TableView) (run : List Event) (done : ℕ → List Happening) (seat : ℕ → SeatView) → HaveEndedInOneRun table run done seat →
@@ -139,9 +148,10 @@ OneRunIsAnExecution =
 
 -- Where passes have ended in one run
 
--- Let a run of the table begin with the steps that each pass knows at its seat. Let each pass then be shown steps that begin with this run.
--- The passes have ended in the run at their seats. Two rounds of stamps do it. In the first, each pass follows a stamp of the pass before
--- it. In the second, each follows a stamp of the last pass.
+-- Let each pass have done what `done` gives, up to its seat of `seat`. Let a run of the table begin with the trace of each of these seats.
+-- Let each pass then be shown steps that begin with this run, which gives it its seat of `shown`. The traces of the seats of `seat` have
+-- ended in the run. Two rounds of stamps do it. In the first, each pass follows a stamp of the pass before it. In the second, each follows
+-- a stamp of the last pass.
 abbrev pub ShownHaveEnded : Type 0
 ShownHaveEnded =
     (table : TableView) (run : List Event) (done : ℕ → List Happening) (seat shown : ℕ → SeatView) → IsTableRun table.layout run →
@@ -153,20 +163,21 @@ ShownHaveEnded =
 
 -- Handles of one index
 
--- The handle is at this index. Its pass has this number, and has done what `done` says.
+-- The handle is at this index. Its pass has this number, is just what its seat tells (`pass_of`), and has done what `done` says.
 abbrev pub HandleHasDone : (index : TableView) (pass : ℕ) (done : List Happening) (handle : HandleView) → Type 0
 HandleHasDone index pass done handle =
     (handle.index ≡ index) × (handle.pass ≡ pass_of handle.pass.seat) × HasGoneThrough index pass done handle.pass.seat
 
--- A handle has seen what its leader had seen, as `hot_see` of C says, or `stamp` with `follow`. The handle was `was` and is `now`, and has
--- followed a stamp of the leader. The leader was `leader` and is `led`, and has made this stamp.
+-- A handle has followed a stamp that another handle, its leader, made: by `hot_see` of C, or by `stamp` and `follow`. The handle was `was`
+-- and is `now`. It has seen the changes that the leader had seen, and its trace begins with the leader's. The leader was `leader` and is
+-- `led`. It has made the stamp, and nothing else of it has changed. Both handles stay at their index.
 pub record HasSeenLeader (was now leader led : HandleView) : Type 0 where
   pub follows : Stays (λ index before later. HasCaughtUp index.layout leader.pass.front before later) was now
   pub traced : RunBeginsWith now.pass.seat.trace leader.pass.seat.trace
   pub stamped : Stays (λ index before later. HasStamped before later) leader led
 
--- Let a handle see what its leader has seen. The passes of both have then done one thing more: they were shown changes. The steps that the
--- handle then knows are a run of the table, and begin with those that the leader knew.
+-- Let a handle see what its leader has seen. The passes of both have then done one thing more: the handle's was shown its new front, and
+-- the leader's its own. The trace of the handle is then a run of the table, and begins with the trace of the leader.
 abbrev pub SeeingIsDone : Type 0
 SeeingIsDone =
     (index : TableView) (pass leading_pass : ℕ) (ours theirs : List Happening) (was now leader led : HandleView) → HandleHasDone index pass ours was →
@@ -175,9 +186,10 @@ SeeingIsDone =
     HandleHasDone index leading_pass (theirs ++ shows leading_pass leader.pass.seat.known.front ∷ []) led ×
     IsTableRun index.layout now.pass.seat.trace × RunBeginsWith now.pass.seat.trace leader.pass.seat.trace
 
--- Let each pass of an index have a handle, and let a run of the table begin with the steps that each handle knows. Let each handle then see
--- a leader whose steps begin with this run. The calls of all handles are one execution, which is linearizable: they have one order in which
--- a map could have made them. Of two calls that don't overlap, the earlier stands first.
+-- Let each pass of an index have a handle, and have done what `done` gives. Let a run of the table begin with the trace of each handle. Let
+-- each handle then see a leader whose trace begins with this run. What the passes had done before is one execution, which is linearizable:
+-- there is one order of look-ups and changes in which a map could have made them. Of two calls that don't overlap, the earlier stands
+-- first.
 abbrev pub HandlesAreLinearizable : Type 0
 HandlesAreLinearizable =
     (index : TableView) (run : List Event) (done : ℕ → List Happening) (was now leader led : ℕ → HandleView) → IsTableRun index.layout run →
@@ -193,8 +205,8 @@ HandlesAreLinearizable =
 abbrev pub of_two : {A : Type 0} → (first others : A) (pass : ℕ) → A
 of_two first others pass = if nat_eq pass 0 then first else others
 
--- Let the only two passes of a table meet, as the clauses `shown` and `traces` of a meeting say. They have ended in one run, at the seats
--- before the meeting. It is the run that both know after the meeting.
+-- Let the only two passes of a table meet, as the clauses `shown` and `traces` of a meeting say. The traces that they had before the
+-- meeting have ended in one run. This run is the trace that both have after the meeting.
 abbrev pub TwoThatMeetHaveEnded : Type 0
 TwoThatMeetHaveEnded =
     (table : TableView) (ours theirs : List Happening) (our their our_new their_new : SeatView) → table.layout.passes ≡ 2 →
@@ -202,8 +214,8 @@ TwoThatMeetHaveEnded =
     IsShownAll table.layout our our_new → IsShownAll table.layout their their_new → our_new.trace ≡ their_new.trace →
     HaveEndedInOneRun table our_new.trace (of_two ours theirs) (of_two our their)
 
--- Let a bulk load just have made a table: pass 0 has the seat that has loaded, and all other passes are new. The passes have ended in one
--- run, whose one step is the load.
+-- Let a bulk load just have made a table that has a pass. Pass 0 has the seat that has loaded, and all other passes are new. The passes
+-- have ended in one run, whose one step is the load. Pass 0 has done this load, and no other pass has done anything.
 abbrev pub LoadedHaveEnded : Type 0
 LoadedHaveEnded =
     (table : TableView) (words : List ℕ) (seat : ℕ → SeatView) → 0 < table.layout.passes →
@@ -211,14 +223,16 @@ LoadedHaveEnded =
     ((pass : ℕ) → 1 ≤ pass → pass < table.layout.passes → IsNewSeatOf table pass (seat pass)) →
     HaveEndedInOneRun table (load_trace words).events (of_two (load_call table.layout 0 words) []) seat
 
--- Steps without notes, as of a round of collection or a count, are steps of a call that ends with the last of them (`Ends`). So such calls
--- meet what `HasGoneThrough` asks.
+-- One step or more without notes, as of a round of collection or a count, are the steps of a call: it ends with the last of them (`Ends`).
+-- So rounds and counts meet what `HasGoneThrough` asks of a call.
 abbrev pub SilentStepsEnd : Type 0
 SilentStepsEnd =
     (table : TableView) (act : Act) (acts : List Act) (start end : SeatView) → Runs table untold (act ∷ acts) (start, tt) (end, tt) →
     (before : List Act) × (last : Act) × (act ∷ acts ≡ before ++ last ∷ []) × Ends table untold before last silent (start, tt) (end, tt)
 
--- There is a run in which two passes have ended. Pass 0 inserts the key of no bytes, with any value, and pass 1 finds this value.
+-- In each table of two passes, and for each value of 64 bits, there is a run in which both passes have ended. Pass 0 has one note, that it
+-- inserted the key of no bytes with this value. Pass 1 has one note, that a get found it. So the premise of `OneRunIsAnExecution` can be
+-- met.
 abbrev pub AnInsertIsFound : Type 0
 AnInsertIsFound =
     (table : TableView) → table.layout.passes ≡ 2 → (value : ℕ) → value < 2 ^ 64 →
@@ -226,7 +240,8 @@ AnInsertIsFound =
     ((seat 0).known.notes ≡ record { place = 0; call = Insert [] value; reply = Inserted } ∷ []) ×
     ((seat 1).known.notes ≡ record { place = 1; call = Get []; reply = Value value } ∷ [])
 
--- Steps that a gate was told are steps without a gate, too. So calls with a gate meet what `HasGoneThrough` asks.
+-- Steps of which a gate was told are steps without a gate, too, with the same notes. So calls with a gate meet what `HasGoneThrough` asks,
+-- which knows no gate. It is said of steps without notes (`Runs`), and of steps that end a call (`Ends`).
 abbrev pub StepsNeedNoGate : {G : Type 0} → (becomes : G → Event → G → Type 0) → Type 0
 StepsNeedNoGate {G = G} becomes =
     (table : TableView) (acts : List Act) (before later : SeatView × G) →

@@ -1,4 +1,4 @@
--- What passes have lived through, as the contracts of their calls say, and the one history that passes share.
+-- The answered calls of passes, as the contracts of these calls say, and the one history that passes share.
 use Rattle.std.specs.Prelude.{◌≡◌, ◌≢◌, ℕ, All, List, [], ◌∷◌, ◌++◌, map}
 use Rattle.finite_map.specs.declared.Call.{Call}
 use Rattle.finite_map.specs.declared.Call.TheVariants.{Insert}
@@ -18,9 +18,9 @@ use Rattle.rowex_table.specs.Rule.{loader_of}
 use Rattle.rowex_table.specs.Seats.{SeatView}
 use Rattle.versions.specs.Told.{items_of}
 
--- The calls that a pass has lived through, with their replies. A new pass has none, and pass 0 of a loaded table has the insertions of the
--- table's pairs. An answered call adds itself, and a call of many look-ups adds each, in the order of their notes. A refused call, a round
--- of collection, a meeting, a stamp (`IsUnnoted`) and a scan (`IsScannedBy`, `IsListedBy`) add none.
+-- The calls of a pass that were answered since it was new, with their replies. A new pass has none, and pass 0 of a loaded table has the
+-- insertions of the table's pairs. An answered call adds itself, and a call of many look-ups adds each, in the order of their notes. A
+-- refused call, a round of collection, a meeting, a stamp (`IsUnnoted`) and a scan (`IsScannedBy`, `IsListedBy`) add none.
 pub data HasLived : Layout → List (Call × Reply) → PassView → Type 0 where
   new : {layout : Layout} {number : ℕ} {pass : PassView} → IsNewPass number pass → HasLived layout [] pass
   loaded : {layout : Layout} {words : List ℕ} {seat : SeatView} → IsLoad layout words → seat.known ≡ loader_of layout words →
@@ -36,17 +36,18 @@ pub data HasLived : Layout → List (Call × Reply) → PassView → Type 0 wher
       HasLived layout calls before → GoesOn layout before after → after.notes ≡ before.notes →
       LegalCalls after.front after.number after.notes → HasLived layout calls after
 
--- the life of a pass: the calls that it has lived through, with their replies, and the pass now
+-- the answered calls of a pass since it was new, with their replies (`HasLived`), and the pass now
 abbrev pub PassLife : Type 0
 PassLife = List (Call × Reply) × PassView
 
--- These lives are of passes with different numbers. Each pass has lived through its calls, and all have seen this front.
+-- These lives are of passes with different numbers. Each pass has been answered just the calls of its life, and all have seen this front.
 abbrev pub AreLives : (layout : Layout) (front : List Change) (lives : List PassLife) → Type 0
 AreLives layout front [] = Unit {0}
 AreLives layout front (life ∷ lives) =
     HasLived layout life.0 life.1 × (life.1.front ≡ front) × All (λ other. other.1.number ≢ life.1.number) lives × AreLives layout front lives
 
--- The list `events` has the calls of all these lives, each once, and those of each life in their order.
+-- The list `events` has the calls of all these lives with their replies, each once, and nothing else. Those of each life stand in their
+-- order.
 abbrev pub LivesAreWoven : (lives : List PassLife) (events : List Event) → Type 0
 LivesAreWoven [] events = events ≡ []
 LivesAreWoven (life ∷ lives) events =
@@ -56,8 +57,8 @@ LivesAreWoven (life ∷ lives) events =
 abbrev pub notes_of_lives : List PassLife → List Note
 notes_of_lives lives = notes_of (map (λ life. (life.1.number, life.1.notes)) lives)
 
--- Passes that have seen the same changes share one legal history of a finite map. Each call that they have lived through stands in it once,
--- those of each pass in their order.
+-- Passes that have seen the same changes share one legal history of a finite map. Each of their answered calls stands in it once, with its
+-- reply, and those of each pass in their order.
 abbrev pub OneHistoryOfAll : Type 0
 OneHistoryOfAll =
     (layout : Layout) (front : List Change) (lives : List PassLife) → AreLives layout front lives →

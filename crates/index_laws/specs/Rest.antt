@@ -24,13 +24,14 @@ use Rattle.index_laws.specs.Joined.{HasGoneThrough, HaveEndedInOneRun}
 
 -- Who is at work
 
--- All passes are idle after this run: their traces have ended in it, and each pass is between two calls (`IsSettled`).
+-- All passes are idle after this run: their traces have ended in it at the seats of `seat`, and each pass is between two calls
+-- (`IsSettled`).
 pub record AreAllIdle (table : TableView) (run : List Event) (seat : ℕ → SeatView) : Type 0 where
   pub done : ℕ → List Happening
   pub ended : HaveEndedInOneRun table run done seat
   pub settled : (pass : ℕ) → pass < table.layout.passes → IsSettled (seat pass).known
 
--- In this core no pass holds a record that it has claimed, or has unlinked and not retired yet. No pass is pinned.
+-- In this core no pass owns a record: none is claimed or made ready, and none is unlinked and not yet retired. No pass is pinned.
 pub record HasNoneAtWork (core : Core) : Type 0 where
   pub unowned : (rec : Rec) → holder_of (core.fate rec) ≡ None
   pub unpinned : (pass : ℕ) → core.pins pass ≡ None
@@ -55,7 +56,7 @@ abbrev pub number_of_keys : Core → ℕ
 number_of_keys core = length (map_of core.changes)
 
 -- No record of the core is lost: each is free, or stands in the tree of the newest version. All leaf records are free but one for each key.
--- All node records are free but fewer than there are keys.
+-- The node records that aren't free are fewer than the keys, and none if there is no key.
 pub record NoneIsLost (core : Core) : Type 0 where
   pub each : (rec : Rec) → HasRecord core.layout rec → (core.fate rec ≡ Free) ⊎ IsLinked (core.past.version core.past.now) rec
   pub leaves : free_below core a_leaf core.layout.leaves + number_of_keys core ≡ core.layout.leaves
@@ -67,14 +68,16 @@ pub record NoneIsLost (core : Core) : Type 0 where
 abbrev pub of_leaves : (many : StateCounts → ℕ) (counts : RecordCounts) → ℕ
 of_leaves many counts = many counts.short + many counts.medium + many counts.large + many counts.wide + many counts.long
 
--- By the counts, there are as many live leaf records as keys, and fewer live node records. No record is claimed.
+-- By the counts, there are as many live leaf records as keys. Live node records are fewer, and none if there is no key. No record is
+-- claimed.
 pub record CountsKeys (keys : ℕ) (counts : RecordCounts) : Type 0 where
   pub leaves : of_leaves (λ states. states.live) counts ≡ keys
   pub nodes : counts.nodes.live ≤ keys - 1
   pub leaves_held : of_leaves (λ states. states.held) counts ≡ 0
   pub nodes_held : counts.nodes.held ≡ 0
 
--- By the counts, the live records are those that the keys need, and all others are free.
+-- By the counts, the live records are those that the keys need (`CountsKeys`), and none is retired. All leaf records are free but one for
+-- each key. The node records that aren't free are fewer than the keys, and none if there is no key.
 pub record CountsNoneLost (layout : Layout) (keys : ℕ) (counts : RecordCounts) : Type 0 where
   pub live : CountsKeys keys counts
   pub leaves_retired : of_leaves (λ states. states.obsolete) counts ≡ 0
@@ -84,7 +87,8 @@ pub record CountsNoneLost (layout : Layout) (keys : ℕ) (counts : RecordCounts)
 
 -- The laws
 
--- All passes of the index are idle after the run. From there one pass goes on alone, from the seat `start` to the seat `end`.
+-- All passes of the index are idle after the run, and one of them has the seat `start` then. From there this pass goes on alone, up to the
+-- seat `end`: behind the run, all steps of its trace are its own.
 pub record GoesOnAlone (index : TableView) (run : List Event) (start end : SeatView) : Type 0 where
   pub seat : ℕ → SeatView
   pub idle : AreAllIdle index run seat
@@ -92,16 +96,17 @@ pub record GoesOnAlone (index : TableView) (run : List Event) (start end : SeatV
   pub seat_is : seat start.known.pass ≡ start
   pub alone : StepsAlone start.known.pass run end.trace
 
--- the seats of all passes, where the pass of `view` has this seat
+-- the seats of all passes: `view` for the pass whose seat it is, and what `seat` gives for each other
 abbrev pub with_seat : (seat : ℕ → SeatView) (view : SeatView) (pass : ℕ) → SeatView
 with_seat seat view pass = if nat_eq pass view.known.pass then view else seat pass
 
--- `Holds` is true of the core to which the run leads from a new index. If a pass knows the run and has made a step, there is such a core
--- (`IsInOneRun`).
+-- `Holds` is true of each core to which the run leads from a new index. If a pass knows the run and has made a step, there is such a core
+-- (`IsInOneRun`). A run that isn't legal leads to none.
 abbrev pub LeadsTo : (index : TableView) (run : List Event) (Holds : Core → Type 0) → Type 0
 LeadsTo index run Holds = (core : Core) → EventsLead (opening index.layout) run core → Holds core
 
--- An index in which all passes are idle loses no record, while one pass goes on alone.
+-- An index in which all passes are idle loses no record, while one pass goes on alone. A round must not meet the last epoch, which no step
+-- raises: then it might give nothing back. So the steps made are bounded by the number of epochs.
 pub record NoRecordIsLost {G : Type 0} (becomes : G → Event → G → Type 0) : Type 0 where
   -- the passes of a new index are idle
   pub begins : (index : TableView) (seat : ℕ → SeatView) → ((pass : ℕ) → pass < index.layout.passes → IsNewSeatOf index pass (seat pass)) →
@@ -122,7 +127,8 @@ pub record NoRecordIsLost {G : Type 0} (becomes : G → Event → G → Type 0) 
       StepsAlone middle.0.seat.known.pass middle.0.seat.trace new.0.seat.trace → HasCounted index becomes middle new counts →
       LeadsTo index new.0.seat.trace (λ core. CountsNoneLost index.layout (number_of_keys core) counts)
 
--- An index of one pass loses no record. Its pass has made all changes itself, so the keys are those of the map of its front.
+-- An index of one pass loses no record, between any two of its calls. Its pass has made all changes itself, so the keys are those of the
+-- map of its front.
 pub record OnePassLosesNone {G : Type 0} (becomes : G → Event → G → Type 0) : Type 0 where
   -- after a round of collection between two calls no record is lost, if fewer steps have been made than there are epochs
   pub round : (index : TableView) (old new : PassView × G) (nodes leaves : ℕ) → index.layout.passes ≡ 1 → IsSettled old.0.seat.known →

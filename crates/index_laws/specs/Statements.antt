@@ -15,11 +15,12 @@ use Rattle.linearizability.specs.Configurations.{Happening, IsNewIndex, IsRefusa
 use Rattle.linearizability.specs.Statements.{IsLinearizable}
 use Rattle.index_laws.specs.Executions.{HasBeenRefused, HasReturned, IsExecution}
 
--- A run may begin at a table that was just made. In its configuration no pass has made a step or a call.
+-- A run may begin at a table that was just made (`IsNewIndex`). In its configuration no pass has made a step or a call.
 abbrev pub OpeningIsNew : Type 0
 OpeningIsNew = (layout : Layout) → IsNewIndex layout (record { core = opening layout; known = opening_of; pending = λ _. None })
 
--- In a run, a call that has returned as its contract says responds (`IsResponse`), with the same notes.
+-- In a run, let a call of one of the index's passes return as its contract says (`HasReturned`). In the sense of runs it responds
+-- (`IsResponse`), with the same notes.
 abbrev pub ReturnedResponds : Type 0
 ReturnedResponds =
     (layout : Layout) (last : ℕ) (at : ℕ → Configuration) (happens : ℕ → Happening) → IsWholeRun layout last at happens → (pass time : ℕ) →
@@ -32,7 +33,8 @@ RefusedIsRefused =
     (layout : Layout) (at : ℕ → Configuration) (pass time : ℕ) (call : Pending) → HasBeenRefused layout at pass time call →
     IsRefusal at time pass call
 
--- If a call may find no record of a kind free, it may be refused with the fault of this kind.
+-- If a call that waits may be refused since it found no free record of a kind (`MayLack`), one that doesn't wait may be, too. The fault is
+-- then the one of this kind.
 abbrev pub LackMayRefuse : Type 0
 LackMayRefuse = (call : Call) (full : Full) → MayLack call full → MayRefuse call (fault_of full)
 
@@ -42,8 +44,9 @@ ExecutionsAreRuns =
     (layout : Layout) (last : ℕ) (at : ℕ → Configuration) (happens : ℕ → Happening) → IsExecution layout last at happens →
     IsWholeRun layout last at happens
 
--- Executions are linearizable (Herlihy and Wing, 1990) up to any time. Each call that is pending at this time must end by a later one, or
--- must have changed the map only as it asks.
+-- Executions are linearizable (Herlihy and Wing, 1990) up to any time `last`. The premise is on each call that is pending at `last`. By the
+-- time `later` it ends, and asks one call, look-ups alone, or nothing. Or by `last` it has changed nothing, or has changed the map once, as
+-- it asks.
 abbrev pub ExecutionsAreLinearizable : Type 0
 ExecutionsAreLinearizable =
     (layout : Layout) (last later : ℕ) (at : ℕ → Configuration) (happens : ℕ → Happening) → last ≤ later →
@@ -62,8 +65,9 @@ pub record Responses : Type 0 where
   -- an execution is a run
   pub runs : ExecutionsAreRuns
 
--- There is an execution in which a call returns. In a new index with a pass, pass 0 invokes a get, and makes the four steps of a get in an
--- empty index. The call responds that the key is absent.
+-- For each layout with a pass, and each key, there is an execution in which one call of the map is answered. It is a get of the key, which
+-- responds at time 5 that the key is absent. Before time 6 there are its invocation, the four steps of a get in an empty index, and its
+-- response. So the premises of laws on executions can be met.
 abbrev pub AGetReturns : Type 0
 AGetReturns =
     (layout : Layout) → 0 < layout.passes → (table : TableId) (key : List ℕ) → (at : ℕ → Configuration) × (happens : ℕ → Happening) ×

@@ -19,11 +19,11 @@ use Rattle.rowex_table.specs.declared.traces.TracedView.TheVariants.{Pass}
 use Rattle.rowex_table.specs.Rule.{MayStep, Ruled, found_by}
 use Rattle.linearizability.specs.Configurations.{IsConfigurationStep, Configuration, Pending}
 
--- the act as the pass makes it at this core: with the word that it finds there
+-- the act as the pass makes it at this core: with the word that the pass finds at the act's location
 abbrev pub made_at : (core : Core) (known : Known) (act : Act) → Act
 made_at core known act = found_by act (word_at core (location_of known.pass act))
 
--- what the pass knows after it has made the act at this core, with these notes
+-- what the pass knows after it has made the act at this core, where these notes come with the act
 abbrev pub known_after : (core : Core) (known : Known) (act : Act) (notes : List Note) → Known
 known_after core known act notes = record (learned core (made_at core known act) known) { notes = known.notes ++ notes }
 
@@ -31,21 +31,22 @@ known_after core known act notes = record (learned core (made_at core known act)
 abbrev pub run_after : (run : List Event) (core : Core) (known : Known) (act : Act) → List Event
 run_after run core known act = run ++ record { pass = known.pass; act = made_at core known act } ∷ []
 
--- The state of the table after the pass of the seat has made the act. One word is written, and the seat, which is view number `id`, has
--- this view.
+-- The state of the table after the pass of `known` has made the act. The word at the act's location is what the act leaves there, which
+-- after a load is the word that stood. The pass's seat, which is view number `id`, has this view. Nothing else changes.
 abbrev pub state_after : (layout : Layout) (state : State (Unit {0}) TracedView) (id : ℕ) (known : Known) (act : Act) (view : TracedView) →
     State (Unit {0}) TracedView
 state_after layout state id known act view =
     let word = address layout (location_of known.pass act) in stepped state word (writes act (get_or state.words word 0)) id [] view keeps
 
--- the view that the seat has after its pass has made the act at this core, with these notes
+-- The view that the seat has after its pass has made the act at this core, with these notes. Its trace is the run up to this step. Its
+-- counts of asides and touches stay.
 abbrev pub view_after : (run : List Event) (core : Core) (known : Known) (trace : Trace) (act : Act) (notes : List Note) → TracedView
 view_after run core known trace act notes =
     Pass (known_after core known act notes) (record { events = run_after run core known act; asides = trace.asides; touches = trace.touches })
 
--- Steps of the table are steps of the core that its rule names. Let a pass make an atomic step that it may make by what it knows. The step
--- is legal in this core. The state after the step keeps the rule. It has the core after the step, what the pass then knows, and one step
--- more in the run.
+-- Steps of the table are steps of the core that its rule names. Let a state keep the rule, and let its view number `id` be a pass's. Let
+-- this pass make an atomic step that it may make by what it knows. The step is legal in the state's core. The state after the step keeps
+-- the rule. Its core is that after the step, and its run has this one step more.
 abbrev pub StepsFollow : Type 0
 StepsFollow =
     (layout : Layout) (state : State (Unit {0}) TracedView) (ruled : Ruled layout state) (id : ℕ) (known : Known) (trace : Trace) →
@@ -56,9 +57,9 @@ StepsFollow =
     (next.core ≡ after ruled.core known.pass (made_at ruled.core known act)) ×
     (next.run ≡ run_after ruled.run ruled.core known act)
 
--- Let a configuration of a run have the core of the table's state, and let the pass know there what its seat knows. An atomic step of the
--- table is then a step of the run. It leads to a configuration with the core after the step, in which the pass knows what its seat then
--- knows.
+-- Let a configuration of a run have the core of the table's state. Let the pass know there what its seat knows, and have a call pending. An
+-- atomic step that the pass may make is then a step of the run. It leads to a configuration with the core of the table's next state. There
+-- the pass knows what the step taught it, and has these notes more.
 abbrev pub StepsAreMoments : Type 0
 StepsAreMoments =
     (layout : Layout) (state : State (Unit {0}) TracedView) (ruled : Ruled layout state) (id : ℕ) (known : Known) (trace : Trace) →

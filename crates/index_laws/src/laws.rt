@@ -20,20 +20,20 @@ pub fn all_promises_hold()
 {}
 
 /// For each layout with a pass, and each key, there is an execution in which a call returns. It is a get in a new index, which finds its
-/// key absent.
+/// key absent. So no law of executions is empty.
 pub fn a_get_returns()
     ensures { AGetReturns }
 {}
 
-/// Let a core show the table's state. A step that a pass may make is legal in that core. The core after the step, and the run with it, are
-/// those of the table's next state.
+/// Let a core show the table's state. An atomic step that a pass may make by what it knows is legal in that core. The core after the step,
+/// and the run with it, are those of the table's next state.
 pub fn allowed_steps_are_legal()
     ensures { StepsFollow }
 {}
 
-/// Take a configuration of a run whose core shows the table's state. Let it say of a pass that it knows what its seat knows, and that its
-/// call is pending. Then each step that the pass may make is a step of the run. It leads to a configuration of which the same is true in
-/// the table's next state.
+/// Take a configuration of a run whose core shows the table's state. Let a pass know there what its seat knows, and have a call pending.
+/// Then each atomic step that the pass may make is a step of the run. It leads to a configuration whose core shows the table's next state.
+/// There the pass knows what the step taught it.
 pub fn allowed_steps_are_steps_of_the_run()
     ensures { StepsAreMoments }
 {}
@@ -44,56 +44,61 @@ pub fn contracts_make_an_execution()
     ensures { TracedAreExecutions }
 {}
 
-/// Let the traces of all passes of an index have ended in one run. The calls that they made are an execution by contracts alone, and
+/// Let the traces of all passes of an index have ended in one run. The calls that the passes made are an execution by contracts alone, and
 /// linearizable. No premise speaks of executions.
 pub fn calls_of_one_run_are_an_execution()
     ensures { OneRunIsAnExecution }
 {}
 
-/// Take a run that begins with the steps of which each pass of an index knew. Let each of these passes then be shown steps that begin with
-/// this run. Then their traces have ended in it.
+/// Take a run of an index's table that begins with the steps of which each pass of the index knew. Let each of these passes then be shown
+/// steps that begin with this run. The traces that the passes had before have ended in the run.
 pub fn shown_passes_have_ended_in_one_run()
     ensures { ShownHaveEnded }
 {}
 
-/// Let one handle of an index see what another, its leader, has seen, by `hot_see` of C. Then each of the two has done one thing more, and
-/// the handle knows of the steps of which the leader knew.
+/// Let one handle of an index see what another, its leader, has seen: by `hot_see` of C, or by `stamp` and `follow`. Then each of the two
+/// passes has done one thing more: it was shown changes. The handle's pass knows a run of the table that begins with the steps of which the
+/// leader's knew.
 pub fn seeing_is_done()
     ensures { SeeingIsDone }
 {}
 
 /// Let each pass of an index have a handle, from Rattle or from C. Let a run begin with the steps of which each pass knew. Let each handle
-/// then see what a leader has seen, one that knows of this run. The calls of all handles are linearizable.
+/// then see what a leader has seen, one that knows of this run. The calls that all handles had made before are linearizable.
 pub fn handles_that_see_are_linearizable()
     ensures { HandlesAreLinearizable }
 {}
 
-/// Let the only two passes of an index meet. Their traces have ended in the run of which both know then.
+/// Let the only two passes of an index meet. The traces that they had before have ended in one run: that of which both know afterwards.
 pub fn two_that_meet_have_ended_in_one_run()
     ensures { TwoThatMeetHaveEnded }
 {}
 
-/// The passes of a table that was just made by a bulk load have ended in one run: the load is its one step.
+/// The passes of a table that was just made by a bulk load have ended in one run, whose one step is the load. Pass 0 has made the load, and
+/// no other pass has done anything.
 pub fn loaded_passes_have_ended_in_one_run()
     ensures { LoadedHaveEnded }
 {}
 
-/// In each index of two passes there are calls that have ended in one run. One pass inserts a key, with any value, and the other finds it.
+/// For each index of two passes, and each value of 64 bits, there are calls that have ended in one run. Pass 0 inserts the empty key with
+/// this value, and pass 1 finds it. So the premise of `calls_of_one_run_are_an_execution` can be met.
 pub fn an_insert_is_found()
     ensures { AnInsertIsFound }
 {}
 
-/// Steps of which a gate is told are steps with no gate, too.
+/// Steps of which a gate is told are steps with no gate, too. So laws that know no gate hold of calls with one.
 pub fn steps_need_no_gate<G: Gate>()
     ensures { StepsNeedNoGate G.becomes }
 {}
 
-/// The steps of a round of collection or of a count, which come with no notes, are the steps of a call.
+/// The steps of a round of collection or of a count, which come with no notes, are the steps of a call. So the laws of calls hold of rounds
+/// and counts.
 pub fn silent_steps_are_of_a_call()
     ensures { SilentStepsEnd }
 {}
 
-/// For each layout with a pass, and each key, there is an execution by contracts alone. In it a get in a new index finds its key absent.
+/// For each table with a pass, and each key, there is an execution by contracts alone. In it a get in a new index finds its key absent. So
+/// no law of such executions is empty.
 pub fn a_get_returns_by_contracts_alone()
     ensures { AGetIsTraced }
 {}
@@ -104,8 +109,8 @@ pub fn a_root_load_has_its_moment()
     ensures { LoadsAreMoments }
 {}
 
-/// Let a pass have made steps. Let a call load the root after all steps of which that pass knew by then. The call is shown all changes that
-/// the pass had seen.
+/// Let a pass have made the steps of a call. Let a later call load the root after all steps of which that pass knew when its call ended.
+/// The later call is shown all changes that the pass had seen then.
 pub fn a_root_load_shows_earlier_changes()
     ensures { LoadsSeeAll }
 {}
@@ -129,8 +134,8 @@ pub fn calls_stand_in_order_or_first_knew_the_steps()
     ensures { EndedOrShownBefore }
 {}
 
-/// Two passes that have met are of one run of the table. Take the two lists of steps of which they knew before. One list begins with the
-/// other.
+/// Two passes that have met are of one run of the table. Take the steps of which one knew at some time before the meeting, and those of
+/// which the other knew at some time before it. One list begins with the other.
 pub fn met_passes_are_of_one_run()
     ensures { MetAreOfOneRun }
 {}
@@ -140,14 +145,15 @@ pub fn calls_neither_stamp_nor_follow_nor_meet()
     ensures { CallsMakeNoAsides }
 {}
 
-/// Let no call of an index be running, and fewer steps have been made than there are epochs. A `collect` that runs alone then leaves each
-/// record free or in the tree. All leaf records are free but one for each key, and all node records but fewer than there are keys. A
-/// `census` behind it counts just these.
+/// Let no call of an index be running, and let fewer than 2^60 - 2 steps have been made. A `collect` that runs alone then leaves each
+/// record free or in the tree. All leaf records are free but one for each key. The node records that aren't free are fewer than the keys,
+/// and none if there is no key. A `census` behind the round counts just these.
 pub fn no_record_is_lost<G: Gate>()
     ensures { NoRecordIsLost G.becomes }
 {}
 
-/// In an index of one pass, a round between any two calls loses no record, as `no_record_is_lost` says.
+/// In an index of one pass, a round between any two calls leaves each record free or in the tree, as `no_record_is_lost` says. The bound on
+/// the steps made is the same.
 pub fn one_pass_loses_no_record<G: Gate>()
     ensures { OnePassLosesNone G.becomes }
 {}
