@@ -25,7 +25,7 @@ use Rattle.hot_c.specs.declared.handle.IndexHandle.{IndexHandle}
 use Rattle.hot_c.specs.declared.opened.Opened.{Opened}
 use Rattle.hot_c.specs.declared.status.TheConstants.{CLOSED, DONE, KEY_TOO_LONG, NO_HANDLE, NO_MEMORY}
 
--- the key is no longer than an index takes
+-- the key has at most 240 bytes, as many as an index takes
 abbrev pub FitsInKey : List ℕ → Type 0
 FitsInKey key = length key ≤ MAX_BYTES
 
@@ -66,7 +66,8 @@ TellsOutcome size call status outcome index old new =
     HasOutcome call outcome index old new × MatchResult outcome (λ reply. status ≡ reply_status reply) (λ refusal. TellsRefusal size refusal status)
 
 -- A call for a key through a handle, whose status tells a program in C the outcome. C's word for a value was `before` and is `after`. If
--- the handle is closed or the key too long, the status says so, and nothing has changed.
+-- the handle is closed or the key too long, the status says so, and nothing has changed. Else the handle stays open, and the status tells
+-- the call's outcome. The word is then the reply's value, if the reply has one, and else stays.
 pub record Answers (key : List ℕ) (call : Call) (old new : Option Opened) (before after status : ℕ) : Type 0 where
   pub closed : old ≡ None → (status ≡ CLOSED) × (new ≡ old) × (after ≡ before)
   pub long : IsSome old → ¬ FitsInKey key → (status ≡ KEY_TOO_LONG) × (new ≡ old) × (after ≡ before)
@@ -81,7 +82,7 @@ HasGivenBack nodes leaves index old new = IsUnnoted index.layout old new × HasC
 abbrev pub AreClosed : (handles : List IndexHandle) → Type 0
 AreClosed handles = All (λ handle. handle.cell.opened ≡ None) handles
 
--- the addresses at which C has the handles
+-- what C keeps in each of these handles: a pointer, as a number
 abbrev pub places_of : List IndexHandle → List ℕ
 places_of = map (λ handle. handle.place)
 
@@ -89,7 +90,7 @@ places_of = map (λ handle. handle.place)
 abbrev pub IsSize : (passes nodes leaves : ℕ) → Type 0
 IsSize passes nodes leaves = IsPassCount passes × IsNodeCount nodes × IsLeafCount leaves
 
--- an index can have so many passes and this stock
+-- an index can have so many passes and this stock, as `create_with` asks for them
 abbrev pub IsStockSize : (passes : ℕ) (stock : Stock) → Type 0
 IsStockSize passes stock = IsStockPassCount passes × IsRecordCount stock.nodes × IsRecordCount (leaves_of stock)
 
@@ -97,7 +98,8 @@ IsStockSize passes stock = IsStockPassCount passes × IsRecordCount stock.nodes 
 abbrev pub IsNewShare : (index : TableView) (pass : ℕ) (opened : Opened) → Type 0
 IsNewShare index pass opened = (opened.handle.index ≡ index) × IsNewPass pass opened.handle.pass × (opened.kept.items ≡ [])
 
--- The open handles are those of one new index, one for each pass, in the order of the passes' numbers. `HasRecords` holds of its layout.
+-- The open handles are those of one new index with so many passes, one for each pass, in the order of the passes' numbers. `HasRecords`
+-- holds of its layout.
 pub record AreNewHandles (passes : ℕ) (HasRecords : Layout → Type 0) (opened : List Opened) : Type 0 where
   pub index : TableView
   pub layout : (index.layout.passes ≡ passes) × HasRecords index.layout
@@ -130,11 +132,13 @@ pub record KeepsPasses (IsPass : TableView → ℕ → PassView → Type 0) (pas
   pub each : (pass : ℕ) (handle : HandleView) → slice_get (reverse opened.kept.items ++ opened.handle ∷ []) pass ≡ Some handle →
       (handle.index ≡ opened.handle.index) × IsPass opened.handle.index pass handle.pass
 
--- The open handle is the first of a new index with so many passes. It keeps closed handles with all other passes.
+-- The open handle is the first of a new index with so many passes. It has the last pass, and keeps closed handles with all others. All are
+-- new. `HasRecords` holds of the index's layout.
 abbrev pub IsKeeper : (passes : ℕ) (HasRecords : Layout → Type 0) (opened : Opened) → Type 0
 IsKeeper = KeepsPasses (λ index. IsNewPass)
 
--- A handle was opened on a new index with so many passes and this stock. It keeps closed handles with all other passes.
+-- A handle was opened on a new index with so many passes, this stock, and one node record more, kept for removals. It keeps closed handles
+-- with all other passes.
 abbrev pub HasOpenedKeeper : (passes : ℕ) (stock : Stock) (new : Option Opened) → Type 0
 HasOpenedKeeper passes stock new = (opened : Opened) × (new ≡ Some opened) × IsKeeper passes (λ layout. HasStock layout (kept_stock stock)) opened
 
@@ -142,13 +146,15 @@ HasOpenedKeeper passes stock new = (opened : Opened) × (new ≡ Some opened) ×
 abbrev pub KeepsAll : (was now : Opened) → Type 0
 KeepsAll was now = (now.handle ≡ was.handle) × (now.kept.items ≡ was.kept.items)
 
--- The next of the closed handles that `was` keeps was opened, and `now` keeps the others. The opened one keeps none.
+-- The next of the closed handles that `was` keeps was opened, and `now` keeps the others, and is otherwise as `was`. The opened one keeps
+-- none.
 pub record HasOpenedNext (was now opened : Opened) : Type 0 where
   pub next : was.kept.items ≡ now.kept.items ++ opened.handle ∷ []
   pub same : now.handle ≡ was.handle
   pub alone : opened.kept.items ≡ []
 
--- The next of the closed handles that the open handle `was` keeps was opened. Or `was` keeps none, or memory was refused.
+-- The next of the closed handles that the open handle `was` keeps was opened (`DONE`). Or `was` keeps none (`NO_HANDLE`), or memory was
+-- refused (`NO_MEMORY`): then `handle` stays closed, and all else stays.
 abbrev pub OpensNext : (was : Opened) (keeper handle : Option Opened) (status : ℕ) → Type 0
 OpensNext was keeper handle status = (now : Opened) × (keeper ≡ Some now) ×
     (((status ≡ DONE) × (opened : Opened) × (handle ≡ Some opened) × HasOpenedNext was now opened)

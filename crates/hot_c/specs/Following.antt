@@ -12,6 +12,7 @@ abbrev pub AreAtOneIndex : (one other : Option Opened) → Type 0
 AreAtOneIndex one other = (first second : Opened) → one ≡ Some first → other ≡ Some second → second.handle.index ≡ first.handle.index
 
 -- What calls tell of the pass is as it was: its number, front and last load of the root, its answered calls, its steps and its failures.
+-- Its count of asides may have grown.
 abbrev pub IsAsTold : (old new : PassView) → Type 0
 IsAsTold old new =
     (new.number ≡ old.number) × (new.front ≡ old.front) × (new.fresh ≡ old.fresh) × (new.notes ≡ old.notes) × (new.steps ≡ old.steps) ×

@@ -52,7 +52,7 @@ told_reply status value =
 abbrev pub told_of : (call : Call) (status value : ℕ) → List (Call × Reply)
 told_of call status value = map (λ reply. (call, reply)) (option_to_list (told_reply status value))
 
--- the gets of many look-ups, each with the reply that its status and value tell
+-- the gets of many look-ups, each with the reply that its status and value tell; a look-up that tells none is left out
 abbrev pub told_of_each : (lookups : List Lookup) → List (Call × Reply)
 told_of_each [] = []
 told_of_each (lookup ∷ lookups) = told_of (Get (key_in lookup)) lookup.status lookup.value ++ told_of_each lookups
@@ -83,9 +83,10 @@ pub record HasSeenAnother (old new leader led : Opened) : Type 0 where
   pub steps : SeesSteps (Some old) (Some new) (Some leader) (Some led)
 
 -- What the calls of a handle have told since it was opened, with the pass of this number of the index. There is an entry for each call that
--- asked the map: what it asked, with the replies that its statuses and values tell. The entry of a refused call is empty. A handle is
--- opened with a new pass, or with the pass of a load, which has inserted each pair. Its calls ask for one key (`asked`), look up many keys,
--- or ask the map nothing (`went_on`). It sees what another handle has seen, or is seen by another. `hot_get` is never told that it is busy.
+-- asked the map: what it asked, with the replies that its statuses and values tell. The entry of a refused call is empty. `opened`: the
+-- handle was opened with a new pass. `loaded`: it was opened with the pass of a load, which has inserted each pair. `asked`: a call asked
+-- for one key; `hot_get` is never told that it is busy. `looked_up`: a call looked up many keys, none of them too long. `went_on`: a call
+-- asked the map nothing. `saw`: the handle has seen what another has seen. `was_seen`: another has seen what this one has seen.
 pub data HaveTold (index : TableView) : ℕ → List (List (Call × Reply)) → HandleView → Type 0 where
   opened : {pass : ℕ} {handle : HandleView} → IsNewPass pass handle.pass → IsAt index handle → HaveTold index pass [] handle
   loaded : {pass : ℕ} {handle : HandleView} → pass ≡ 0 → (pairs : List (Key × ℕ)) → IsLoaderPass index pairs handle.pass → IsAt index handle →
@@ -106,11 +107,12 @@ pub data HaveTold (index : TableView) : ℕ → List (List (Call × Reply)) → 
       HaveTold index pass told leader.handle → HaveTold index other others old.handle → HasSeenAnother old new leader led →
       HaveTold index pass told led.handle
 
--- Each call through an open handle of which `Says` holds asks nothing of the map, and leaves the handle open.
+-- Each call through an open handle of which `Says` holds asks nothing of the map, adds no note, and leaves the handle open.
 abbrev pub StaysQuiet : (Says : Option Opened → Option Opened → Type 0) → Type 0
 StaysQuiet Says = (old : Opened) (new : Option Opened) → Says (Some old) new → StaysOpen AsksNothing (Some old) new
 
--- Which calls ask nothing of the map: scans of each kind, searches for an end of a range, counts, and rounds of collection.
+-- Which calls ask nothing of the map: scans of each kind, searches for an end of a range, counts of a range, rounds of collection, and
+-- counts of all records. That is said of those whose keys aren't too long.
 pub record QuietCalls : Type 0 where
   pub lists : (order : Order) (from upto : List ℕ) → FitsInKey from → FitsInKey upto → (before after : Listing) (status : ℕ) →
       StaysQuiet (λ old new. ListsBy (IsListedIn order) from upto old new before after status)
@@ -136,7 +138,8 @@ abbrev pub answered_notes : List Happening → List Note
 answered_notes [] = []
 answered_notes (happening ∷ happenings) = notes_of_response happening ++ answered_notes happenings
 
--- The notes are those of what calls have told: call by call, one note for each reply, in some order.
+-- The notes are those of what calls have told, one for each reply. The notes of one call stand together, in some order, and the calls stand
+-- in theirs.
 pub data AreNotesOf : List (List (Call × Reply)) → List Note → Type 0 where
   none : AreNotesOf [] []
   more : {told : List (List (Call × Reply))} {notes : List Note} → AreNotesOf told notes → (replies : List (Call × Reply)) (added : List Note) →

@@ -11,12 +11,14 @@ use Rattle.hot_c.specs.declared.status.TheConstants.{ABSENT, CLOSED, DONE, FOUND
 abbrev pub key_in : Lookup → List ℕ
 key_in lookup = lookup.key.now
 
--- The look-up with what was found for it: the value, or none. Its status and value tell it.
+-- The look-up with what was found for it. Its status and value tell a value that was found. If none was, the status says so, and the value
+-- stays.
 abbrev pub answer : (lookup : Lookup) (found : Option ℕ) → Lookup
 answer lookup None = record lookup { status = ABSENT }
 answer lookup (Some value) = record lookup { value = value; status = FOUND }
 
--- the look-ups, each with what was found for it, which its status and value tell
+-- The look-ups, each with what was found for it, which its status and value tell. If fewer were found than looked up, the rest are as they
+-- were.
 abbrev pub are_answered : (lookups : List Lookup) (found : List (Option ℕ)) → List Lookup
 are_answered [] found = []
 are_answered (lookup ∷ lookups) [] = lookup ∷ lookups

@@ -18,13 +18,14 @@ ScanClaim = (layout : Layout) (old new : PassView) (range : Range) (pairs : List
 abbrev pub IsLastListed : ScanClaim
 IsLastListed layout old new range pairs is_more = IsReverseListed layout old new range (reverse pairs) is_more
 
--- a scan was answered with these pairs, in this order
+-- a scan for this order was answered with these pairs, which stand as the order lists them
 abbrev pub IsListedIn : Order → ScanClaim
 IsListedIn Upwards = IsListed
 IsListedIn Downwards = IsReverseListed
 IsListedIn LastUpwards = IsLastListed
 
--- the pairs as this order lists them, where `pairs` has them in the order in which the scan finds them
+-- The pairs as this order lists them, where `pairs` has them as the scan finds them. For `LastUpwards` they are turned round, since a scan
+-- finds the last pairs downwards.
 abbrev pub in_order : (order : Order) (pairs : List (List ℕ × ℕ)) → List (List ℕ × ℕ)
 in_order Upwards pairs = pairs
 in_order Downwards pairs = pairs

@@ -26,7 +26,8 @@ abbrev pub packing : List ℕ → List PairHead → (count more : ℕ) → Packi
 packing bytes heads count more = record { bytes = bytes; heads = heads; count = count; more = more }
 
 -- C's arrays begin with the keys and the heads of the first pairs: as many pairs as have keys that fit into the bytes. Behind these the
--- arrays are as they were. There is a further pair if the scan found one, or if one didn't fit.
+-- arrays are as they were. `count` is the number of the pairs that were written. There is a further pair if the scan found one, or if one
+-- didn't fit. The scan has found no more pairs than C has room for heads.
 pub record IsPackListed (pairs : List (List ℕ × ℕ)) (is_more : Bool) (before after : Packing) : Type 0 where
   pub written : List (List ℕ × ℕ)
   pub fit : written ≡ fitting (length before.bytes) pairs
@@ -36,8 +37,8 @@ pub record IsPackListed (pairs : List (List ℕ × ℕ)) (is_more : Bool) (befor
   pub count : after.count ≡ length written
   pub more : after.more ≡ from_bool (is_more || nat_lt (length written) (length pairs))
 
--- A scan was answered with these pairs. If it is cut behind any of its first pairs, it is a scan with their number as its limit, and has
--- more.
+-- A scan was answered with these pairs. Take any number of the first ones, fewer than all. A scan with this number as its limit is answered
+-- with these, and has a further pair. So the scan may be cut where C has no room.
 pub record IsListedByParts (IsMade : ScanClaim) (layout : Layout) (old new : PassView) (range : Range) (pairs : List (List ℕ × ℕ)) (is_more : Bool) : Type 0 where
   pub whole : IsMade layout old new range pairs is_more
   pub parts : (count : ℕ) → count < length pairs → IsMade layout old new (limited range count) (take count pairs) true

@@ -21,7 +21,7 @@ HoldPairs pairs before after =
     (place : ℕ) (pair : List ℕ × ℕ) → slice_get pairs place ≡ Some pair →
     (becomes : Pair) × (slice_get after place ≡ Some becomes) × BecomesAt before place pair becomes
 
--- The status tells whether a pair was found. If so, C's pair holds that one. Else it is as it was.
+-- The status tells whether a pair was found. If one was, C's pair holds it. Else C's pair is as it was.
 abbrev pub IsPairTold : (found : Option (List ℕ × ℕ)) (before after : Pair) (status : ℕ) → Type 0
 IsPairTold None before after status = (status ≡ ABSENT) × (after ≡ before)
 IsPairTold (Some pair) before after status = (status ≡ FOUND) × HoldsPair pair before after

@@ -18,21 +18,21 @@ pub record HasNoRecord (counts : StateCounts) : Type 0 where
   pub live : counts.live ≡ 0
   pub obsolete : counts.obsolete ≡ 0
 
--- What the status says of a call that lacks a leaf record. If the index has none with room for a key of this length, the key is too long.
--- Else the index is full.
+-- What the status says of a call that lacks a leaf record. If the index has none with room for a key of this length, in whatever state, the
+-- key is too long. Else the leaf records are full.
 pub record TellsOfLeaves (length : ℕ) (counts : RecordCounts) (status : ℕ) : Type 0 where
   pub none : OfLeaves HasNoRecord length counts → status ≡ KEY_TOO_LONG
   pub taken : ¬ OfLeaves HasNoRecord length counts → status ≡ FULL_LEAVES
 
--- The status says why a call for a key of this length was refused.
+-- The status says why a call for a key of this length was refused. Where leaf records are full, it says so as `TellsOfLeaves` has it.
 abbrev pub TellsRefusal : (length : ℕ) (refusal : Refusal) (status : ℕ) → Type 0
 TellsRefusal length Busy status = status ≡ BUSY
 TellsRefusal length (HeldBack lacks) status = status ≡ HELD_BACK
 TellsRefusal length (Full Nodes counts) status = status ≡ FULL_NODES
 TellsRefusal length (Full Leaves counts) status = TellsOfLeaves length counts status
 
--- The status tells no lack of records that the call can't have, be it of node records or of leaf records. A call that can lack neither is
--- never held back.
+-- The status tells a lack only of records that the call may lack: `FULL_NODES` of node records, `FULL_LEAVES` of leaf records, and
+-- `HELD_BACK` of either.
 pub record TellsWhatMay (call : Call) (status : ℕ) : Type 0 where
   pub nodes : ¬ MayRefuse call FullNodes → status ≢ FULL_NODES
   pub leaves : ¬ MayRefuse call FullLeaves → status ≢ FULL_LEAVES

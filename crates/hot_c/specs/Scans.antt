@@ -12,7 +12,9 @@ use Rattle.hot_c.specs.declared.opened.Opened.{Opened}
 use Rattle.hot_c.specs.declared.pairs.Pair.{Pair}
 use Rattle.hot_c.specs.declared.status.TheConstants.{DONE, KEY_TOO_LONG, CLOSED, NO_MEMORY}
 
--- A scan through a handle has filled the handle's list with `count` pairs. `is_more` says whether there is a further pair.
+-- A scan through a handle has filled the handle's list with `count` pairs, at most as many as the range's limit. The range's ends aren't
+-- too long. `is_more` says whether there is a further pair, and `IsMade` what the pairs are. The steps are those of a scan with this limit.
+-- The handle stays open, at the same index, and keeps the closed handles that it kept.
 pub record HasFilledList (IsMade : ScanClaim) (range : Range) (old new : Option Opened) (count : ℕ) (is_more : Bool) : Type 0 where
   pub before : Opened
   pub after : Opened
@@ -35,9 +37,9 @@ pub record ListsNothing (range : Range) (old new : Option Opened) (status : ℕ)
       (status ≡ NO_MEMORY) × StaysOpen (λ index was now. IsUnnoted index.layout was now × HasFoundPair index.layout was now range) old new
   pub read : IsSome old → FitsInKey range.from → FitsInKey range.upto → StaysOpen (λ index was now. HasMadeScanSteps index untold range.limit (was, tt) (now, tt)) old new
 
--- A scan through a handle. If the handle is closed or a key too long, the status says so, and nothing has changed. Else its pairs are
--- written where C has room for them (`IsWritten`). Or memory was refused for a pair that it had found, and nothing is written. Either way
--- the number of its steps is bounded.
+-- A scan through a handle. If the handle is closed or a key too long, the status says so, and nothing has changed. Else the scan is made
+-- (`IsMade`), and its pairs are written where C has room for them (`IsWritten`). Or memory was refused for a pair that it had found, and
+-- nothing is written. Either way the handle stays open, and the number of steps is bounded.
 pub record ListsInto {Room : Type 0} (IsWritten : List (List ℕ × ℕ) → Bool → Room → Room → Type 0)
     (IsMade : ScanClaim) (range : Range) (old new : Option Opened) (before after : Room) (status : ℕ) : Type 0 where
   pub closed : old ≡ None → (status ≡ CLOSED) × (new ≡ old) × (after ≡ before)
@@ -59,7 +61,8 @@ pub record Listing : Type 0 where
 abbrev pub listing : (room : List Pair) (count more : ℕ) → Listing
 listing room count more = record { room = room; count = count; more = more }
 
--- C's array has room for the scan's pairs and begins with them. Behind them, and behind the key of each, it is as it was.
+-- C's array has room for the scan's pairs and begins with them. Behind them, and behind the key of each, it is as it was. `count` is the
+-- number of pairs, and `more` is 1 if there is a further pair, else 0.
 pub record IsArrayListed (pairs : List (List ℕ × ℕ)) (is_more : Bool) (before after : Listing) : Type 0 where
   pub short : length pairs ≤ length before.room
   pub written : HoldPairs pairs before.room after.room

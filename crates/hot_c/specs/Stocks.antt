@@ -11,7 +11,8 @@ use Rattle.hot_c.specs.declared.stock.HotStock.{HotStock}
 abbrev pub stock_in : HotStock → Stock
 stock_in it = record { nodes = it.nodes; short = it.short; medium = it.medium; large = it.large; wide = it.wide; long = it.long }
 
--- An index with so many passes and this stock takes `bytes` bytes. It has one node record more than the stock, which it keeps.
+-- An index with so many passes and this stock takes `bytes` bytes for its table. The table has one node record more than the stock, kept
+-- for removals, but at most 2^32 - 1 in all (`kept_stock`).
 pub record TakesBytes (passes : ℕ) (stock : Stock) (bytes : ℕ) : Type 0 where
   pub layout : Layout
   pub passes_are : layout.passes ≡ passes

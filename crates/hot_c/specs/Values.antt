@@ -17,7 +17,8 @@ pub record ValueListing : Type 0 where
 abbrev pub value_listing : (room : List ℕ) (count more : ℕ) → ValueListing
 value_listing room count more = record { room = room; count = count; more = more }
 
--- C's array has room for these values and begins with them. Behind them it is as it was.
+-- C's array has room for these values and begins with them. Behind them it is as it was. `count` is the number of values, and `more` is 1
+-- if there is a further one, else 0.
 pub record AreWritten (values : List ℕ) (is_more : Bool) (before after : ValueListing) : Type 0 where
   pub short : length values ≤ length before.room
   pub written : after.room ≡ values ++ drop (length values) before.room

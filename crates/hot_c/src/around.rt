@@ -12,8 +12,9 @@ pub struct KeyRoom {
     pub bytes: [u8; MAX_BYTES],
 }
 
-/// Writes the least possible key above `key` to `next`, and its length to `length`, and returns `DONE`. Else nothing is written. It returns
-/// `ABSENT` if `key` is 240 bytes 255, the greatest key, and `KEY_TOO_LONG` if `key` has more than 240 bytes.
+/// Writes the least possible key above `key` to `next`, and its length to `length`, and returns `DONE`. What stands in `next` behind the
+/// key isn't said. Else nothing is written. It returns `ABSENT` if `key` is 240 bytes 255, the greatest key, and `KEY_TOO_LONG` if `key`
+/// has more than 240 bytes.
 #[unsafe(no_mangle)]
 pub extern "C" fn hot_after(key: &[u8], next: &mut KeyRoom, length: &mut usize) -> u32
     ensures { TellsAfter key.now next.old length.old next.new length.new result }
@@ -24,8 +25,9 @@ pub extern "C" fn hot_after(key: &[u8], next: &mut KeyRoom, length: &mut usize) 
     }
 }
 
-/// Writes the greatest possible key below `key` to `previous`, and its length to `length`, and returns `DONE`. Else nothing is written. It
-/// returns `ABSENT` if `key` is the empty one, and `KEY_TOO_LONG` if `key` has more than 240 bytes.
+/// Writes the greatest possible key below `key` to `previous`, and its length to `length`, and returns `DONE`. What stands in `previous`
+/// behind the key isn't said. Else nothing is written. It returns `ABSENT` if `key` is the empty one, and `KEY_TOO_LONG` if `key` has more
+/// than 240 bytes.
 #[unsafe(no_mangle)]
 pub extern "C" fn hot_before(key: &[u8], previous: &mut KeyRoom, length: &mut usize) -> u32
     ensures { TellsBefore key.now previous.old length.old previous.new length.new result }
@@ -36,7 +38,8 @@ pub extern "C" fn hot_before(key: &[u8], previous: &mut KeyRoom, length: &mut us
     }
 }
 
-/// Writes the key `found` to `key`, and its length to `length`, and returns `DONE`. For `None` it returns `ABSENT`, and nothing is written.
+/// Writes the bytes of `found` to the front of `key`, and their number to `length`, and returns `DONE`. For `None` it returns `ABSENT`, and
+/// nothing is written.
 fn write_key(found: Option<Key>, key: &mut KeyRoom, length: &mut usize) -> u32
     ensures { IsKeyTold found key.old length.old key.new length.new result }
 {

@@ -9,9 +9,9 @@ use crate::status::{CLOSED, DONE, KEY_TOO_LONG};
 use key_bits::Key;
 use key_ranges::last_with_prefix;
 
-/// Writes the number of the keys from `from` to `upto`, both included, to `count`, and returns `DONE`. The number is at most 2^63 - 1. Else
-/// `count` stays: it returns `CLOSED` if `handle` is closed, and `KEY_TOO_LONG` if an end has more than 240 bytes. No other status is
-/// returned.
+/// Writes the number of the keys from `from` to `upto`, both included, to `count`, as `Index::count_range` finds it, and returns `DONE`.
+/// The number is at most 2^63 - 1. Else `count` stays: it returns `CLOSED` if `handle` is closed, and `KEY_TOO_LONG` if an end has more
+/// than 240 bytes. No other status is returned. An open handle stays open, with the passes that it keeps. `place` stays.
 #[unsafe(no_mangle)]
 pub extern "C" fn hot_count(
     handle: &mut IndexHandle,
@@ -34,8 +34,9 @@ pub extern "C" fn hot_count(
     DONE
 }
 
-/// Writes the number of the keys that begin with `prefix` to `count`, and returns `DONE`. Else `count` stays: it returns `CLOSED` if
-/// `handle` is closed, and `KEY_TOO_LONG` if `prefix` has more than 240 bytes. No other status is returned.
+/// Writes the number of the keys that begin with `prefix` to `count`, as `hot_count` does for their range, and returns `DONE`. Else `count`
+/// stays: it returns `CLOSED` if `handle` is closed, and `KEY_TOO_LONG` if `prefix` has more than 240 bytes. No other status is returned.
+/// An open handle stays open, with the passes that it keeps. `place` stays.
 #[unsafe(no_mangle)]
 pub extern "C" fn hot_count_prefix(
     handle: &mut IndexHandle,

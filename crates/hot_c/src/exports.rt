@@ -26,10 +26,11 @@ use key_bits::{Key, KeyFault};
 use record_words::{Layout, MAX_STOCK_PASSES, Stock};
 use std::alloc::Global;
 
-/// Makes an empty index with `nodes` node records, 1 to 65,535, and `leaves` leaf records, 1 to 262,143, all long. Opens each of `handles`,
-/// 1 to 64, with a pass of it, in the order of their numbers, and returns `DONE`.
+/// Makes an empty index with `nodes` node records, 1 to 65,535, one more for removals, and `leaves` leaf records, 1 to 262,143, all long.
+/// Opens each of `handles`, 1 to 64, with a pass of it, in the order of their numbers, and returns `DONE`.
 ///
 /// Else all handles stay as they were. It returns `OUT_OF_RANGE` if a number is out of range, `OPEN` if a handle is open, or `NO_MEMORY`.
+/// Of two that apply it returns the one named first. What C keeps in each handle (`place`) stays.
 #[unsafe(no_mangle)]
 pub extern "C" fn hot_create(
     alloc: Global,
@@ -59,11 +60,12 @@ pub extern "C" fn hot_create(
     }
 }
 
-/// Makes an empty index with the records of `stock`. Opens each of `handles` with a pass of it, in the order of their numbers, and returns
-/// `DONE`.
+/// Makes an empty index with the records of `stock`, and one node record more for removals. Opens each of `handles` with a pass of it, in
+/// the order of their numbers, and returns `DONE`.
 ///
 /// Else all handles stay as they were. It returns `OUT_OF_RANGE` unless there are 1 to 1,024 handles, a node record, and 1 to 4,294,967,295
-/// leaf records in all. It returns `OPEN` if a handle is open, or `NO_MEMORY`.
+/// leaf records in all. It returns `OPEN` if these numbers are in range and a handle is open, or `NO_MEMORY`. What C keeps in each handle
+/// (`place`) stays.
 #[unsafe(no_mangle)]
 pub extern "C" fn hot_create_with(
     alloc: Global,
@@ -93,9 +95,10 @@ pub extern "C" fn hot_create_with(
     }
 }
 
-/// Makes an empty index with the records of `stock` and `passes` passes. Opens `handle` with the last of its passes, and returns `DONE`.
-/// The handle keeps the others, closed, for `hot_open_kept`. Else the handle stays as it was. It returns `OUT_OF_RANGE` unless there are 1
-/// to 1,024 passes, a node record, and 1 to 4,294,967,295 leaf records in all. It returns `OPEN` if the handle is open, or `NO_MEMORY`.
+/// Makes an empty index with `passes` passes, the records of `stock`, and one node record more for removals. Opens `handle` with the last
+/// of its passes, and returns `DONE`. The handle keeps the others, closed, for `hot_open_kept`. Else the handle stays as it was. It returns
+/// `OUT_OF_RANGE` unless there are 1 to 1,024 passes, a node record, and 1 to 4,294,967,295 leaf records in all. It returns `OPEN` if these
+/// numbers are in range and the handle is open, or `NO_MEMORY`. `place` stays.
 #[unsafe(no_mangle)]
 pub extern "C" fn hot_create_keeping(
     alloc: Global,
@@ -126,8 +129,9 @@ pub extern "C" fn hot_create_keeping(
     }
 }
 
-/// Takes the pass of the least number out of those that `keeper` keeps, opens `handle` with it, and returns `DONE`. Else both handles stay
-/// as they were. It returns `CLOSED` if `keeper` is closed, `OPEN` if `handle` is open, `NO_HANDLE` if no pass is kept, or `NO_MEMORY`.
+/// Takes the pass of the least number out of those that `keeper` keeps, opens `handle` with it, and returns `DONE`. `handle` then keeps no
+/// pass. Else both handles stay as they were. It returns `CLOSED` if `keeper` is closed, else `OPEN` if `handle` is open, else `NO_HANDLE`
+/// if no pass is kept, or `NO_MEMORY`. What C keeps in each handle (`place`) stays.
 #[unsafe(no_mangle)]
 pub extern "C" fn hot_open_kept(
     alloc: Global,
@@ -201,7 +205,7 @@ pub extern "C" fn hot_stock_bytes(stock: &HotStock, handles: usize, bytes: &mut 
 }
 
 /// Writes the number of the handle's pass to `number`, and returns `DONE`. After `hot_create` or `hot_create_with` it is the handle's
-/// number in `handles`, from 0 on. If the handle is closed, it returns `CLOSED`, and `number` stays.
+/// number in `handles`, from 0 on. If the handle is closed, it returns `CLOSED`, and `number` stays. The handle stays as it was.
 #[unsafe(no_mangle)]
 pub extern "C" fn hot_number(handle: &mut IndexHandle, number: &mut u16) -> u32
     ensures closed { handle.old.cell.opened ≡ None → (result ≡ CLOSED) × (number.new ≡ number.old) }
@@ -216,8 +220,9 @@ pub extern "C" fn hot_number(handle: &mut IndexHandle, number: &mut u16) -> u32
     DONE
 }
 
-/// Looks up `key`. Writes its value to `value` and returns `FOUND`, or returns `ABSENT`. It returns `CLOSED` if `handle` is closed, and
-/// `KEY_TOO_LONG` if `key` has more than 240 bytes. `value` stays unless the status is `FOUND`. No other status is returned.
+/// Looks up `key`, as `Index::get` does. Writes the key's value to `value` and returns `FOUND`, or returns `ABSENT`. It returns `CLOSED` if
+/// `handle` is closed, and `KEY_TOO_LONG` if `key` has more than 240 bytes. `value` stays unless the status is `FOUND`. No other status is
+/// returned. An open handle stays open, with the passes that it keeps. `place` stays.
 #[unsafe(no_mangle)]
 pub extern "C" fn hot_get(handle: &mut IndexHandle, key: &[u8], value: &mut u64) -> u32
     ensures call { Answers key.now (Get key.now) handle.old.cell.opened handle.new.cell.opened value.old value.new result }
@@ -234,9 +239,10 @@ pub extern "C" fn hot_get(handle: &mut IndexHandle, key: &[u8], value: &mut u64)
     }
 }
 
-/// Looks up each key of `lookups` once, and returns `DONE`. Each element of `lookups` gets the status `FOUND` with the key's value, or the
-/// status `ABSENT` alone. It returns `CLOSED`, `KEY_TOO_LONG` if a key has more than 240 bytes, or `NO_MEMORY`: no key is looked up then,
-/// and nothing is written.
+/// Looks up each key of `lookups` once, as `Index::get_many` does, and returns `DONE`. Each element of `lookups` gets the status `FOUND`
+/// with the key's value, or the status `ABSENT`, and its value stays. It returns `CLOSED`, `KEY_TOO_LONG` if a key has more than 240 bytes,
+/// or `NO_MEMORY`: no key is looked up then, and nothing is written. An open handle stays open, with the passes that it keeps. `place`
+/// stays.
 #[unsafe(no_mangle)]
 pub extern "C" fn hot_get_many(
     alloc: Global,
@@ -263,9 +269,10 @@ pub extern "C" fn hot_get_many(
     DONE
 }
 
-/// Inserts `key` with `value` if the key is absent, and returns `INSERTED`. If it is there, nothing changes: its value goes to `had`, and
-/// it returns `EXISTS`. With `BUSY`, `FULL_NODES`, `FULL_LEAVES`, `HELD_BACK`, `CLOSED` or `KEY_TOO_LONG` nothing changes either. `had`
-/// stays unless the status is `EXISTS`.
+/// Inserts `key` with `value` if the key is absent, and returns `INSERTED`. Else nothing changes. If the key is there, its value goes to
+/// `had`, and the status is `EXISTS`. The call is refused with `BUSY`, `FULL_NODES`, `FULL_LEAVES`, `HELD_BACK`, `CLOSED` or
+/// `KEY_TOO_LONG`. `KEY_TOO_LONG` tells that `key` has more than 240 bytes, or that no leaf record of the index has room for it. `had`
+/// stays unless the status is `EXISTS`. An open handle stays open, with the passes that it keeps. `place` stays.
 #[unsafe(no_mangle)]
 pub extern "C" fn hot_try_insert(
     handle: &mut IndexHandle,
@@ -280,9 +287,11 @@ pub extern "C" fn hot_try_insert(
     make_call(handle, &mut call, key, had)
 }
 
-/// Gives `key` the value `value`, whether it has one or not. Returns `NEW`, or `WAS` with the value that the key had in `had`. It is
-/// refused with `BUSY`, `FULL_NODES`, `FULL_LEAVES`, `HELD_BACK`, `CLOSED` or `KEY_TOO_LONG`, and nothing changes. It lacks a record only
-/// if its search found the key absent. `had` stays unless the status is `WAS`.
+/// Gives `key` the value `value`, whether it has one or not. Returns `NEW` if the key was absent. Else it writes the value before to `had`,
+/// and returns `WAS`. It is refused with `BUSY`, `FULL_NODES`, `FULL_LEAVES`, `HELD_BACK`, `CLOSED` or `KEY_TOO_LONG`, and nothing changes.
+/// It lacks a record only if its search found the key absent. `KEY_TOO_LONG` tells that `key` has more than 240 bytes, or that no leaf
+/// record of the index has room for it. `had` stays unless the status is `WAS`. An open handle stays open, with the passes that it keeps.
+/// `place` stays.
 #[unsafe(no_mangle)]
 pub extern "C" fn hot_try_upsert(
     handle: &mut IndexHandle,
@@ -297,8 +306,10 @@ pub extern "C" fn hot_try_upsert(
     make_call(handle, &mut call, key, had)
 }
 
-/// Gives `key` the value `value` if it has the value `expected`, and returns `EXCHANGED`. Else nothing changes: it returns `DIFFERS` with
-/// the key's value in `had`, or `ABSENT`. It takes no record, so it is refused only with `BUSY`, `CLOSED` or `KEY_TOO_LONG`.
+/// Gives `key` the value `value` if it has the value `expected`, and returns `EXCHANGED`. Else the key's value doesn't change. If the key
+/// has another value, the call writes this to `had`, and returns `DIFFERS`; else it returns `ABSENT`. It takes no record, so it is refused
+/// only with `BUSY`, `CLOSED` or `KEY_TOO_LONG` (over 240 bytes). `had` stays unless the status is `DIFFERS`. An open handle stays open,
+/// with the passes that it keeps. `place` stays.
 #[unsafe(no_mangle)]
 pub extern "C" fn hot_try_exchange(
     handle: &mut IndexHandle,
@@ -315,9 +326,10 @@ pub extern "C" fn hot_try_exchange(
     make_call(handle, &mut call, key, had)
 }
 
-/// Adds `delta` to the value of `key`, modulo 2 to the power of 64, and returns `WAS` with the value that the key had in `had`. It returns
+/// Adds `delta` to the value of `key`, modulo 2 to the power of 64. It writes the value before to `had`, and returns `WAS`. It returns
 /// `ABSENT` if the key is absent, and then nothing changes. It takes no record, so it is refused only with `BUSY`, `CLOSED` or
-/// `KEY_TOO_LONG`.
+/// `KEY_TOO_LONG` (over 240 bytes). `had` stays unless the status is `WAS`. An open handle stays open, with the passes that it keeps.
+/// `place` stays.
 #[unsafe(no_mangle)]
 pub extern "C" fn hot_try_add(
     handle: &mut IndexHandle,
@@ -333,9 +345,9 @@ pub extern "C" fn hot_try_add(
     make_call(handle, &mut call, key, had)
 }
 
-/// Removes `key`. Returns `REMOVED` with the value that the key had in `had`, or `ABSENT`. It is refused with `BUSY`, `FULL_NODES`,
-/// `HELD_BACK`, `CLOSED` or `KEY_TOO_LONG`, and nothing changes. It needs no leaf record, so it never returns `FULL_LEAVES`. `had` stays
-/// unless the status is `REMOVED`.
+/// Removes `key`, writes its value to `had`, and returns `REMOVED`; or returns `ABSENT`. It is refused with `BUSY`, `FULL_NODES`,
+/// `HELD_BACK`, `CLOSED` or `KEY_TOO_LONG` (over 240 bytes), and nothing changes. It needs no leaf record, so it never returns
+/// `FULL_LEAVES`. `had` stays unless the status is `REMOVED`. An open handle stays open, with the passes that it keeps. `place` stays.
 #[unsafe(no_mangle)]
 pub extern "C" fn hot_try_remove(handle: &mut IndexHandle, key: &[u8], had: &mut u64) -> u32
     ensures call { Answers key.now (Remove key.now) handle.old.cell.opened handle.new.cell.opened had.old had.new result }
@@ -346,9 +358,10 @@ pub extern "C" fn hot_try_remove(handle: &mut IndexHandle, key: &[u8], had: &mut
     make_call(handle, &mut call, key, had)
 }
 
-/// Removes `key` if it has the value `expected`, and returns `REMOVED` with that value in `had`. Else nothing changes: it returns `DIFFERS`
-/// with the key's value in `had`, or `ABSENT`. It is refused with `BUSY`, `FULL_NODES`, `HELD_BACK`, `CLOSED` or `KEY_TOO_LONG`, and
-/// nothing changes.
+/// Removes `key` if it has the value `expected`, writes this value to `had`, and returns `REMOVED`. If the key has another value, the call
+/// writes that to `had`, and returns `DIFFERS`; else it returns `ABSENT`. It is refused with `BUSY`, `FULL_NODES`, `HELD_BACK`, `CLOSED` or
+/// `KEY_TOO_LONG` (over 240 bytes). The map changes only with `REMOVED`. It never returns `FULL_LEAVES`. `had` stays unless the status is
+/// `REMOVED` or `DIFFERS`. An open handle stays open, with the passes that it keeps. `place` stays.
 #[unsafe(no_mangle)]
 pub extern "C" fn hot_try_remove_if(
     handle: &mut IndexHandle,
@@ -364,11 +377,10 @@ pub extern "C" fn hot_try_remove_if(
     make_call(handle, &mut call, key, had)
 }
 
-/// Makes `call` with the key `key` in place of its own, and returns the status. `CLOSED` if the handle is closed, `KEY_TOO_LONG` if the key
-/// has more than 240 bytes. The reply's value, if it has one, goes to `had`; else `had` stays.
-// Inline, so that the key's bytes are written once.
 /// Makes `call` with the key `key` in place of its own, and returns the status. `CLOSED` if `handle` is closed, `KEY_TOO_LONG` if `key` has
-/// more than 240 bytes. The reply's value, if it has one, goes to `had`; else `had` stays.
+/// more than 240 bytes. The reply's value, if it has one, goes to `had`; else `had` stays. No status tells a lack of records that such a
+/// call can't have. An open handle stays open, with the passes that it keeps. `place` stays.
+// Inline, so that the key's bytes are written once.
 #[inline(always)]
 fn make_call(handle: &mut IndexHandle, call: &mut Call, key: &[u8], had: &mut u64) -> u32
     ensures call { Answers key.now (for_key key.now call.old) handle.old.cell.opened handle.new.cell.opened had.old had.new result }
@@ -384,7 +396,7 @@ fn make_call(handle: &mut IndexHandle, call: &mut Call, key: &[u8], had: &mut u6
     }
 }
 
-/// Gives `call` the key `key` in place of its own. `KeyFault` if `key` has more than 240 bytes.
+/// Gives `call` the key `key` in place of its own. `KeyFault` exactly if `key` has more than 240 bytes; then nothing is said of `call`.
 #[inline(always)]
 fn set_key(call: &mut Call, key: &[u8]) -> Result<(), KeyFault>
     ensures fits { IsOk result ↔ FitsInKey key.now }
@@ -401,8 +413,9 @@ fn set_key(call: &mut Call, key: &[u8]) -> Result<(), KeyFault>
     }
 }
 
-/// Makes `call`, whose key has `size` bytes, through `handle`, which is open, and returns the status. The reply's value, if it has one,
-/// goes to `had`; else `had` stays.
+/// Makes `call`, whose key has `size` bytes, through `handle`, which must be open, and returns the status. The reply's value, if it has
+/// one, goes to `had`; else `had` stays. No status tells a lack of records that such a call can't have. The handle stays open, with the
+/// passes that it keeps, and `place` stays. Not inline, so that all calls share its code.
 #[inline(never)]
 fn make_call_on_open_handle(
     handle: &mut IndexHandle,
@@ -418,8 +431,9 @@ fn make_call_on_open_handle(
     handle.cell.lend().try_call(call, size, had)
 }
 
-/// Makes one round of collection. Writes how many node and leaf records it gave back to `nodes` and `leaves`, and returns `DONE`. If the
-/// handle is closed, it returns `CLOSED`, and both stay.
+/// Makes one round of collection, as `Index::collect` does. Writes how many node and leaf records it gave back to `nodes` and `leaves`, and
+/// returns `DONE`. If the handle is closed, it returns `CLOSED`, and both stay. An open handle stays open, with the passes that it keeps.
+/// `place` stays.
 #[unsafe(no_mangle)]
 pub extern "C" fn hot_collect(handle: &mut IndexHandle, nodes: &mut u32, leaves: &mut u32) -> u32
     ensures closed { handle.old.cell.opened ≡ None → (result ≡ CLOSED) × (handle.new.cell.opened ≡ None) × (nodes.new ≡ nodes.old) × (leaves.new ≡ leaves.old) }
@@ -436,7 +450,8 @@ pub extern "C" fn hot_collect(handle: &mut IndexHandle, nodes: &mut u32, leaves:
 }
 
 /// Writes to `counts` how many node records, and leaf records of each class, are free, held, live and obsolete, and the table's bytes.
-/// Returns `DONE`. The counts are of no single moment. If the handle is closed, it returns `CLOSED`, and `counts` stays.
+/// Returns `DONE`. The counts are of no single moment, and the call asks nothing of the map. If the handle is closed, it returns `CLOSED`,
+/// and `counts` stays. An open handle stays open, with the passes that it keeps. `place` stays.
 #[unsafe(no_mangle)]
 pub extern "C" fn hot_census(handle: &mut IndexHandle, counts: &mut RecordCounts) -> u32
     ensures closed { handle.old.cell.opened ≡ None → (result ≡ CLOSED) × (handle.new.cell.opened ≡ None) × (counts.new ≡ counts.old) }
@@ -451,7 +466,7 @@ pub extern "C" fn hot_census(handle: &mut IndexHandle, counts: &mut RecordCounts
 }
 
 /// Closes `handle` and returns `DONE`, or `CLOSED` if it was closed already. The passes that it keeps go with it. The last handle of an
-/// index frees the index.
+/// index frees the index. `place` stays.
 #[unsafe(no_mangle)]
 pub extern "C" fn hot_destroy(alloc: Global, handle: &mut IndexHandle) -> u32
     ensures closed { handle.old.cell.opened ≡ None → result ≡ CLOSED }

@@ -27,7 +27,7 @@ impl IndexHandle {
         self.tag == TAG
     }
 
-    /// Closes the handle, which is open, and returns what it held.
+    /// Closes the handle, which must be open, and returns what it held. `place` stays.
     pub fn close(&mut self, alloc: Global) -> Box<Opened, Global>
         requires { IsSome self.old.cell.opened }
         ensures value { self.old.cell.opened ≡ Some result.value }
@@ -38,7 +38,7 @@ impl IndexHandle {
         self.cell.take(alloc)
     }
 
-    /// Opens the closed handle with `opened`, which it holds from then on.
+    /// Opens the handle, which must be closed, with `opened`. The handle holds this from then on, and `place` stays.
     pub fn open(&mut self, opened: Box<Opened, Global>)
         requires { self.old.cell.opened ≡ None }
         ensures opened { self.new.cell.opened ≡ Some opened.value }
@@ -52,7 +52,7 @@ impl IndexHandle {
 /// Does nothing. Its bound asks that the value's type may go to another thread.
 fn assert_send<T: Send>(_value: &T) {}
 
-/// Does nothing. It is proved only if a handle may go to another thread.
+/// Does nothing. It is proved only if a handle may go to another thread, as C may let it.
 pub fn handle_is_send(handle: &IndexHandle) {
     assert_send(handle);
 }

@@ -19,9 +19,9 @@ use key_bits::Key;
 use record_words::Stock;
 use std::alloc::{AllocError, Global};
 
-/// Begins an index with the records of `stock` and `passes` passes, opens `load` for its pairs, and returns `DONE`. Else `load` stays as it
-/// was. It returns `OUT_OF_RANGE` unless there are 1 to 1,024 passes, a node record, and 1 to 4,294,967,295 leaf records in all. It returns
-/// `OPEN` if `load` is open, or `NO_MEMORY`.
+/// Begins an index with `passes` passes, the records of `stock`, and one node record more for removals. Opens `load` for its pairs, and
+/// returns `DONE`. Else `load` stays as it was. It returns `OUT_OF_RANGE` unless there are 1 to 1,024 passes, a node record, and 1 to
+/// 4,294,967,295 leaf records in all. It returns `OPEN` if these numbers are in range and `load` is open, or `NO_MEMORY`.
 #[unsafe(no_mangle)]
 pub extern "C" fn hot_begin_load(
     alloc: Global,
@@ -53,9 +53,10 @@ pub extern "C" fn hot_begin_load(
 
 /// Pushes `key` with `value`, and returns `DONE`. Else the load stays as it was, with its pairs, and goes on.
 ///
-/// It returns `CLOSED` if `load` is closed, and `NOT_RISING` if `key` isn't above the last key. It returns `KEY_TOO_LONG` if `key` has more
-/// than 240 bytes, or no leaf record of the index has room for it. It returns `FULL_LEAVES` if all that have room are taken, `FULL_NODES`
-/// if too few node records may be left, or `NO_MEMORY`.
+/// It returns `CLOSED` if `load` is closed. It returns `KEY_TOO_LONG` if `key` has more than 240 bytes, or no leaf record of the index,
+/// taken or not, has room for it. If `key` has at most 240 bytes, it returns `NOT_RISING` exactly if `key` isn't above the last key. It
+/// returns `FULL_LEAVES` if all leaf records with room are taken, `FULL_NODES` if too few node records may be left, or `NO_MEMORY`. It
+/// never returns `FULL_NODES` while there are fewer pairs than node records.
 #[unsafe(no_mangle)]
 pub extern "C" fn hot_load_pair(load: &mut LoadHandle, key: &[u8], value: u64) -> u32
     ensures { LoadsPair key.now value load.old.cell.opened load.new.cell.opened result }
@@ -71,8 +72,8 @@ pub extern "C" fn hot_load_pair(load: &mut LoadHandle, key: &[u8], value: u64) -
 }
 
 /// Closes `load`, makes the index of its pairs, opens `handle` with the last pass, and returns `DONE`. The handle keeps the other passes,
-/// closed, for `hot_open_kept`. It returns `CLOSED` if `load` is closed, or `OPEN` if `handle` is open: then both stay as they were. With
-/// `NO_MEMORY` the load is closed, and its pairs are gone.
+/// closed, for `hot_open_kept`. It returns `CLOSED` if `load` is closed, else `OPEN` if `handle` is open: then both stay as they were. With
+/// `NO_MEMORY` the load is closed, its pairs are gone, and `handle` stays. The handle's `place` stays.
 #[unsafe(no_mangle)]
 pub extern "C" fn hot_end_load(
     alloc: Global,
@@ -114,8 +115,8 @@ pub extern "C" fn hot_give_up_load(alloc: Global, load: &mut LoadHandle) -> u32
     DONE
 }
 
-/// Returns a box of a load of an index with `passes` passes and the records of `stock`, with no pair pushed. `IndexFault::Layout` if a
-/// number is out of range (`is_stock_in_range`); `Memory` if memory is refused.
+/// Returns a box of a load of an index with `passes` passes, the records of `stock`, and one node record more for removals. No pair is
+/// pushed. The error is `Layout` exactly if a number is out of range (`is_stock_in_range`). It is `Memory` if memory is refused.
 fn begin_load(alloc: Global, passes: u32, stock: Stock) -> Result<Box<OpenLoad, Global>, IndexFault>
     ensures size { IsStockSize passes stock → IfErr result (λ fault. fault ≡ IndexFault.Memory) }
     ensures range { ¬ IsStockSize passes stock → IsErr result × result ≢ Err IndexFault.Memory }
@@ -128,8 +129,8 @@ fn begin_load(alloc: Global, passes: u32, stock: Stock) -> Result<Box<OpenLoad, 
     }
 }
 
-/// Pushes `key` with `value` to the load of `opened`, and returns `DONE`. Else the load stays as it was: the status tells why `key` was
-/// refused, as of `hot_load_pair`.
+/// Pushes `key` with `value` to the load of `opened`, and returns `DONE`. Else the load stays as it was, and the status tells why `key` was
+/// refused, as of `hot_load_pair`: `NOT_RISING`, `KEY_TOO_LONG`, `FULL_LEAVES`, `FULL_NODES` or `NO_MEMORY`.
 fn push_pair(opened: &mut OpenLoad, key: &Key, value: u64) -> u32
     ensures { TellsPush key.now value opened.old.load opened.new.load result }
 {
@@ -143,8 +144,8 @@ fn push_pair(opened: &mut OpenLoad, key: &Key, value: u64) -> u32
     }
 }
 
-/// Makes the index of the pairs of `opened`. Returns its last pass, opened, with a share of the index; it keeps the other passes, closed.
-/// `AllocError` if memory is refused.
+/// Makes the index of the pairs of `opened`. Returns an open handle of its last pass, with a share of the index. This handle keeps the
+/// other passes, closed. Pass 0 has inserted the pairs, and all others are new. `AllocError` if memory is refused.
 fn end_load(alloc: Global, opened: Box<OpenLoad, Global>) -> Result<Box<Opened, Global>, AllocError>
     ensures { IfOk result (λ b. KeepsLoadedPasses opened.value.load b.value) }
 {

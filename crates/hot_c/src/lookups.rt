@@ -25,7 +25,7 @@ pub fn have_fitting_keys(lookups: &[Lookup<'_>]) -> bool
     lookups.iter().all(|lookup| lookup.key.len() <= MAX_BYTES)
 }
 
-/// Returns copies of the keys of `lookups`, in their order; none of them has more than 240 bytes. `AllocError` if memory is refused.
+/// Returns copies of the keys of `lookups`, in their order; none of them may have more than 240 bytes. `AllocError` if memory is refused.
 pub fn copy_keys(alloc: Global, lookups: &[Lookup<'_>]) -> Result<Vec<Key>, AllocError>
     requires { All (λ l. FitsInKey (key_in l)) lookups.now }
     ensures { IfOk result (λ keys. keys.items ≡ map key_in lookups.now) }
@@ -42,7 +42,7 @@ pub fn copy_keys(alloc: Global, lookups: &[Lookup<'_>]) -> Result<Vec<Key>, Allo
 }
 
 /// Writes each of `found` to the element of `lookups` at the same index: `FOUND` with the value; or `ABSENT`, and the value there stays.
-/// Both are equally long.
+/// `found` must be as long as `lookups`.
 pub fn write_found_values(found: &[Option<u64>], lookups: &mut [Lookup<'_>])
     requires { length found.now ≡ length lookups.old }
     ensures { lookups.new ≡ are_answered lookups.old found.now }

@@ -25,7 +25,8 @@ use packed_pairs::Pairs;
 use std::alloc::{AllocError, Global};
 use std::sync::Arc;
 
-/// The most bytes of memory that a list keeps between two scans for its keys, and the most for all else.
+/// The most bytes of memory that a list keeps between two scans: so many for the bytes of its keys, and so many for the heads of its pairs.
+/// So a handle that made one long scan doesn't keep the memory for it.
 const MOST_KEPT: usize = 32_768;
 
 /// A handle of the index, with a share of it, and a list which each scan fills anew.
@@ -38,8 +39,8 @@ pub struct Opened {
 }
 
 impl Opened {
-    /// Takes the last of the closed handles out of `kept`, opens it and returns it; `None` if none is kept. The opened one keeps none
-    /// itself. `AllocError` if memory is refused, and then all stay kept.
+    /// Takes the last of the closed handles out of `kept`, opens it and returns it; `None` if none is kept. The opened handle keeps none.
+    /// All else of this handle stays. `AllocError` if memory is refused, and then all stay kept.
     pub fn open_next_handle(
         &mut self,
         alloc: Global,
@@ -61,7 +62,8 @@ impl Opened {
         Err(AllocError)
     }
 
-    /// Returns the reply to a get of `key`: `Value`, or `Absent`. No `Call` is made for it, which would copy the key.
+    /// Returns the reply to a get of `key`, as `Index::get` makes it: `Value`, or `Absent`. No `Call` is made for it, which would copy the
+    /// key. The kept handles stay.
     pub fn get(&mut self, key: &Key) -> Reply
         ensures call { Stays (λ index k j. IsNoted index.layout k j (Get key.now) result) self.old.handle self.new.handle }
         ensures made { Stays (λ index k j. HasMadeGetSteps index untold (k, tt) (j, tt)) self.old.handle self.new.handle }
@@ -73,8 +75,9 @@ impl Opened {
         }
     }
 
-    /// Tries to make `call`, whose key has `size` bytes, and returns the status. The reply's value, if it has one, goes to `had`; else
-    /// `had` stays. If no record is free, all records are counted, so that the status tells whether some may come back.
+    /// Tries to make `call`, whose key has `size` bytes, as `Index::try_counted` does, and returns the status. The reply's value, if it has
+    /// one, goes to `had`; else `had` stays. A refusal is one that such a call may have. If the try lacked a record, all records are
+    /// counted, so that the status tells whether some may come back. The kept handles stay.
     pub fn try_call(&mut self, call: &Call, size: usize, had: &mut u64) -> u32
         ensures call { (outcome : Result ReplyView RefusalView) × Stays (TellsOutcome size call.now result outcome) self.old.handle self.new.handle
             × (had.new ≡ value_after had.old outcome) × IfErr (as_tried outcome) (MayRefuse call.now) }
@@ -88,7 +91,8 @@ impl Opened {
 
     /// Replaces the list with at most `limit` pairs whose keys are from `from` to `upto`, both included. For `Upwards` these are the first
     /// ones, in rising order; else the last ones, in falling order. `write_pairs_in_order` turns them round for `LastUpwards`. Returns
-    /// whether there are more. `AllocError` if memory is refused; then nothing is said of the list.
+    /// whether there are more. `AllocError` if memory is refused for a pair that was found; then nothing is said of the list. The kept
+    /// handles stay.
     pub fn scan(
         &mut self,
         order: Order,
@@ -109,7 +113,8 @@ impl Opened {
         self.handle.range_into(&range, &mut self.list)
     }
 
-    /// Returns a stamp of all that the handle's pass has seen.
+    /// Returns a stamp, of the handle's index, of all that the handle's pass has seen: changes and steps. The pass counts the stamp. All
+    /// else of the pass, and the kept handles stay.
     pub fn stamp(&mut self) -> Stamp
         ensures same { Stays (λ index k j. IsAsTold k j) self.old.handle self.new.handle }
         ensures stamped { Stays (λ index k j. HasStamped k j) self.old.handle self.new.handle }
@@ -121,7 +126,8 @@ impl Opened {
         self.handle.index.show().stamp(&mut self.handle.pass)
     }
 
-    /// Lets the handle's pass see all that was seen when `stamp`, one of the same index, was made.
+    /// Lets the handle's pass see the changes and the steps that `stamp` tells of. The stamp must be of the same index. The pass counts the
+    /// following. It makes no step and notes no call, and the kept handles stay.
     pub fn follow(&mut self, stamp: Stamp)
         requires { IsStampFrom self.old.handle.index stamp }
         ensures call { Stays (λ index k j. HasCaughtUp index.layout stamp.front k j) self.old.handle self.new.handle }
@@ -134,7 +140,8 @@ impl Opened {
             .follow(&mut self.handle.pass, stamp);
     }
 
-    /// Takes all pairs out of the list, and frees its memory if it has more than `MOST_KEPT` allows.
+    /// Takes all pairs out of the list, and frees the list's memory if that is more than `MOST_KEPT` allows. The handle and the kept
+    /// handles stay.
     pub fn empty_list(&mut self)
         ensures { KeepsAll self.old self.new }
     {

@@ -49,7 +49,8 @@ pub fn is_stock_in_range(passes: usize, stock: &Stock) -> bool
         && leaves <= u32::MAX as u64
 }
 
-/// Opens each of `handles`, which are all closed, with the element of `passes` at the same index. Both are equally long.
+/// Opens each of `handles`, which must all be closed, with the element of `passes` at the same index. Both must be equally long. What C
+/// keeps in each handle (`place`) stays.
 pub fn open_handles(handles: &mut [IndexHandle], passes: Vec<Box<Opened, Global>>)
     requires closed { AreClosed handles.old }
     requires count { length passes.items ≡ length handles.old }
@@ -63,8 +64,9 @@ pub fn open_handles(handles: &mut [IndexHandle], passes: Vec<Box<Opened, Global>
     }
 }
 
-/// Makes an index with `nodes` node records and `leaves` leaf records, all long. Returns its passes in the order of their numbers, each
-/// with a share of the index. `IndexFault::Layout` if a number is out of range (`are_counts_in_range`); `Memory` if memory is refused.
+/// Makes an index with `passes` passes, `nodes` node records and one more for removals, and `leaves` leaf records, all long. Returns its
+/// passes, which are new, in the order of their numbers, each with a share of the index and no kept handle. The error is `Layout` exactly
+/// if a number is out of range (`are_counts_in_range`). It is `Memory` if memory is refused.
 pub fn make_passes(
     alloc: Global,
     passes: u32,
@@ -79,8 +81,9 @@ pub fn make_passes(
     share_index(alloc, index, passes).map_err(|_| IndexFault::Memory)
 }
 
-/// Makes an index with the records of `stock`. Returns its passes in the order of their numbers, each with a share of the index.
-/// `IndexFault::Layout` if a number is out of range (`is_stock_in_range`); `Memory` if memory is refused.
+/// Makes an index with `passes` passes, the records of `stock`, and one node record more for removals. Returns its passes, which are new,
+/// in the order of their numbers, each with a share of the index and no kept handle. The error is `Layout` exactly if a number is out of
+/// range (`is_stock_in_range`). It is `Memory` if memory is refused.
 pub fn make_passes_with_stock(
     alloc: Global,
     passes: u32,
@@ -94,9 +97,9 @@ pub fn make_passes_with_stock(
     share_index(alloc, index, passes).map_err(|_| IndexFault::Memory)
 }
 
-/// Makes an index with the records of `stock`. Returns its last pass, opened, with a share of the index. It keeps the other passes, closed;
-/// the first of them is the next to be opened. `IndexFault::Layout` if a number is out of range (`is_stock_in_range`); `Memory` if memory
-/// is refused.
+/// Makes an index with `passes` passes, the records of `stock`, and one node record more for removals. Returns an open handle of its last
+/// pass, with a share of the index. This handle keeps the other passes, closed, for handles that are opened later, the pass of the least
+/// number first. The error is `Layout` exactly if a number is out of range (`is_stock_in_range`). It is `Memory` if memory is refused.
 pub fn make_keeper(
     alloc: Global,
     passes: u32,
@@ -110,8 +113,9 @@ pub fn make_keeper(
     keep_passes(alloc, index, passes).map_err(|_| IndexFault::Memory)
 }
 
-/// Opens the last of `passes`, which are those of `index`, and returns it with a share of the index. It keeps the other passes, closed; the
-/// first of them is the next to be opened. `AllocError` if memory is refused, or if there is no pass.
+/// Opens the last of `passes`, which are those of `index`, and returns it as a handle with a share of the index. This handle keeps the
+/// other passes, closed, for handles that are opened later, the first pass first. `AllocError` if memory is refused, or if there is no
+/// pass.
 pub fn keep_passes(
     alloc: Global,
     index: Index,

@@ -20,10 +20,11 @@ struct Room<'a> {
 
 /// Lists the first pairs whose keys are from `from` to `upto`, both included, in key order, packed, and returns `DONE`. The bytes of their
 /// keys go to `bytes`, one after another, and a head for each pair to `heads`. It lists at most as many pairs as `heads` has elements, and
-/// only those first ones whose keys together have room in `bytes`. `count` becomes their number, and `more` 1 if the range has more, else
-/// 0.
+/// only those first ones whose keys together have room in `bytes`. Behind what it writes both stay. `count` becomes the number of the
+/// pairs, and `more` 1 if the range has more than these, else 0.
 ///
-/// With `CLOSED`, `KEY_TOO_LONG` or `NO_MEMORY` all four stay.
+/// With `CLOSED`, `KEY_TOO_LONG` (of an end) or `NO_MEMORY` (for a pair that was found) all of `bytes`, `heads`, `count` and `more` stay.
+/// An open handle stays open, with the passes that it keeps. `place` stays.
 #[unsafe(no_mangle)]
 pub extern "C" fn hot_scan_packed(
     handle: &mut IndexHandle,
@@ -44,8 +45,9 @@ pub extern "C" fn hot_scan_packed(
 }
 
 /// Lists the last pairs whose keys are from `from` to `upto`, both included, in falling key order, packed as by `hot_scan_packed`, and
-/// returns `DONE`. `count` becomes their number, and `more` 1 if the range has more below them, else 0. With `CLOSED`, `KEY_TOO_LONG` or
-/// `NO_MEMORY` all four stay.
+/// returns `DONE`. `count` becomes their number, and `more` 1 if the range has more below them, else 0. With `CLOSED`, `KEY_TOO_LONG` (of
+/// an end) or `NO_MEMORY` (for a pair that was found) all of `bytes`, `heads`, `count` and `more` stay. An open handle stays open, with the
+/// passes that it keeps. `place` stays.
 #[unsafe(no_mangle)]
 pub extern "C" fn hot_scan_packed_reverse(
     handle: &mut IndexHandle,
@@ -65,8 +67,9 @@ pub extern "C" fn hot_scan_packed_reverse(
     list_packed_pairs(handle, &query, Room { bytes, heads }, count, more)
 }
 
-/// Lists pairs of `query` into `room`, packed as by `hot_scan_packed`, with its statuses. For `Upwards` these are the first ones, else the
-/// last ones, downwards.
+/// Lists pairs of `query` into `room`, packed as by `hot_scan_packed`: for `Upwards` the first pairs, in rising order, else the last ones,
+/// in falling order. `count` becomes their number, and `more` 1 if there are more, else 0. It returns `DONE`; or `CLOSED`, `KEY_TOO_LONG`
+/// or `NO_MEMORY`, with which all stay. An open handle stays open, with the passes that it keeps. `place` stays.
 fn list_packed_pairs(
     handle: &mut IndexHandle,
     query: &Query,
@@ -93,7 +96,8 @@ fn list_packed_pairs(
     }
 }
 
-/// Writes the heads of `pairs` to the front of `heads`, and the bytes of their keys to the front of `bytes`. Both have room for them.
+/// Writes the heads of `pairs` to the front of `heads`, and the bytes of their keys to the front of `bytes`. Both must have room for these,
+/// and stay as they were behind what is written.
 fn write_packed_pairs(pairs: &Pairs, bytes: &mut [u8], heads: &mut [PairHead])
     requires bytes { length (keys_in pairs.now) ≤ length bytes.old }
     requires heads { length pairs.now ≤ length heads.old }

@@ -49,8 +49,8 @@ pub struct Query<'a> {
     pub upto: &'a [u8],
 }
 
-/// Writes `pairs`, which a scan has found in this order, to the front of `room`, where there is room for all. For `LastUpwards` they are
-/// written in the opposite order.
+/// Writes `pairs`, in the order in which a scan for `order` has found them, to the front of `room`, which must have room for all. For
+/// `LastUpwards` they are written in the opposite order, since such a scan finds the last pairs downwards. The places behind them stay.
 pub fn write_pairs_in_order(order: Order, pairs: &Pairs, room: &mut [Pair])
     requires { length pairs.now ≤ length room.old }
     ensures written { HoldPairs (in_order order pairs.now) room.old room.new }
@@ -62,7 +62,7 @@ pub fn write_pairs_in_order(order: Order, pairs: &Pairs, room: &mut [Pair])
     }
 }
 
-/// Writes `pairs` to the front of `room`, which has room for all, the first one first.
+/// Writes `pairs` to the front of `room`, which must have room for all, the first one first. The places behind them stay.
 fn write_pairs(pairs: &Pairs, room: &mut [Pair])
     requires { length pairs.now ≤ length room.old }
     ensures written { HoldPairs pairs.now room.old room.new }
@@ -73,7 +73,7 @@ fn write_pairs(pairs: &Pairs, room: &mut [Pair])
     }
 }
 
-/// Writes `pairs` to the front of `room`, which has room for all, the last one first.
+/// Writes `pairs` to the front of `room`, which must have room for all, the last one first. The places behind them stay.
 fn write_pairs_backwards(pairs: &Pairs, room: &mut [Pair])
     requires { length pairs.now ≤ length room.old }
     ensures written { HoldPairs (reverse pairs.now) room.old room.new }
@@ -84,7 +84,7 @@ fn write_pairs_backwards(pairs: &Pairs, room: &mut [Pair])
     }
 }
 
-/// Writes `key`, its length and `value` to `pair`; the bytes behind the key stay.
+/// Writes `key`, its length and `value` to `pair`; the bytes behind the key stay. The key must have at most 240 bytes.
 fn write_pair(key: &[u8], value: u64, pair: &mut Pair)
     requires { IsKey key.now }
     ensures { HoldsPair (key.now, value) pair.old pair.new }
@@ -104,7 +104,7 @@ fn write_pair(key: &[u8], value: u64, pair: &mut Pair)
     }
 }
 
-/// Writes `key`, which has N to 2 N bytes, its length and `value` to `pair`; the bytes behind the key stay.
+/// Writes `key`, its length and `value` to `pair`; the bytes behind the key stay. The key must have N to 2 N bytes, and at most 240.
 fn write_pair_by_ends<const N: usize>(key: &[u8], value: u64, pair: &mut Pair)
     requires key { IsKey key.now }
     requires covered { (N ≤ length key.now) × (length key.now ≤ N + N) }
@@ -121,7 +121,7 @@ fn write_pair_by_ends<const N: usize>(key: &[u8], value: u64, pair: &mut Pair)
     pair.value = value;
 }
 
-/// Writes `key`, of any length, its length and `value` to `pair`; the bytes behind the key stay.
+/// Writes `key`, its length and `value` to `pair`; the bytes behind the key stay. The key may have any length up to 240 bytes.
 // Not inline, so that a loop over pairs needs few registers.
 #[inline(never)]
 fn write_pair_of_any_length(key: &[u8], value: u64, pair: &mut Pair)

@@ -15,8 +15,10 @@ use key_bits::Key;
 use key_ranges::{last_with_prefix, next_key, previous_key};
 use std::cmp::Ordering;
 
-/// Lists the first pairs whose keys begin with `prefix`, in key order. They are what `hot_scan` lists from `prefix` to the last key that
-/// begins with it. It writes to `room`, `count` and `more`, and returns a status, as `hot_scan` does.
+/// Lists the first pairs whose keys begin with `prefix`, in key order, and returns `DONE`. They go to the front of `room`, at most as many
+/// as `room` has elements; the others stay. `count` becomes their number, and `more` 1 if there are more, else 0. With `CLOSED`,
+/// `KEY_TOO_LONG` or `NO_MEMORY` (for a pair that was found) all of `room`, `count` and `more` stay. It is a `hot_scan` from `prefix` to
+/// the last key that begins with it. An open handle stays open, with the passes that it keeps. `place` stays.
 #[unsafe(no_mangle)]
 pub extern "C" fn hot_scan_whole_prefix(
     handle: &mut IndexHandle,
@@ -32,8 +34,11 @@ pub extern "C" fn hot_scan_whole_prefix(
     list_whole_prefix(handle, Order::Upwards, prefix, room, count, more)
 }
 
-/// Lists the first pairs whose keys begin with `prefix` and are above `after`, in key order. It writes to `room`, `count` and `more`, and
-/// returns a status, as `hot_scan` does. The status is `KEY_TOO_LONG` if `prefix` or `after` has more than 240 bytes.
+/// Lists the first pairs whose keys begin with `prefix` and are above `after`, in key order, and returns `DONE`. They go to the front of
+/// `room`, at most as many as `room` has elements; the others stay. `count` becomes their number, and `more` 1 if there are more, else 0.
+/// With `CLOSED`, `KEY_TOO_LONG` or `NO_MEMORY` (for a pair that was found) all of `room`, `count` and `more` stay. The status of an open
+/// handle is `KEY_TOO_LONG` if `prefix` or `after` has more than 240 bytes. An open handle stays open, with the passes that it keeps.
+/// `place` stays.
 #[unsafe(no_mangle)]
 pub extern "C" fn hot_scan_prefix_after(
     handle: &mut IndexHandle,
@@ -62,8 +67,10 @@ pub extern "C" fn hot_scan_prefix_after(
     list_pairs_of_query(handle, &query, room, count, more)
 }
 
-/// Lists the last pairs whose keys begin with `prefix`, in falling key order. They are what `hot_scan_reverse` lists from `prefix` to the
-/// last key that begins with it. It writes to `room`, `count` and `more`, and returns a status, as `hot_scan_reverse` does.
+/// Lists the last pairs whose keys begin with `prefix`, in falling key order, and returns `DONE`. They go to the front of `room`, at most
+/// as many as `room` has elements; the others stay. `count` becomes their number, and `more` 1 if there are more, else 0. With `CLOSED`,
+/// `KEY_TOO_LONG` or `NO_MEMORY` (for a pair that was found) all of `room`, `count` and `more` stay. It is a `hot_scan_reverse` from
+/// `prefix` to the last key that begins with it. An open handle stays open, with the passes that it keeps. `place` stays.
 #[unsafe(no_mangle)]
 pub extern "C" fn hot_scan_whole_prefix_reverse(
     handle: &mut IndexHandle,
@@ -79,8 +86,11 @@ pub extern "C" fn hot_scan_whole_prefix_reverse(
     list_whole_prefix(handle, Order::Downwards, prefix, room, count, more)
 }
 
-/// Lists the last pairs whose keys begin with `prefix` and are below `before`, in falling key order. It writes to `room`, `count` and
-/// `more`, and returns a status, as `hot_scan_reverse` does. The status is `KEY_TOO_LONG` if `prefix` or `before` has more than 240 bytes.
+/// Lists the last pairs whose keys begin with `prefix` and are below `before`, in falling key order, and returns `DONE`. They go to the
+/// front of `room`, at most as many as `room` has elements; the others stay. `count` becomes their number, and `more` 1 if there are more,
+/// else 0. With `CLOSED`, `KEY_TOO_LONG` or `NO_MEMORY` (for a pair that was found) all of `room`, `count` and `more` stay. The status of
+/// an open handle is `KEY_TOO_LONG` if `prefix` or `before` has more than 240 bytes. An open handle stays open, with the passes that it
+/// keeps. `place` stays.
 #[unsafe(no_mangle)]
 pub extern "C" fn hot_scan_prefix_before(
     handle: &mut IndexHandle,
@@ -109,8 +119,10 @@ pub extern "C" fn hot_scan_prefix_before(
     list_pairs_of_query(handle, &query, room, count, more)
 }
 
-/// Lists pairs whose keys begin with `prefix` in `order`, from `prefix` to the last key that begins with it. It writes and returns what
-/// `list_pairs_of_query` does.
+/// Lists pairs whose keys begin with `prefix`, in `order`: the first ones for `Upwards`, else the last ones. They are of the range from
+/// `prefix` to the last key that begins with it. The pairs go to `room`, their number to `count`, and whether there are more to `more`, as
+/// of `hot_scan`. It returns `DONE`, or a status with which all three stay. That is `KEY_TOO_LONG` if the handle is open and `prefix` has
+/// more than 240 bytes. An open handle stays open, with the passes that it keeps. `place` stays.
 #[inline(always)]
 fn list_whole_prefix(
     handle: &mut IndexHandle,

@@ -8,7 +8,8 @@ use crate::status::{BUSY, FULL_LEAVES, FULL_NODES, HELD_BACK, KEY_TOO_LONG};
 use hot_index::{Full, RecordCounts, Refusal, StateCounts};
 use record_words::{LARGE_BYTES, MEDIUM_BYTES, SHORT_BYTES, WIDE_BYTES};
 
-/// Returns the status that tells why a call for a key of `size` bytes was refused with `refusal`.
+/// Returns the status that tells why a call for a key of `size` bytes was refused with `refusal`: `BUSY`, `HELD_BACK`, `FULL_NODES` or
+/// `FULL_LEAVES`. In place of `FULL_LEAVES` it is `KEY_TOO_LONG` if the index has no leaf record with room for such a key.
 pub fn tell_refusal(size: usize, refusal: Refusal) -> u32
     ensures { TellsRefusal size refusal result }
 {

@@ -10,9 +10,10 @@ use crate::pairs::{Order, Pair, Query, write_pairs_in_order};
 use crate::status::{CLOSED, DONE, KEY_TOO_LONG, NO_MEMORY};
 use key_bits::Key;
 
-/// Lists the first pairs whose keys are from `from` to `upto`, both included, in key order, and returns `DONE`. They go to the front of
-/// `room`, at most as many as `room` has elements; the other elements stay. `count` becomes their number, and `more` 1 if the range has
-/// more, else 0. With `CLOSED`, `KEY_TOO_LONG` or `NO_MEMORY` these three stay.
+/// Lists the first pairs whose keys are from `from` to `upto`, both included, in key order, as `Index::scan` does, and returns `DONE`. They
+/// go to the front of `room`, at most as many as `room` has elements; the other elements stay. `count` becomes their number, and `more` 1
+/// if the range has more, else 0. With `CLOSED`, `KEY_TOO_LONG` (of an end) or `NO_MEMORY` (for a pair that was found) all of `room`,
+/// `count` and `more` stay. An open handle stays open, with the passes that it keeps. `place` stays.
 #[unsafe(no_mangle)]
 pub extern "C" fn hot_scan(
     handle: &mut IndexHandle,
@@ -31,9 +32,10 @@ pub extern "C" fn hot_scan(
     list_pairs_of_query(handle, &query, room, count, more)
 }
 
-/// Lists the last pairs whose keys are from `from` to `upto`, both included, in falling key order, and returns `DONE`. They go to the front
-/// of `room`, at most as many as `room` has elements. `count` becomes their number, and `more` 1 if the range has more below, else 0. With
-/// `CLOSED`, `KEY_TOO_LONG` or `NO_MEMORY` these three stay.
+/// Lists the last pairs whose keys are from `from` to `upto`, both included, in falling key order, as `Index::scan_reverse` does, and
+/// returns `DONE`. They go to the front of `room`, at most as many as `room` has elements; the other elements stay. `count` becomes their
+/// number, and `more` 1 if the range has more below, else 0. With `CLOSED`, `KEY_TOO_LONG` (of an end) or `NO_MEMORY` (for a pair that was
+/// found) all of `room`, `count` and `more` stay. An open handle stays open, with the passes that it keeps. `place` stays.
 #[unsafe(no_mangle)]
 pub extern "C" fn hot_scan_reverse(
     handle: &mut IndexHandle,
@@ -52,9 +54,11 @@ pub extern "C" fn hot_scan_reverse(
     list_pairs_of_query(handle, &query, room, count, more)
 }
 
-/// Lists the last pairs whose keys are from `from` to `upto`, both included, in rising key order, and returns `DONE`. They go to the front
-/// of `room`, at most as many as `room` has elements. `count` becomes their number, and `more` 1 if the range has more below, else 0. With
-/// `CLOSED`, `KEY_TOO_LONG` or `NO_MEMORY` these three stay.
+/// Lists the pairs that `hot_scan_reverse` lists, but in rising key order, and returns `DONE`. They are the last ones whose keys are from
+/// `from` to `upto`, both included. They go to the front of `room`, at most as many as `room` has elements; the other elements stay.
+/// `count` becomes their number, and `more` 1 if the range has more below, else 0. With `CLOSED`, `KEY_TOO_LONG` (of an end) or `NO_MEMORY`
+/// (for a pair that was found) all of `room`, `count` and `more` stay. An open handle stays open, with the passes that it keeps. `place`
+/// stays.
 #[unsafe(no_mangle)]
 pub extern "C" fn hot_scan_last(
     handle: &mut IndexHandle,
@@ -73,8 +77,9 @@ pub extern "C" fn hot_scan_last(
     list_pairs_of_query(handle, &query, room, count, more)
 }
 
-/// Lists pairs of `query` into `room` in its order, for `Upwards` the first ones, else the last ones. It writes to `count` and `more`, and
-/// returns a status, as `hot_scan` does.
+/// Lists pairs of `query` into `room` in its order, for `Upwards` the first ones, else the last ones. `count` becomes their number, and
+/// `more` 1 if there are more, else 0, as of `hot_scan`. It returns `DONE`; or `CLOSED`, `KEY_TOO_LONG` or `NO_MEMORY`, with which all
+/// three stay. An open handle stays open, with the passes that it keeps. `place` stays.
 pub fn list_pairs_of_query(
     handle: &mut IndexHandle,
     query: &Query,
@@ -99,8 +104,9 @@ pub fn list_pairs_of_query(
     }
 }
 
-/// Scans the range of `query` into the handle's list, for at most `limit` pairs, as `Opened::scan` does. Returns how many were found, and
-/// whether there are more. The error is `CLOSED`, `KEY_TOO_LONG` (an end has more than 240 bytes) or `NO_MEMORY`.
+/// Scans the range of `query` into the handle's list, for at most `limit` pairs, as `Opened::scan` does. Returns how many were found, which
+/// are fewer than 2^63, and whether there are more. The error is `CLOSED`, `KEY_TOO_LONG` (an end has more than 240 bytes) or `NO_MEMORY`
+/// (for a pair that was found). An open handle stays open, with the passes that it keeps. `place` stays.
 pub fn fill_list(
     handle: &mut IndexHandle,
     query: &Query,

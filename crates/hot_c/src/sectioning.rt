@@ -10,8 +10,9 @@ use crate::status::{
 use hot_handles::{SectionHandle, make_keeper};
 use std::alloc::Global;
 
-/// Makes a table of `count` sections and one more, opens `handle` with the first of them, and returns `DONE`. The handle keeps the others.
-/// Else `handle` stays as it was. It returns `OUT_OF_RANGE` if `count` is above 65,534, `OPEN` if `handle` is open, or `NO_MEMORY`.
+/// Makes a table of `count` sections and one more, opens `handle` with the first of them, and returns `DONE`. The handle keeps the others,
+/// for `hot_open_section`. Else `handle` stays as it was. It returns `OUT_OF_RANGE` if `count` is above 65,534, else `OPEN` if `handle` is
+/// open, or `NO_MEMORY`.
 #[unsafe(no_mangle)]
 pub extern "C" fn hot_make_sections(alloc: Global, count: usize, handle: &mut SectionHandle) -> u32
     ensures range { 65_535 ≤ count → (result ≡ OUT_OF_RANGE) × (handle.new ≡ handle.old) }
@@ -34,8 +35,9 @@ pub extern "C" fn hot_make_sections(alloc: Global, count: usize, handle: &mut Se
     }
 }
 
-/// Takes the section of the least number out of those that `keeper` keeps, opens `handle` with it, and returns `DONE`. Else both stay as
-/// they were. It returns `CLOSED` if `keeper` is closed, `OPEN` if `handle` is open, `NO_HANDLE` if no section is kept, or `NO_MEMORY`.
+/// Takes the next of the sections that `keeper` keeps, opens `handle` with it, and returns `DONE`. `handle` then keeps no section. Else
+/// both handles stay as they were. It returns `CLOSED` if `keeper` is closed, else `OPEN` if `handle` is open, else `NO_HANDLE` if no
+/// section is kept, or `NO_MEMORY`.
 #[unsafe(no_mangle)]
 pub extern "C" fn hot_open_section(
     alloc: Global,
@@ -78,7 +80,7 @@ pub extern "C" fn hot_close_section(alloc: Global, handle: &mut SectionHandle) -
     DONE
 }
 
-/// Returns `INSIDE` if the handle's section is open, else `OUTSIDE`; `CLOSED` if the handle is closed.
+/// Returns `INSIDE` if the handle's section is open, else `OUTSIDE`; `CLOSED` if the handle is closed. Nothing changes.
 #[unsafe(no_mangle)]
 pub extern "C" fn hot_is_inside(handle: &mut SectionHandle) -> u32
     ensures { TellsInside handle.old.cell.opened handle.new.cell.opened result }
@@ -94,7 +96,7 @@ pub extern "C" fn hot_is_inside(handle: &mut SectionHandle) -> u32
 }
 
 /// Enters the handle's section, and returns `DONE`. It returns `INSIDE` if the section is open already, or `CLOSED` if the handle is
-/// closed, and then nothing changes.
+/// closed, and then nothing changes. The table and the kept sections stay.
 #[unsafe(no_mangle)]
 pub extern "C" fn hot_enter_section(handle: &mut SectionHandle) -> u32
     ensures { EntersSection handle.old.cell.opened handle.new.cell.opened result }
@@ -110,7 +112,7 @@ pub extern "C" fn hot_enter_section(handle: &mut SectionHandle) -> u32
 }
 
 /// Leaves the handle's section, and returns `DONE`. It returns `OUTSIDE` if the section isn't open, or `CLOSED` if the handle is closed,
-/// and then nothing changes.
+/// and then nothing changes. The table and the kept sections stay.
 #[unsafe(no_mangle)]
 pub extern "C" fn hot_leave_section(handle: &mut SectionHandle) -> u32
     ensures { LeavesSection handle.old.cell.opened handle.new.cell.opened result }
@@ -125,7 +127,8 @@ pub extern "C" fn hot_leave_section(handle: &mut SectionHandle) -> u32
     }
 }
 
-/// Takes a moment, writes its number to `moment`, and returns `DONE`. It returns `CLOSED` if the handle is closed, and then `moment` stays.
+/// Takes a moment, writes its number, from 1 on, to `moment`, and returns `DONE`. Once `MOST_MOMENTS` are taken, it takes none, and writes
+/// `MOST_MOMENTS + 1`. It returns `CLOSED` if the handle is closed, and then `moment` stays. The table and the kept sections stay.
 #[unsafe(no_mangle)]
 pub extern "C" fn hot_take_moment(handle: &mut SectionHandle, moment: &mut u64) -> u32
     ensures { TellsMoment handle.old.cell.opened handle.new.cell.opened moment.old moment.new result }
@@ -137,8 +140,9 @@ pub extern "C" fn hot_take_moment(handle: &mut SectionHandle, moment: &mut u64) 
     DONE
 }
 
-/// Returns `DONE` if each section that was open before the moment with the number `moment` has been left since; `NOT_PAST` if one may not
-/// have been. It returns `CLOSED` if the handle is closed. It waits for no section.
+/// Returns `DONE` if each section that was open before the moment with the number `moment` has been left since. Else it returns `NOT_PAST`:
+/// one may still be open, or the moment hasn't been taken. It returns `CLOSED` if the handle is closed. It waits for no section. The table
+/// and the kept sections stay.
 #[unsafe(no_mangle)]
 pub extern "C" fn hot_is_moment_past(handle: &mut SectionHandle, moment: u64) -> u32
     ensures { TellsPast moment handle.old.cell.opened handle.new.cell.opened result }

@@ -8,19 +8,19 @@ use hot_index::Reply;
 
 /// The call was made. There is nothing else to tell.
 pub const DONE: u32 = 0;
-/// The key has the value that was written.
+/// The key has the value that was written for the caller.
 pub const FOUND: u32 = 1;
 /// The key is absent, or there is no such key or pair.
 pub const ABSENT: u32 = 2;
-/// The key was absent and has the value now.
+/// An insertion was made: the key was absent and has the value now.
 pub const INSERTED: u32 = 3;
-/// The key has the value that was written, and keeps it.
+/// No insertion was made: the key keeps its value, which was written for the caller.
 pub const EXISTS: u32 = 4;
-/// The key was absent and has the value now.
+/// An upsert found the key absent, and it has the value now.
 pub const NEW: u32 = 5;
-/// The key had the value that was written, and has the new one now.
+/// The key has a new value, and the one before was written for the caller.
 pub const WAS: u32 = 6;
-/// The key had the value that was written, and is absent now.
+/// The key is absent now, and the value that it had was written for the caller.
 pub const REMOVED: u32 = 7;
 /// Another call was in the way; nothing was changed.
 pub const BUSY: u32 = 8;
@@ -34,15 +34,15 @@ pub const KEY_TOO_LONG: u32 = 11;
 pub const CLOSED: u32 = 12;
 /// A handle that was to be opened is open.
 pub const OPEN: u32 = 13;
-/// A number of handles, nodes or leaves is out of range.
+/// A number of handles, node records, leaf records or sections is out of range.
 pub const OUT_OF_RANGE: u32 = 14;
 /// Memory was refused.
 pub const NO_MEMORY: u32 = 15;
 /// The key had the expected value, and has the new one now.
 pub const EXCHANGED: u32 = 16;
-/// The key has the value that was written, which is not the expected one, and keeps it.
+/// The key keeps its value, which isn't the expected one and was written for the caller.
 pub const DIFFERS: u32 = 17;
-/// Too few records are free, but other calls hold some back; nothing was changed.
+/// Too few records were free, but some may come back; nothing was changed.
 pub const HELD_BACK: u32 = 18;
 /// No handle is kept that could be opened.
 pub const NO_HANDLE: u32 = 19;
@@ -50,7 +50,7 @@ pub const NO_HANDLE: u32 = 19;
 pub const INSIDE: u32 = 22;
 /// The section isn't open.
 pub const OUTSIDE: u32 = 23;
-/// A section that was open at the moment may still be open.
+/// A section that was open at the moment may still be open, or the moment hasn't been taken.
 pub const NOT_PAST: u32 = 24;
 /// The key isn't above the last one of the load.
 pub const NOT_RISING: u32 = 25;

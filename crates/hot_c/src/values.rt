@@ -8,9 +8,11 @@ use crate::status::{CLOSED, DONE, KEY_TOO_LONG, NO_MEMORY};
 use key_bits::Key;
 use std::alloc::Global;
 
-/// Writes the values of the first pairs whose keys are from `from` to `upto`, both included, in key order, and returns `DONE`. They go to
-/// the front of `room`, at most as many as `room` has elements; the other elements stay. `count` becomes their number, and `more` 1 if the
-/// range has more, else 0. With `CLOSED`, `KEY_TOO_LONG` or `NO_MEMORY` these three stay.
+/// Writes the values that `Index::scan_values_into` lists to the front of `room`, and returns `DONE`. They are those of the first pairs
+/// whose keys are from `from` to `upto`, both included, in key order. There are at most as many as `room` has elements; the other elements
+/// stay. `count` becomes their number, and `more` 1 if the range has more, else 0. With `CLOSED`, `KEY_TOO_LONG` (of an end) or `NO_MEMORY`
+/// (for a pair that was found) all of `room`, `count` and `more` stay. An open handle stays open, with the passes that it keeps. `place`
+/// stays.
 #[unsafe(no_mangle)]
 pub extern "C" fn hot_scan_values(
     alloc: Global,
@@ -49,7 +51,7 @@ pub extern "C" fn hot_scan_values(
     }
 }
 
-/// Writes `values` to the front of `room`, which has room for them.
+/// Writes `values` to the front of `room`, which must have room for them. What stands behind them stays.
 fn write_values(values: &[u64], room: &mut [u64])
     requires { length values.now ≤ length room.old }
     ensures { room.new ≡ values.now ++ drop (length values.now) room.old }

@@ -3,7 +3,7 @@ use Rattle.std.specs.Prelude.{◌≡◌, ◌+◌, ◌++◌, ◌∷◌, [], ℕ, 
 use Rattle.sections.specs.Sections.{IsNewSection}
 use Rattle.hot_handles.specs.declared.section.opened.OpenSection.{OpenSection}
 
--- The open handle has section 0 of a new table, and keeps the `count` others for handles to come.
+-- The open handle has section 0, new, of a table of `count + 1` sections. It keeps `count` others for handles to come.
 pub record KeepsSections (count : ℕ) (opened : OpenSection) : Type 0 where
   pub count_is : opened.sections.value.count ≡ count + 1
   pub kept : length opened.kept.items ≡ count

@@ -27,7 +27,7 @@ impl<T> Held<T> {
         Held { at: null_mut() }
     }
 
-    /// Returns the box of the value. The holder has a value.
+    /// Returns the value in its box, and uses the holder up. The holder must have a value.
     fn into_box(self, alloc: Global) -> Box<T, Global>
         requires { IsSome self.value }
         ensures { self.value ≡ Some result.value }
@@ -36,7 +36,7 @@ impl<T> Held<T> {
         unsafe { Box::from_raw(alloc, at) }
     }
 
-    /// Takes the value out, and returns it in its box. The holder has a value before, and none then.
+    /// Takes the value out, and returns it in its box. The holder must have a value, and has none afterwards.
     pub fn take(&mut self, alloc: Global) -> Box<T, Global>
         requires { IsSome self.old.value }
         ensures value { self.old.value ≡ Some result.value }
@@ -56,7 +56,7 @@ impl<T: Drop> Held<T> {
         }
     }
 
-    /// Puts the value of `boxed` in. The holder has none before.
+    /// Puts the value of `boxed` in. The holder must have none before, since a value that it has would be lost with its memory.
     pub fn put(&mut self, boxed: Box<T, Global>)
         requires { self.old.value ≡ None }
         ensures { self.new.value ≡ Some boxed.value }

@@ -7,7 +7,8 @@ ghost use Rattle.hot_handles.specs.Lending.{LendsHeld};
 use crate::held::Held;
 
 impl<T> Held<T> {
-    /// Lends the value, to be read and changed in its place. The holder has a value.
+    /// Lends the value, to be read and changed in its place. The holder must have a value. When the loan ends, the holder has the value
+    /// that was last behind the reference.
     pub fn lend(&mut self) -> &mut T
         requires { IsSome self.old.value }
         ensures* writes_back { sem 𝓛 (LendsHeld T.row self.entry result) }

@@ -26,7 +26,7 @@ impl LoadHandle {
         self.tag == TAG
     }
 
-    /// Closes the handle, which is open, and returns what it held.
+    /// Closes the handle, which must be open, and returns what it held.
     pub fn close(&mut self, alloc: Global) -> Box<OpenLoad, Global>
         requires { IsSome self.old.cell.opened }
         ensures value { self.old.cell.opened ≡ Some result.value }
@@ -36,7 +36,7 @@ impl LoadHandle {
         self.cell.take(alloc)
     }
 
-    /// Opens the closed handle with `opened`, which it holds from then on.
+    /// Opens the handle, which must be closed, with `opened`. The handle holds this from then on.
     pub fn open(&mut self, opened: Box<OpenLoad, Global>)
         requires { self.old.cell.opened ≡ None }
         ensures { self.new.cell.opened ≡ Some opened.value }

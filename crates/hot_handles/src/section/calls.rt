@@ -10,8 +10,9 @@ use sections::{Section, Sections};
 use std::alloc::{AllocError, Global};
 use std::sync::Arc;
 
-/// Makes a new table of `count` sections and one more, 1 to 65,535 in all. Returns a box that holds the first of them, and keeps the
-/// others. `AllocError` if memory is refused.
+/// Makes a new table of `count + 1` sections. `count` must be below 65,535, so that the number of sections fits 16 bits. Returns section 0,
+/// new, in a box with a share of the table. The box keeps the `count` others for handles that `open_next` makes. `AllocError` if memory is
+/// refused.
 pub fn make_keeper(alloc: Global, count: u16) -> Result<Box<OpenSection, Global>, AllocError>
     requires { count < 65_535 }
     ensures { IfOk result (λ made. KeepsSections count made.value) }
@@ -35,8 +36,9 @@ pub fn make_keeper(alloc: Global, count: u16) -> Result<Box<OpenSection, Global>
 }
 
 impl OpenSection {
-    /// Takes the last section out of `kept`, and returns it with a share of the table; `None` if none is kept. `AllocError` if memory is
-    /// refused, and then all stay kept.
+    /// Takes the last section out of `kept`. Returns this section in a box, with a share of the table, for a handle that keeps no other
+    /// section. It returns `None` if none is kept. All else of this handle stays. `AllocError` if memory is refused, and then all sections
+    /// stay kept.
     pub fn open_next(
         &mut self,
         alloc: Global,
@@ -66,7 +68,8 @@ impl OpenSection {
         self.section.is_inside()
     }
 
-    /// Enters the section, and returns whether it wasn't open before, as `Sections::enter` does.
+    /// Enters the section if it isn't open, as `Sections::enter` does, and returns whether it has entered. If it is open already, nothing
+    /// changes. The table and the kept sections stay.
     pub fn enter(&mut self) -> bool
         ensures inside { IsInside self.old.section → (result ≡ false) × (self.new.section ≡ self.old.section) }
         ensures entered { ¬ IsInside self.old.section → (result ≡ true) × Enters self.old.section self.new.section }
@@ -75,7 +78,8 @@ impl OpenSection {
         self.sections.enter(&mut self.section)
     }
 
-    /// Leaves the section, and returns whether it was open before, as `Sections::leave` does.
+    /// Leaves the section if it is open, as `Sections::leave` does, and returns whether it has left. If it isn't open, nothing changes. The
+    /// table and the kept sections stay.
     pub fn leave(&mut self) -> bool
         ensures outside { ¬ IsInside self.old.section → (result ≡ false) × (self.new.section ≡ self.old.section) }
         ensures left { IsInside self.old.section → (result ≡ true) × Leaves self.old.section self.new.section }
@@ -84,7 +88,8 @@ impl OpenSection {
         self.sections.leave(&mut self.section)
     }
 
-    /// Takes a moment, and returns its number, as `Sections::take_moment` does.
+    /// Takes a moment, and returns its number, from 1 on, as `Sections::take_moment` does. Once `MOST_MOMENTS` are taken, it takes none,
+    /// and returns `MOST_MOMENTS + 1`. The section stays open, or not open, as it was. The table and the kept sections stay.
     pub fn take_moment(&mut self) -> u64
         ensures taken { TakesMoment result self.old.section self.new.section }
         ensures keeps { (self.new.sections.value ≡ self.old.sections.value) × (self.new.kept.items ≡ self.old.kept.items) }
@@ -92,7 +97,9 @@ impl OpenSection {
         self.sections.take_moment(&mut self.section)
     }
 
-    /// Returns whether the moment with the number `moment` is past, as `Sections::is_past` does.
+    /// Returns whether the moment with the number `moment` is past, as `Sections::is_past` does: each section that was open before it has
+    /// been left since. If not, the moment hasn't been taken, or a section is open whose owner loaded the number of moments before this one
+    /// was taken. The section stays open, or not open, as it was. The table and the kept sections stay.
     pub fn is_past(&mut self, moment: u64) -> bool
         ensures looks { SeesOthers self.old.section self.new.section }
         ensures past { result ≡ true → IsPast moment self.new.section.known.run }
@@ -103,7 +110,8 @@ impl OpenSection {
     }
 }
 
-/// Returns a box of `section` with a share of its table, which keeps no other section. If memory is refused, the error is `section`.
+/// Returns a box of `section` with a share of `sections`, which must be the section's table. The box keeps no other section. If memory is
+/// refused, the error is `section`.
 fn box_section(
     alloc: Global,
     sections: Arc<Sections, Global>,

@@ -26,7 +26,7 @@ impl SectionHandle {
         self.tag == TAG
     }
 
-    /// Closes the handle, which is open, and returns what it held.
+    /// Closes the handle, which must be open, and returns what it held.
     pub fn close(&mut self, alloc: Global) -> Box<OpenSection, Global>
         requires { IsSome self.old.cell.opened }
         ensures value { self.old.cell.opened ≡ Some result.value }
@@ -36,7 +36,7 @@ impl SectionHandle {
         self.cell.take(alloc)
     }
 
-    /// Opens the closed handle with `opened`, which it holds from then on.
+    /// Opens the handle, which must be closed, with `opened`. The handle holds this from then on.
     pub fn open(&mut self, opened: Box<OpenSection, Global>)
         requires { self.old.cell.opened ≡ None }
         ensures { self.new.cell.opened ≡ Some opened.value }
@@ -49,7 +49,7 @@ impl SectionHandle {
 /// Does nothing. Its bound asks that the value's type may go to another thread.
 fn assert_send<T: Send>(_value: &T) {}
 
-/// Does nothing. It is proved only if a handle may go to another thread.
+/// Does nothing. It is proved only if a handle may go to another thread, as C may let it.
 pub fn section_handle_is_send(handle: &SectionHandle) {
     assert_send(handle);
 }

@@ -10,7 +10,8 @@ use crate::section::opened::OpenSection;
 use std::alloc::Global;
 
 impl SectionCell {
-    /// Returns the cell as a `Held` of an open section.
+    /// Returns the cell as a `Held` of an open section, for the functions that are proved for any type. The holder has what the cell holds.
+    /// What becomes of that holder becomes of the cell.
     fn held(&mut self) -> &mut Held<OpenSection>
         ensures* writes_back { sem 𝓛 (LendsHeldSection self.entry result) }
         ensures value { result.now ≡ held_section self.old }
@@ -18,7 +19,8 @@ impl SectionCell {
         unsafe { &mut *(self as *mut SectionCell as *mut Held<OpenSection>) }
     }
 
-    /// Lends what the cell holds, to be read and changed in its place. The cell isn't empty.
+    /// Lends what the cell holds, to be read and changed in its place. The cell must not be empty. When the loan ends, the cell holds what
+    /// was last behind the reference.
     pub fn lend(&mut self) -> &mut OpenSection
         requires { IsSome self.old.opened }
         ensures* writes_back { sem 𝓛 (LendsSection self.entry result) }
@@ -27,7 +29,7 @@ impl SectionCell {
         self.held().lend()
     }
 
-    /// Takes out and returns what the cell holds. The cell isn't empty before, and is empty then.
+    /// Takes out and returns what the cell holds. The cell must not be empty, and is empty afterwards.
     pub(crate) fn take(&mut self, alloc: Global) -> Box<OpenSection, Global>
         requires { IsSome self.old.opened }
         ensures value { self.old.opened ≡ Some result.value }
@@ -36,7 +38,7 @@ impl SectionCell {
         self.held().take(alloc)
     }
 
-    /// Puts `boxed` into the cell, which is empty before.
+    /// Puts `boxed` into the cell. The cell must be empty before, since what it holds would be lost with its memory.
     pub(crate) fn put(&mut self, boxed: Box<OpenSection, Global>)
         requires { self.old.opened ≡ None }
         ensures { self.new.opened ≡ Some boxed.value }
