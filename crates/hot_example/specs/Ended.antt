@@ -14,13 +14,14 @@ asked_in [] = []
 asked_in (invokes pass calls ∷ happenings) = calls ++ asked_in happenings
 asked_in (happening ∷ happenings) = asked_in happenings
 
--- The pass of this number, which is the handle's, has asked these calls since it was new, and each has ended.
+-- The pass of this number, which is the handle's, has asked the map these calls since it was new, in this order. Each has ended, answered
+-- or refused.
 abbrev pub HasMadeCalls : ℕ → List Call → HandleView → Type 0
 HasMadeCalls pass asked handle = (done : List Happening) × HasGoneThrough handle.index pass done handle.pass.seat × (asked_in done ≡ asked)
 
--- Passes 0 and 1 of the index, which has no other, have asked the calls `asked` and `asked_too`, and each has ended. Then they have met,
--- and are the passes of the two handles now. Their calls have ended in the run that both then know. So they are an execution, and
--- linearizable (`OneRunIsAnExecution`).
+-- Passes 0 and 1 of the index, which has no other, have asked the calls `asked` and `asked_too`, and each call has ended. Then the passes
+-- have met, and are those of the two handles now. All that the passes did before has ended in the run that both now know
+-- (`HaveEndedInOneRun`). So their calls are an execution, and linearizable (`OneRunIsAnExecution`).
 pub record HaveEnded (index : TableView) (asked asked_too : List Call) (first second : HandleView) : Type 0 where
   pub ours : List Happening
   pub theirs : List Happening

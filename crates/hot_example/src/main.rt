@@ -13,7 +13,8 @@ use std::sync::Wait;
 use std::thread::{Threads, join};
 
 /// Inserts the key of `one` and then that of `two`, each with its value, by the calls of `handle`. A key that has a value already keeps it.
-/// A key is left out if no record is free. Returns the handle.
+/// A key is left out if no record is free. Returns the handle, at the same index. If its pass was new, these two calls are all that it has
+/// asked.
 fn put_both<'a, R: Wait>(
     rt: &R,
     mut handle: Handle<&'a Index>,
@@ -31,8 +32,8 @@ fn put_both<'a, R: Wait>(
 }
 
 /// Inserts keys by two threads, each with one of `handles`, of new passes: `ash` and `oak` by the first, `oak` and `yew` by the second.
-/// Then it lets these passes meet, which are all of the index, and returns the handles. The passes' calls have ended in one run, and so are
-/// linearizable.
+/// Then it lets these passes meet, and returns the handles. They must be new, numbers 0 and 1, and the only passes of the index. The
+/// passes' calls have ended in one run, and so are linearizable.
 fn fill_together<'a, R: Threads + Wait + Sync>(
     rt: &R,
     handles: (Handle<&'a Index>, Handle<&'a Index>),
@@ -64,7 +65,8 @@ fn fill_together<'a, R: Threads + Wait + Sync>(
     first.meet(second)
 }
 
-/// Returns the two passes of a new index, `passes`, in their order. Contracts name the index; the code doesn't read it.
+/// Returns `passes`, which must be the two new passes of the index, in their order. The result is never `None`, but no clause says so.
+/// Contracts name the index; the code doesn't read it.
 fn take_both(_index: &Index, mut passes: Vec<Pass>) -> Option<(Pass, Pass)>
     requires count { length passes.items ≡ 2 }
     requires each { (q : ℕ) (p : PassView) → slice_get passes.items q ≡ Some p → Owns _index.now p × IsNewPass q p }

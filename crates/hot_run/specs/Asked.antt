@@ -34,12 +34,14 @@ pub record IsAnsweredAsAsked (bytes : List ℕ → Option (List ℕ)) (words : L
   pub answered : AnswersAll bytes names nodes leaves script text
   pub written : Appends before after text
 
--- A run of the script, and of the scripts in the named files, may end by this fault.
+-- A run of the script, and of the scripts in the named files, may end by this fault. `bytes` gives the bytes of a name's file, and `old`
+-- and `new` what the reader has left before and after, if these are known.
 abbrev pub MayEndAllBy : (bytes : List ℕ → Option (List ℕ)) (names : List (List ℕ)) (old new : Option (List ℕ)) (fault : RunFault) → Type 0
 MayEndAllBy bytes [] old new fault = MayEndBy old new fault
 MayEndAllBy bytes (name ∷ names) old new fault = (files : List (List ℕ)) × AreFileStarts bytes (name ∷ names) files × MayEndScriptsBy files old new fault
 
--- The run that the words of the command line ask for may end by this fault.
+-- The run that the words of the command line ask for may end by this fault (`MayEndAllBy`). The words parse, and ask for so many records
+-- and for the files of these names.
 pub record HasFaultAsAsked (bytes : List ℕ → Option (List ℕ)) (words : List (List ℕ)) (old new : Option (List ℕ)) (fault : RunFault) : Type 0 where
   pub nodes : ℕ
   pub leaves : ℕ

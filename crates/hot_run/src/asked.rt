@@ -19,8 +19,9 @@ use std::sync::Wait;
 use std::thread::Threads;
 
 /// Makes the run that `words`, those of the command line, ask for, and writes the answers to `writer`. It runs the script that `reader`
-/// has, alone, or after the scripts in the files that `words` name. `system` reads these files. The error is `Usage` if `words` don't
-/// parse, or the `Fault` of the run. Only with `Fault(Write)` may a part be written.
+/// has, alone, or after the scripts in the files that `words` name. `system` reads these files. The error is `Usage` only if `words` don't
+/// parse. Else it is a `Fault`: one that the run has, or want of memory. Only with `Fault(Write)` may a part of the answers be written;
+/// with any other nothing is.
 pub fn run_command_line<T, S, R, W>(
     rt: &T,
     system: &S,
@@ -47,8 +48,9 @@ where
     Ok(())
 }
 
-/// Makes the run that `request` asks for, as `run_command_line` does. The error is a fault if a script can't be read or is bad, memory is
-/// refused, a thread can't be started, or a write failed. Only in the last case may a part be written.
+/// Runs the script that `reader` has, alone, or after the scripts in the files that `request` names, and writes the answers to `writer`.
+/// The index has the records that `request` asks for. The error tells that a script can't be read or is bad, memory is refused, a thread
+/// can't be started, or a write failed. Only in the last case may a part of the answers be written.
 fn run_request<T: AllocGlobal + Wait + Threads + Sync, S: FileSystem, R: Read, W: Write>(
     rt: &T,
     system: &S,

@@ -13,9 +13,10 @@ use script_runs::{Records, run_on_new_index};
 use std::alloc::Global;
 use std::io::{Read, Write};
 
-/// Runs the script that `reader` has, and writes its answers to `writer`. The index is new, with one pass, `nodes` node records and
-/// `leaves` leaf records. It waits for no other thread, and returns once its reads and writes have returned. The error is `Script` with the
-/// first bad line, or `Read`, `Large`, `Memory` or `Write`. Only with `Write` may a part of the answers be written.
+/// Runs the script that `reader` has, and writes its answers to `writer`. The index is new, with one pass, `nodes` node records (1 to
+/// 65,535), one more for removals, and `leaves` leaf records (1 to 262,143). The run waits for no other thread, and returns once its reads
+/// and writes have returned. The error is `Script` with the first bad line, or `Read`, `Large`, `Memory` or `Write`. Only with `Write` may
+/// a part of the answers be written.
 pub fn run_one<R: Read, W: Write>(
     alloc: Global,
     nodes: u32,

@@ -19,8 +19,9 @@ use std::io::{Read, Write};
 use std::sync::Wait;
 use std::thread::Threads;
 
-/// Runs the scripts in `files`, at most `MAX_FILES`, on a new index with `nodes` node and `leaves` leaf records. They run at the same time,
-/// each in its own thread. When all have ended, the script that `reader` has runs.
+/// Runs the scripts in `files`, which must be `MAX_FILES` at most, on a new index. It has `nodes` node records (1 to 65,535), one more for
+/// removals, and `leaves` leaf records (1 to 262,143). The scripts run at the same time, each in its own thread. When all have ended, the
+/// script that `reader` has runs.
 ///
 /// All scripts are read and parsed before the first command runs. The answers are written to `writer` at the end. Those of each file stand
 /// below a line `file I`, where `I` counts from 1, and those of the last script below the line `last`.
@@ -57,8 +58,9 @@ pub fn run_scripts<T: AllocGlobal + Threads + Wait + Sync, R: Read, W: Write>(
     Ok(())
 }
 
-/// Does what `run_scripts` does, with its errors, and reports each atomic step of a file's commands to the file's own gate. `gates` has a
-/// gate for each file, in their order. Returns the gates, in the order of the files.
+/// Runs the scripts in `files` at the same time, and then the one that `reader` has. Writes the answers to `writer`, as `run_scripts` does.
+/// The error is the fault of the first bad script, or `Read`, `Large`, `Write` or `Memory`. Reports each atomic step of a file's commands
+/// to the file's own gate. `gates` must have a gate for each file, in the order of the files. Returns the gates in this order.
 pub fn run_scripts_with<T, G, R, W>(
     rt: &T,
     nodes: u32,

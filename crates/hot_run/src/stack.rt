@@ -11,7 +11,7 @@ use std::rt::Files;
 pub const LEAST_STACK: u64 = 256;
 
 /// Returns the limit of the program's stack in KiB, if the system tells one that is below `LEAST_STACK`; else `None`. It asks for no
-/// memory.
+/// memory, so it can't fail for want of any.
 pub fn too_low_limit<R: Files>(rt: &R) -> Option<u64>
     ensures low { IfSome result (λ limit. limit < LEAST_STACK) }
 {
@@ -23,7 +23,8 @@ pub fn too_low_limit<R: Files>(rt: &R) -> Option<u64>
     (limit < LEAST_STACK).then_some(limit)
 }
 
-/// Returns the limit of the stack, in KiB, that stands in `limits`, the table of a process's limits; `None` if there is none.
+/// Returns the limit of the stack, in KiB, that stands in `limits`, the table of a process's limits; `None` if no number stands there, as
+/// where there is no limit.
 fn stack_limit(limits: &str) -> Option<u64> {
     let (_, rest) = limits.split_once("Max stack size")?;
     let bytes = rest.split_whitespace().next()?.parse::<u64>().ok()?;

@@ -42,7 +42,7 @@ impl Gate for Waiting<'_> {
     }
 }
 
-/// Returns the bytes of two scripts, with one command each; `AllocError` if memory is refused.
+/// Returns the bytes of two scripts, each with one insertion, of different keys; `AllocError` if memory is refused.
 fn two_scripts(alloc: Global) -> Result<Vec<Vec<u8>>, AllocError>
     ensures { IfOk result (λ files. length files.items ≡ 2) }
 {
@@ -76,7 +76,9 @@ fn make_gates<'a>(
     Ok(gates)
 }
 
-// Each gate sees the other's flag and is told more than one step, and the answers of both files are written in order.
+// If the scripts of files ran one after another, the first one's gate would give up before it saw the other's flag. A gate that was told
+// its first step alone would count one. The text is that of one insertion in each file, in the order of the files, and of an empty last
+// script.
 #[test]
 fn gates_wait_for_each_other(rt: HostRuntime) {
     let (first, second) = (AtomicBool::new(false), AtomicBool::new(false));

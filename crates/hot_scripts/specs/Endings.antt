@@ -12,7 +12,7 @@ abbrev pub ending_text : Ending → List ℕ
 ending_text Usage = codes "usage: hot-run [--nodes N] [--leaves L] [FILE]..."
 ending_text (Fault fault) = run_fault_text fault
 
--- the ending for an error that the parser of the command line finds
+-- the ending for an error that the parser of the command line finds: the fault of memory if memory was refused, else wrong usage
 abbrev pub ending_of : ErrorKind → Ending
 ending_of OutOfMemory = Fault Memory
 ending_of _ = Usage

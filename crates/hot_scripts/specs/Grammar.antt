@@ -26,11 +26,11 @@ Err reason >>= step = Err reason
 abbrev pub most_bytes : ℕ
 most_bytes = 1048576
 
--- The lines of a script, each up to a line end. What follows the last line end is a line too, even if it is empty.
+-- The lines of a script, each up to a line end, which is byte 10. What follows the last line end is a line too, even if it is empty.
 abbrev pub lines_of : List ℕ → List (List ℕ)
 lines_of script = slice_split (λ byte. byte == 10) script
 
--- the words of a line, each up to a space; a word may be empty
+-- the words of a line, each up to a space, which is byte 32; a word may be empty
 abbrev pub line_words : List ℕ → List (List ℕ)
 line_words line = slice_split (λ byte. byte == 32) line
 
@@ -44,7 +44,8 @@ abbrev pub most_digits : Version → ℕ
 most_digits First = 128
 most_digits Second = 480
 
--- the key for which a word stands: a dash for the empty key, or two hexadecimal digits for each byte
+-- The key for which a word stands: a dash for the empty key, or two hexadecimal digits for each byte. Any other word is a bad key, and so
+-- is one with too many digits for the version.
 abbrev pub parsed_key : (version : Version) (word : List ℕ) → Result (List ℕ) Reason
 parsed_key version word =
     if bytes_eq word (codes "-") then Ok []
@@ -59,35 +60,36 @@ is_number word = nat_lt 0 (length word) && nat_le (length word) 20 && list_all i
 abbrev pub number_of : List ℕ → Option ℕ
 number_of word = if is_number word && nat_lt (digits_value 10 word) (2 ^ 64) then Some (digits_value 10 word) else None
 
--- the number as a result, or this reason if there is no number
+-- the number as a result; if there is no number, this reason
 abbrev pub ok_or_reason : (reason : Reason) (number : Option ℕ) → Result ℕ Reason
 ok_or_reason reason (Some number) = Ok number
 ok_or_reason reason None = Err reason
 
--- the value for which a word stands: any number below 2^64
+-- the value for which a word stands: any number below 2^64; any other word is a bad value
 abbrev pub parsed_value : List ℕ → Result ℕ Reason
 parsed_value word = ok_or_reason bad.Value (number_of word)
 
--- the limit for which a word stands: a number from 1 to 1,000,000
+-- the limit for which a word stands: a number from 1 to 1,000,000; any other word is a bad limit
 abbrev pub limit_of : List ℕ → Result ℕ Reason
 limit_of word = ok_or_reason bad.Limit (number_of word) >>= λ limit. if nat_le 1 limit && nat_le limit 1000000 then Ok limit else Err bad.Limit
 
--- the command that makes this call of the key for which a word stands
+-- the command that makes this call of the key for which a word stands; if the word is no key, the reason
 abbrev pub with_key : (version : Version) (call : List ℕ → Call) (key : List ℕ) → Result Command Reason
 with_key version call key = parsed_key version key >>= λ bytes. Ok (Asks (call bytes))
 
--- the command that makes this call of the key and the value for which two words stand
+-- the command that makes this call of the key and the value for which two words stand; if one is bad, the reason of the first such word
 abbrev pub parsed_change : (version : Version) (call : List ℕ → ℕ → Call) (key value : List ℕ) → Result Command Reason
 parsed_change version call key value = parsed_key version key >>= λ bytes. parsed_value value >>= λ number. Ok (Asks (call bytes number))
 
--- the command that scans the range, up to the limit, for which three words stand
+-- the command that scans the range, up to the limit, for which three words stand; if one is bad, the reason of the first such word
 abbrev pub with_range : (version : Version) (from upto limit : List ℕ) → Result Command Reason
 with_range version from upto limit =
     parsed_key version from >>= λ first. parsed_key version upto >>= λ last. limit_of limit >>= λ most.
     Ok (Scan (record { from = first; upto = last; limit = most }))
 
--- The command for which the words of a line stand: a name, and as many words as the name takes. An unknown name or a wrong number of words
--- is the first fault of the line. After that, the first bad word is.
+-- The command for which the words of a line stand: a name, and as many words as the name takes. `get` and `remove` take a key, `insert` and
+-- `upsert` a key and a value, `scan` two keys and a limit. An unknown name or a wrong number of words is the first fault of the line. After
+-- that, the first bad word is.
 abbrev pub command_of : (version : Version) (words : List (List ℕ)) → Result Command Reason
 command_of version (name ∷ key ∷ []) =
     if bytes_eq name (codes "get") then with_key version Get key
@@ -102,7 +104,8 @@ command_of version (name ∷ from ∷ upto ∷ limit ∷ []) =
     else Err bad.Command
 command_of version _ = Err bad.Command
 
--- the command that a line asks for; none if the line is empty or begins with #
+-- What a line asks for: nothing if it is empty or begins with #, else the command for which its words stand. If they stand for none, it is
+-- the reason.
 abbrev pub reading_of : (version : Version) (line : List ℕ) → Result (Option Command) Reason
 reading_of version [] = Ok None
 reading_of version (byte ∷ bytes) =
@@ -131,7 +134,8 @@ abbrev pub ok_unless_fault : {A : Type 0} → (fault : Option (ℕ × Reason)) (
 ok_unless_fault (Some fault) value = Err fault
 ok_unless_fault None value = Ok value
 
--- The commands that lines ask for, or the number of the first bad line and the reason. The lines are numbered from `first` on.
+-- The commands that lines ask for. If a line is bad, it is the number of the first such line and the reason. The lines are numbered from
+-- `first` on.
 abbrev pub commands_from : (first : ℕ) (readings : List (Result (Option Command) Reason)) → Result (List Command) (ℕ × Reason)
 commands_from first readings = ok_unless_fault (first_bad first readings) (filter_map asked readings)
 

@@ -6,16 +6,17 @@ use Rattle.hot_scripts.specs.declared.fault.RunFault.{RunFault}
 use Rattle.hot_scripts.specs.declared.fault.RunFault.TheVariants.{Memory, FileScript, Large}
 use Rattle.hot_scripts.specs.Grammar.{commands_of, most_bytes}
 
--- the commands of the file of this number; if a line is bad, the run's fault
+-- the commands of the file of this number; if a line is bad, the run's fault, which has the file's number, the line's and the reason
 abbrev pub in_file : (file : ℕ) (parsed : Result (List Command) (ℕ × Reason)) → Result (List Command) RunFault
 in_file file (Ok commands) = Ok commands
 in_file file (Err (number, reason)) = Err (FileScript file number reason)
 
--- The commands of the file that has this number and these bytes. If the file is too long or has a bad line, it is the run's fault.
+-- The commands of the file that has this number and these bytes. If the file is too long, the fault is `Large`. If it has a bad line, the
+-- fault is the first such line, with the file's number.
 abbrev pub commands_of_file : (file : ℕ) (script : List ℕ) → Result (List Command) RunFault
 commands_of_file file script = if nat_lt most_bytes (length script) then Err Large else in_file file (commands_of script)
 
--- the commands of one file before those of others, or the first fault
+-- the commands of one file before those of others; if either is a fault, that fault, and that of the one file if both are
 abbrev pub both_or_fault : (one : Result (List Command) RunFault) (others : Result (List (List Command)) RunFault) →
     Result (List (List Command)) RunFault
 both_or_fault (Err fault) others = Err fault

@@ -38,11 +38,12 @@ reply_text (reply.Value held) = with_number (codes "value ") held
 reply_text reply.Absent = codes "none"
 reply_text (reply.Removed value) = with_number (codes "removed ") value
 
--- the line of a pair that a scan lists
+-- the line of a pair that a scan lists: the word `pair`, its key and its value, with spaces between them
 abbrev pub pair_line : List ℕ × ℕ → List ℕ
 pair_line (key, value) = line (codes "pair " ++ key_text key ++ codes " " ++ decimal value)
 
--- the lines that answer a scan with these pairs: one for each pair, and a last one with their number and whether there are more
+-- the lines that answer a scan with these pairs: one for each pair, and a last one, which has `more` or `end` by whether there are more,
+-- and the number of pairs
 abbrev pub scan_lines : (pairs : Map) (more : Bool) → List ℕ
 scan_lines pairs more = flat_map pair_line pairs ++ line (with_number (if more then codes "more " else codes "end ") (length pairs))
 

@@ -16,7 +16,8 @@ count_rule name most = record (new_rule name) { long = Some name; action = Some 
 abbrev pub names_rule : (name : List ℕ) → Rule
 names_rule name = record (new_rule name) { action = Some Append }
 
--- The argument of the command line has this name and this rule, and excludes no other.
+-- The argument of the command line has this name and this rule. It excludes no other and belongs to no group (`plain`). No subcommand takes
+-- it over (`local`).
 pub record IsArgument (name : List ℕ) (rule : Rule) (arg : Arg) : Type 0 where
   pub id : arg.id.now ≡ name
   pub plain : IsPlainArg arg
@@ -33,7 +34,8 @@ abbrev pub command_line : App
 command_line = with_rule (with_rule (with_rule (new_app (codes "hot-run")) (count_rule (codes "nodes") MAX_NODES))
     (count_rule (codes "leaves") MAX_LEAVES)) (names_rule (codes "FILE"))
 
--- The number of the option is the one that the words of the command line give, or the default if they give none.
+-- The number of the option is the one that the words of the command line give, or the default if they give none. The words give decimal
+-- digits, perhaps behind a plus sign. Nothing is said of digits for a number of 2^32 or more, which the option's bounds exclude.
 pub record IsOptionNumber (rows : List Row) (option : List ℕ) (default number : ℕ) : Type 0 where
   pub left_out : one_of option rows ≡ None → number ≡ default
   pub given : (text : List ℕ) → one_of option rows ≡ Some text →
@@ -48,7 +50,8 @@ pub record DoParse (words : List (List ℕ)) : Type 0 where
   pub faultless : fault_of command_line words ≡ []
   pub few : length (names_in words) ≤ MAX_FILES
 
--- The words of the command line parse. They ask for so many node and leaf records, and for the files of these names.
+-- The words of the command line parse. They ask for so many node and leaf records, or for 4,096 and 16,384 by giving no number. They name
+-- files by these names, in this order.
 pub record IsAsked (words : List (List ℕ)) (nodes leaves : ℕ) (names : List (List ℕ)) : Type 0 where
   pub parse : DoParse words
   pub nodes_are : IsOptionNumber (matches_of command_line words) (codes "nodes") 4096 nodes

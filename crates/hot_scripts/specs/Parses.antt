@@ -13,7 +13,8 @@ use Rattle.hot_scripts.specs.Words.{parts_left, bytes_left}
 abbrev pub script_commands : Script → List Command
 script_commands script = filter_map asked (readings_of (lines_of script.text.items))
 
--- The parse returned what was parsed: a script with these commands, or the number of the first bad line and the reason.
+-- The parse returned what was parsed: a script with these commands, or the number of the first bad line and the reason. It returned no
+-- other fault.
 abbrev pub Parses : (result : Result Script RunFault) (parsed : Result (List Command) (ℕ × Reason)) → Type 0
 Parses (Ok script) parsed = parsed ≡ Ok (script_commands script)
 Parses (Err (Bad number reason)) parsed = parsed ≡ Err (number, reason)
@@ -33,7 +34,7 @@ GivesFirst before None after = before ≡ []
 GivesFirst before (Some command) after = before ≡ command ∷ after
 
 -- The lines that are left of the script begin with its line `first`. They ask for all commands of the script, and have its first bad line,
--- if it has one.
+-- if it has one. `small` bounds the number `first` and the bytes that are left, so that the number of each line fits 32 bits.
 pub record IsOpening (script : List ℕ) (first : ℕ) (commands : Commands) : Type 0 where
   pub bad : first_bad 1 (readings_of (lines_of script)) ≡ first_bad first (readings_left commands)
   pub asks : filter_map asked (readings_of (lines_of script)) ≡ commands_left commands

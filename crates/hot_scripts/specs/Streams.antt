@@ -5,7 +5,7 @@ use Rattle.hot_scripts.specs.declared.fault.RunFault.{RunFault}
 use Rattle.hot_scripts.specs.declared.fault.RunFault.TheVariants.{Read, Memory, Large}
 use Rattle.hot_scripts.specs.Grammar.{most_bytes}
 
--- the script is all that the reader had left, and nothing is left now
+-- the script is all that the reader had left, and nothing is left now, as far as either is known
 abbrev pub TakesAll : (old new : Option (List ℕ)) (script : List ℕ) → Type 0
 TakesAll old new script = Consumes old new script × IsAtEnd new
 

@@ -10,8 +10,8 @@ use key_bits::MAX_BYTES;
 use packed_pairs::Pairs;
 use std::alloc::{AllocError, Global};
 
-/// Adds a line of `word`, which ends with a space, and `number` to the end of `text`. `AllocError` if memory is refused: then perhaps a
-/// part of the line is added.
+/// Adds a line to the end of `text`: `word`, and then `number` in decimal digits. `AllocError` if memory is refused: then perhaps a part of
+/// the line is added.
 fn push_number(text: &mut Vec<u8>, word: &[u8], number: u64) -> Result<(), AllocError>
     ensures { OnOk result (text.new.items ≡ text.old.items ++ line (with_number word.now number)) }
 {
@@ -21,7 +21,8 @@ fn push_number(text: &mut Vec<u8>, word: &[u8], number: u64) -> Result<(), Alloc
     text.extend_from_slice(b"\n")
 }
 
-/// Adds the line of `reply` to the end of `text`. `AllocError` if memory is refused: then perhaps a part of the line is added.
+/// Adds the line that tells `reply`, with its value if it has one, to the end of `text`. `AllocError` if memory is refused: then perhaps a
+/// part of the line is added.
 pub fn push_reply(text: &mut Vec<u8>, reply: Reply) -> Result<(), AllocError>
     ensures { OnOk result (text.new.items ≡ text.old.items ++ line (reply_text reply)) }
 {
@@ -38,7 +39,7 @@ pub fn push_reply(text: &mut Vec<u8>, reply: Reply) -> Result<(), AllocError>
     }
 }
 
-/// Puts `key` on the page, which has room for it, in lower case hexadecimal digits. The empty key is a dash.
+/// Puts `key` on the page in lower case hexadecimal digits. The empty key is a dash. The page must have room for the longest key.
 #[inline(always)]
 fn put_key(page: &mut Page, key: &[u8])
     requires key { length key.now ≤ MAX_BYTES }
@@ -52,7 +53,8 @@ fn put_key(page: &mut Page, key: &[u8])
     }
 }
 
-/// Puts the line of the pair of `key` and `value` on the page, which has room for it.
+/// Puts a line on the page: the word `pair`, the digits of `key`, and `value`, with spaces between them. The page must have room for the
+/// longest such line.
 #[inline(always)]
 fn put_pair(page: &mut Page, key: &[u8], value: u64)
     requires key { length key.now ≤ MAX_BYTES }
@@ -66,8 +68,8 @@ fn put_pair(page: &mut Page, key: &[u8], value: u64)
     page.put_text(b"\n");
 }
 
-/// Makes room on `page` for a line of `MOST_BYTES` bytes. If the page has too little, its lines go to the end of `text`, and it is cleared.
-/// `AllocError` if memory is refused.
+/// Makes room on `page` for a line of `MOST_BYTES` bytes. If the page has too little, its lines go to the end of `text`, and the page is
+/// cleared. So the text with the page behind it stays the same. `AllocError` if memory is refused.
 #[inline(always)]
 fn make_room(text: &mut Vec<u8>, page: &mut Page) -> Result<(), AllocError>
     ensures room { OnOk result (length page.new + MOST_BYTES ≤ ROOM) }
@@ -80,8 +82,9 @@ fn make_room(text: &mut Vec<u8>, page: &mut Page) -> Result<(), AllocError>
     Ok(())
 }
 
-/// Adds the lines of a scan that listed `pairs` to the end of `text`; `more` says whether its range has more. `AllocError` if memory is
-/// refused: then perhaps a part of the lines is added.
+/// Adds the lines of a scan that listed `pairs` to the end of `text`: one for each pair, and a last one with `more` or `end`, and their
+/// number. `more` says whether the scan's range has more. `AllocError` if memory is refused: then perhaps a part of the lines is added.
+/// `pairs` are fewer than 2^63, as of any list (`short`).
 pub fn push_scan(text: &mut Vec<u8>, pairs: &Pairs, more: bool) -> Result<(), AllocError>
     ensures lines { OnOk result (text.new.items ≡ text.old.items ++ scan_lines pairs.now more) }
     ensures short { length pairs.now < 2 ^ 63 }
@@ -100,8 +103,8 @@ pub fn push_scan(text: &mut Vec<u8>, pairs: &Pairs, more: bool) -> Result<(), Al
     }
 }
 
-/// Adds the line `file I`, where `I` is `number`, and then `text`, the answers to that file's script, to `texts`. `AllocError` if memory is
-/// refused.
+/// Adds the line `file I`, where `I` is `number`, to the end of `texts`, and then `text`, the answers to that file's script. `AllocError`
+/// if memory is refused: then perhaps the line is added.
 pub fn push_section(
     alloc: Global,
     texts: &mut Vec<Vec<u8>>,

@@ -47,7 +47,7 @@ impl From<clap::Error> for Ending {
 }
 
 /// Returns the words of the command line, the program's name first. The error is `Fault(Memory)` if memory is refused, and `Usage` if the
-/// words can't be read.
+/// words can't be read. What the words are isn't said here.
 pub fn read_words<R: Env + AllocGlobal>(rt: &R) -> Result<Vec<String>, Ending>
     ensures { IfErr result (λ ending. (ending ≡ Usage) ⊎ (ending ≡ Fault Memory)) }
 {
@@ -75,9 +75,9 @@ fn names_argument<'a>(alloc: Global, name: &'a str) -> Arg<'a>
     Arg::new(alloc, name).action(ArgAction::Append)
 }
 
-/// Returns what `words`, those of the command line, ask for. The records are the numbers that follow `--nodes` and `--leaves`, or else
-/// 4,096 and 16,384. The files have the order of the words. The error is `Usage` if the words don't parse, or name more than `MAX_FILES`
-/// files. It is `Fault(Memory)` if memory is refused.
+/// Returns what `words`, those of the command line, ask for. The numbers of records are those that follow `--nodes` and `--leaves`; one
+/// that is left out is 4,096 or 16,384. The files have the order of the words. The error is `Usage` only if the words don't parse, or name
+/// more than `MAX_FILES` files. It is `Fault(Memory)` if memory is refused.
 pub fn parse_request<'a>(alloc: Global, words: &'a [String]) -> Result<Request<'a>, Ending>
     ensures asked { IfOk result (λ request. IsAsked (map string_bytes words.now) request.nodes request.leaves (map (λ name. name.now) request.files.items)) }
     ensures refused { IfErr result (λ ending. ((ending ≡ Usage) × (DoParse (map string_bytes words.now) → ⊥)) ⊎ (ending ≡ Fault Memory)) }

@@ -6,7 +6,7 @@ ghost use Rattle.hex.specs.Hex.{encode_lower, lower_digits};
 /// The lower case digits.
 const DIGITS: &[u8; 16] = b"0123456789abcdef";
 
-/// Writes each of `bytes` to `room` as two lower case hexadecimal digits. `room` has exactly two bytes for each.
+/// Writes each of `bytes` to `room` as two lower case hexadecimal digits. `room` must have exactly two bytes for each.
 pub fn write_hex(bytes: &[u8], room: &mut [u8])
     requires { length room.old ≡ 2 * length bytes.now }
     ensures { room.new ≡ encode_lower bytes.now }
@@ -25,7 +25,7 @@ pub fn write_hex(bytes: &[u8], room: &mut [u8])
     }
 }
 
-/// Returns the lower case hexadecimal digit of `number`, which is below 16.
+/// Returns the lower case hexadecimal digit of `number`, which must be below 16.
 #[inline(always)]
 fn hex_digit(number: u8) -> u8
     requires { number < 16 }
@@ -35,7 +35,7 @@ fn hex_digit(number: u8) -> u8
     b'0' + number + letter
 }
 
-/// Returns how many decimal digits `number` has; 1 for 0.
+/// Returns how many decimal digits `number` has; 1 for 0. It takes four digits at a time, so that few divisions are made.
 #[inline(always)]
 pub fn count_digits(number: u64) -> usize
     ensures { result ≡ length (decimal number) }

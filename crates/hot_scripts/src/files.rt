@@ -20,7 +20,8 @@ pub trait FileSystem {
     /// The bytes of the file of a name, where they are known.
     ghost bytes: { List ℕ → Maybe (List ℕ) };
 
-    /// Opens the file `name`, to be read from its first byte on; `Read` if it can't be opened.
+    /// Opens the file `name`, to be read from its first byte on. What is read are its `bytes`, where these are known. The error is `Read`
+    /// if the file can't be opened.
     fn open(&self, name: &str) -> Result<Self::Opened, RunFault>
         ensures fault { IfErr result (λ fault. fault ≡ RunFault.Read) }
         ensures file { IfOk result (λ file. IfSome (bytes name.now) (λ all. Self.Opened.Read.remaining file ≡ Some all)) };
@@ -46,8 +47,8 @@ impl<R: Files> FileSystem for Disk<'_, R> {
     }
 }
 
-/// Returns the first bytes that `reader` has: all, or one more than a script may have, which shows that it is too long. The error is
-/// `Memory` if memory is refused, and `Read` if a read failed.
+/// Returns the first bytes that `reader` has: all of them, or one more than a script may have, which shows that the script is too long. The
+/// error is `Memory` if memory is refused for these bytes. It is `Read` if a read failed, also for want of the system's own memory.
 fn read_file_start<R: Read + Drop>(alloc: Global, reader: R) -> Result<Vec<u8>, RunFault>
     ensures fault { IfErr result IsFileFault }
     ensures start { IfOk result (λ bytes. IsFileStart (R.remaining reader) bytes.items) }
@@ -63,8 +64,8 @@ fn read_file_start<R: Read + Drop>(alloc: Global, reader: R) -> Result<Vec<u8>, 
     }
 }
 
-/// Returns the script in the file `name` of `system`, as far as `read_file_start` reads it, with its errors. The error is `Read`, too, if
-/// the file can't be opened.
+/// Returns the bytes of the file `name` of `system`: all of them, or one more than a script may have. The error is `Read` if the file can't
+/// be opened or read, and `Memory` if memory is refused.
 fn read_file<S: FileSystem>(alloc: Global, system: &S, name: &str) -> Result<Vec<u8>, RunFault>
     ensures fault { IfErr result IsFileFault }
     ensures start { IfOk result (λ bytes. IsFileStart (S.bytes name.now) bytes.items) }
@@ -73,8 +74,8 @@ fn read_file<S: FileSystem>(alloc: Global, system: &S, name: &str) -> Result<Vec
     read_file_start(alloc, file)
 }
 
-/// Returns the scripts in the files `names` of `system`, in order: of each all its bytes, or one more than a script may have. The error is
-/// `Read` if one can't be opened or read, and `Memory` if memory is refused.
+/// Returns the bytes of the files `names` of `system`, in this order: of each file all, or one more than a script may have. The error is
+/// `Read` if a file can't be opened or read, and `Memory` if memory is refused.
 pub fn read_files<S: FileSystem>(
     alloc: Global,
     system: &S,

@@ -8,8 +8,9 @@ use crate::fault::RunFault;
 use crate::script::{MAX_FILES, MAX_SCRIPT, Script};
 use std::alloc::Global;
 
-/// Returns the scripts with the texts `files`, `MAX_FILES` at most, in their order. The error is that of the first file that has one. It is
-/// `Large`, or `FileScript` with the file's number, from 1 on, and its first bad line. It is `Memory` if memory is refused.
+/// Returns the scripts with the texts `files`, in their order. There must be `MAX_FILES` files at most. The error is that of the first file
+/// that has one: `Large` for more than `MAX_SCRIPT` bytes, or `FileScript` with the file's number, from 1 on, and its first bad line. It is
+/// `Memory` if memory is refused.
 pub fn parse_files(alloc: Global, files: Vec<Vec<u8>>) -> Result<Vec<Script>, RunFault>
     requires { length files.items ≤ MAX_FILES }
     ensures count { IfOk result (λ v. length v.items ≡ length files.items) }
@@ -24,8 +25,8 @@ pub fn parse_files(alloc: Global, files: Vec<Vec<u8>>) -> Result<Vec<Script>, Ru
     Ok(scripts)
 }
 
-/// Returns the script with the text `file`, that of the file with the number `number`. The error is `Large` if the text has more than
-/// `MAX_SCRIPT` bytes, and `FileScript` with the file and its first bad line if it has one.
+/// Returns the script with the text `file`, of the file with the number `number`. The error is `Large` if the text has more than
+/// `MAX_SCRIPT` bytes. If a line is bad, it is `FileScript` with this number, and with the number and the reason of the first bad line.
 fn parse_file(number: u32, file: Vec<u8>) -> Result<Script, RunFault>
     ensures { IsParsed script_commands result (commands_of_file number file.items) }
 {

@@ -17,8 +17,8 @@ fn first_index(separator: u8, text: &[u8]) -> Option<usize>
     text.iter().position(|byte| *byte == separator)
 }
 
-/// Returns the part of `text` before the first `separator`, and what follows the separator. If there is none, these are all of `text`, and
-/// `None`.
+/// Returns the part of `text` before the first `separator`, and what follows the separator. If there is no separator, it returns all of
+/// `text`, and `None`. What follows is shorter than `text` (`left`), so a loop over the parts ends.
 pub fn split_once(separator: u8, text: &[u8]) -> (&[u8], Option<&[u8]>)
     ensures parts { slice_split (λ b. b == separator) text.now ≡ result.0.now ∷ parts_left separator result.1 }
     ensures whole { result.1 ≡ None → result.0.now ≡ text.now }
@@ -39,7 +39,7 @@ enum Words<'a> {
     Other,
 }
 
-/// Returns the words of `line`, between single spaces. `Other` if there are not two, three or four.
+/// Returns the words of `line`, the parts between its spaces; a word may be empty. It returns `Other` if there are not two, three or four.
 fn split_words(line: &[u8]) -> Words<'_>
     ensures { AreWords result (line_words line.now) }
 {
@@ -62,8 +62,8 @@ fn split_words(line: &[u8]) -> Words<'_>
     }
 }
 
-/// Returns the command `name` for `key` alone. The error is `Command` if there is no such command, or `Key` if `key` stands for no key of
-/// `version`.
+/// Returns the command `name` for `key` alone: `get` or `remove`. The error is `Command` if `name` is another word, or `Key` if `key`
+/// stands for no key of `version`.
 fn parse_key_command(version: Version, name: &[u8], key: &[u8]) -> Result<Command, Reason>
     ensures { result ≡ command_of version (name.now ∷ key.now ∷ []) }
 {
@@ -78,8 +78,8 @@ fn parse_key_command(version: Version, name: &[u8], key: &[u8]) -> Result<Comman
     }
 }
 
-/// Returns the command `name` for `key` and `value`. The error is `Command` if there is no such command, or else `Key` or `Value` for the
-/// first bad word.
+/// Returns the command `name` for `key` and `value`: `insert` or `upsert`. The error is `Command` if `name` is another word, or else `Key`
+/// or `Value` for the first bad word.
 fn parse_value_command(
     version: Version,
     name: &[u8],
@@ -101,8 +101,8 @@ fn parse_value_command(
     }
 }
 
-/// Returns the command `name` for the range from `from` to `upto` and `limit`. The error is `Command` if there is no such command, or else
-/// `Key` or `Limit` for the first bad word.
+/// Returns the command `name` for the range from `from` to `upto` and `limit`: `scan`. The error is `Command` if `name` is another word, or
+/// else `Key` or `Limit` for the first bad word.
 fn parse_range_command(
     version: Version,
     name: &[u8],
@@ -122,7 +122,8 @@ fn parse_range_command(
     }
 }
 
-/// Returns the command that `line` asks for in a script of `version`, or the reason why it asks for none.
+/// Returns the command that `line` asks for in a script of `version`. The error is `Command` if the words of the line name no command, or
+/// else the reason of the first bad word.
 fn parse_command(version: Version, line: &[u8]) -> Result<Command, Reason>
     ensures { result ≡ command_of version (line_words line.now) }
 {

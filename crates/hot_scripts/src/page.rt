@@ -62,7 +62,7 @@ impl Page {
         &self.room[..self.end]
     }
 
-    /// Returns whether the page has room for fewer than `MOST_BYTES` bytes, and so for fewer than a line may have.
+    /// Returns whether the page has room for fewer than `MOST_BYTES` bytes, the most that a line has.
     #[inline(always)]
     pub fn is_full(&self) -> bool
         ensures { result ≡ false → length self.now + MOST_BYTES ≤ ROOM }
@@ -70,7 +70,7 @@ impl Page {
         self.end + MOST_BYTES > ROOM
     }
 
-    /// Puts `text` on the page, behind what is there; the page has room for it.
+    /// Puts `text` on the page, behind what is there; the page must have room for it.
     #[inline(always)]
     pub fn put_text(&mut self, text: &[u8])
         requires { length self.old + length text.now ≤ ROOM }
@@ -81,7 +81,8 @@ impl Page {
         self.end = end;
     }
 
-    /// Puts `number` on the page in decimal digits, without leading zeros; the page has room for `NUMBER_DIGITS`.
+    /// Puts `number` on the page in decimal digits, without leading zeros. The page must have room for `NUMBER_DIGITS` bytes, whatever the
+    /// number.
     #[inline(always)]
     pub fn put_number(&mut self, number: u64)
         requires { length self.old + NUMBER_DIGITS ≤ ROOM }
@@ -92,7 +93,7 @@ impl Page {
         self.end = end;
     }
 
-    /// Puts `bytes` on the page, each as two lower case hexadecimal digits; the page has room for these.
+    /// Puts `bytes` on the page, each as two lower case hexadecimal digits; the page must have room for these.
     #[inline(always)]
     pub fn put_hex(&mut self, bytes: &[u8])
         requires { length self.old + 2 * length bytes.now ≤ ROOM }

@@ -37,8 +37,8 @@ pub struct Commands<'a> {
 impl Script {
     ghost use Rattle.hot_scripts.specs.Parses.{Parses, script_commands, commands_left};
 
-    /// Returns the script with this `text`, `MAX_SCRIPT` bytes at most. If it has a bad line, the error is `RunFault::Script` with the
-    /// number and the reason of the first one.
+    /// Returns the script with this `text`, which must have `MAX_SCRIPT` bytes at most. If the text has a bad line, the error is
+    /// `RunFault::Script` with the number and the reason of the first one.
     pub fn parse(text: Vec<u8>) -> Result<Script, RunFault>
         requires { vec_len text ≤ MAX_SCRIPT }
         ensures { Parses result (commands_of text.items) }
@@ -50,7 +50,7 @@ impl Script {
         }
     }
 
-    /// Returns a number of bytes that no key of the script's calls exceeds, `MAX_BYTES` at most.
+    /// Returns a number of bytes, `MAX_BYTES` at most. No key of the script's calls has more.
     pub fn longest_key_length(&self) -> usize
         ensures keys { All (HasKeyUpTo result) (script_commands self.now) }
         ensures few { result ≤ MAX_BYTES }
@@ -84,8 +84,9 @@ impl<'a> Commands<'a> {
         None
     }
 
-    /// Returns the number of the first line of `script` that may have a command, and the commands from there on. The number is 2 if the
-    /// first line, `hot 2`, says that the script is of the second version; else it is 1.
+    /// Returns the number of the first line of `script` that may have a command, and the lines from this one on. These have all commands of
+    /// the script, and its first bad line, if it has one. The number is 2 if the first line is `hot 2`, which says that the script is of
+    /// the second version. Else it is 1.
     fn opening(script: &'a [u8]) -> (u32, Commands<'a>)
         ensures { IsOpening script.now result.0 result.1 }
     {
@@ -106,8 +107,8 @@ impl<'a> Commands<'a> {
         }
     }
 
-    /// Returns a number of bytes that no key of a call in these lines exceeds, `MAX_BYTES` at most. If a line is bad, the error is the
-    /// number and the reason of the first such line. The first line has the number `first`.
+    /// If no line is bad, returns a number of bytes, `MAX_BYTES` at most, that no key of a call in these lines exceeds. Else the error is
+    /// the number and the reason of the first bad line. The first line has the number `first`, and the numbers of all must fit 32 bits.
     fn longest_key_length(self, first: u32) -> Result<usize, (u32, Reason)>
         requires { first + bytes_left self.left < 2 ^ 32 }
         ensures good { IfOk result (λ longest. first_bad first (readings_left self.entry) ≡ None) }

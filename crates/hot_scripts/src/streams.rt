@@ -13,7 +13,8 @@ use std::io::{ErrorKind, Read, Write};
 const CHUNK: usize = 4096;
 
 /// Reads the whole script, all that `reader` has left, and returns it. A read that was interrupted is made again. The error is `Read` if a
-/// read failed, `Large` if there are more than `MAX_SCRIPT` bytes, and `Memory` if memory is refused.
+/// read failed, `Large` if there are more than `MAX_SCRIPT` bytes, and `Memory` if memory is refused. There are at most 2^64 - 1 reads, so
+/// that the loop ends; if they don't reach the script's end, the error is `Read`.
 pub fn read_script<R: Read>(alloc: Global, reader: &mut R) -> Result<Vec<u8>, RunFault>
     ensures whole { IfOk result (λ script. TakesAll (R.remaining reader.old) (R.remaining reader.new) script.items) }
     ensures short { IfOk result (λ script. vec_len script ≤ MAX_SCRIPT) }
@@ -36,7 +37,8 @@ pub fn read_script<R: Read>(alloc: Global, reader: &mut R) -> Result<Vec<u8>, Ru
     Err(RunFault::Read)
 }
 
-/// Writes `text` to `writer`. The error is `RunFault::Write` if a write failed, and then perhaps a part of `text` is written.
+/// Writes `text` to `writer`, behind what it has. The error is `RunFault::Write` if a write failed, and then perhaps a part of `text` is
+/// written.
 fn write_text<W: Write>(writer: &mut W, text: &[u8]) -> Result<(), RunFault>
     ensures ok { OnOk result (Appends (W.contents writer.old) (W.contents writer.new) text.now) }
     ensures fault { IfErr result (λ fault. fault ≡ RunFault.Write) }
@@ -47,7 +49,7 @@ fn write_text<W: Write>(writer: &mut W, text: &[u8]) -> Result<(), RunFault>
     }
 }
 
-/// Flushes `writer`. The error is `RunFault::Write` if that failed.
+/// Flushes `writer`, whose content stays. The error is `RunFault::Write` if that failed.
 fn flush_writer<W: Write>(writer: &mut W) -> Result<(), RunFault>
     ensures ok { OnOk result (Keeps (W.contents writer.old) (W.contents writer.new)) }
     ensures fault { IfErr result (λ fault. fault ≡ RunFault.Write) }
@@ -58,7 +60,8 @@ fn flush_writer<W: Write>(writer: &mut W) -> Result<(), RunFault>
     }
 }
 
-/// Writes `text` to `writer` and flushes it. The error is `RunFault::Write` if either failed, and then perhaps a part of `text` is written.
+/// Writes `text` to `writer`, behind what it has, and flushes the writer. The error is `RunFault::Write` if a write or the flush failed,
+/// and then perhaps a part of `text` is written.
 pub fn write_answers<W: Write>(writer: &mut W, text: &[u8]) -> Result<(), RunFault>
     ensures ok { OnOk result (Appends (W.contents writer.old) (W.contents writer.new) text.now) }
     ensures fault { IfErr result (λ fault. fault ≡ RunFault.Write) }
@@ -67,8 +70,8 @@ pub fn write_answers<W: Write>(writer: &mut W, text: &[u8]) -> Result<(), RunFau
     flush_writer(writer)
 }
 
-/// Writes `texts` to `writer`, one after another, and flushes it. The error is `RunFault::Write` if either failed, and then perhaps a part
-/// of `texts` is written.
+/// Writes `texts` to `writer`, one after another, and flushes the writer. The error is `RunFault::Write` if a write or the flush failed,
+/// and then perhaps a part of `texts` is written.
 pub fn write_sections<W: Write>(writer: &mut W, texts: &[Vec<u8>]) -> Result<(), RunFault>
     ensures ok { OnOk result (Appends (W.contents writer.old) (W.contents writer.new) (flat_map (λ t. t.items) texts.now)) }
     ensures fault { IfErr result (λ fault. fault ≡ RunFault.Write) }

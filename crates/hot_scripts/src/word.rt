@@ -35,7 +35,8 @@ pub fn parse_key(version: Version, word: &[u8]) -> Result<Key, Reason>
     }
 }
 
-/// Returns the key of `bytes`, `MAX_BYTES` at most; never an error.
+/// Returns the key of `bytes`, which must be `MAX_BYTES` at most. There is never an error: the result is one because the callers return
+/// one.
 fn make_key(bytes: &[u8]) -> Result<Key, Reason>
     requires { length bytes.now ≤ MAX_BYTES }
     ensures { result ≡ Ok bytes.now }

@@ -22,8 +22,9 @@ abbrev pub answer_text : Answer → List ℕ
 answer_text (Reply reply) = reply_text reply
 answer_text (Refused full) = full_text full
 
--- A command with its answer. It is a call that was answered, as its note tells, a call that lacked records of a kind, or a scan. `before`
--- and `after` are the lengths of the pass's front at the scan's load of the root and at its end.
+-- A command with its answer. `called`: a call that was answered, as its note tells. `refused`: a call that lacked records of a kind.
+-- `listed`: a scan with what it listed. Its `before` and `after` are the lengths of the pass's front at the scan's last load of the root
+-- and at its end.
 pub data Answered : Type 0 where
   called : (note : Note) → Answered
   refused : (call : Call) (lacks : Full) → Answered
@@ -47,7 +48,7 @@ note_of (called note) = Some note
 note_of (refused call full) = None
 note_of (listed range scan before after) = None
 
--- the command was not refused for want of records
+-- the command was not refused for want of records: it is an answered call or a scan
 abbrev pub IsGranted : Answered → Type 0
 IsGranted (called note) = Unit {0}
 IsGranted (refused call full) = ⊥

@@ -37,8 +37,9 @@ notes_in ran = filter_map note_of ran.answers
 abbrev pub text_in : RanScript → List ℕ
 text_in ran = flat_map lines_of_answer ran.answers
 
--- The answers stand in the front in their order, none before the place `low`. A scan is lawful while the front grew from its length
--- `before` to its length `after`. Earlier commands stand before the one, and later ones not before the other.
+-- The answers stand in the front in their order, none before the place `low`. An answered call stands at the place of its note, and later
+-- answers behind its change. A scan is lawful while the front grew from its length `before` to its length `after`. Earlier answers stand no
+-- later than `before`, and later ones no earlier than `after`. A refused call has no place, and is one that may lack such records.
 abbrev pub StandFrom : (front : List Change) (low : ℕ) (answers : List Answered) → Type 0
 StandFrom front low [] = Unit {0}
 StandFrom front low (called note ∷ rest) = (low ≤ note.place) × StandFrom front (place_after note) rest
@@ -76,7 +77,7 @@ sections first [] = []
 sections first (text ∷ texts) = line (with_number (codes "file ") first) ++ text ++ sections (first + 1) texts
 
 -- The text has the answers to the scripts of files, which run at the same time, and then those to the last script. Each script has a pass
--- of its own. The passes have numbers in this order.
+-- of its own. The passes are numbered in this order, from 0 on.
 pub record LawfulAnswers (scripts : List (List Command)) (last : List Command) (text : List ℕ) : Type 0 where
   pub files_ran : List RanScript
   pub last_ran : RanScript
@@ -95,9 +96,9 @@ pub record LawfulAnswers (scripts : List (List Command)) (last : List Command) (
   pub makers : All (λ change. change.pass ≤ length scripts) last_ran.front
   pub text_is : text ≡ sections 1 (map text_in files_ran) ++ line (codes "last") ++ text_in last_ran
 
--- The text has lawful answers, given on one index with `nodes` node records and `leaves` leaf records. Each file has a new pass, and its
--- gate was told the steps of the pass's calls. `gates` has each gate as it was before and after. A command was refused only if its call
--- found no record of a kind free (`IsAnswerTold`).
+-- The text has lawful answers, given on one index with `nodes` node records and one more for removals, and `leaves` leaf records, all long.
+-- Each file has a new pass, and its gate was told the steps of the pass's calls. `gates` has each gate as it was before and after. The last
+-- script's pass begins where all passes have met. A command was refused only if its call found no record of a kind free (`IsAnswerTold`).
 pub record AreAllAnswered {G : Type 0} (nodes leaves : ℕ) (becomes : G → Event → G → Type 0) (gates : List (G × G))
     (scripts : List (List Command)) (last : List Command) (text : List ℕ) : Type 0 where
   pub lawful : LawfulAnswers scripts last text
@@ -117,8 +118,8 @@ pub record LawfulScripts {G : Type 0} (nodes leaves : ℕ) (becomes : G → Even
   pub last_is : commands_of script ≡ Ok last
   pub answers : AreAllAnswered nodes leaves becomes gates scripts last text
 
--- A run of several scripts may end by this fault. It is want of memory, or the fault of the first file that has one. If no file has one, it
--- is a fault by which a run of the last script alone may end.
+-- A run of several scripts may end by this fault. It may always be want of memory. Else it is the fault of the first file that has one. If
+-- no file has one, it is a fault by which a run of the last script alone may end.
 abbrev pub MayEndScriptsBy : (files : List (List ℕ)) (old new : Option (List ℕ)) (fault : RunFault) → Type 0
 MayEndScriptsBy files old new Memory = Unit {0}
 MayEndScriptsBy files old new fault = (commands_of_files 1 files ≡ Err fault) ⊎ (IsOk (commands_of_files 1 files) × MayEndBy old new fault)

@@ -18,7 +18,9 @@ use Rattle.hot_scripts.specs.declared.command.Command.{Command}
 use Rattle.hot_scripts.specs.Grammar.{called_key}
 use Rattle.script_runs.specs.Answers.{Answered, called, refused, listed}
 
--- The pass has made a call, which was answered with this note. The note stands behind all changes that the pass had seen before.
+-- The pass `old` has made a call, which was answered with this note, and is `new`. The note is its only new one, and stands behind all
+-- changes that the pass had seen before. The pass's front has only grown, by changes of the index's passes, and all its notes are legal
+-- there.
 pub record IsCalled (layout : Layout) (old new : PassView) (note : Note) : Type 0 where
   pub number : new.number ≡ old.number
   pub front : BeginsWith new.front old.front
@@ -27,8 +29,10 @@ pub record IsCalled (layout : Layout) (old new : PassView) (note : Note) : Type 
   pub legal : LegalCalls new.front new.number new.notes
   pub makers : AreByPasses layout new.front
 
--- The pass was told this answer to a command. A call was refused only if it found no node record free, or no leaf record with room for its
--- key. A scan is lawful while the front grew from its length `before` to its length `after`.
+-- The pass `old` was told this answer to a command, and is `new`. `called`: the call was answered with this note. `refused`: the call, one
+-- that may lack such records, changed nothing. It was refused since it found no node record free, or no leaf record with room for its key.
+-- `listed`: the scan was answered. It is lawful while the pass's front grew from its length `before` to its length `after`. These are its
+-- lengths at the scan's last load of the root and at its end.
 abbrev pub IsAnswerTold : (layout : Layout) (old : PassView) (answer : Answered) (new : PassView) → Type 0
 IsAnswerTold layout old (called note) new = IsCalled layout old new note
 IsAnswerTold layout old (refused call full) new = MayLack call full × IsRefusedFor layout call old new (fault_of full)
@@ -56,7 +60,7 @@ pub record IsOfSize (passes nodes leaves : ℕ) (index : TableView) : Type 0 whe
   pub leaves_are : index.layout.leaves ≡ leaves
   pub all_long : index.layout.long_from ≡ 0
 
--- each leaf record has room for the key of the call that the command makes
+-- each leaf record has room for the key of the call that the command makes; a scan counts as a call of the empty key
 abbrev pub HasRoomFor : (layout : Layout) (command : Command) → Type 0
 HasRoomFor layout command = (leaf : ℕ) → leaf < layout.leaves → words_for (length (called_key command)) ≤ leaf_size layout leaf
 
@@ -68,8 +72,8 @@ pub record IsSizedFor (commands : List Command) (passes nodes leaves : ℕ) (ind
   pub leaves_are : index.layout.leaves ≡ leaves
   pub room : All (HasRoomFor index.layout) commands
 
--- The pass of this number of the index was told the answers. It had seen the changes `before`, and has seen the changes `after` then.
--- `gate` is its gate as it was before and after, which was told the steps.
+-- The pass of this number of the index was told the answers, one after another. It had seen the changes `before`, and has seen the changes
+-- `after` then. `gate` is its gate as it was before and after, which was told each step, in order, and nothing else.
 pub record WasTold {G : Type 0} (index : TableView) (becomes : G → Event → G → Type 0) (pass : ℕ) (gate : G × G)
     (before : List Change) (answers : List Answered) (after : List Change) : Type 0 where
   pub first : PassView
@@ -80,8 +84,9 @@ pub record WasTold {G : Type 0} (index : TableView) (becomes : G → Event → G
   pub ends : last.front ≡ after
   pub told : AreTold index becomes (first, gate.0) answers (last, gate.1)
 
--- A new pass of the index was told the answers. It knew no step of any pass before. So the steps of its calls stand in one run from the new
--- table on.
+-- A new pass of the index, of this number, was told the answers, and has then seen the changes `after`. `gate` is its gate as it was before
+-- and after. The pass had seen no change and knew no step of any pass before. So the steps of its calls stand in one run from the new table
+-- on.
 pub record WasToldAnew {G : Type 0} (index : TableView) (becomes : G → Event → G → Type 0) (pass : ℕ) (gate : G × G)
     (answers : List Answered) (after : List Change) : Type 0 where
   pub told : WasTold index becomes pass gate [] answers after

@@ -28,7 +28,8 @@ pub struct Done<'a> {
     pub text: Vec<u8>,
 }
 
-/// Adds the line of `answer` to the end of `text`. `AllocError` if memory is refused: then perhaps a part of the line is added.
+/// Adds the line that tells `answer`, a reply or the kind of records of which none was free, to the end of `text`. `AllocError` if memory
+/// is refused: then perhaps a part of the line is added.
 pub fn push_answer(text: &mut Vec<u8>, answer: Answer) -> Result<(), AllocError>
     ensures { OnOk result (text.new.items ≡ text.old.items ++ line (answer_text answer)) }
 {
@@ -39,9 +40,9 @@ pub fn push_answer(text: &mut Vec<u8>, answer: Answer) -> Result<(), AllocError>
     }
 }
 
-/// Returns texts that follow one another. The answers to each of `files`, `MAX_FILES` at most, stand below a line `file I`, where `I`
-/// counts from 1. Then comes `last`, the answers to the last script, below the line `last`. The files' texts are taken out of `files`.
-/// `AllocError` if memory is refused.
+/// Returns texts that follow one another. The answers to each of `files`, which must be `MAX_FILES` at most, stand below a line `file I`,
+/// where `I` counts from 1. Then comes `last`, the answers to the last script, below the line `last`. The files' texts are taken out of
+/// `files`. `AllocError` if memory is refused.
 pub fn make_sections(
     alloc: Global,
     files: &mut [Done<'_>],

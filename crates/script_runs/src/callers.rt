@@ -11,15 +11,16 @@ use finite_map::{Call, Reply};
 use hot_index::{Full, Gate, Handle, Index, TryFault};
 use std::sync::Wait;
 
-/// A way to make calls through a handle, each until it has a reply or is refused for want of records.
+/// A way to make calls through a handle. Each call is made until it has a reply, or is refused for want of records.
 pub trait Caller {
     ghost use Rattle.rowex_table.specs.Seats.{TableView};
 
-    /// That it may make calls at this index.
+    /// Whether the caller may make calls at this index.
     ghost fits: { Self → TableView → Type 0 };
 
-    /// Makes `call` through `handle`, whose index fits; `gate` is told each of its steps. Returns the reply. If it found no record of a
-    /// kind free, it changed nothing, and the error is that kind.
+    /// Makes `call` through `handle`, whose index must fit; `gate` is told each step of the call. Returns the reply. The handle stays at
+    /// its index. If the last try found no record of a kind free, the call has changed nothing, and the error is that kind. Only a kind
+    /// that such a call may lack is returned.
     fn call<G: Gate>(
         &self,
         handle: &mut Handle<&Index>,
@@ -42,8 +43,8 @@ pub struct Waits<'a, T> {
 impl<'a, T: Wait> Caller for Waits<'a, T> {
     ghost fits = { λ caller index. Unit {0} };
 
-    /// Makes `call` through `handle`, and waits where another pass is in its way. Returns the reply, or the kind of records of which none
-    /// was free. `gate` is told each step.
+    /// Makes `call` through `handle`. Waits where another pass is in its way, or records that it lacks may come back. Returns the reply, or
+    /// the kind of records of which none was free, with nothing changed. `gate` is told each step.
     fn call<G: Gate>(
         &self,
         handle: &mut Handle<&Index>,
@@ -65,8 +66,8 @@ impl Caller for Alone {
 
     ghost fits = { λ caller index. index.layout.passes ≡ 1 };
 
-    /// Makes `call` through `handle`, whose pass is the only one of its index, by one try. Returns the reply, or the kind of records of
-    /// which none was free. `gate` is told each step.
+    /// Makes `call` through `handle`, whose pass is the only one of its index, by one try: no other pass can be in its way. Returns the
+    /// reply, or the kind of records of which none was free, with nothing changed. `gate` is told each step.
     fn call<G: Gate>(
         &self,
         handle: &mut Handle<&Index>,

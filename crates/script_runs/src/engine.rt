@@ -25,7 +25,8 @@ struct Output {
     pairs: Pairs,
 }
 
-/// Makes `call` through `handle`, by `caller`, which fits the index, and returns the answer. `gate` is told each step.
+/// Makes `call` through `handle`, by `caller`, which must fit the index. Returns the answer: the reply, or the kind of records of which
+/// none was free, with nothing changed. The handle stays at its index, and `gate` is told each step.
 fn make_call<C: Caller, G: Gate>(
     caller: &C,
     handle: &mut Handle<&Index>,
@@ -42,8 +43,8 @@ fn make_call<C: Caller, G: Gate>(
     }
 }
 
-/// Runs a scan of `range` through `handle`, and adds the lines of its answer to the text of `output`. `gate` is told each step.
-/// `AllocError` if memory is refused: then perhaps a part of the lines is added.
+/// Runs a scan of `range` through `handle`, which stays at its index, and adds the lines of its answer to the text of `output`. `gate` is
+/// told each step. `AllocError` if memory is refused: then perhaps a part of the lines is added.
 fn run_scan<G: Gate>(
     handle: &mut Handle<&Index>,
     range: &KeyRange,
@@ -65,8 +66,9 @@ fn run_scan<G: Gate>(
     push_scan(&mut output.text, &output.pairs, more)
 }
 
-/// Runs `command` through `handle`, and adds the lines of its answer to the text of `output`. A call is made by `caller`, which fits the
-/// index. `gate` is told each step. `AllocError` if memory is refused: then perhaps a part of the lines is added.
+/// Runs `command` through `handle`, which stays at its index, and adds the lines of its answer to the text of `output`. A call is made by
+/// `caller`, which must fit the index. `gate` is told each step. `AllocError` if memory is refused: then perhaps a part of the lines is
+/// added.
 fn run_command<C: Caller, G: Gate>(
     caller: &C,
     handle: &mut Handle<&Index>,
@@ -88,8 +90,9 @@ fn run_command<C: Caller, G: Gate>(
     }
 }
 
-/// Runs the commands of `script` through `handle`, one after another, and returns the lines of their answers. Calls are made by `caller`,
-/// which fits the index. `gate` is told each step. `AllocError` if memory is refused: the commands up to that one were run.
+/// Runs the commands of `script` through `handle`, which stays at its index, one after another, and returns the lines of their answers.
+/// Calls are made by `caller`, which must fit the index. `gate` is told each step. `AllocError` if memory is refused for an answer: the
+/// commands before have run, and perhaps the command of that answer.
 pub fn run_script<C: Caller, G: Gate>(
     caller: &C,
     alloc: Global,

@@ -29,8 +29,9 @@ pub struct Records {
     ghost leaves_fit: { IsLeafCount leaves },
 }
 
-/// Returns an empty index of `records` for `script`, with its only pass; `AllocError` if memory is refused. All leaf records are of the
-/// smallest class with room for the keys of the script's calls. So they are close together, and a scan takes less time.
+/// Returns an empty index for `script`, of `records` and one node record more for removals. With it comes its only pass, which is new.
+/// `AllocError` if memory is refused. All leaf records are of the smallest class with room for the keys of the script's calls. So they are
+/// close together, and a scan takes less time.
 pub fn create_index_for_script(
     alloc: Global,
     records: Records,
@@ -51,7 +52,8 @@ pub fn create_index_for_script(
     }
 }
 
-/// Returns a stock of `records`, whose leaf records are all of the smallest class with room for keys of `longest` bytes.
+/// Returns a stock of `records`. Its leaf records are all of the smallest class with room for keys of `longest` bytes, or of `MAX_BYTES` if
+/// `longest` is more.
 fn choose_stock(records: Records, longest: usize) -> Stock
     ensures nodes { result.nodes ≡ records.nodes }
     ensures leaves { leaves_of result ≡ records.leaves }
@@ -61,8 +63,9 @@ fn choose_stock(records: Records, longest: usize) -> Stock
     Stock::of_class(records.nodes, LeafClass::for_key(longest), records.leaves)
 }
 
-/// Returns an empty index of `records`, the passes for `files` files, `MAX_FILES` at most, and the pass of the last script. The passes have
-/// the numbers from 0 on, in this order. All leaf records are long. `AllocError` if memory is refused.
+/// Returns an empty index of `records`, with one node record more for removals. With it come the passes for `files` files, which must be
+/// `MAX_FILES` at most, and the pass of the last script. The passes are new, and have the numbers from 0 on, in this order. All leaf
+/// records are long, so they have room for any key. `AllocError` if memory is refused.
 pub fn create_index_for_files(
     alloc: Global,
     files: u32,

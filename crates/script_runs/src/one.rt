@@ -14,7 +14,9 @@ use hot_index::{Handle, Index, NoGate, Pass};
 use hot_scripts::script::Script;
 use std::alloc::{AllocError, Global};
 
-/// Returns the answers to `script` on a new index with `records`; `AllocError` if memory is refused.
+/// Runs `script` on a new index of one pass, with `records` and one node record more for removals. Returns the lines of the answers;
+/// `AllocError` if memory is refused. Each answer is that of the map that the commands before have left. A command is refused only if its
+/// call found no record of a kind free, and changes nothing then.
 pub fn run_on_new_index(
     alloc: Global,
     records: Records,
@@ -26,7 +28,8 @@ pub fn run_on_new_index(
     run_script_alone(alloc, &index, pass, script)
 }
 
-/// Returns the answers to `script` on `index`, whose only pass is `pass`; `AllocError` if memory is refused.
+/// Runs `script` on `index`, whose only pass must be `pass`, one command after another, without waiting. Returns the lines of the answers;
+/// `AllocError` if memory is refused.
 fn run_script_alone(
     alloc: Global,
     index: &Index,

@@ -29,7 +29,7 @@ pub struct Results<G> {
     pub gates: Vec<G>,
 }
 
-/// A thread that runs a script, and returns it with its gate; an error if memory is refused.
+/// A thread that runs a script and returns what has run with its gate, or an error if memory is refused. It promises to run its `Order`.
 type Running<'a, G> = PromisedHandle<Result<(Done<'a>, G), AllocError>, Order<'a, G>>;
 
 /// What a thread is to run, for contracts alone.
@@ -47,9 +47,10 @@ impl<'a, G: Gate> Promise<Result<(Done<'a>, G), AllocError>> for Order<'a, G> {
     ghost kept_by = { λ order result. IfOk result (HasRunItsOrder G.becomes order) };
 }
 
-/// Makes an index of `records` and runs scripts on it. The scripts of files, `scripts`, `MAX_FILES` at most, run at the same time, each in
-/// a thread with the gate of its number. `last` runs when they have ended. Returns all answers, and the gates in the order of `scripts`.
-/// `AllocError` if memory is refused, or a thread can't be started.
+/// Makes an index of `records`, with one node record more for removals, and runs scripts on it. The scripts of files, `scripts`,
+/// `MAX_FILES` at most, run at the same time, each in a thread with the gate of its number. `last` runs when they have ended. Returns all
+/// answers, which are lawful, and the gates in the order of `scripts`. There must be a gate for each of these. Each gate was told the steps
+/// of its script's commands. `AllocError` if memory is refused, or a thread can't be started.
 pub fn run_all_scripts<T: AllocGlobal + Threads + Wait + Sync, G: Gate + Send + Drop>(
     rt: &T,
     records: Records,
@@ -69,8 +70,9 @@ pub fn run_all_scripts<T: AllocGlobal + Threads + Wait + Sync, G: Gate + Send + 
     end_run(rt, Handle::new(&index, pass), ran, last)
 }
 
-/// Lets the pass of `handle` meet the passes of the scripts of `ran`, which ran at the same index, `MAX_FILES` at most. Then it runs `last`
-/// by that pass, and lets it meet them again. Returns all answers, and the gates in the order of `ran`. `AllocError` if memory is refused.
+/// Lets the pass of `handle` meet the passes of the scripts of `ran`, which must have run at the same index, `MAX_FILES` at most. Then it
+/// runs `last` by the pass of `handle`, and lets this pass meet the others again. Returns all answers, and the gates in the order of `ran`.
+/// `AllocError` if memory is refused.
 fn end_run<'a, T: AllocGlobal + Wait, G: Gate + Drop>(
     rt: &T,
     handle: Handle<&'a Index>,
@@ -105,8 +107,8 @@ fn split_gates<'a, G: Drop>(
     Ok((scripts, gates))
 }
 
-/// Runs `last`, the last script, through `handle`, whose pass then meets the passes of `met`. Returns the answers to all scripts, as texts
-/// that follow one another. `AllocError` if memory is refused.
+/// Runs `last`, the last script, through `handle`. Then the pass of `handle` meets the passes of `met`, which must be at the same index,
+/// `MAX_FILES` at most. Returns the answers to all scripts, as texts that follow one another. `AllocError` if memory is refused.
 fn run_last_script<'a, T: AllocGlobal + Wait>(
     rt: &T,
     handle: Handle<&'a Index>,
@@ -124,8 +126,9 @@ fn run_last_script<'a, T: AllocGlobal + Wait>(
     make_sections(rt.alloc(), met, done.text)
 }
 
-/// Runs each of `scripts` in a thread with the handle and the gate of its number, all at the same time, and joins the threads. Returns each
-/// script that has run beside its gate, in the order of `scripts`. `AllocError` if memory is refused, or a thread can't be started.
+/// Runs each of `scripts` in a thread with the handle and the gate of its number, all at the same time, and joins the threads. There must
+/// be as many handles and gates as scripts. Returns each script that has run beside its gate, in the order of `scripts`. `AllocError` if
+/// memory is refused, or a thread can't be started.
 fn run_files<'a, T: AllocGlobal + Threads + Wait + Sync, G: Gate + Send + Drop>(
     rt: &T,
     handles: Vec<Handle<&'a Index>>,
@@ -145,8 +148,9 @@ fn run_files<'a, T: AllocGlobal + Threads + Wait + Sync, G: Gate + Send + Drop>(
     )
 }
 
-/// Runs each of `scripts` as `run_files` does, and returns the same. The threads are those of the scope `threads`, and each has the handle
-/// and the gate of its number.
+/// Runs each of `scripts` in a thread of the scope `threads`, which waits for its threads. Each has the handle and the gate of its number,
+/// as in `run_files`, and there must be as many of each. Returns each script that has run beside its gate, in order. `AllocError` if memory
+/// is refused, or a thread can't be started.
 fn run_files_in_scope<'a: 's, 's, E, T, G>(
     threads: &Scope<'s, E>,
     rt: &'s T,
@@ -164,8 +168,9 @@ where
     join_files(rt, running)
 }
 
-/// Starts a thread for each of `scripts`, with the handle and the gate of its number. Returns the threads in the order of `scripts`.
-/// `AllocError` if memory is refused, or a thread can't be started; those that were started go on, and the scope waits for them.
+/// Starts a thread for each of `scripts`, with the handle and the gate of its number. There must be as many handles and gates as scripts.
+/// Returns the threads in the order of `scripts`. `AllocError` if memory is refused, or a thread can't be started; those that were started
+/// go on, and the scope waits for them.
 fn start_files<'a: 's, 's, E, T, G>(
     threads: &Scope<'s, E>,
     rt: &'s T,
@@ -196,8 +201,8 @@ where
     Ok(running)
 }
 
-/// Joins the threads `running`, one after another, and returns what they ran, in their order. `AllocError` if memory is refused, here or in
-/// a thread.
+/// Joins the threads `running`, one after another. Returns the script that each has run, as its `Order` asks, beside the gate, in the order
+/// of the threads. `AllocError` if memory is refused, here or in a thread.
 fn join_files<'a, T: AllocGlobal + Threads + Wait, G: Gate + Drop>(
     rt: &T,
     running: Vec<Running<'a, G>>,
@@ -211,8 +216,8 @@ fn join_files<'a, T: AllocGlobal + Threads + Wait, G: Gate + Drop>(
     Ok(done)
 }
 
-/// Starts a thread that runs `script` by `handle`, and returns it. `gate` is told each step of the script's calls. `AllocError` if the
-/// thread can't be started.
+/// Starts a thread that runs `script` by `handle`, and returns the thread, whose promise is an `Order` of just these. `gate` is told each
+/// step of the script's calls. `AllocError` if the thread can't be started.
 fn start_file<'a: 's, 's, E, T, G>(
     threads: &Scope<'s, E>,
     rt: &'s T,
@@ -239,8 +244,8 @@ where
     Ok(thread)
 }
 
-/// Runs `script` by `handle`, and waits where another pass is in its way. `gate` is told each step. Returns the handle with the answers,
-/// and the gate. `AllocError` if memory is refused.
+/// Runs `script` by `handle`, and waits where another pass is in its way or records may come back. `gate` is told each step. Returns the
+/// handle, at the same index, with the answers, and the gate. `AllocError` if memory is refused.
 fn run_file<'a, T: AllocGlobal + Wait, G: Gate + Drop>(
     rt: &T,
     handle: Handle<&'a Index>,
@@ -257,8 +262,8 @@ fn run_file<'a, T: AllocGlobal + Wait, G: Gate + Drop>(
     }
 }
 
-/// Lets the pass of `handle` meet the pass of each script of `done`, in order, as `Handle::meet` does; all are at one index. So each of
-/// these sees what the pass of `handle` and those before it had seen. Returns the handle.
+/// Lets the pass of `handle` meet the pass of each script of `done`, in order, as `Handle::meet` does; all must be at one index. So each of
+/// these sees what the pass of `handle` and those before had seen. Their answers stay. Returns the handle, at the same index.
 fn meet_all_passes<'a>(handle: Handle<&'a Index>, done: &mut [Done<'a>]) -> Handle<&'a Index>
     requires { AreAt handle.index handle done.old }
     ensures index { AreAt handle.entry.index result done.new }
@@ -271,7 +276,8 @@ fn meet_all_passes<'a>(handle: Handle<&'a Index>, done: &mut [Done<'a>]) -> Hand
     last
 }
 
-/// Lets the pass of `handle` meet the pass of `done`, a script that has run at the same index. Returns the handle.
+/// Lets the pass of `handle` meet the pass of `done`, a script that must have run at the same index. The script's answers stay, and both
+/// handles stay at their index. Returns the handle.
 fn meet_script<'a>(handle: Handle<&'a Index>, done: &mut Done<'a>) -> Handle<&'a Index>
     requires { done.old.handle.index ≡ handle.index }
     ensures index { (result.index ≡ handle.entry.index) × (done.new.handle.index ≡ handle.entry.index) }
