@@ -145,7 +145,7 @@ fn line_of_act(act: &Act) -> Line {
     }
 }
 
-/// Adds the line of `act` to `text`, without a line end. If memory is refused, an error, and perhaps a part of it.
+/// Adds the line of `act` to `text`, without a line end. `AllocError` if memory is refused: then perhaps a part of the line is added.
 pub fn write_act(text: &mut String, act: &Act) -> Result<(), AllocError> {
     let line = line_of_act(act);
     write!(text, "{}{}", line.name, line.thing)?;

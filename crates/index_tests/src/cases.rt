@@ -87,7 +87,7 @@ fn parse_count(word: &str) -> io::Result<u32> {
 }
 
 /// Adds the tasks of `text`, parted by commas, to the end of `tasks`. `bad_line` at the first part that is no task; an error if memory is
-/// refused. The tasks before that stay in `tasks`.
+/// refused. Tasks that were added before the error stay in `tasks`.
 pub fn parse_tasks(tasks: &mut Vec<Task>, text: &str) -> io::Result<()> {
     let alloc = *tasks.allocator();
     for part in text.split(',') {

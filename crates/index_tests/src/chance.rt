@@ -17,7 +17,8 @@ use std::io;
 pub struct Chance(pub u64);
 
 impl Chance {
-    /// Returns the next number by chance, below `bound`; 0 if `bound` is 0.
+    /// Returns the next number by chance, below `bound`; 0 if `bound` is 0. The numbers are Knuth's for MMIX, without their lower bits,
+    /// which repeat soon.
     pub fn next_below(&mut self, bound: u64) -> u64 {
         self.0 = self
             .0
@@ -26,7 +27,8 @@ impl Chance {
         (self.0 >> 33).checked_rem(bound).unwrap_or(0)
     }
 
-    /// Returns the next task by chance: with one of `keys`, or the empty key if there is none, and with `value` if it takes one.
+    /// Returns the next task by chance, of all kinds but exchanges, conditional removals and scans downwards. It has one of `keys`, or the
+    /// empty key if there is none, and `value` if it takes one.
     pub fn next_task(&mut self, keys: &[Key], value: u64) -> Task {
         let kind = self.next_below(16);
         let key = match keys.get(self.next_below(keys.len() as u64) as usize) {
@@ -45,8 +47,8 @@ impl Chance {
     }
 }
 
-/// Takes turns on a new index of `case`, and prints whether all were lawful. `text` has the seed and how many turns. The error is
-/// `bad_line` if it hasn't, or there is no such index. It returns an error, too, if memory is refused, or a write failed.
+/// Takes turns on a new index of `case`, and prints whether all were lawful. `text` has the seed and the number of turns. The error is
+/// `bad_line` if it has anything else, or there is no such index. It returns an error, too, if memory is refused, or a write failed.
 pub fn run_turns<R: Print + AllocGlobal>(rt: &R, case: &TestCase, text: &str) -> io::Result<()> {
     let (seed, turns) = parse_two_numbers(text)?;
     let (index, passes) = create_index(case.alloc, 2, case.nodes, case.leaves)?;
@@ -54,7 +56,8 @@ pub fn run_turns<R: Print + AllocGlobal>(rt: &R, case: &TestCase, text: &str) ->
     println!(rt; "{turns} turns from {seed}: {}", verdict(wrong))
 }
 
-/// Does what `case` does beforehand and then what `take_turns` does, on `index`, which was just made, with its two `passes`.
+/// Does what `case` does beforehand on `index`, which was just made, with its two `passes`. Then it takes `turns` turns from `seed`.
+/// Returns how often something was wrong; an error as of `prepare_guest`, or if memory is refused.
 fn take_turns_on_new_index(
     case: &TestCase,
     index: &Index,
@@ -83,9 +86,9 @@ fn take_turns(
     Ok(gate.judge.wrong)
 }
 
-/// Has `guest` do a task by `chance`. After one of its first 160 steps, by chance too, `gate` has the other pass do a second one, if the
-/// first has so many steps. `turn` is the value of both. Every 32nd turn it drops the steps that were kept, and compares scans by `guest`
-/// with the replay. `gate.judge` counts what is wrong. `AllocError` if memory is refused.
+/// Has `guest` do a task by `chance`. After one of its first 160 steps, by chance too, `gate` has the other pass do a second one; if the
+/// first task has fewer steps, the second isn't done. `turn` is the value of both. Every 32nd turn it drops the steps that were kept, and
+/// compares scans by `guest` with the replay. `gate.judge` counts what is wrong. `AllocError` if memory is refused.
 fn run_random_turn(
     case: &TestCase,
     guest: &mut Guest,

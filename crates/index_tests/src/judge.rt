@@ -11,7 +11,8 @@ use rowex_replay::Replay;
 use std::alloc::{AllocError, Global};
 use std::io;
 
-/// A gate that judges each step by a replay, and keeps it in `told`. `wrong` counts what was wrong, and steps without memory to keep them.
+/// A gate that judges each step by a replay, and keeps it in `told`. `wrong` counts the steps that the replay refuses, those that there is
+/// no memory to keep, and scans with other pairs than the replay's.
 #[derive(Drop)]
 pub struct Judge {
     replay: Replay,
@@ -32,8 +33,8 @@ impl Judge {
         })
     }
 
-    /// Compares a scan of all keys by `guest`, and one downwards, with the map that the steps so far have made. It counts each that differs
-    /// as wrong. `AllocError` if memory is refused.
+    /// Compares a scan of all keys by `guest`, and one downwards, with the map that the steps so far have made. Each of the two that
+    /// differs counts as one wrong. The steps of the scans are judged, too. `AllocError` if memory is refused.
     pub fn judge_scans(&mut self, alloc: Global, guest: &mut Guest) -> Result<(), AllocError> {
         let up = scan_from_lowest(guest, alloc, usize::MAX, self)?;
         self.judge_scan(alloc, &up)?;

@@ -14,8 +14,9 @@ use std::{io, mem};
 /// More steps than a pass makes here.
 const MAX_STEPS: u64 = 10_000;
 
-/// Lets pass 0 of a new index of `case` do the tasks of `text`, after those of `before`. Prints what it was answered, each of its steps,
-/// and whether all were lawful. `bad_line` if no index is made, or at a bad task; an error if memory is refused, or a write failed.
+/// Lets pass 0 of a new index of `case` do the tasks of `text`, after those of `before`. Prints what the pass was answered, each of its
+/// steps, and whether all steps and scans were lawful. `bad_line` if no index is made, or at a bad task; an error if memory is refused, or
+/// a write failed.
 pub fn print_steps<R: Print + AllocGlobal>(rt: &R, case: &TestCase, text: &str) -> io::Result<()> {
     let mut lines = String::new(case.alloc);
     let (index, passes) = create_index(case.alloc, 2, case.nodes, case.leaves)?;
@@ -23,7 +24,8 @@ pub fn print_steps<R: Print + AllocGlobal>(rt: &R, case: &TestCase, text: &str) 
     println!(rt; "{text}{lines}")
 }
 
-/// Lets pass 0 of `index`, just made with `passes`, do the tasks of `text`. Adds what `print_steps` prints of that to `lines`.
+/// Lets pass 0 of `index`, just made with `passes`, do the tasks of `text`. Adds the answers, the steps and the verdict, which
+/// `print_steps` prints, to `lines`. It fails as `print_steps` does.
 fn write_steps(
     case: &TestCase,
     index: &Index,
@@ -37,7 +39,8 @@ fn write_steps(
     write_steps_of_guest(case, &mut guest, &mut gate, text, lines)
 }
 
-/// Does what `write_steps` does, by `guest`, whose steps `gate` is told.
+/// Lets `guest`, whose steps `gate` is told, do the tasks of `text`. Adds the answers, the steps and the verdict to `lines`. `bad_line` at
+/// a bad task; an error if memory is refused.
 fn write_steps_of_guest(
     case: &TestCase,
     guest: &mut Guest,
@@ -51,7 +54,8 @@ fn write_steps_of_guest(
     Ok(write_replies_and_acts(case, guest, gate, &tasks, lines)?)
 }
 
-/// Lets `guest` do `tasks`. Adds its answers, the steps that `gate` keeps and the verdict to `lines`. `AllocError` if memory is refused.
+/// Lets `guest` do `tasks`. Adds what it was answered, the steps that `gate` keeps and the verdict to `lines`. `AllocError` if memory is
+/// refused.
 fn write_replies_and_acts(
     case: &TestCase,
     guest: &mut Guest,
@@ -101,7 +105,7 @@ struct Stop {
 }
 
 /// Lets pass 0 do `tasks`, and stops it for pass 1 to do `other`: after its first step, after its second, and so on, each time on a new
-/// index, until it makes fewer steps. It prints and fails as `stop_for_each_other` does.
+/// index, until pass 0 makes fewer steps. It prints and fails as `stop_for_each_other` does.
 fn stop_at_each_step<R: Print + AllocGlobal>(
     rt: &R,
     case: &TestCase,
@@ -113,7 +117,9 @@ fn stop_at_each_step<R: Print + AllocGlobal>(
     stop_in_turn(rt, case, tasks, other, tells, &mut said, &mut before)
 }
 
-/// Does what `stop_at_each_step` does, with a text `said` for what was answered at a stop, and one for the stop `before` it.
+/// Stops pass 0 in its `tasks` after each step in turn, as `stop_at_each_step` does, and prints and fails as that does. `said` is room for
+/// what was answered at one stop, and `before` for what was answered at the stop before it. So stops with the same answers are told as one
+/// range.
 fn stop_in_turn<R: Print + AllocGlobal>(
     rt: &R,
     case: &TestCase,
@@ -141,7 +147,8 @@ fn stop_in_turn<R: Print + AllocGlobal>(
     Err(bad_line())
 }
 
-/// Lets pass 0 of a new index do `tasks`, and stops it after `step` steps for pass 1 to do `other`. Adds the answers of both to `said`.
+/// Lets pass 0 of a new index do `tasks`, and stops it after `step` steps for pass 1 to do `other`. Adds what both were answered to `said`.
+/// Returns whether pass 0 made so many steps, and how often something was wrong.
 fn stop_at_step(
     case: &TestCase,
     tasks: &[Task],
@@ -153,7 +160,8 @@ fn stop_at_step(
     stop_on_index(case, &index, passes, tasks, other, step, said)
 }
 
-/// Does what `stop_at_step` does, on `index`, which was just made, with its `passes`.
+/// Lets pass 0 of `index`, which was just made with `passes`, do `tasks`, and stops it after `step` steps, as `stop_at_step` does. Returns
+/// and adds to `said` the same.
 fn stop_on_index(
     case: &TestCase,
     index: &Index,
@@ -169,7 +177,8 @@ fn stop_on_index(
     make_stop(case, &mut guest, &mut gate, tasks, other, step, said)
 }
 
-/// Does what `stop_at_step` does, by `guest`, which `gate` stops. Compares scans of the index with the replay afterwards.
+/// Lets `guest` do `tasks`. `gate` stops it after `step` steps, for the other pass to do `other`. Adds what both were answered to `said`,
+/// and compares scans of the index with the replay. Returns whether `guest` made so many steps, and how often something was wrong.
 fn make_stop(
     case: &TestCase,
     guest: &mut Guest,

@@ -15,7 +15,7 @@ use std::sync::atomic::{AtomicU64, Ordering};
 use std::thread::{Threads, map_vec};
 use std::{io, thread};
 
-/// Nobody's turn.
+/// What `turn` of a `Rota` is while it is nobody's turn.
 const FREE: u64 = u64::MAX;
 /// How often a thread looks whether it is its turn before it gives up.
 const MAX_LOOKS: u32 = 50_000_000;
@@ -44,7 +44,8 @@ struct Sums {
 }
 
 impl Rota {
-    /// Waits until it is the turn of thread `number`, or takes a turn that is nobody's. After `MAX_LOOKS` looks it adds one to `lost`.
+    /// Waits until it is the turn of thread `number`, or takes a turn that is nobody's. After `MAX_LOOKS` looks it gives up and adds one to
+    /// `lost`, so that a lost turn ends the run as wrong.
     fn wait_for_turn(&self, number: u64) {
         for _ in 0..MAX_LOOKS {
             if self.turn.load(Ordering::SeqCst) == number
@@ -60,8 +61,8 @@ impl Rota {
         self.lost.fetch_add(1, Ordering::SeqCst);
     }
 
-    /// Gives the turn to one of the threads that have begun and not ended, by chance from the seed and `step`. Returns its number; if there
-    /// is none, the turn is nobody's, and it returns `FREE`.
+    /// Gives the turn to one of the threads that have begun and not ended, by chance from the seed and `step`. Returns the thread's number.
+    /// If there is none, the turn is nobody's, and it returns `FREE`.
     fn hand_on_turn(&self, step: u64) -> u64 {
         let begun = self.begun.load(Ordering::SeqCst);
         let mut next = Chance(self.seed ^ step).next_below(4);
@@ -108,7 +109,7 @@ impl<'a> Gate for Turns<'a> {
     }
 }
 
-/// Adds one to the value of `key`, if it has one and no other pass is at work there. Then `gate.rota.added` is one more.
+/// Tries to add one to the value of `key`. If the key has a value and no other pass is in the way, `gate.rota.added` counts the addition.
 fn add_one(guest: &mut Guest, gate: &mut Turns, key: &Key) {
     let call = Call::Add(key.copy(), 1);
     let told = guest.index.try_call_with(&mut guest.pass, &call, gate);
@@ -117,8 +118,9 @@ fn add_one(guest: &mut Guest, gate: &mut Turns, key: &Key) {
     }
 }
 
-/// Does `TASKS` tasks by chance, by `pass`, each step in its turn, and adds to the value of `case.counter` after each. Returns its steps,
-/// each with its number. `rota.lost` counts what failed.
+/// Does `TASKS` tasks by chance, by `pass`, and adds to the value of `case.counter` after each, if the case has one. Returns the steps, in
+/// the order in which they were made, each with its number among those of all threads. `rota.lost` counts tasks that failed, and waits for
+/// a turn that were given up.
 fn run_thread(case: &TestCase, rota: &Rota, index: &Index, pass: Pass) -> Vec<(u64, Event)>
     requires { Owns index.now pass }
 {
@@ -166,7 +168,7 @@ fn judge_steps(
     judge.judge_scans(alloc, last)
 }
 
-/// Puts each of `steps`, those of a thread, into `order` at its number, if that has one so high.
+/// Puts each of `steps`, those of a thread, into `order` at the step's number. A number that `order` has no place for is left out.
 fn order_steps(order: &mut [Option<Event>], steps: &[(u64, Event)]) {
     for (step, event) in steps.iter() {
         if let Some(place) = order.get_mut(*step as usize) {
@@ -175,7 +177,8 @@ fn order_steps(order: &mut [Option<Event>], steps: &[(u64, Event)]) {
     }
 }
 
-/// Gives `event`, which is the step of some number, to `judge`. `None` says that there is no such step, and counts as wrong.
+/// Gives `event`, what stands at one place of the order of all steps, to `judge`. `None` says that no thread told of that step, and counts
+/// as one wrong.
 fn judge_step(judge: &mut Judge, event: &Option<Event>) {
     match event {
         Some(event) => judge.at(event),
@@ -183,8 +186,9 @@ fn judge_step(judge: &mut Judge, event: &Option<Event>) {
     }
 }
 
-/// Lets `threads` threads step on a new index in an order made from `seed`. Returns how often something was wrong. It returns an error if a
-/// number is out of range, memory is refused, or a thread can't be started.
+/// Lets `threads` threads step on a new index of `case`, in an order made from `seed`, after what the case does beforehand. Returns how
+/// often something was wrong, as `count_wrong` counts it. It returns an error if a number is out of range, memory is refused, or a thread
+/// can't be started.
 fn run_order<R: AllocGlobal + Threads + Sync>(
     rt: &R,
     case: &TestCase,
@@ -196,7 +200,9 @@ fn run_order<R: AllocGlobal + Threads + Sync>(
     run_threads(rt, case, &index, seats, passes, seed)
 }
 
-/// Does what `run_order` does, on `index`, which was just made. `seats` are all its passes, `passes` in number.
+/// Starts a thread for each pass but the last, and lets the threads step on `index`, which was just made. Returns how often something was
+/// wrong, as `run_order` does. `seats` are all its passes, `passes` in number: one for each thread, and the last for what is done before
+/// and after.
 fn run_threads<R: AllocGlobal + Threads + Sync>(
     rt: &R,
     case: &TestCase,
@@ -219,8 +225,10 @@ fn run_threads<R: AllocGlobal + Threads + Sync>(
     count_wrong(case, &mut judge, &mut last, &told, sums)
 }
 
-/// Lets a thread for each of `seats` step, in an order made from `seed`. Returns the steps of each, and what they counted. It returns an
-/// error if memory is refused, or a thread can't be started.
+/// Starts a thread for each pass of `seats`, which are of `index`, and lets it do its tasks (`run_thread`). The threads take turns in an
+/// order made from `seed`. Returns the steps of each thread, each with its number among all, in the order of `seats`. With them it returns
+/// how many waits and tasks failed in all threads, and how many additions were made. It returns an error if memory is refused, or a thread
+/// can't be started.
 fn step_threads<R: AllocGlobal + Threads + Sync>(
     rt: &R,
     case: &TestCase,
@@ -249,8 +257,9 @@ fn step_threads<R: AllocGlobal + Threads + Sync>(
     Ok((told, sums))
 }
 
-/// Returns how often `judge`, which knows all before the steps `told`, finds one of them or a scan by `last` wrong, plus `sums.lost`. It
-/// counts one more if the value of `case.counter` isn't `sums.added`. It returns an error if memory is refused.
+/// Returns how often something was wrong in the steps `told`: the steps and the scans by `last` that `judge` finds wrong, and `sums.lost`.
+/// `judge` knows all steps before `told`. It counts one more if the value of `case.counter` isn't `sums.added`. It returns an error if
+/// memory is refused.
 fn count_wrong(
     case: &TestCase,
     judge: &mut Judge,
@@ -268,8 +277,8 @@ fn count_wrong(
 }
 
 /// Lets threads step in turns on new indexes of `case`, and prints whether all was lawful. `text` has two numbers: of the threads, which
-/// must be `MOST_THREADS` at most, and of the orders, each on an index of its own. The error is `bad_line` for any other text. Else it is
-/// that of a `run_order`, or of the write.
+/// must be `MOST_THREADS` at most, and of the orders, each on an index of its own. The seeds lie further apart than an order has steps, as
+/// each step adds its number to the seed. The error is `bad_line` for any other text. Else it is that of a `run_order`, or of the write.
 pub fn run_orders<R>(rt: &R, case: &TestCase, text: &str) -> io::Result<()>
 where
     R: Print + AllocGlobal + Threads + Sync,

@@ -12,7 +12,8 @@ use record_words::{
 };
 use std::process::Abort;
 
-/// Returns the words of `node` with leaf 40, parted from slots `first` to `last` at `position`. Panics if the node can't take it.
+/// Returns the words of `node` with leaf 40, which parts from `slots`, the first to the last, at `position`, on the side `bit`. `position`
+/// must affect just these slots. Panics if the node can't take the leaf.
 fn words_with_leaf(
     rt: &impl Abort,
     node: &Node,
@@ -176,7 +177,8 @@ const LAST: [(&[u16], u16, HeadKind, &[u64], &[u64]); 8] = [
     ),
 ];
 
-/// Leaves behind the last one make heads of the expected kind and words, on either side of each border.
+/// Leaves behind the last one make heads of the expected kind and words, worked out by hand. They lie on either side of each border: of 8
+/// columns, of 16, of the sixteen bytes, and of a position that says whether there is a byte.
 #[test]
 fn leaves_are_added_behind(rt: HostRuntime) {
     for (positions, position, kind, front, rows) in LAST {
@@ -187,7 +189,8 @@ fn leaves_are_added_behind(rt: HostRuntime) {
     }
 }
 
-/// A narrow head keeps its columns, gets one in front, and becomes a wide one by a column far behind.
+/// A leaf is added to a narrow head at a column that it has, with a new column in front, and with one far behind. The head keeps its
+/// columns, gets one more, and becomes a wide one. The words are worked out by hand.
 #[test]
 fn leaves_are_added_to_narrow_words(rt: HostRuntime) {
     let node = comb_node(&rt, &[7, 8]);
@@ -205,7 +208,8 @@ fn leaves_are_added_to_narrow_words(rt: HostRuntime) {
     assert!(rt; words == words_of(HeadKind::Wide, &front, &rows, &[0, 1, 40, 2]));
 }
 
-/// A middle head keeps its columns.
+/// A leaf that is added at a column of a middle head leaves all columns. Rows and entries behind it move by one place. The words are worked
+/// out by hand.
 #[test]
 fn leaves_are_added_to_middle_words(rt: HostRuntime) {
     let node = comb_node(&rt, &[1, 2, 3, 4, 5, 6, 7, 8, 10]);
@@ -226,7 +230,8 @@ fn leaves_are_added_to_middle_words(rt: HostRuntime) {
     assert!(rt; words == words_of(HeadKind::Middle, &front, &rows, &leaves));
 }
 
-/// A wide head keeps its columns.
+/// A leaf that is added at a column of a wide head leaves all columns. Rows and entries behind it move by one place. The words are worked
+/// out by hand.
 #[test]
 fn leaves_are_added_to_wide_words(rt: HostRuntime) {
     let node = comb_node(&rt, &[7, 200]);
@@ -236,7 +241,8 @@ fn leaves_are_added_to_wide_words(rt: HostRuntime) {
     assert!(rt; words == words_of(HeadKind::Wide, &front, &rows, &[0, 40, 1, 2]));
 }
 
-/// Returns the affected slots that the words of the head of `node` tell, of `slot` and `position`.
+/// Returns the first and the last slot that `position` affects, from `slot` of `node`, which must have an entry. The words of the node's
+/// head tell them.
 fn affected_in_words(node: &Node, slot: u8, position: u16) -> (u8, u8)
     requires { slot < length node.now.entries }
 {
@@ -244,7 +250,7 @@ fn affected_in_words(node: &Node, slot: u8, position: u16) -> (u8, u8)
     affected_slots(&words[..HEAD_WORDS], slot, position)
 }
 
-/// Columns of a node, and of slots and positions the affected slots.
+/// Columns of a node, and for slots and positions the first and the last affected slot, by hand.
 const AFFECTED: [(&[u16], &[(u8, u16, (u8, u8))]); 3] = [
     (
         &[7, 8],
@@ -272,7 +278,8 @@ const AFFECTED: [(&[u16], &[(u8, u16, (u8, u8))]); 3] = [
     ),
 ];
 
-/// In the words of a head of each kind a position affects the slots that agree before it.
+/// In the words of a head of each kind a position affects the slots that agree with the given one before it. If the position is a column,
+/// that column doesn't count: else too few slots would be affected.
 #[test]
 fn affected_slots_are_found_in_words(rt: HostRuntime) {
     for (positions, wants) in AFFECTED {

@@ -30,7 +30,7 @@ fn make_table(rt: &impl Abort, alloc: Global) -> (HotTable, TableSeat, TableSeat
     }
 }
 
-/// Loads the state of `rec`, and claims it if it is free. Returns whether the seat has claimed it.
+/// Loads the state of `rec`, a record of the table, and claims the record if it is free. Returns whether the seat has claimed it.
 fn claim_if_free(table: &HotTable, seat: &mut TableSeat, rec: Rec) -> bool
     requires own { IsSeatOf table.now seat.old }
     requires range { HasRecord table.now.layout rec }
@@ -44,7 +44,8 @@ fn claim_if_free(table: &HotTable, seat: &mut TableSeat, rec: Rec) -> bool
     table.claim(seat, &mut gate, rec) == 0
 }
 
-/// Asserts that `first` claims the free `rec`, which `second` can't claim then; and that `second` can once `first` has released it.
+/// Asserts that `first` claims the free `rec`, a record of the table, and that `second` can't claim it then. Asserts that `second` can once
+/// `first` has released the record.
 fn hand_record_over(
     rt: &impl Abort,
     table: &HotTable,
@@ -64,7 +65,7 @@ fn hand_record_over(
     assert!(rt; table.claim(second, &mut NoGate, rec) == 0);
 }
 
-/// Asserts that a word that `seat` fills into node 0, which it claims, stands there.
+/// Lets `seat` claim node 0, which must be free, and fill a word of it. Asserts that the word stands there.
 fn fill_node(rt: &impl Abort, table: &HotTable, seat: &mut TableSeat)
     requires own { IsSeatOf table.now seat.old }
     requires range { 0 < table.now.layout.nodes }
@@ -76,7 +77,8 @@ fn fill_node(rt: &impl Abort, table: &HotTable, seat: &mut TableSeat)
     assert!(rt; table.load_fixed(seat, &mut NoGate, node, 1) == 7);
 }
 
-/// Asserts that the epoch is raised from 1 to 2, that both pins are clear, and that leaf 0, which is free, isn't given back.
+/// Raises the epoch, and loads both pins of the table, which has two passes. Asserts that the epoch goes from 1 to 2, that both pins are
+/// clear, and that leaf 0, which is free, isn't given back.
 fn expect_free_leaf_kept(rt: &impl Abort, table: &HotTable, seat: &mut TableSeat)
     requires own { IsSeatOf table.now seat.old }
     requires range { (0 < table.now.layout.leaves) × (table.now.layout.passes ≡ 2) }
@@ -126,7 +128,8 @@ fn claim_in_threads(
     assert!(rt; ours & theirs == 0 && ours | theirs == 0xfe);
 }
 
-/// A free record isn't given back, a filled word stands, a record claimed is handed over, and two threads claim none twice.
+/// A free record isn't given back, and a filled word stands. A record that one seat has claimed can't be claimed by another, until it is
+/// released. Two threads claim all that are free, and none twice.
 #[test]
 fn a_record_has_one_seat(rt: HostRuntime) {
     let (table, mut first, mut second) = make_table(&rt, rt.alloc());

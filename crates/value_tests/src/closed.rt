@@ -48,7 +48,7 @@ fn remove_both_keys(
     assert!(rt; total(&[first.count(), second.count()]) == 0);
 }
 
-/// A closed handle counts its one key, and still does when it is opened again.
+/// A closed handle counts its one key, and still does when it is opened again: a count that began anew would make the sum of both wrong.
 #[test]
 fn a_handle_keeps_its_count_while_it_is_closed(rt: HostRuntime) {
     let (index, mut passes) = create_closed_passes(&rt, rt.alloc());

@@ -39,7 +39,7 @@ fn make_call(deed: Deed, key: Key) -> Call {
     }
 }
 
-/// Returns the key of two bytes for `number`, which is below `MANY`. The keys of numbers that follow each other are far apart.
+/// Returns the key of two bytes for `number`, which must be below `MANY`. The keys of numbers that follow each other are far apart.
 fn numbered_key(rt: &impl Abort, number: u32) -> Key
     requires { number < 1000 }
 {
@@ -78,7 +78,8 @@ pub fn call_both<R: Abort + Wait>(
     }
 }
 
-/// Makes the calls of `deed` with the keys of the numbers below `count`, up to the first that is refused. Returns how many were made.
+/// Makes the calls of `deed` with the keys of the numbers below `count`, which is `MANY` at most, up to the first that is refused. Returns
+/// how many were made.
 fn call_for_keys<R: Abort + Wait>(
     rt: &R,
     guest: &mut Guest,
@@ -158,8 +159,8 @@ pub fn fill_twice<R: Abort + Wait>(rt: &R, alloc: Global, nodes: u32) -> u32 {
     count
 }
 
-/// Where there are one to a hundred nodes, a full index takes new values of its keys, can be emptied, and takes as many keys again. With
-/// one node these are two, with two they are 32. The largest lack no node, but leaves.
+/// With one to a hundred nodes, a full index takes new values of its keys, can be emptied, and takes as many keys again. It would take
+/// fewer if a call had lost a record. With one node these are two, with two they are 32. The largest lack no node, but leaves.
 #[test]
 fn a_full_index_can_be_emptied(rt: HostRuntime) {
     assert!(rt; fill_twice(&rt, rt.alloc(), 1) == 2);
@@ -169,7 +170,8 @@ fn a_full_index_can_be_emptied(rt: HostRuntime) {
     }
 }
 
-/// Where there are several passes, insertions leave one node record, which removals need: with one node asked, two keys go in.
+/// Where there are several passes, insertions leave one node record, which removals need: with one node asked for, two keys go in, and both
+/// can be removed.
 #[test]
 fn insertions_of_two_passes_leave_a_node(rt: HostRuntime) {
     let (index, mut passes) = make_index_of_size(&rt, rt.alloc(), 2, 1, MANY - 1);

@@ -12,8 +12,8 @@ use record_words::{
 };
 use std::process::Abort;
 
-/// Columns and the kind of their head: 8 of them and 9, 16 and 17, in byte 15 and 16, with a bit that says that there is a byte, and at the
-/// last bytes of a key.
+/// Columns and the kind of their head. There are 8 of them and 9, 16 and 17. Some reach to byte 15 or to byte 16. Some tell whether there
+/// is a byte, and some stand at the last bytes of a key.
 const KINDS: [(&[u16], HeadKind); 13] = [
     (&[7, 8], HeadKind::Narrow),
     (&[1, 2, 10, 20, 35, 71, 100, 143], HeadKind::Narrow),
@@ -104,7 +104,8 @@ fn search_words(node: &Node, key: &Key) -> u8 {
     }
 }
 
-/// Asserts that `words` are those of `node`, by each function that reads them.
+/// Asserts that `words` are those of `node`, by each function that reads them, and those that `pack_node` makes. Their head must be of the
+/// kind `want`, with all ones in its unused words.
 fn expect_words(rt: &impl Abort, words: &[u64; NODE_FIELDS], node: &Node, want: HeadKind) {
     let numbers = read_numbers(words[0]);
     let columns = node.columns();
@@ -195,7 +196,8 @@ const SEARCHED: [(&[u16], &[u8], u8); 16] = [
     (&[1, 2, 9], b"\xc0\0", 3),
 ];
 
-/// Searches of a node and of the words of its head, by keys that end before, in and behind its columns, lead to the expected slot.
+/// Searches of a node and of the words of its head lead to the slot worked out by hand. The keys end before, in and behind the columns:
+/// bytes loaded behind a key's end must count as 0.
 #[test]
 fn keys_lead_to_their_slots(rt: HostRuntime) {
     for (positions, bytes, want) in SEARCHED {
@@ -208,7 +210,8 @@ fn keys_lead_to_their_slots(rt: HostRuntime) {
     }
 }
 
-/// A head takes the kind of its columns, and searches and readings of its words agree with the node.
+/// A head takes the kind of its columns. Searches and readings of its words agree with the node, and with the layout read plainly
+/// (`plain_position`, `plain_row`).
 #[test]
 fn heads_take_the_kind_of_their_columns(rt: HostRuntime) {
     for (positions, want) in KINDS {

@@ -3,7 +3,7 @@
 use record_words::{Layout, LayoutFault, LeafClass, Location, Stock};
 use std::process::Abort;
 
-/// `Layout::of` tells the first of passes, nodes and leaves that is out of range, and takes the greatest counts.
+/// `Layout::of` tells the first of passes, nodes and leaves that is out of range, by one below or above, and takes the greatest counts.
 #[test]
 fn layout_of_refuses_counts_out_of_range(rt: HostRuntime) {
     for (passes, nodes, leaves, want) in [
@@ -22,7 +22,7 @@ fn layout_of_refuses_counts_out_of_range(rt: HostRuntime) {
     }
 }
 
-/// A small layout has its parts at the expected words, none at the words between or behind, and 808 words.
+/// A small layout has its parts at the words worked out by hand from `docs/FORMATS.md`, none at the words between or behind, and 808 words.
 #[test]
 fn layouts_have_their_places(rt: HostRuntime) {
     let Ok(layout) = Layout::of(2, 8, 8) else {
@@ -65,7 +65,8 @@ fn expect_leaf_record(rt: &impl Abort, layout: &Layout, leaf: u32, word: usize, 
     expect_word(rt, layout, leaf, word, size.wrapping_sub(1));
 }
 
-/// Leaf records of all five classes begin where the one before ends; the layout ends behind the last.
+/// Leaf records of all five classes begin where the one before ends; the layout ends behind the last. The words are worked out by hand from
+/// the sizes of the classes.
 #[test]
 fn leaf_records_have_their_sizes(rt: HostRuntime) {
     let stock = Stock {
@@ -98,7 +99,8 @@ fn leaf_records_have_their_sizes(rt: HostRuntime) {
     );
 }
 
-/// `Layout::with_stock` tells the first of passes, nodes and leaves that is out of range, and takes the greatest counts.
+/// `Layout::with_stock` tells the first of passes, nodes and leaves that is out of range, by one below or above, and takes the greatest
+/// counts. Leaf records of all classes count together.
 #[test]
 fn stocks_are_in_range(rt: HostRuntime) {
     for (passes, nodes, short, long, want) in [
@@ -121,7 +123,8 @@ fn stocks_are_in_range(rt: HostRuntime) {
     }
 }
 
-/// `Stock::for_keys` takes the class of the longest key, and counts of nodes and leaves by the number of keys.
+/// `Stock::for_keys` takes the class of the longest key, and counts of nodes and leaves by the number of keys. The rows stand on both sides
+/// of the borders of classes and of few keys, and at the greatest number.
 #[test]
 fn stocks_are_told_by_keys(rt: HostRuntime) {
     for (count, longest, class, nodes, leaves) in [

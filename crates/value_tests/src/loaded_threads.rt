@@ -59,7 +59,7 @@ fn make_map_of_rest(rt: &impl Abort, alloc: Global) -> PlainIndex {
     map
 }
 
-/// Replaces the key of `number` by the longer one. Asserts that it had its number as the value.
+/// Replaces the key of `number` by the longer one, with the same value. Asserts that the key had its number as the value.
 fn replace_key<R: Abort + Wait>(rt: &R, guest: &mut Guest, number: u16) {
     let value = u64::from(number);
     assert!(rt; guest.remove(rt, &loaded_key(rt, number)) == Ok(Reply::Removed(value)));
@@ -93,6 +93,7 @@ fn replace_in_threads<'a, R: Abort + Threads + Wait + Sync>(
 }
 
 /// Two threads replace two thirds of the keys of a loaded index, and find all others meanwhile. Their counts add up to the number of keys.
+/// The pairs in the end are those of a map of one thread.
 #[test]
 fn threads_change_a_loaded_index(rt: HostRuntime) {
     let (index, mut passes) = load_numbers(&rt, rt.alloc());

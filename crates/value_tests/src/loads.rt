@@ -49,7 +49,8 @@ fn mixed_length(number: u32) -> usize
     }
 }
 
-/// Returns the key of `number`: two bytes tell it, and all others are 0, as far as the key goes. So many keys are prefixes of others.
+/// Returns the key of `number`, which is below `MANY`. Two bytes tell the number, and all others are 0, as far as the key goes. So many
+/// keys are prefixes of others.
 fn mixed_key(rt: &impl Abort, number: u32) -> Key
     requires { number < 2000 }
 {
@@ -145,8 +146,8 @@ fn call_with_each_key<R: Abort + Wait>(
     }
 }
 
-/// A loaded index has the pairs, scans and counts of one that is filled by single insertions, and no more records in use. Both its passes
-/// find the pairs, and answer calls with each key as a map does.
+/// A loaded index has the pairs, scans and counts of one that is filled by single insertions, and no more records in use. Calls with each
+/// key, by either of its passes, return what a map does, while they change the nodes that the load has made.
 #[test]
 fn a_loaded_index_is_as_after_insertions(rt: HostRuntime) {
     let mut map = make_map(&rt, rt.alloc());
@@ -174,7 +175,8 @@ fn count_insertion(rt: &impl Abort, guest: &mut Guest, key: &Key) -> u64 {
     counter.steps
 }
 
-/// The first insertion of a pass into a loaded index goes past no record that has a loaded key.
+/// The first insertion of a pass into a loaded index goes past no record that has a loaded key. If its claims began at the first records,
+/// it would load the states of hundreds of them.
 #[test]
 fn insertions_go_past_no_loaded_record(rt: HostRuntime) {
     let map = make_map(&rt, rt.alloc());
@@ -221,7 +223,7 @@ fn drop_load_of_one(rt: &impl Abort, alloc: Global) {
     assert!(rt; load.push(&key(rt, b"a"), 1) == Ok(()));
 }
 
-/// A load of no pair makes an empty index, also after one that is dropped with a pair.
+/// A load of no pair makes an empty index, also after a load that was dropped with a pair.
 #[test]
 fn a_load_of_no_pair_is_empty(rt: HostRuntime) {
     drop_load_of_one(&rt, rt.alloc());
@@ -229,7 +231,8 @@ fn a_load_of_no_pair_is_empty(rt: HostRuntime) {
     expect_pairs_of_map(&rt, rt.alloc(), load, &PlainIndex::new(rt.alloc()));
 }
 
-/// A key that isn't above the last one is refused, and the next one that is goes in.
+/// A key that isn't above the last one is refused, equal or below, and the next one that is above goes in. A key with a byte 0 behind the
+/// last one is above it.
 #[test]
 fn keys_that_do_not_rise_are_refused(rt: HostRuntime) {
     let mut map = PlainIndex::new(rt.alloc());
@@ -258,7 +261,8 @@ fn push_until_refused(rt: &(impl Abort + Wait), alloc: Global, stock: Stock) -> 
     panic!(rt; "never refused")
 }
 
-/// Where all leaf records are taken, or too few nodes may be left, the key is refused.
+/// Where all leaf records are taken, or too few nodes may be left, the key is refused. The index made of the load then has just the pairs
+/// before it.
 #[test]
 fn a_full_load_keeps_its_pairs(rt: HostRuntime) {
     let few = Stock {
@@ -281,7 +285,8 @@ fn a_full_load_keeps_its_pairs(rt: HostRuntime) {
     assert!(rt; push_until_refused(&rt, rt.alloc(), narrow) == LoadFault::LeavesFull);
 }
 
-/// Asserts that an index of `stock` takes a key of `most` bytes behind a shorter one, and none that is longer.
+/// Asserts that an index of `stock` has a leaf record for a key of `most` bytes, and takes it behind a shorter one. Asserts that it has
+/// none for a key of one byte more, and refuses that key. `most` is below 100.
 fn expect_longest_key(rt: &(impl Abort + Wait), alloc: Global, stock: Stock, most: usize)
     requires { most < 100 }
 {
@@ -298,7 +303,8 @@ fn expect_longest_key(rt: &(impl Abort + Wait), alloc: Global, stock: Stock, mos
     expect_pairs_of_map(rt, alloc, load, &map);
 }
 
-/// A key that no leaf record has room for is refused, whatever the largest class is.
+/// A key that no leaf record has room for is refused, whatever the largest class is, and one that is a byte shorter is taken. The longest
+/// keys of the classes follow from the sizes of leaf records in `docs/FORMATS.md`.
 #[test]
 fn a_key_too_long_for_each_class_is_refused(rt: HostRuntime) {
     let mut stock = Stock {

@@ -115,8 +115,8 @@ const FRONT: [(u16, u64, Kind); 3] = [
 ];
 
 /// From which change on the front is taken, a pass, its notes, and whether they are legal. What is wrong with those that are not: a reply
-/// of another map, a place that falls, one past the front, a change without its note, a note without its change, a change noted twice, one
-/// of another pass, an addition of another number, and a front that removes an absent key.
+/// of another map; a place that falls, or is past the front; a change without its note, or a note without its change; a change noted twice,
+/// or of another pass; an addition of another number; a front that removes an absent key.
 const HISTORIES: [(usize, u16, &[Row], bool); 13] = [
     (
         0,
@@ -149,7 +149,7 @@ const HISTORIES: [(usize, u16, &[Row], bool); 13] = [
     (2, 3, &[], false),
 ];
 
-/// `are_legal` tells the legal histories of `HISTORIES` from the others.
+/// `are_legal` accepts the legal histories of `HISTORIES`, and refuses the others, each of which breaks one rule.
 #[test]
 fn histories_are_legal_or_not(rt: HostRuntime) {
     for (i, (from, pass, rows, legal)) in HISTORIES.iter().enumerate() {
@@ -179,7 +179,7 @@ fn expect_scan(rt: &impl Abort, scan: Result<Scan, AllocError>, want: &[(&[u8], 
 /// Two keys with their values.
 const PAIRS: [(&[u8], u64); 2] = [(b"a", 5), (b"b", 6)];
 
-/// How many of them are held, a range and a limit, and what a scan returns: its pairs, and whether there are more.
+/// How many of `PAIRS` are held, a range and a limit, and what a scan returns: its pairs, and whether there are more.
 const SCANS: [(usize, &[u8], &[u8], usize, &[(&[u8], u64)], bool); 11] = [
     (0, b"", b"\xff", 10, &[], false),
     (0, b"a", b"b", 0, &[], false),
@@ -194,7 +194,8 @@ const SCANS: [(usize, &[u8], &[u8], usize, &[(&[u8], u64)], bool); 11] = [
     (2, b"", b"", 2, &[], false),
 ];
 
-/// A plain trie and a plain index, each of none, one or both of two keys, return the expected pairs and flag.
+/// A plain trie and a plain index return the pairs and the flag of `SCANS`, worked out by hand. Each has none, one or both of two keys. A
+/// limit of 0 has more only if a key is in the range.
 #[test]
 fn scans_return_the_first_pairs(rt: HostRuntime) {
     for (held, from, upto, limit, want, more) in SCANS {
@@ -279,7 +280,8 @@ const SHAPES: [Shape; 16] = [
     (true, 1056, &[4, 0, 0], &[1, 1], 1, &[14, 15, 16, 17], 16),
 ];
 
-/// The node at each path has the expected height, count and columns, and the trie the height of its root.
+/// The node at each path has the expected height, count and columns, and the trie the height of its root. The shapes are worked out by hand
+/// by HOT's rules: a full node is cut, and its fork goes up or makes a node between.
 #[test]
 fn tries_have_their_shapes(rt: HostRuntime) {
     for (i, (wide, count, further, path, height, positions, entries)) in SHAPES.iter().enumerate() {
@@ -381,7 +383,8 @@ fn scan_trie_and_index(
     assert!(rt; found.more == want.more && found.pairs.as_slice() == want.pairs.as_slice());
 }
 
-/// For keys of each of three kinds, 2,000 calls by chance return the same from a plain trie and a plain index.
+/// For keys of each of three kinds, 2,000 calls by chance return the same from a plain trie and a plain index. The index is a map of the
+/// standard library, so a fault of the trie shows.
 #[test]
 fn calls_by_chance_are_answered_alike(rt: HostRuntime) {
     for kind in 0..3u8 {
@@ -442,7 +445,8 @@ const CHOSEN: [Chosen; 4] = [
     (&[(2, 3, 2, 1)], 8, 0, 1, (0, 1, 1, Case::LeafPushdown), 0),
 ];
 
-/// Four insertions have the expected level, choice and end of the chain; `place` tells the three cases of a full node.
+/// Four insertions have the level, the choice and the end of the chain of `CHOSEN`, worked out by hand from the tries that it names.
+/// `place` tells the three cases of a full node.
 #[test]
 fn insertions_have_their_cases(rt: HostRuntime) {
     for (passed, position, level, entry, want, end) in CHOSEN {

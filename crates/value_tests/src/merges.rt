@@ -36,7 +36,8 @@ fn expect_siblings(rt: &impl Abort, node: &Node, want: &[Option<(u8, u16)>]) {
     }
 }
 
-/// In nodes of two, three and 32 entries each slot's sibling is found with the fork's position, or none where the other side has several.
+/// In nodes of two, three and 32 entries each slot's sibling is found with the fork's position. None is found where the other side of the
+/// slot's fork has several entries.
 #[test]
 fn siblings_are_found(rt: HostRuntime) {
     let last = node_of_two_children_and_leaf(&rt, [0, 0x4000_0000, 0x8000_0000]);
@@ -51,7 +52,7 @@ fn siblings_are_found(rt: HostRuntime) {
     expect_siblings(&rt, &comb_node(&rt, &POSITIONS), &want);
 }
 
-/// 31 positions.
+/// The positions 0 to 30, as many as a node may have columns.
 const POSITIONS: [u16; 31] = [
     0, 1, 2, 3, 4, 5, 6, 7, 8, 9, 10, 11, 12, 13, 14, 15, 16, 17, 18, 19, 20, 21, 22, 23, 24, 25,
     26, 27, 28, 29, 30,
@@ -64,7 +65,8 @@ fn merge_nodes(rt: &impl Abort, position: u16, zero: &Node, one: &Node) -> Node 
     Node::merge(position, zero, one)
 }
 
-/// Merged nodes have the expected columns, rows and leaves, where both sides have a column and where one has.
+/// Merged nodes have the columns, rows and leaves worked out by hand, where both sides have a column and where one has. A side without a
+/// column has 0 there.
 #[test]
 fn two_nodes_become_one(rt: HostRuntime) {
     let two = Node::pair(7, Entry::Leaf(3), Entry::Leaf(4));
@@ -100,7 +102,8 @@ const ODD: [u16; 15] = [1, 3, 5, 7, 9, 11, 13, 15, 17, 19, 21, 23, 25, 27, 29];
 
 const EVEN: [u16; 15] = [2, 4, 6, 8, 10, 12, 14, 16, 18, 20, 22, 24, 26, 28, 30];
 
-/// Two nodes of 16 entries without a common column become one with 32 entries and 31 columns.
+/// Two nodes of 16 entries without a common column become one with 32 entries and 31 columns, the most that there may be. The rows are
+/// worked out by hand.
 #[test]
 fn two_nodes_become_a_full_one(rt: HostRuntime) {
     let node = merge_nodes(&rt, 0, &comb_node(&rt, &ODD), &comb_node(&rt, &EVEN));
@@ -137,7 +140,8 @@ fn close_fork_at(rt: &impl Abort, node: &Node, at: u8) -> (Option<Entry>, [u64; 
     (left, words)
 }
 
-/// Closing a fork makes the words of a pair, from either side; of a node of two the entry alone is left.
+/// Closing a fork makes the words of a pair, from either of its two slots. Of a node of two the entry alone is left. The first pair's words
+/// are given by hand, too.
 #[test]
 fn one_entry_takes_the_place_of_two(rt: HostRuntime) {
     let last = node_of_two_children_and_leaf(&rt, [0, 0x4000_0000, 0x8000_0000]);

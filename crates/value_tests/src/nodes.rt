@@ -26,7 +26,8 @@ pub fn key(rt: &impl Abort, bytes: &[u8]) -> Key {
     }
 }
 
-/// Two keys and the first bit at which they differ.
+/// Two keys and the first position at which they differ, by hand: each byte has nine positions, the first of them 1, and behind a key's end
+/// all are 0.
 const DIFFERENT: [(&[u8], &[u8], Option<u16>); 4] = [
     (b"a", b"b", Some(7)),
     (b"", b"a", Some(0)),
@@ -41,7 +42,8 @@ fn expect_mismatch(rt: &impl Abort, one: &[u8], other: &[u8], want: Option<u16>)
     assert!(rt; (one < other) == want.is_some());
 }
 
-/// Keys first differ at the bits worked out by hand, up to the last one of 240 bytes; 241 bytes are no key.
+/// `mismatch` finds the positions of `DIFFERENT`, and the first and the last position of byte 239, the last that a key may have. It would
+/// miss them if it counted eight positions a byte. 241 bytes are no key.
 #[test]
 fn keys_differ_first(rt: HostRuntime) {
     for (one, other, want) in DIFFERENT {
@@ -55,7 +57,7 @@ fn keys_differ_first(rt: HostRuntime) {
     assert!(rt; Key::from_bytes(&[0x61; 241]).err() == Some(KeyFault::TooLong));
 }
 
-/// A key, positions, and the key's bits there. The last two have columns further apart than sixteen bytes.
+/// A key, positions, and the key's bits there, by hand. The last two have columns further apart than sixteen bytes.
 const GATHERED: [(&[u8], &[u16], u32); 7] = [
     (b"a", &[7, 8], 0x4000_0000),
     (b"b", &[7, 8], 0x8000_0000),
@@ -73,8 +75,8 @@ const GATHERED: [(&[u8], &[u16], u32); 7] = [
     (&[1; 40], &[8, 187, 188, 359], 0xb000_0000),
 ];
 
-/// Returns the node of leaves 0, 1 and so on, with columns at `positions`, each fork on the 1 side of the one before. Panics unless the
-/// positions rise, are 1 to 31, and are below 65,535.
+/// Returns the node of leaves 0, 1 and so on, with columns at `positions`, each fork on the 1 side of the one before. Panics unless there
+/// are 1 to 31 positions, which rise and are below 65,535.
 pub fn comb_node(rt: &impl Abort, positions: &[u16]) -> Node
     ensures shown { piece result ≡ comb 0 positions.now }
     ensures last { AllBelow (slice_index positions.now (length positions.now - 1) + 1) positions.now }
@@ -103,7 +105,8 @@ fn bits_are_gathered_from_the_highest(rt: HostRuntime) {
     }
 }
 
-/// Both searches return the last slot whose row has only bits that the dense key has.
+/// Both searches return the last slot whose row has only bits that the dense key has. From slot 3 on the rows have all bits set, as unused
+/// ones have. So only a dense key of all ones leads to the last slot.
 #[test]
 fn searches_find_the_highest_complying_entry(rt: HostRuntime) {
     let mut sparse = [u32::MAX; 32];
@@ -137,7 +140,8 @@ fn node_of_four() -> Node
     node_of_three().insert(0, 2, 6, true, Entry::Leaf(3))
 }
 
-/// A node and its head find the slot of each key by its gathered bits; a fork before its own affects all slots.
+/// A node and its head find the slot of each key by its gathered bits, worked out by hand. The key d parts from all others before the
+/// columns, so it has 0 at both, and leads to slot 0. A position before all columns affects all slots.
 #[test]
 fn nodes_are_searched(rt: HostRuntime) {
     let node = node_of_three();
@@ -182,14 +186,17 @@ fn expect_unused_rows(rt: &impl Abort, node: &Node) {
     }
 }
 
-/// The rows of three keys and of four, and of four where the first one came last.
+/// The rows of `node_of_three`, by hand: 0 for a, a 1 at 7 for b, and one at 8 too for c.
 const THREE_ROWS: [u32; 3] = [0, 0x8000_0000, 0xc000_0000];
 
+/// The rows of `node_of_four`, by hand: those of three behind a 0 at 6, and then leaf 3 with a 1 at 6.
 const FOUR_ROWS: [u32; 4] = [0, 0x4000_0000, 0x6000_0000, 0x8000_0000];
 
+/// The rows where the fourth leaf comes in front of the three, on the 0 side of a fork at 6.
 const FIRST_ROWS: [u32; 4] = [0, 0x8000_0000, 0xc000_0000, 0xe000_0000];
 
-/// Inserts behind and before, removals of the last and the first leaf, and a cut give the nodes worked out by hand.
+/// Inserts behind and before, removals of the last and the first leaf, and a cut give the nodes worked out by hand. A removal must also
+/// take out the column that no fork has any longer.
 #[test]
 fn nodes_grow_and_shrink(rt: HostRuntime) {
     expect_node(&rt, &node_of_three(), &[7, 8], &THREE_ROWS, &[0, 1, 2]);
@@ -210,7 +217,7 @@ fn nodes_grow_and_shrink(rt: HostRuntime) {
     expect_node(&rt, &front, &[7, 8], &THREE_ROWS, &[0, 1, 2]);
 }
 
-/// A node is one higher than its child, and stays so without it; a side of one entry is that entry.
+/// A node is one higher than its child, and stays so when a leaf replaces the child. A side of one entry is that entry, and no node of one.
 #[test]
 fn heights_and_single_entries(rt: HostRuntime) {
     let child = Entry::Node {
@@ -224,7 +231,7 @@ fn heights_and_single_entries(rt: HostRuntime) {
     assert!(rt; cut.position == 6 && matches!(cut.one, Half::One(Entry::Leaf(3))));
 }
 
-/// Where a node has room, `grow` returns one node with the new leaf.
+/// Where a node has room, `grow` returns one node with the new leaf, and doesn't cut it in two.
 #[test]
 fn a_node_with_room_grows_whole(rt: HostRuntime) {
     let Grown::One(node) = grow(&node_of_three(), 0, 2, 6, true, Entry::Leaf(3)) else {
@@ -233,7 +240,8 @@ fn a_node_with_room_grows_whole(rt: HostRuntime) {
     expect_node(&rt, &node, &[6, 7, 8], &FOUR_ROWS, &[0, 1, 2, 3]);
 }
 
-/// Returns the words of the node of the keys a, b and c over the leaves 0, 1 and 2, from offset 1 on.
+/// Returns the words of the node of the keys a, b and c over the leaves 0, 1 and 2, from offset 1 on. They are those that `docs/FORMATS.md`
+/// lists.
 pub fn words_of_three() -> [u64; NODE_FIELDS] {
     let mut words = [u64::MAX; NODE_FIELDS];
     words[0] = 0x100_0001_0203;
@@ -258,7 +266,8 @@ pub fn words_of_leaf(byte: u8, value: u64) -> [u64; LEAF_FIELDS] {
     words
 }
 
-/// Words of states and entries are read or refused as expected; what is read packs to the same word.
+/// Words of states and entries are read or refused as `docs/FORMATS.md` says; what is read packs to the same word. An obsolete state needs
+/// an epoch from 1 to 2^60 - 1. Refused are entries of no kind, a leaf with a height, and nodes whose height is 0 or too great.
 #[test]
 fn states_and_entries_have_their_words(rt: HostRuntime) {
     for (word, want) in [
@@ -301,7 +310,7 @@ fn states_and_entries_have_their_words(rt: HostRuntime) {
     }
 }
 
-/// A leaf and a node pack to the words worked out by hand, and are read from them.
+/// A leaf and a node pack to the words of `docs/FORMATS.md`, and are read from them. The longest key fills the last word of its record.
 #[test]
 fn leaves_and_nodes_have_their_words(rt: HostRuntime) {
     let leaf = words_of_leaf(b'a', 5);
@@ -331,7 +340,8 @@ const OTHER_LEAVES: [(usize, u64, Option<&[u8]>); 10] = [
     (31, 1, Some(b"a")),
 ];
 
-/// With one other word, a leaf is read with the expected key, or refused.
+/// With a word of `OTHER_LEAVES` in place of its own, a leaf is read with the row's key, or refused. It would be read with another key if
+/// bytes or words behind the key counted.
 #[test]
 fn leaves_are_read_up_to_the_end_of_their_keys(rt: HostRuntime) {
     for (at, word, want) in OTHER_LEAVES {
@@ -345,8 +355,9 @@ fn leaves_are_read_up_to_the_end_of_their_keys(rt: HostRuntime) {
     }
 }
 
-/// A node with a wrong count, kind, mask, unused row or word, or entry, or with a low bit of a row, is refused. So is a head of zeros; the
-/// node's own is read.
+/// Words that `pack_node` doesn't write are refused. Each row changes one word of the node of a, b and c. It then has a count of four over
+/// three entries, the wide kind, the middle kind, or no masks. Or an unused row or an unused word of its head isn't all ones. Or an entry
+/// stands behind the last, or a row has a bit behind its columns. A head of zeros is refused, too, and the node's own head is read.
 #[test]
 fn other_words_of_nodes_are_refused(rt: HostRuntime) {
     for (at, word) in [

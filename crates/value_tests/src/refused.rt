@@ -110,7 +110,8 @@ fn scan_new_index(rt: &impl Abort, alloc: Global, direction: Direction) {
     scan_beside_change(rt, alloc, &mut guest, &mut other, direction);
 }
 
-/// A scan that was refused memory leaves no pin, upwards as downwards.
+/// A scan that was refused memory leaves no pin, upwards as downwards. Otherwise the leaf that another pass replaces after it would not be
+/// given back.
 #[test]
 fn scans_leave_no_pin(rt: HostRuntime) {
     scan_new_index(&rt, rt.alloc(), Direction::Upwards);
@@ -240,7 +241,7 @@ fn a_plain_trie_refused_memory_stays_as_it_was(rt: HostRuntime) {
     expect_whole_scan(&rt, scan, 40);
 }
 
-/// An index of two nodes is filled with 32 keys, emptied, and filled again.
+/// An index of two nodes is filled with 32 keys, emptied, and filled again, also where the map beside it was refused memory once.
 #[test]
 fn a_full_index_beside_a_map_refused_memory_can_be_emptied(rt: HostRuntime) {
     assert!(rt; fill_twice(&rt, rt.alloc(), 2) == 32);

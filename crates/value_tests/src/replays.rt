@@ -144,7 +144,8 @@ const ONE_LEAF: [Line; 6] = [
     (0, Step::Mark(LEAF, 1), false),
 ];
 
-/// Claims, locks, pins and a round are legal or not as expected without a change; then a leaf is published.
+/// Claims, locks, pins and a round change nothing in the map, and are legal or not as `NO_RECORD` has it. Then a leaf is made and
+/// published, and the replay's map has it.
 #[test]
 fn one_leaf_is_published(rt: HostRuntime) {
     let mut replay = make_replay(&rt, rt.alloc(), Layout::of(1, 1, 1));
@@ -173,7 +174,8 @@ const VALUED: [Line; 12] = [
     (0, Step::Publish(VALUE, 7), false),
 ];
 
-/// A value changes where it stands, by the lock of what names its leaf; the leaf stays in the tree.
+/// A value changes where it stands, under the lock of what names its leaf, and not without this lock. The leaf stays in the tree, so it
+/// can't be marked.
 #[test]
 fn a_value_changes_under_a_lock(rt: HostRuntime) {
     let mut replay = make_replay(&rt, rt.alloc(), Layout::of(2, 1, 2));
@@ -202,7 +204,8 @@ const SHORT: [Line; 10] = [
     (0, Step::LoadFixed(LEAF, 3, 0x6162_6364_6566_6768), true),
 ];
 
-/// A short record has no word at offset 4, and can be made ready with a key of eight bytes, not of nine.
+/// A short record has no word at offset 4, and can be made ready with a key of eight bytes, not of nine. A replay that took all records as
+/// long would accept both.
 #[test]
 fn a_short_record_has_room_for_eight_bytes(rt: HostRuntime) {
     let stock = Stock::of_class(1, LeafClass::Short, 1);
@@ -321,7 +324,8 @@ const REMOVED: [Line; 11] = [
     (0, Step::Unlock(Target::Anchor), true),
 ];
 
-/// Inserts, a round, a replaced leaf and a removal are legal step by step as expected, and give the expected pairs.
+/// Inserts, a round, a replaced leaf and a removal are legal step by step, and give the pairs worked out by hand. Refused are a store
+/// without its lock, and one that changes two keys. So are a mark before its epoch is loaded, and a record given back while a pin holds it.
 #[test]
 fn a_node_grows_and_shrinks(rt: HostRuntime) {
     let mut replay = make_replay(&rt, rt.alloc(), Layout::of(2, 2, 5));
@@ -400,7 +404,8 @@ const MERGED: [Line; 12] = [
     (0, Step::Unlock(Target::Anchor), true),
 ];
 
-/// A removal that merges a node with its sibling is legal once the sibling is locked, with all of its entries and the new node's height.
+/// A removal that merges a node with its sibling is legal once the sibling is locked. The new node must have all entries of both but the
+/// removed one, and be named with its own height.
 #[test]
 fn a_removal_merges_under_the_siblings_lock(rt: HostRuntime) {
     let mut replay = make_replay(&rt, rt.alloc(), Layout::of(1, 5, 4));

@@ -68,9 +68,9 @@ fn has_inserted(guest: &mut Guest, key: &Key) -> bool {
     matches!(index.try_insert(pass, key, 1), Ok(Reply::Inserted))
 }
 
-/// An index of two passes is filled by one of them. While the other is in a call, a first try to insert sweeps all records: beside what it
-/// gives back it makes a load for each of them more than the next two. What is removed then stays held back, and no sweep follows. Once the
-/// call has ended, the next try finds it.
+/// One pass fills an index of two, and then tries to insert while the other is in a call. Its first try sweeps all records: it makes a load
+/// for each, beside the steps of the next two, which sweep nothing. The key that it removes then stays held back. So one more try is full,
+/// again without a sweep. Once the call has ended, the next try finds the record.
 #[test]
 fn a_full_call_sweeps_once_while_another_is_pinned(rt: HostRuntime) {
     let (index, mut passes) = make_index_of_size(&rt, rt.alloc(), 2, NODES, LEAVES);

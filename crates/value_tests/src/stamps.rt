@@ -66,7 +66,8 @@ fn follow_and_find<R: Abort + Threads + Wait + Sync>(
     assert!(rt; index.get(last, &keys.1) == Some(1));
 }
 
-/// Two threads insert a key each and make stamps; a third pass follows both, and finds both keys.
+/// Two threads insert a key each and make stamps; a third pass follows both, and finds both keys. It would miss one if a stamp told less
+/// than its pass had seen.
 #[test]
 fn a_pass_that_follows_stamps_finds_what_they_tell_of(rt: HostRuntime) {
     let (index, mut passes) = make_index(&rt, rt.alloc(), 3);

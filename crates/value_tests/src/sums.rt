@@ -48,7 +48,8 @@ fn add_in_threads<R: Threads + Wait + Sync>(
     )
 }
 
-/// Asserts that an add leaves an absent key absent, and gives one that is there each sum, modulo 2^64. In the end `key` has the value 0.
+/// Asserts that an add leaves `key` absent while it is absent, as at first. Once the key is there, an add gives it the sum, modulo 2^64. In
+/// the end it has the value 0.
 fn add_by_one_pass(rt: &(impl Abort + Wait), index: &Index, pass: &mut Pass, key: &Key)
     requires { Owns index.now pass.old }
     ensures { Owns index.now pass.new }
@@ -61,7 +62,8 @@ fn add_by_one_pass(rt: &(impl Abort + Wait), index: &Index, pass: &mut Pass, key
     assert!(rt; index.get(pass, key) == Some(0));
 }
 
-/// Sums of one pass go beyond the greatest number to 0; two threads that add at the same time lose nothing.
+/// Sums of one pass go beyond the greatest number to 0. Two threads that add at the same time lose nothing: they would if an add loaded a
+/// value and stored the sum without the lock.
 #[test]
 fn concurrent_adds_lose_nothing(rt: HostRuntime) {
     let (index, mut passes) = make_index(&rt, rt.alloc(), 3);

@@ -17,7 +17,8 @@ fn new_loader(rt: &impl Abort, alloc: Global, nodes: u32, leaves: u32) -> Loader
     }
 }
 
-/// Pushes the key of the one byte `byte`, with its number as the value. Asserts that it is refused as `want` says, or taken for `None`.
+/// Pushes the key of the one byte `byte`, with its number as the value. Asserts that the pair is refused as `want` says, or is taken if
+/// `want` is `None`.
 fn expect_push(rt: &impl Abort, loader: &mut Loader, byte: u8, want: Option<LoadFault>) {
     let answer = loader.push(&key(rt, &[byte]), u64::from(byte));
     assert!(rt; answer.err() == want, "{byte}");
@@ -40,7 +41,8 @@ fn words_of_table() -> [u64; 808] {
     words
 }
 
-/// Three keys make the words that were worked out by hand. A key that is not above the last one is refused, and changes nothing.
+/// Three keys make the words of `words_of_table`, worked out by hand from `docs/FORMATS.md`. A key that is not above the last one is
+/// refused, and changes none of these words.
 #[test]
 fn three_keys_are_loaded(rt: HostRuntime) {
     let mut loader = new_loader(&rt, rt.alloc(), 8, 8);
@@ -58,7 +60,8 @@ fn three_keys_are_loaded(rt: HostRuntime) {
     assert!(rt; words.as_slice() == words_of_table().as_slice());
 }
 
-/// Without a free record a key is refused: of the table's nodes, or of its leaves.
+/// Without a free record a key is refused: of the table's leaves, or of its nodes, of which one is left for removals. So with one node a
+/// second key is refused, and with two the thirty-third.
 #[test]
 fn keys_without_records_are_refused(rt: HostRuntime) {
     for (nodes, leaves, taken, want) in [

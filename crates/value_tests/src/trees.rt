@@ -7,7 +7,8 @@ use rowex_replay_state::{Linked, read_tree};
 use std::alloc::Global;
 use std::process::Abort;
 
-/// Returns what `root` shows over `nodes` and five leaves: a, b, c, q and one whose words are no leaf's. `None` if that is no lawful tree.
+/// Returns the tree that `root` shows over `nodes` and five leaves: a, b, c, q and one whose words are no leaf's. `None` if the words show
+/// no lawful tree. Panics if memory is refused.
 fn shown_tree(
     rt: &impl Abort,
     alloc: Global,
@@ -27,7 +28,8 @@ fn shown_tree(
     }
 }
 
-/// The tree has the leaves of a, b and c, with their values; of the records just these and node 0 are linked.
+/// The tree that is read has the leaves of a, b and c, with their values. Of the records just these leaves and node 0 are linked, not those
+/// that the root doesn't reach.
 #[test]
 fn words_show_a_tree_of_three_leaves(rt: HostRuntime) {
     let nodes = [words_of_three(), [9; NODE_FIELDS]];
@@ -52,8 +54,9 @@ fn words_show_a_tree_of_three_leaves(rt: HostRuntime) {
 }
 
 /// The root is a leaf where its height is 0. Lawful are a leaf, the tree of three leaves, and that with a node of the greatest height. The
-/// others have a leaf twice, one outside the table, one without a key, one that parts elsewhere, two in the other order, a root of another
-/// height, one outside the table, a root leaf without a key, one outside the table, and a node of too great a height.
+/// next five have a leaf twice, one outside the table, one without a key, one that parts elsewhere, and two in the other order. Then come a
+/// root of another height, and one outside the table. Last are a root leaf without a key, one outside the table, and a node that is too
+/// high.
 #[test]
 fn other_words_show_other_trees_or_none(rt: HostRuntime) {
     for (i, (below, second, third, number, height, want)) in [

@@ -42,7 +42,8 @@ fn insert_and_find<'a, R: Wait>(
     )
 }
 
-/// Two threads each insert a key and wait for the other's. Asserts that they find it, and that each pass finds both once they have met.
+/// Two threads each insert a key and wait for the other's, by handles at one index. Asserts that each finds the other's key. Asserts that
+/// each pass finds both keys once the passes have met.
 fn wait_for_each_other<R: Abort + Threads + Wait + Sync>(
     rt: &R,
     first: Handle<&Index>,
@@ -71,7 +72,8 @@ fn expect_both_keys(rt: &impl Abort, guest: &mut Handle<&Index>, keys: &(Key, Ke
     assert!(rt; guest.get(&keys.0) == Some(1) && guest.get(&keys.1) == Some(1));
 }
 
-/// Each of two threads finds the key of the other; both passes find both keys once they have met.
+/// Each of two threads finds the key of the other; both passes find both keys once they have met. A wait would end without the key if the
+/// threads ran one after another, or if look-ups didn't load what others have stored.
 #[test]
 fn threads_find_each_others_keys(rt: HostRuntime) {
     let (index, mut passes) = make_index(&rt, rt.alloc(), 2);
