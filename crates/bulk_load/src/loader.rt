@@ -53,7 +53,8 @@ impl Loader {
         self.builder.layout
     }
 
-    /// Returns the number of the first node record that is not taken so far. It is at most the number of pairs taken.
+    /// Returns the number of the first node record that is not taken so far: just those with lower numbers are taken. It is a hint of where
+    /// claims begin. So the contract has its bound alone: it is at most the number of pairs taken.
     pub fn first_free_node(&self) -> u32
         ensures { result ≤ length self.now.items }
     {

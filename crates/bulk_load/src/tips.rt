@@ -22,8 +22,9 @@ pub(crate) struct Tip {
     pub(crate) entry: Entry,
 }
 
-/// Returns the node of the entries of `tips`, 2 to 32, with the forks between them. The tips are those of a piece, and the fork before the
-/// first doesn't count. Each entry may stand in a node, and each fork's position is below 65,535.
+/// Returns the node of the entries of `tips`, 2 to 32, with the forks between them. Its height is one above the greatest of the entries'.
+/// The tips must be those of a piece whose forks have rising positions along each path. The fork before the first tip becomes no column.
+/// Each entry may stand in a node, and each tip's fork, the first one's too, has a position below 65,535.
 pub(crate) fn build_node(tips: &[Tip]) -> Node
     requires few { (2 ≤ length tips.now) × (length tips.now ≤ 32) }
     requires each { All MayBeTip tips.now }

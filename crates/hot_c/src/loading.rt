@@ -129,8 +129,10 @@ fn begin_load(alloc: Global, passes: u32, stock: Stock) -> Result<Box<OpenLoad, 
     }
 }
 
-/// Pushes `key` with `value` to the load of `opened`, and returns `DONE`. Else the load stays as it was, and the status tells why `key` was
-/// refused, as of `hot_load_pair`: `NOT_RISING`, `KEY_TOO_LONG`, `FULL_LEAVES`, `FULL_NODES` or `NO_MEMORY`.
+/// Pushes `key` with `value` to the load of `opened`, and returns `DONE`. Else the load stays as it was. It returns `NOT_RISING` exactly if
+/// `key` isn't above the last key. It returns `KEY_TOO_LONG` only if no leaf record of the index, taken or not, has room for `key`. It
+/// returns `FULL_LEAVES` only if there are such records, and all are taken. It returns `FULL_NODES` only if the pairs are no fewer than the
+/// node records. It returns `NO_MEMORY` if memory is refused.
 fn push_pair(opened: &mut OpenLoad, key: &Key, value: u64) -> u32
     ensures { TellsPush key.now value opened.old.load opened.new.load result }
 {

@@ -277,8 +277,11 @@ impl<I: ShowsIndex> Handle<I> {
         self.index.show().try_counted(&mut self.pass, call)
     }
 
-    /// Returns the first `limit` pairs with keys from `from` to `upto`, both included, and whether there are more, as `Index::scan` does.
-    /// `AllocError` if memory is refused for what was found.
+    /// Lists the first `limit` pairs with keys from `from` to `upto`, both included, in key order. Returns them, and whether the range has
+    /// more. It takes no lock, and is no snapshot: each pair was in the index at some moment of the call.
+    ///
+    /// No key of the range that was there all along is missing. If the range has more, this is said only of keys up to the last one
+    /// listed. `Index::scan` has the bound of steps. `AllocError` if memory is refused for a pair that was found.
     pub fn scan(
         &mut self,
         alloc: Global,

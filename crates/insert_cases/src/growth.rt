@@ -80,8 +80,9 @@ fn keep_node_whole(position: u16, bit: bool, entry: Entry) -> Cut
     }
 }
 
-/// Returns the cut of the full node `node` at its root fork, with `entry` in the half that has the entries from `first` to `last`.
-/// `position` is above the root fork's. [`grow_half`] puts `entry` there.
+/// Returns the cut of the full node `node` at its root fork. `entry` is added to the half with the affected entries `first` to `last`. A
+/// new fork at `position`, a greater number than the root fork's, parts `entry` from these. `entry` stands behind them if `bit` is true,
+/// else before them. Each half has fewer than 32 entries, so there is room for it.
 fn cut_and_grow(node: &Node, first: u8, last: u8, position: u16, bit: bool, entry: Entry) -> Cut
     requires lawful { IsLawfulNode node.now }
     requires range { IsAffected (piece node.now) position first last }

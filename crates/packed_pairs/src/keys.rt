@@ -141,7 +141,8 @@ fn copy_to_front(room: &mut [u8], key: &[u8])
     room[..key.len()].copy_from_slice(key);
 }
 
-/// Copies the first `size` bytes of `places` to the front of `room`. Never inline, so that callers have less code.
+/// Copies the first `size` bytes of `places` to the front of `room`, as `copy_key` needs it for a key of any length. `room` has at least
+/// `MAX_BYTES` bytes, and stays as long. Never inline, so that callers have less code.
 #[inline(never)]
 fn copy_any_length(room: &mut [u8], places: &[u8; MAX_BYTES], size: usize)
     requires room { MAX_BYTES ≤ length room.old }

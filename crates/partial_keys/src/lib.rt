@@ -246,8 +246,11 @@ fn keep_used_positions(positions: &mut [u16; MAX_COLUMNS], count: usize, used: u
     found
 }
 
-/// Returns the highest index i at which row `padded_rows[i]` complies with the dense key: it has no bit that `dense` lacks. That is the
-/// slot to which a key with these bits leads in a node with these rows. The first row is 0, so there is one.
+/// Returns the highest index i at which row `padded_rows[i]` complies with `dense`: it has no bit that `dense` lacks. The first row must
+/// be 0, so there is one.
+///
+/// Let the rows be those of a node, with all ones behind them. Let `dense` have a key's bits at the node's columns. Then i is the slot to
+/// which the forks lead the key. No row of ones complies, since bit 0 of such a dense key is 0.
 pub fn search_plain(padded_rows: &[u32; MAX_ENTRIES], dense: u32) -> u8
     requires { slice_index padded_rows.now 0 ≡ 0 }
     ensures { IsFound padded_rows.now dense result }

@@ -271,9 +271,10 @@ fn drop_row(words: &mut [u64; NODE_FIELDS], slot: u8, height: u16)
     put_rows(words, numbers.kind, rows);
 }
 
-/// Makes the head in `words` one of `count` entries and of `height`, with the first `count` of `rows`. The columns in which `used` has 0
-/// are left out of the columns and the rows; at least one stays. Neither these rows nor `used` have a 1 behind the node's columns. The
-/// words of the entries stay.
+/// Makes the head in `words` one of `count` entries and of `height`, over those of its columns whose bit in `used` is 1. There is one such
+/// column at least. The new rows are the first `count` of `rows` without the bits of the other columns. Unused rows have all bits set. In
+/// `used`, as in a row, the highest bit is the first column's. Neither has a 1 behind the columns of the old head. The words of the entries
+/// stay.
 fn drop_columns(words: &mut [u64; NODE_FIELDS], count: u8, height: u16, rows: u32x32, used: u32)
     requires few { count ≤ 32 }
     requires dropping { (node : NodeView) × CanDropColumns words.old node (take count rows) used }

@@ -6,7 +6,11 @@ ghost use Rattle.record_words.specs.Reading.{IsReading};
 use compound_node::Entry;
 use record_words::{HEIGHT_BIT, WordFault};
 
-/// Returns the entry whose word is `word`, and `None` for 0; `WordFault::Bad` if `word` is that of no entry.
+/// Returns the entry whose word is `word`, or `None` for 0, the word of an empty slot or root. The error is `WordFault::Bad` for any word
+/// that `pack_entry` never returns.
+///
+/// The lowest two bits are 1 for a leaf and 2 for a node. The next 32 are the record's number. From `HEIGHT_BIT` on stands a node's height,
+/// 1 to 65,535, and 0 for a leaf.
 pub fn unpack_entry(word: u64) -> Result<Option<Entry>, WordFault>
     ensures { IsReading HasEntryWord entry_word word result }
 {

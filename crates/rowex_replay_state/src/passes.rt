@@ -77,8 +77,8 @@ impl PassState {
         self.pin.is_none() && epoch == self.epoch && epoch >= 1
     }
 
-    /// Returns whether this pass's round shows that no pass can reach what was marked with `epoch`. It does if `epoch` is at least 1 and
-    /// below the round's bound, and the round has loaded the pins of the first `passes` passes.
+    /// Returns whether this pass's round shows that no pass can reach what was marked with `epoch`. `passes` is how many passes the index
+    /// has. The result is `true` exactly if `epoch` is at least 1 and below the round's bound, and the round has loaded all their pins.
     pub(crate) fn is_unreachable(&self, epoch: u64, passes: usize) -> bool
         ensures { IsTrue result ↔ IsOutOfReach self.now epoch passes }
     {

@@ -42,7 +42,8 @@ pub(crate) struct Span {
 }
 
 impl Span {
-    /// Returns the index on the way of the first locked node: the one above the span, or 0 if the span goes up to the root.
+    /// Returns the index on the way of the topmost locked node: the one above the span. If the span goes up to the root, the result is 0,
+    /// and the anchor is locked above. Then the topmost locked node is the span's own, if it has one.
     pub(crate) fn first_locked(self) -> usize
         ensures { result ≡ self.end - 1 }
     {

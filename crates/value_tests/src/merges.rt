@@ -65,8 +65,9 @@ fn merge_nodes(rt: &impl Abort, position: u16, zero: &Node, one: &Node) -> Node 
     Node::merge(position, zero, one)
 }
 
-/// Merged nodes have the columns, rows and leaves worked out by hand, where both sides have a column and where one has. A side without a
-/// column has 0 there.
+/// A new fork at position 6 joins two nodes. Columns, rows and leaves are worked out by hand. A row's highest bit is that of the first
+/// column. First both sides have just column 7. Then one side is `node_of_three`, with columns 7 and 8, and the other has just column 8.
+/// The rows of that other side have 0 at column 7.
 #[test]
 fn two_nodes_become_one(rt: HostRuntime) {
     let two = Node::pair(7, Entry::Leaf(3), Entry::Leaf(4));

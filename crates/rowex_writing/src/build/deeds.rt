@@ -24,7 +24,9 @@ use rowex_table::{HotTable, TableSeat};
 /// Makes the records of the change of `job`, which other passes don't see yet, by at most `deed_steps` steps. Returns what is to take the
 /// place of the nodes of `job.span`, which are locked and checked. `job.deed` is neither `Deed::Value` nor `Deed::Take`.
 ///
-/// If no record of a kind was free, the error is that kind: the records made by then stay in `build.made`. A removal needs no leaf record.
+/// If no record of a kind that it wants is free, the error is that kind. The records made by then stay in `build.made`. A change that makes
+/// nodes for a new leaf wants one node record more, which stays free for removals. A removal needs no leaf record.
+///
 /// In a table with one pass that has a free node record, a removal has no error. In a table with one pass, if a node record was outside the
 /// tree, one is after the change's store, too.
 pub(crate) fn carry_out_deed<G: Gate>(

@@ -166,11 +166,13 @@ impl Stretch {
     }
 }
 
-/// Claims a record of `kind` and returns its number, counted from the first of the kind on. `None` if none was free: then failed steps of
-/// this call tell of each record who may own it.
+/// Claims a record of `kind` and returns its number, counted from the first of the kind on. The pass then has it beside its other records.
+/// `None` if each record of the kind was found not free: then the pass has just its records of before. For each one a failed step of this
+/// call tells who may own it: nobody, another pass, or this pass if it did before (`IsAnothersTo`).
 ///
-/// The last spare number of `hint` is tried first, and is no longer spare. Then each record is tried once, from where `hint.stretch` says.
-/// Each try takes at most two steps. Inline, so that `kind` is known when it is compiled.
+/// The last spare number of `hint` is tried first, and is no longer spare. If that fails, each record is tried once, from the number
+/// `hint.stretch.start()` on, and from 0 on after the last. `hint.next` becomes that number, and `hint.stretch` notes the claim. Each try
+/// takes at most two steps. Inline, so that `kind` is known when it is compiled.
 #[inline(always)]
 pub(crate) fn claim_by_hint<G: Gate>(
     table: &HotTable,

@@ -113,9 +113,13 @@ fn remake_node_with_leaf_by_value<G: Gate>(
     Some((Risen::Whole(entry), false))
 }
 
-/// Makes and returns what replaces the node `loaded` when it gets the leaf `new`: one entry, or a fork of two if the node was full. The
-/// flag tells whether the node stays, as one side of that fork. `None` if no node record was free: one that was made by then stays in
-/// `build.made`. `loaded.words` may be changed: a node of leaves alone with room gets the leaf there, which costs least.
+/// Makes and returns what replaces the node `loaded` when it gets the leaf `new`: one entry, or a fork of two if the node was full. No node
+/// made is higher than that node. The flag tells whether the node stays, as one side of that fork. The node's forks must lead the leaf's
+/// key to slot `new.slot`.
+///
+/// `None` if no node record was free: one that was made by then stays in `build.made`, which must have room for two. Beside the steps of
+/// claims, at most `2 * node_steps` are made. `loaded.words` may be changed: a node of leaves alone with room gets the leaf there, which
+/// costs least.
 fn remake_node_with_leaf<G: Gate>(
     table: &HotTable,
     seat: &mut TableSeat,
