@@ -80,12 +80,12 @@ fn take_both(_index: &Index, mut passes: Vec<Pass>) -> Option<(Pass, Pass)>
 
 /// Fills an index by two threads, and prints what they find. The error is one of memory refused, or of a write that failed.
 fn run_example<R: Threads + Wait + AllocGlobal + Print + Sync>(rt: &R) -> io::Result<()> {
+    let (ash, oak, yew) = (key("ash")?, key("oak")?, key("yew")?);
     // Two passes, 64 node records and 1,024 leaf records.
     let (index, passes) = create(rt.alloc(), 2, 64, 1024).map_err(as_error)?;
     let Some((first, second)) = take_both(&index, passes) else {
         return Ok(());
     };
-    let (ash, oak, yew) = (key("ash")?, key("oak")?, key("yew")?);
     let (first, second) = (Handle::new(&index, first), Handle::new(&index, second));
     let (mut first, second) = fill_together(rt, (first, second), &ash, &oak, &yew);
     let counts = [first.count(), second.count()];
@@ -100,31 +100,36 @@ fn print_reads<R: AllocGlobal + Print>(
     keys: u64,
 ) -> io::Result<()> {
     println!(rt; "{keys} keys in all")?;
+    print_range(rt, first)?;
+    print_two_words(rt, first)?;
+    print_first_keys(rt, first)
+}
+
+/// Scans a range, and prints how many pairs it has. The error is one of memory refused, or of a write that failed.
+fn print_range<R: AllocGlobal + Print>(rt: &R, first: &mut Handle<&Index>) -> io::Result<()> {
     let (from, upto) = (key("b")?, key("z")?);
     let scan = first.scan(rt.alloc(), &from, &upto, 10)?;
     println!(rt;
         "{} keys from b to z, more: {}",
         scan.pairs.len(),
         scan.more
-    )?;
-    print_further_reads(rt, first)
+    )
 }
 
-/// Looks two words up by one call, lists the first two keys by a cursor, and prints what both found. The error is one of memory refused, or
-/// of a write that failed.
-fn print_further_reads<R: AllocGlobal + Print>(
-    rt: &R,
-    handle: &mut Handle<&Index>,
-) -> io::Result<()> {
+/// Looks two words up by one call, and prints which of them it found. The error is that of a write that failed.
+fn print_two_words(rt: &impl Print, handle: &mut Handle<&Index>) -> io::Result<()> {
     let keys = [key("ash")?, key("elm")?];
     let mut found = [None; 2];
     handle.get_many(&keys, &mut found);
     let (ash, elm) = (found[0].is_some(), found[1].is_some());
-    println!(rt; "ash is there: {ash}, elm is there: {elm}")?;
+    println!(rt; "ash is there: {ash}, elm is there: {elm}")
+}
 
+/// Lists the first two keys by a cursor, and prints how many it found. The error is one of memory refused, or of a write that failed.
+fn print_first_keys<R: AllocGlobal + Print>(rt: &R, handle: &mut Handle<&Index>) -> io::Result<()> {
     // The next call of the cursor goes on behind these two.
-    let mut part = Pairs::new(rt.alloc());
     let mut cursor = Cursor::of_prefix(&key("")?);
+    let mut part = Pairs::new(rt.alloc());
     let more = cursor.next_into(handle.index, &mut handle.pass, 2, &mut part)?;
     println!(rt; "the first {} keys, more: {}", part.len(), more)
 }
