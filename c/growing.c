@@ -13,7 +13,7 @@
  * 2. When the load has ended, the handles of the next table are opened, and the phase becomes BOTH. When all changes that began before have
  *    ended, the first logs get no more keys. Each key in one gets in the next table the state that it has in the table of now, under its stripe.
  * 3. Then the phase becomes LAST, and the same is done with the other logs: they have the few keys that found their stripe locked.
- *    So each key whose stripe is not locked has the same state in both. All stripes are locked, the next table becomes that of now, and the
+ *    All stripes are locked. Where no copy was refused until then, each key has the same state in both: the next table becomes that of now, and the
  *    phase STILL. Changes that waited for a stripe begin anew.
  * 4. A look-up that began before may go on in the old table, which changes no more: it is of the moment of the hand-over, at which it was under
  *    way. When all calls that began before have ended, the old table goes.
@@ -634,14 +634,10 @@ static void catch_up(grower *of) {
     of->job->next = SETTLE_AT_LAST;
 }
 
-/* Has the next table take over. No change is under way in either meanwhile. What a handle has seen in the old one its handle in the new one has
- * seen, too. */
-static void take_over(grower *of) {
-    table *to = of->job->to, *old = of->head.now;
+/* The next table becomes that of now. What a handle has seen in the old one its handle in the new one has seen, too. */
+static void hand_over(grower *of) {
+    table *to = of->job->to;
     size_t at;
-    lock_word(&of->index->opening);
-    for (at = 0; at < STRIPES; at++)
-        lock_word(&of->head.stripes[at]);
     for (at = 0; at < to->opened; at++)
         proved_see(&to->own, &to->handles[at]);
     for (at = 0; at < to->opened; at++)
@@ -649,17 +645,37 @@ static void take_over(grower *of) {
     __atomic_store_n(&of->head.now, to, __ATOMIC_SEQ_CST);
     __atomic_store_n(&of->head.phase, STILL, __ATOMIC_SEQ_CST);
     of->head.next = NULL;
+}
+
+/* Has the next table take over, unless the copy of a change was refused there. Once all stripes are locked, no change is under way in either table,
+ * and no more copies are refused. HOT_DONE; or why the growth is to be given up. */
+static hot_status take_over(grower *of) {
+    table *to = of->job->to, *old = of->head.now;
+    hot_status status;
+    size_t at;
+    lock_word(&of->index->opening);
+    for (at = 0; at < STRIPES; at++)
+        lock_word(&of->head.stripes[at]);
+    status = __atomic_load_n(&of->head.refused, __ATOMIC_SEQ_CST);
+    if (status == HOT_DONE)
+        hand_over(of);
     for (at = 0; at < STRIPES; at++)
         unlock_word(&of->head.stripes[at]);
+    if (status != HOT_DONE) {
+        unlock_word(&of->index->opening);
+        return status;
+    }
+    old->next = of->left;
+    of->left = old;
     lock_word(&of->index->filling);
+    note_bytes(of);               /* both tables, until the job has ended */
     of->index->holds = to->holds; /* before another handle gets lists there */
     unlock_word(&of->index->filling);
     unlock_word(&of->index->opening);
     end_job(of, 1);
     watch(of, old->seen, 1);
-    old->next = of->left;
-    of->left = old;
     note_bytes(of);
+    return HOT_DONE;
 }
 
 /* Goes on where the changes that were under way have ended; else it writes 1 to `is_waiting`. HOT_DONE; or why the growth was given up. */
@@ -710,7 +726,7 @@ static hot_status make_stage(grower *of, int *is_waiting) {
         make_logs_alike(of);
         it->next = it->logs == NULL ? TAKE_OVER : CATCH_UP_AT_LAST;
         break;
-    case TAKE_OVER: take_over(of); break;
+    case TAKE_OVER: status = take_over(of); break;
     default: status = settle(of, is_waiting); break;
     }
     return status;

@@ -544,7 +544,7 @@ void hot_bytes(const hot_index *index, hot_memory *bytes) {
     const heap_pieces *pieces = &index->holds.pieces;
     const heap_lists *lists = &index->holds.long_lists;
     uint32_t *filling = (uint32_t *)&index->filling;
-    size_t place, opened = 1;
+    size_t place, held, opened = 1;
     for (place = 0; place < index->count; place++)
         opened += __atomic_load_n(&index->places[place].state, __ATOMIC_SEQ_CST) != UNOPENED;
     opened = opened < index->count ? opened : index->count;
@@ -553,10 +553,11 @@ void hot_bytes(const hot_index *index, hot_memory *bytes) {
     bytes->most = index->holds.table + lists->size + bytes_beside_table(index, index->count);
     bytes->now = (pieces->table == NULL ? index->holds.table : heap_held(pieces, index->holds.table)) + bytes_beside_table(index, opened) +
                  heap_held_lists(lists);
+    held = grower_bytes(index);
     if (index->grower != NULL)
         unlock_word(filling);
-    bytes->most += grower_bytes(index);
-    bytes->now += grower_bytes(index);
+    bytes->most += held;
+    bytes->now += held;
 }
 
 void hot_stock_for_lengths(const uint32_t *keys, hot_stock *stock) {
