@@ -548,7 +548,8 @@ void heap_take_pieces(heap_pieces *pieces) {
     pieces->marks = making.made == NULL || making.of.bytes < LEAST_HUGE_TABLE ? NULL : calloc(2, size);
     pieces->full = pieces->marks == NULL ? NULL : pieces->marks + size;
     for (piece = 0; pieces->marks != NULL && piece < pieces->count; piece++)
-        pieces->marks[piece / 8] = (uint8_t)(pieces->marks[piece / 8] | is_small(piece) << piece % 8);
+        if ((piece + 1) * HUGE_PAGE <= making.made->size) /* behind the last whole piece stands what is not the table's */
+            pieces->marks[piece / 8] = (uint8_t)(pieces->marks[piece / 8] | is_small(piece) << piece % 8);
 }
 
 void heap_free_pieces(heap_pieces *pieces) {
