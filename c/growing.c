@@ -247,7 +247,7 @@ static void make_alike(growth *of, hot_handle *from, hot_handle *to, const uint8
             status = proved_try_remove(to, key, length, &had);
     } while (hot_wait(status, &so_far));
     if (status >= HOT_BUSY)
-        refuse(of, status);
+        refuse(of, status == HOT_FULL_NODES ? HOT_FULL_NODES : HOT_FULL_LEAVES);
 }
 
 static int size_of(size_t length) {
