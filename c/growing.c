@@ -804,18 +804,31 @@ static void leave(grower *of) {
     }
 }
 
+/* Makes a larger table. The index is full only where there may be none. So a growth that was given up is followed by another one, if it was another's,
+ * or if other changes had no room in its table. HOT_DONE; or HOT_FULL_NODES, HOT_FULL_LEAVES, HOT_NO_MEMORY. */
+static hot_status make_larger(grower *of, hot_status why, size_t length) {
+    hot_status status;
+    int is_anothers;
+    do {
+        is_anothers = of->job != NULL;
+        status = is_anothers ? HOT_DONE : begin_growth(of, LARGER, why, length);
+        if (status != HOT_DONE)
+            return status;
+        status = make_all(of);
+        why = status == HOT_FULL_NODES ? status : why;
+    } while ((status == HOT_FULL_NODES || status == HOT_FULL_LEAVES) &&
+             (is_anothers || __atomic_load_n(&of->head.refused, __ATOMIC_SEQ_CST) == status));
+    return status;
+}
+
 int grow_for(hot_handle *handle, size_t length, hot_status *status) {
     growing_place *place = handle->slot.at;
     grower *of = (grower *)place->of;
     hot_status grown = HOT_DONE;
     if (!lock_grower(of, place->in))
         return 1;
-    if (of->head.now == place->in) {
-        if (of->job == NULL)
-            grown = begin_growth(of, LARGER, *status, length);
-        if (grown == HOT_DONE)
-            grown = make_all(of);
-    }
+    if (of->head.now == place->in)
+        grown = make_larger(of, *status, length);
     unlock_word(&of->lock);
     leave(of);
     if (grown == HOT_NO_MEMORY)
@@ -1001,7 +1014,7 @@ static hot_status grow(hot_index *index, uint64_t eighths, int is_to) {
     lock_grower(of, NULL);
     is_to = is_to || of->job == NULL;
     status = make_all(of);
-    if (status == HOT_DONE && is_to)
+    if (status == HOT_DONE ? is_to : status != HOT_NO_MEMORY)
         status = begin_growth(of, eighths, HOT_DONE, 0);
     if (status == HOT_DONE)
         status = make_all(of);
