@@ -438,6 +438,7 @@ static size_t bytes_of(const grower *of, const hot_stock *stock) {
 
 /* The same as `plan`, with room for fewer keys if there may not be as many. HOT_DONE; or HOT_FULL_NODES or HOT_FULL_LEAVES. */
 static hot_status plan_allowed(grower *of, const lack *lacks, uint64_t eighths, hot_stock *stock) {
+    uint64_t keys_a_node = of->keys_a_node;
     if (lacks->why == HOT_FULL_NODES && of->keys_a_node > 1)
         of->keys_a_node /= 2;
     for (; eighths >= LEAST_EIGHTHS; eighths -= 1 + (eighths > 10)) {
@@ -445,6 +446,7 @@ static hot_status plan_allowed(grower *of, const lack *lacks, uint64_t eighths, 
         if (bytes_of(of, stock) > 0)
             return HOT_DONE;
     }
+    of->keys_a_node = keys_a_node; /* no such table is made: later ones are planned as before */
     return lacks->why == HOT_FULL_NODES ? HOT_FULL_NODES : HOT_FULL_LEAVES;
 }
 
