@@ -1036,7 +1036,7 @@ hot_status hot_trim(hot_index *index) {
 
 int hot_is_filling(hot_index *index) {
     grower *of = index->grower;
-    uint64_t keys[SIZES], all, leaves = 0;
+    uint64_t keys[SIZES], all, leaves = 0, its = 0;
     int size, is_filling;
     if (of == NULL || !try_to_lock(&of->lock))
         return 0;
@@ -1044,7 +1044,8 @@ int hot_is_filling(hot_index *index) {
     is_filling = all * 8 / of->keys_a_node > 5 * (uint64_t)of->head.now->stock.nodes;
     for (size = SIZES - 1; size >= 0; size--) {
         leaves += *leaves_of(&of->head.now->stock, size);
-        is_filling |= keys[size] * 8 > 5 * leaves;
+        its += keys[size];
+        is_filling |= its * 8 > 5 * leaves;
     }
     is_filling &= of->job == NULL;
     unlock_word(&of->lock);
