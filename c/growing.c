@@ -1096,7 +1096,7 @@ static int is_rising(const supply *to, const uint8_t *key, size_t length) {
 
 /* Takes a pair. HOT_DONE; or why it is refused. */
 static hot_status take_pair(grower *of, supply *to, size_t *left, const uint8_t *key, size_t length, uint64_t value) {
-    enum { FOR_ONE = 1024 };
+    enum { FOR_ONE = 5 << 10 };
     hot_stock stock;
     size_t bytes;
     if (length > HOT_MAX_KEY)
@@ -1128,7 +1128,7 @@ static hot_status take_pair(grower *of, supply *to, size_t *left, const uint8_t 
 static hot_status load_taken(grower *of, const supply *taken, hot_status *refused, size_t *count) {
     hot_handle keeper = HOT_HANDLE;
     holding holds;
-    hot_stock stock;
+    hot_stock stock, next;
     hot_status status, why;
     packed all;
     plan_allowed(of, &nothing, FITTING, &stock);
@@ -1140,8 +1140,9 @@ static hot_status load_taken(grower *of, const supply *taken, hot_status *refuse
         if (status != HOT_DONE || why != HOT_FULL_NODES || of->keys_a_node == 1)
             break;
         of->keys_a_node /= 2;
-        if (plan_allowed(of, &nothing, FITTING, &stock) != HOT_DONE)
+        if (plan_allowed(of, &nothing, FITTING, &next) != HOT_DONE)
             break;
+        stock = next;
         proved_destroy(&keeper);
         free_held(&holds);
     }
