@@ -796,11 +796,23 @@ static hot_status end_making(hot_status status, hot_handle *handles, size_t coun
     return status;
 }
 
+/* Whether one of these handles is open that an index has which grows: no proved call sees that. */
+static int has_growing(const hot_handle *handles, size_t count) {
+    size_t place;
+    for (place = 0; place < count; place++)
+        if (handles[place].tag == GROWS)
+            return 1;
+    return 0;
+}
+
 hot_status hot_create(uint32_t nodes, uint32_t leaves, hot_handle *handles, size_t count) {
+    enum { MOST_NODES = 65535, MOST_LEAVES = 262143, MOST_HANDLES = 64 };
     hot_stock stock = {0, 0, 0, 0, 0, 0};
     holding holds;
     if (!is_processor_new())
         return HOT_OLD_PROCESSOR;
+    if (nodes - 1 < MOST_NODES && leaves - 1 < MOST_LEAVES && count - 1 < MOST_HANDLES && has_growing(handles, count))
+        return HOT_OPEN;
     stock.nodes = nodes;
     stock.long_leaves = leaves;
     begin_making(&stock, count, &holds);
@@ -809,8 +821,11 @@ hot_status hot_create(uint32_t nodes, uint32_t leaves, hot_handle *handles, size
 
 hot_status hot_create_with(const hot_stock *stock, hot_handle *handles, size_t count) {
     holding holds;
+    size_t bytes;
     if (!is_processor_new())
         return HOT_OLD_PROCESSOR;
+    if (proved_stock_bytes(stock, count, &bytes) == HOT_DONE && has_growing(handles, count))
+        return HOT_OPEN;
     begin_making(stock, count, &holds);
     return placed(end_making(proved_create_with(stock, handles, count), handles, count, &holds), &holds, handles, count);
 }
