@@ -34,7 +34,8 @@
  * What the library relies on, and doesn't check. No pointer is NULL but `had`, `context` and where a call says so, not even a key's if its
  * length is 0. Each points to what its type says, and what a call writes overlaps no other argument. A handle is zeroed before it is
  * opened, and the program never copies, moves or writes its bytes. malloc, realloc and free belong to one allocator, and 16 bytes or more
- * begin at a multiple of 16. No call is made from a signal handler. A call has 48 KiB of stack.
+ * begin at a multiple of 16. No call is made from a signal handler. A call has 48 KiB of stack. As long as an index that grows is open, the system
+ * lets the process call membarrier, where it did before.
  *
  * Forks. The child of a fork has an index of its own, as it was then. If other threads were in calls, the child only looks up, scans and
  * counts, through a handle of which no call was under way. All else may find a change in its way whose thread the child hasn't: hot_try_insert
@@ -245,12 +246,12 @@ hot_status hot_close_index(hot_index *index);
 /* An index that grows, for keys of which nobody can say how many there will be. Where there is no room a larger table is made beside the one that
  * it has, takes the pairs from it while other calls go on, and takes over: no pair is lost or there twice. All calls are as with any other index,
  * but for this. hot_insert, hot_upsert, hot_remove, hot_remove_if, and calls that make them, make the larger table where they find no room or
- * records are held back for long, or wait for who makes it. They return HOT_NO_MEMORY where that fails, and that the index is full where it may
- * not be larger; then it is as it was. hot_try_insert and the like return that it is full. Look-ups and scans never wait. Other changes go on
- * meanwhile. One may ask for memory for its key, or be made in both tables. Then a try waits, too, while another change is in its way in the
- * larger table. Each key has one of 64 locks. Just before the hand-over a change is busy while the lock of its key is taken. Another change has it,
- * or the copy of a key that was changed late, or the hand-over. Sections, moments, hot_len and hot_stats are of the index, and go on across growths;
- * hot_census is of the table of now. The old table goes once all calls that ran in it have returned. */
+ * records are held back for long, or wait for who makes it. They return HOT_NO_MEMORY where that fails, and hot_insert and hot_upsert that the
+ * index is full where it may not be larger; then it is as it was. hot_try_insert and the like return that it is full. Look-ups and scans never
+ * wait. Other changes go on meanwhile. One may ask for memory for its key, or be made in both tables. Then a try waits, too, while another change
+ * is in its way in the larger table. Each key has one of 64 locks. Just before the hand-over a change is busy while the lock of its key is taken.
+ * Another change has it, or the copy of a key that was changed late, or the hand-over. Sections, moments, hot_len and hot_stats are of the index,
+ * and go on across growths; hot_census is of the table of now. The old table goes once all calls that ran in it have returned. */
 
 /* Makes an empty index that grows, with room for so many handles, 1 to 1023. Its first table has this stock, or a small one if it is NULL. No
  * table has more than `most` bytes, as hot_stock_bytes counts them; SIZE_MAX is no bound. While the index grows it has two.
@@ -263,27 +264,28 @@ hot_status hot_open_growing(const hot_stock *stock, size_t most, size_t handles,
  * It returns what hot_load does. */
 hot_status hot_load_growing(size_t most, size_t handles, hot_source *next, void *context, hot_index **index, size_t *count);
 
-/* Has the index grow: its next table has room for three times the keys that there are, and the time is this thread's. It ends a growth that is under way
- * in place of another, and waits until the old table has gone. This and the calls below may be made by any thread until the index is closed, and
- * wait for each other.
+/* Has the index grow: its next table has room for three times the keys that there are, and the time is this thread's. It ends a growth that is
+ * under way in place of another, and waits until the old table has gone. This and the calls below may be made by any thread until the index is
+ * closed, and wait for each other.
  * HOT_DONE; or HOT_FIXED if the index doesn't grow; or HOT_NO_MEMORY, HOT_FULL_NODES or HOT_FULL_LEAVES, and then it is as it was. */
 hot_status hot_grow(hot_index *index);
 
-/* The same with a table that fits the keys that there are, so that memory comes back when keys have gone. Where too many come meanwhile, it is
- * HOT_FULL_NODES or HOT_FULL_LEAVES. */
+/* The same with a table that fits the keys that there are, so that memory comes back when keys have gone. Where too many come meanwhile, or none
+ * with room to spare may be made, it is HOT_FULL_NODES or HOT_FULL_LEAVES. */
 hot_status hot_trim(hot_index *index);
 
-/* A growth by portions. hot_grow_begin begins one, unless one is under way. hot_grow_step makes a portion of it, and writes 1 to `more` if there
- * is more to do, else 0: it loads 512 pairs, opens a handle, or looks after 256 keys that were changed meanwhile. But to make a table can't be
- * parted: hot_grow_begin and one portion take half of its time each. A change that has noted 8 KiB of keys makes a portion, too, but the table
- * only where 1 MiB was noted; and one that finds no room makes all that are left. Page faults may wait for the system's work on a table, which is
- * asked for by 2 MiB at a time.
+/* A growth by portions. hot_grow_begin begins one, unless one is under way. hot_grow_step makes a portion of it, and writes 1 to `more` if there is
+ * more to do, else 0: it loads 512 pairs at most, whose keys have 16 KiB at most, opens a handle, or looks after 256 keys that were changed
+ * meanwhile. But to make a table can't be parted: hot_grow_begin and one portion take half of its time each. A change that has noted 8 KiB of keys
+ * makes a portion, too, but the table only where 1 MiB was noted; and one that finds no room makes all that are left. Page faults may wait for the
+ * system's work on a table, which is asked for by 2 MiB at a time.
  * They return what hot_grow does. Where hot_grow_step isn't HOT_DONE, the growth was given up. */
 hot_status hot_grow_begin(hot_index *index);
 hot_status hot_grow_step(hot_index *index, uint32_t *more);
 
-/* Whether it is time for hot_grow, so that no change finds the index full: 1 if five eighths of the leaf records of a size are in use, or by
- * an estimate of the nodes; 0 if not, if the index doesn't grow, or if it is growing. It waits for nothing. */
+/* Whether it is time for hot_grow, so that no change finds the index full: 1 if keys of a size and longer ones come to five eighths of the leaf
+ * records that have room for them, or by an estimate to as many of the nodes; 0 if not, if the index doesn't grow, if it is growing, or while
+ * another call looks whether an old table may go. It waits for nothing. */
 int hot_is_filling(hot_index *index);
 
 /* Order in time. A handle has seen its own calls, and all that was published when a call of it loaded the root. Whatever a handle has
@@ -596,10 +598,10 @@ typedef struct hot_refusals {
     uint64_t full;      /* HOT_FULL_NODES or HOT_FULL_LEAVES: too few records were free, and by a count none comes back */
 } hot_refusals;
 
-/* Writes how often tries were refused since the index was made, through any of its handles, open or closed. Each that was held back or
- * full has counted all records, but for removals. One that found a record free after it had collected counts nowhere. Each handle keeps numbers of its own,
- * and this adds them up; it makes no steps. The sums are exact if no change runs meanwhile. Else they are of no single moment. Any thread
- * may make this call until the index is closed. */
+/* Writes how often tries were refused since the index was made, through any of its handles, open or closed. Each that was held back or full has
+ * counted all records, but for removals, and for keys that are too long for the leaves of an index that grows. One that found a record free after
+ * it had collected counts nowhere. Each handle keeps numbers of its own, and this adds them up; it makes no steps. The sums are exact if no change
+ * runs meanwhile. Else they are of no single moment. Any thread may make this call until the index is closed. */
 void hot_stats(const hot_index *index, hot_refusals *stats);
 
 /* What an index takes of memory, in bytes: its table, and what its handles keep, open or closed. */
@@ -608,12 +610,12 @@ typedef struct hot_memory {
     size_t now;
 } hot_memory;
 
-/* Writes what the index takes of memory. The numbers are never too low: a page of 4 KiB counts once something was written there, and may
- * count once it was read, as hot_census reads all. What a handle may keep after a scan counts for each that was opened. The system's page
- * tables don't count: they come to a 500th of the table at most. The call makes no steps. It asks the system which pages of the table are
- * there, in calls for 2 MiB each, but not about 2 MiB that were full when it last did: they count as taken from then on. So it takes time for what
- * has not filled of a table, a few tenths of a millisecond for 1 GB. With an index that grows it waits for other such calls. Any thread may make it
- * until the index is closed. */
+/* Writes what the index takes of memory. The numbers are never too low: a page of 4 KiB counts once something was written there, and may count once
+ * it was read, as hot_census reads all. What a handle may keep after a scan counts for each that was opened. The system's page tables don't count:
+ * they come to a 500th of the table at most. The call makes no steps. It asks the system which pages of the table are there, in calls for 2 MiB
+ * each, but not about 2 MiB that were full when it last did: they count as taken from then on. So it takes time for what has not filled of a table,
+ * a few tenths of a millisecond for 1 GB. With an index that grows it waits for other such calls, and for an insertion that asks for a huge page.
+ * Any thread may make it until the index is closed. */
 void hot_bytes(const hot_index *index, hot_memory *bytes);
 
 /* Closes a handle of hot_create or hot_create_with, from any thread and in any order. Closing the last one frees the index. A closed
