@@ -711,12 +711,21 @@ static void test_asked_about(void) {
 static long fences;
 static int has_fences;
 
+/* The index of which hot_bytes is asked where a growth makes a fence, and the least that it has told of now. */
+static hot_index *fenced;
+static size_t least_now;
+
 long __real_syscall(long number, long command, long flags, long processor);
 
 long __wrap_syscall(long number, long command, long flags, long processor) {
     enum { EXPEDITED = 1 << 3, REGISTER = 1 << 4 };
     long status = __real_syscall(number, command, flags, processor);
     fences += number == SYS_membarrier && command == EXPEDITED && status == 0;
+    if (fenced != NULL && command == EXPEDITED) {
+        hot_memory bytes;
+        hot_bytes(fenced, &bytes);
+        least_now = bytes.now < least_now ? bytes.now : least_now;
+    }
     has_fences |= number == SYS_membarrier && command == REGISTER && status == 0;
     return status;
 }
@@ -732,6 +741,25 @@ static void test_fences(void) {
     CHECK(hot_close(&handle) == HOT_DONE && hot_close_index(index) == HOT_DONE);
     if (!has_fences)
         puts("not tried, since the system has no membarrier: fences of an index that grows");
+}
+
+/* While one table takes over from another, the index takes what both take. */
+static void test_handed_over(void) {
+    enum { KEYS = 50000 };
+    hot_handle handle = HOT_HANDLE;
+    hot_index *index = NULL;
+    hot_memory before;
+    unsigned number;
+    CHECK(hot_open_growing(NULL, SIZE_MAX, 1, &index) == HOT_DONE && hot_open(index, &handle) == HOT_DONE);
+    for (number = 0; number < KEYS; number++)
+        CHECK(hot_insert(&handle, (const uint8_t *)&number, sizeof number, number, NULL) == HOT_INSERTED);
+    CHECK(hot_clear(&handle) == HOT_DONE);
+    hot_bytes(index, &before);
+    least_now = SIZE_MAX;
+    fenced = index;
+    CHECK(hot_trim(index) == HOT_DONE && least_now >= before.now);
+    fenced = NULL;
+    CHECK(hot_close(&handle) == HOT_DONE && hot_close_index(index) == HOT_DONE);
 }
 
 int main(void) {
@@ -751,6 +779,7 @@ int main(void) {
     test_at_once();
     test_asked_about();
     test_fences();
+    test_handed_over();
     while (test_growing_refused(growing))
         growing++;
     few = test_each_refused(&stock);
