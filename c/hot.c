@@ -545,15 +545,16 @@ void hot_bytes(const hot_index *index, hot_memory *bytes) {
     const heap_lists *lists = &index->holds.long_lists;
     uint32_t *filling = (uint32_t *)&index->filling;
     size_t place, held, opened = 1;
+    if (index->grower != NULL)
+        lock_word(filling);
+    /* First, since what it counts may go meanwhile. Of handles and pages of the table of now there only come more. */
+    held = grower_bytes(index);
     for (place = 0; place < index->count; place++)
         opened += __atomic_load_n(&index->places[place].state, __ATOMIC_SEQ_CST) != UNOPENED;
     opened = opened < index->count ? opened : index->count;
-    if (index->grower != NULL)
-        lock_word(filling);
     bytes->most = index->holds.table + lists->size + bytes_beside_table(index, index->count);
     bytes->now = (pieces->table == NULL ? index->holds.table : heap_held(pieces, index->holds.table)) + bytes_beside_table(index, opened) +
                  heap_held_lists(lists);
-    held = grower_bytes(index);
     if (index->grower != NULL)
         unlock_word(filling);
     bytes->most += held;
