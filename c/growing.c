@@ -191,8 +191,8 @@ hot_handle *begin_change(hot_handle *handle, const uint8_t *key, size_t length) 
             go_over(place, now);
         place->stripe = NULL;
         place->log = &place->logs[place->phase != LOGGING];
-        if (place->phase != BOTH && place->phase != LAST)
-            return place->at;
+        if ((place->phase != BOTH && place->phase != LAST) || length > HOT_MAX_KEY)
+            return place->at; /* a key that is too long is refused there */
         place->stripe = stripe_of(of, key, length);
         if (!try_to_lock(place->stripe)) {
             int is_to_wait = place->phase == LAST;

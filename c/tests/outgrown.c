@@ -12,9 +12,9 @@
 /* A growth of a small index has taken over after so many portions. */
 enum { PORTIONS = 14 };
 
-/* A key of a number: eight bytes, and zeros behind them. */
+/* A key of a number: eight bytes, and zeros behind them, one more than a key may have. */
 typedef struct key {
-    uint8_t bytes[HOT_MAX_KEY];
+    uint8_t bytes[HOT_MAX_KEY + 1];
 } key;
 
 static key key_of(uint64_t number) {
@@ -91,11 +91,22 @@ static struct {
 } last;
 static __thread int is_last;
 
+/* Who changes a key that is too long while another change has the lock of its first bytes; and how often it did. */
+static hot_handle *too_long;
+static unsigned too_long_count;
+
 void stand_unnoted(void) {
 }
 
 void stand_here(const uint8_t *bytes, size_t length) {
     (void)bytes, (void)length;
+    if (too_long != NULL) {
+        hot_handle *by = too_long;
+        too_long = NULL;
+        CHECK(hot_try_upsert(by, key_of(1).bytes, HOT_MAX_KEY + 1, 1, NULL) == HOT_KEY_TOO_LONG);
+        too_long = by;
+        too_long_count++;
+    }
     if (!is_last)
         return;
     __atomic_store_n(&last.turn, 1, __ATOMIC_SEQ_CST);
@@ -137,8 +148,29 @@ static void test_last_insertion(void) {
     }
     CHECK(given_up > 0);
 }
+
+/* A key that is too long waits for no lock, and isn't busy. */
+static void test_too_long(void) {
+    hot_handle handle = HOT_HANDLE, by = HOT_HANDLE;
+    hot_index *index = open_for(10, HOT_MAX_KEY, 2, &handle);
+    hot_refusals refusals;
+    uint32_t more = 1;
+    CHECK(hot_open(index, &by) == HOT_DONE && hot_upsert(&handle, key_of(1).bytes, HOT_MAX_KEY, 1, NULL) == HOT_NEW);
+    CHECK(hot_grow_begin(index) == HOT_DONE);
+    for (too_long = &by; more;)
+        CHECK(hot_try_upsert(&handle, key_of(1).bytes, HOT_MAX_KEY, 2, NULL) == HOT_WAS && hot_grow_step(index, &more) == HOT_DONE);
+    too_long = NULL;
+    hot_stats(index, &refusals);
+    CHECK(too_long_count > 0 && refusals.busy == 0 && hot_close(&by) == HOT_DONE);
+    close_all(&handle, index);
+}
+
+static void test_stands(void) {
+    test_last_insertion();
+    test_too_long();
+}
 #else
-static void test_last_insertion(void) {
+static void test_stands(void) {
 }
 #endif
 
@@ -257,7 +289,7 @@ static void test_behind(void) {
 int main(void) {
     test_insertions();
     test_sizes();
-    test_last_insertion();
+    test_stands();
     test_filling();
     test_load();
     test_refusals();
