@@ -254,7 +254,8 @@ hot_status hot_close_index(hot_index *index);
  * and go on across growths; hot_census is of the table of now. The old table goes once all calls that ran in it have returned. */
 
 /* Makes an empty index that grows, with room for so many handles, 1 to 1023. Its first table has this stock, or a small one if it is NULL. No
- * table has more than `most` bytes, as hot_stock_bytes counts them; SIZE_MAX is no bound. While the index grows it has two.
+ * table has more than `most` bytes, as hot_stock_bytes counts them; SIZE_MAX is no bound. While the index grows it has two. Those that it has had
+ * since the oldest call began that is under way stay, too.
  * HOT_DONE; or HOT_OUT_OF_RANGE, also where `most` is too few for the first table, HOT_NO_MEMORY or HOT_OLD_PROCESSOR, and then nothing is
  * written. */
 hot_status hot_open_growing(const hot_stock *stock, size_t most, size_t handles, hot_index **index);
