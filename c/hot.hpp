@@ -61,8 +61,9 @@ class key_view : public std::string_view {
     using std::string_view::string_view;
     /// The empty key, which comes before all others.
     constexpr key_view() = default;
-    /// No key is made of a null pointer, or of a 0, which would be one.
+    /// No key is made of a null pointer, or of a 0, which would be one: neither alone nor with a length.
     key_view(std::nullptr_t) = delete;
+    key_view(std::nullptr_t, std::size_t) = delete;
     /// All bytes of a text, 0 bytes among them.
     constexpr key_view(std::string_view text) : std::string_view(text) {}
     key_view(const std::string &text) : std::string_view(text) {}

@@ -46,6 +46,9 @@ COMPILES(scans_last, scan_last("a", "b", 1));
 COMPILES(finds_text, contains("0"));
 COMPILES(finds_number, contains(0));
 COMPILES(finds_null, contains(nullptr));
+COMPILES(finds_bytes, contains({"0", 1}));
+COMPILES(finds_number_of_bytes, contains({0, 40}));
+COMPILES(finds_null_of_bytes, contains({nullptr, 40}));
 using open = hot::handle &;
 static_assert(scans_all<open> && scans<open> && scans_prefix<open> && scans_prefix_reverse<open>);
 static_assert(scans_half_open<open> && scans_reverse<open> && scans_all_reverse<open> && scans_last<open> && finds_text<open>);
@@ -54,6 +57,7 @@ static_assert(!scans_all<hot::handle> && !scans<hot::handle> && !scans_prefix<ho
 static_assert(!scans_half_open<hot::handle> && !scans_reverse<hot::handle> && !scans_all_reverse<hot::handle> && !scans_last<hot::handle>);
 // A 0 would be a null pointer, where a key's text begins.
 static_assert(!finds_number<open> && !finds_null<open>);
+static_assert(finds_bytes<open> && !finds_number_of_bytes<open> && !finds_null_of_bytes<open>);
 // A pair would keep the key of a page that is gone.
 static_assert(!std::is_constructible_v<hot::pair, hot::range::item> && std::is_convertible_v<hot::range::item, hot::entry>);
 
