@@ -289,7 +289,7 @@ template <class... Values> [[nodiscard]] std::optional<std::tuple<Values...>> va
 enum class order { rising, falling, last };
 
 /// The pairs of a scan in this order of their keys, fetched page by page. The handle may be used or moved meanwhile, but not
-/// closed. Use one iterator at a time. Making an iterator and moving it on throw as `check` does.
+/// closed. Use one iterator at a time. Making an iterator and moving it on throw as `check` does. It stays at its pair then.
 class range {
   public:
     /// What an iterator stands at: the key is valid until the iterator goes on. As an `entry` it may be kept.
@@ -364,9 +364,12 @@ class range {
         const hot_pair &it = page_[place];
         return {{reinterpret_cast<const char *>(it.key), it.length}, it.value};
     }
+    // Where the next page is refused, it stays at the pair before.
     bool go_on() {
-        if (++at_ < count_)
+        if (at_ + 1 < count_) {
+            at_++;
             return true;
+        }
         if (!more_ || goes_ == order::last)
             return false;
         const std::string_view last = at_place(count_ - 1).key;
