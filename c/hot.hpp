@@ -393,13 +393,18 @@ class range {
 class packed {
   public:
     class iterator {
+        struct arrow {
+            pair at;
+            const pair *operator->() const { return &at; }
+        };
+
       public:
         // What it stands at is a pair and no reference to one, as C++17 wants of more than input.
         using iterator_category = std::input_iterator_tag;
         using iterator_concept = std::bidirectional_iterator_tag;
         using value_type = pair;
         using difference_type = std::ptrdiff_t;
-        using pointer = const pair *;
+        using pointer = arrow;
         using reference = pair;
 
         /// At no pair: it may only be assigned to.
@@ -407,6 +412,7 @@ class packed {
         /// At the pair whose key and head are at these places: `begin` and `end` make it.
         iterator(const std::uint8_t *key, const hot_head *head) : key_(key), head_(head) {}
         pair operator*() const { return {{reinterpret_cast<const char *>(key_), head_->length}, head_->value}; }
+        arrow operator->() const { return {**this}; }
         iterator &operator++() {
             key_ += head_++->length;
             return *this;

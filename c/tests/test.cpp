@@ -300,7 +300,7 @@ static void test_containers() {
     hot::packed page(10, 100);
     handle.scan_packed({}, hot::greatest(), page);
     const std::vector<hot::pair> pairs(page.begin(), page.end());
-    CHECK(pairs.size() == 2 && pairs[1].key == "ac" && !page.empty() && (*--page.end()).key == "ac");
+    CHECK(pairs.size() == 2 && pairs[1].key == "ac" && !page.empty() && (--page.end())->key == "ac");
     hot::packed last(1, 2);
     handle.scan_packed_reverse({}, hot::greatest(), last);
     CHECK(last.size() == 1 && last.has_more() && (*last.begin()).key == "ac" && ++last.begin() == last.end());
