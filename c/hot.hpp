@@ -1021,11 +1021,13 @@ class index {
     return create(hot_stock{nodes, 0, 0, 0, 0, leaves}, count);
 }
 
-/// An index that grows, as `index::growing` makes one, with handles that are called users.
+/// An index that grows, as `index::growing` makes one, with handles that are called users. It can't be moved: users have its address.
 class growing {
   public:
     /// An empty index that begins with this stock, and has room for so many users at a time, 1 to 1023. Throws as the constructor of `index`.
     explicit growing(const hot_stock &stock, std::size_t users = 63) : at_(index::growing(stock, users)) {}
+    growing(const growing &) = delete;
+    growing &operator=(const growing &) = delete;
 
     /// The right to use the index, for one thread at a time. It must be gone before the index.
     class user {

@@ -390,6 +390,9 @@ static void test_counting() {
     CHECK(handles[0].get("sum") == 8000 && handles[0].get("added") == 8000 && handles[1].fetch_add("added", UINT64_MAX) == 8000);
 }
 
+// Its users have its address.
+static_assert(!std::is_move_constructible_v<hot::growing> && !std::is_move_assignable_v<hot::growing>);
+
 // Two threads put keys into an index that grows, and two find each key that was put in.
 static void test_growing() {
     constexpr std::uint32_t many = 4000;
