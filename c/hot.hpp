@@ -824,17 +824,28 @@ class section {
     handle::held *of_;
 };
 
-/// A stock for `keys` keys of at most `longest` bytes each; hot.h says what it has to spare.
-[[nodiscard]] inline hot_stock stock_for_keys(std::uint32_t keys, std::size_t longest) {
+namespace detail {
+// A number of keys or records, as C takes it.
+inline std::uint32_t in_range(std::size_t number) {
+    if (number > UINT32_MAX)
+        check(HOT_OUT_OF_RANGE);
+    return static_cast<std::uint32_t>(number);
+}
+} // namespace detail
+
+/// A stock for `keys` keys of at most `longest` bytes each; hot.h says what it has to spare. Throws std::invalid_argument for more than
+/// 4294967295 keys.
+[[nodiscard]] inline hot_stock stock_for_keys(std::size_t keys, std::size_t longest) {
     hot_stock stock{};
-    hot_stock_for_keys(keys, longest, &stock);
+    hot_stock_for_keys(detail::in_range(keys), longest, &stock);
     return stock;
 }
 
-/// A stock that is always enough for `keys` keys of at most `longest` bytes each, whatever they are, in an index of so many handles.
-[[nodiscard]] inline hot_stock stock_for_any_keys(std::uint32_t keys, std::size_t longest, std::size_t handles) {
+/// A stock that is always enough for `keys` keys of at most `longest` bytes each, whatever they are, in an index of so many handles. Throws as
+/// `stock_for_keys` does.
+[[nodiscard]] inline hot_stock stock_for_any_keys(std::size_t keys, std::size_t longest, std::size_t handles) {
     hot_stock stock{};
-    hot_stock_for_any_keys(keys, longest, handles, &stock);
+    hot_stock_for_any_keys(detail::in_range(keys), longest, handles, &stock);
     return stock;
 }
 
@@ -893,7 +904,7 @@ class index {
     }
     /// The same with `stock_for_keys`: room for `keys` keys of at most `longest` bytes each; for 256 for each handle at least, of several, and
     /// for eight of them at most. A call with a key that no leaf record has room for throws std::length_error.
-    index(std::uint32_t keys, std::size_t longest, std::size_t handles = 64)
+    index(std::size_t keys, std::size_t longest, std::size_t handles = 64)
         : index(stock_for_keys(std::max(keys, least_for(handles)), longest), handles) {}
     /// Makes an index of pairs, whose keys rise: hot_load. They are a key and a value each, in anything that can be iterated over, such as a
     /// std::map, a vector of entries, or the range of a scan in another index. Throws as the constructor does,
@@ -965,9 +976,7 @@ class index {
 
   private:
     /// For how many keys at least an index has records that so many handles change.
-    static std::uint32_t least_for(std::size_t handles) {
-        return handles > 1 ? 256 * static_cast<std::uint32_t>(std::min<std::size_t>(handles, 8)) : 0;
-    }
+    static std::size_t least_for(std::size_t handles) { return handles > 1 ? 256 * std::min<std::size_t>(handles, 8) : 0; }
     explicit index(std::shared_ptr<hot_index> at) : at_(std::move(at)) {}
     hot_index *at() const {
         if (!at_)
@@ -1017,8 +1026,8 @@ class index {
 }
 
 /// The same with this number of node records, and of leaf records for keys of any length.
-[[nodiscard]] inline std::vector<handle> create(std::uint32_t nodes, std::uint32_t leaves, std::size_t count = 1) {
-    return create(hot_stock{nodes, 0, 0, 0, 0, leaves}, count);
+[[nodiscard]] inline std::vector<handle> create(std::size_t nodes, std::size_t leaves, std::size_t count = 1) {
+    return create(hot_stock{detail::in_range(nodes), 0, 0, 0, 0, detail::in_range(leaves)}, count);
 }
 
 /// An index that grows, as `index::growing` makes one, with handles that are called users. It can't be moved: users have its address.

@@ -186,6 +186,14 @@ static void test_stock() {
     CHECK(!handles[0].insert(std::string(8, 'a'), 3).is_refused() && handles[0].get(std::string(24, 'a')) == 1);
     stock.short_leaves = stock.medium_leaves = 0;
     CHECK(throws<std::invalid_argument>([&] { return hot::create(stock); }));
+    // Of a number of more than 32 bits 5 would be left.
+    std::size_t many = UINT32_MAX;
+    CHECK(hot::stock_for_keys(many, 8).nodes > 1000000000);
+    many += 6;
+    CHECK(throws<std::invalid_argument>([&] { return hot::index(many, 8, 1); }));
+    CHECK(throws<std::invalid_argument>([&] { return hot::create(many, 1); }));
+    CHECK(throws<std::invalid_argument>([&] { return hot::stock_for_keys(many, 8); }));
+    CHECK(throws<std::invalid_argument>([&] { return hot::stock_for_any_keys(many, 8, 1); }));
 }
 
 // Keys of a, aa, .. to the greatest length, and one of the greatest length with other bytes: on each page, one goes on after its last;
