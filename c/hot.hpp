@@ -201,7 +201,7 @@ template <class Number> std::uint64_t ordered(Number value) {
             value = std::numeric_limits<Number>::quiet_NaN();
         std::memcpy(&bits, &value, sizeof bits);
         if (value != value)
-            bits &= ~sign;
+            bits = static_cast<decltype(bits)>(bits & ~sign);
         return bits & sign ? (2 * sign - 1) ^ bits : bits | sign;
     } else {
         return (static_cast<std::uint64_t>(value) & (2 * sign - 1)) ^ (std::is_signed_v<Number> ? sign : 0);

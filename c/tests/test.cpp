@@ -278,6 +278,7 @@ static void test_ends() {
     CHECK(hot::after("b") == std::string("b\0", 2) && hot::after("b" + std::string(HOT_MAX_KEY - 1, '\xff')) == "c");
     CHECK(!hot::after(long_key) && !hot::after(too_long) && hot::after({}) == std::string(1, '\0'));
     CHECK(hot::to_string(hot::status::full_leaves) == hot_status_text(HOT_FULL_LEAVES));
+    CHECK(hot::values_of<float>(hot::key_of(-1.5f)) == std::tuple(-1.5f) && hot::key_of(-1.5f) < hot::key_of(0.5f));
     CHECK(handle.pop_first() == hot::entry{"a", 1} && handle.pop_last({}, "c") == hot::entry{"c", 1} && !handle.pop_first("ba", "bb"));
     CHECK(handle.pop_first("b\1")->key == long_key && !handle.pop_last("c") && throws<std::length_error>([&] { return handle.pop_last(too_long); }));
     handle.clear_range("b", "b");
