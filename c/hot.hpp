@@ -648,7 +648,7 @@ class handle {
     [[nodiscard]] bool empty() { return !first(); }
 
     /// Remove the first pair whose key is from one to another, both included, or the last one, and return it, or none where there is none:
-    /// hot_pop_first, hot_pop_last, which say what holds beside other calls. They wait, and throw std::runtime_error where the index is full.
+    /// hot_pop_first, hot_pop_last, which say what holds beside other calls. They wait, and throw std::bad_alloc.
     std::optional<entry> pop_first(key_view from = {}, key_view upto = greatest()) { return pop(hot_pop_first, from, upto); }
     std::optional<entry> pop_last(key_view from = {}, key_view upto = greatest()) { return pop(hot_pop_last, from, upto); }
 
@@ -659,7 +659,8 @@ class handle {
         made(hot_clear_range(it(), bytes(from), from.size(), bytes(upto), upto.size()));
     }
 
-    /// Gives each key its value in the index of another handle: hot_copy. It waits and throws in the same way, and then the rest isn't copied.
+    /// Gives each key its value in the index of another handle: hot_copy. It waits, and throws std::bad_alloc, std::runtime_error where that
+    /// index is full, or std::length_error where no leaf record of it has room for a key. Then the rest isn't copied.
     void copy_to(handle &other) { made(hot_copy(it(), other.it())); }
 
     /// How many keys there are: hot_len.
@@ -925,7 +926,8 @@ class index {
     }
     /// Have such an index grow ahead of need, or give memory back; begin a growth, and make a portion of it, which returns whether there is more to
     /// do; and whether it is time to grow: hot_grow, hot_trim, hot_grow_begin, hot_grow_step, hot_is_filling. They throw std::logic_error if
-    /// the index doesn't grow or was moved from, std::bad_alloc, and std::runtime_error where it may not be larger. It is as it was then.
+    /// the index was moved from. If it doesn't grow, `is_filling` returns false, and the others throw std::logic_error. These throw
+    /// std::bad_alloc, too, and std::runtime_error where it may not be larger. It is as it was then.
     void grow() { made(hot_grow(at())); }
     void trim() { made(hot_trim(at())); }
     void grow_begin() { made(hot_grow_begin(at())); }
