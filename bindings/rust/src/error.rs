@@ -2,7 +2,7 @@
 use crate::ffi::{self, Status};
 use std::{error, fmt};
 
-/// Why a call was refused. It changed nothing.
+/// Why a call was refused. It changed nothing, but for `extend`, `clear`, `clear_range` and `copy_to`: the changes that they made before stay.
 #[derive(Clone, Copy, Debug, PartialEq, Eq, Hash)]
 #[non_exhaustive]
 pub enum Error {

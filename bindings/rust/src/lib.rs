@@ -415,7 +415,7 @@ impl Handle {
             .try_for_each(|(key, value)| self.insert(key, value).map(|_| ()))
     }
 
-    /// Removes the key, and returns its value. An index with no node record to spare may refuse it.
+    /// Removes the key, and returns its value. An index that grows may refuse it as [`Error::NoMemory`].
     pub fn remove(&self, key: impl AsRef<[u8]>) -> Result<Option<u64>, Error> {
         match self.lease.remove(key.as_ref()) {
             (ffi::REMOVED, had) => Ok(Some(had)),
