@@ -22,7 +22,9 @@ fn main() {
         });
     let is_shared = env::var_os("HOT_SHARED").is_some() || !folder.join("libhot.a").is_file();
     let folder = if is_shared { folder } else { best(folder) };
-    println!("cargo:rerun-if-changed={}", folder.join("libhot.a").display());
+    // Cargo builds anew where a file that is named here is missing.
+    let name = if is_shared { "libhot.so" } else { "libhot.a" };
+    println!("cargo:rerun-if-changed={}", folder.join(name).display());
     let folder = folder.display();
     println!("cargo:rustc-link-search=native={folder}");
     if is_shared {
