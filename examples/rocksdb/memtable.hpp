@@ -5,15 +5,19 @@
 // It stands on classes of RocksDB that may change with any version: MemTableRep, whose default look-up has an iterator made and doesn't delete
 // it, and Arena, of which it calls one function by its name. It was tried with RocksDB 7.8.
 #pragma once
+#include <algorithm>
 #include <atomic>
 #include <array>
 #include <cstring>
 #include <hot.h>
+#include <iterator>
 #include <map>
 #include <memory>
 #include <mutex>
 #include <new>
+#include <random>
 #include <rocksdb/memtablerep.h>
+#include <set>
 #include <string>
 #include <string_view>
 #include <utility>
@@ -451,14 +455,35 @@ class factory final : public MemTableRepFactory {
     static std::string entry_of(std::string_view key) {
         return static_cast<char>(key.size() + 8) + std::string(key) + std::string(8, '\0');
     }
-    /// By some keys, so long that eight of their bytes may be a time.
+    /// Entries of keys that rise by their bytes. A key has 16 of them or more, of which eight may be a time. Each byte has its turn at four
+    /// places, in keys that end or go on. Other keys are drawn, always the same: of digits, of letters of both cases, and of any bytes. Many
+    /// begin alike.
+    static std::vector<std::string> sample() {
+        std::set<std::string> keys;
+        for (const std::size_t place : {0, 7, 8, 15})
+            for (int byte = 0; byte < 256; byte++) {
+                std::string key(16, '\0');
+                key[place] = static_cast<char>(byte);
+                keys.insert({key, key + '\0', key + '\xff'});
+            }
+        std::minstd_rand random;
+        std::string key;
+        for (int left = 3000; left > 0; left--) {
+            key.resize(random() % (key.size() + 1));
+            const auto kind = random() % 3;
+            while (key.size() < 16 || random() % 4 > 0)
+                key += kind == 0 ? "0123456789"[random() % 10] : kind == 1 ? "ABZabz"[random() % 6] : static_cast<char>(random());
+            keys.insert(key);
+        }
+        std::vector<std::string> entries;
+        std::transform(keys.begin(), keys.end(), std::back_inserter(entries), entry_of);
+        return entries;
+    }
+    /// By the sample: an order that differs for other keys alone is not found out.
     static bool is_by_bytes(const MemTableRep::KeyComparator &order) {
-        const std::string keys[] = {std::string(16, '\0'), std::string(17, '\0'), std::string(15, '\0') + '\1', std::string(15, '\0') + '\x7f',
-                                    std::string(15, '\0') + '\x80', '\1' + std::string(16, '\0'), '\x80' + std::string(16, '\0')};
-        for (std::size_t at = 0; at + 1 < std::size(keys); at++)
-            if (order(entry_of(keys[at]).c_str(), entry_of(keys[at + 1]).c_str()) >= 0)
-                return false;
-        return true;
+        static const std::vector<std::string> entries = sample();
+        const auto falls = [&](const std::string &one, const std::string &next) { return order(one.c_str(), next.c_str()) >= 0; };
+        return std::adjacent_find(entries.begin(), entries.end(), falls) == entries.end();
     }
     std::uint32_t keys_;
     std::size_t longest_;

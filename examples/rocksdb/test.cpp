@@ -225,22 +225,52 @@ static void threads_at_once(const std::string &folder) {
     }
 }
 
+/// Keys that rise in the order of their bytes are in an index: else two skip lists would be compared. One crashes here, without an allocator.
+static void order_of_bytes() {
+    struct by_bytes final : MemTableRep::KeyComparator {
+        int operator()(const char *one, const char *other) const override { return (*this)(one, GetLengthPrefixedSlice(other)); }
+        int operator()(const char *one, const Slice &other) const override {
+            return hot_memtable::user_key(GetLengthPrefixedSlice(one)).compare(hot_memtable::user_key(other));
+        }
+    };
+    const std::unique_ptr<MemTableRep> made(hot_memtable::factory().CreateMemTableRep(by_bytes(), nullptr, nullptr, nullptr));
+    if (!dynamic_cast<hot_memtable::memtable *>(made.get()))
+        fail("the order of bytes isn't told");
+}
+
+/// The order of bytes, but that letters of both cases are the same.
+class without_case final : public Comparator {
+  public:
+    const char *Name() const override { return "without_case"; }
+    int Compare(const Slice &one, const Slice &other) const override { return lower(one).compare(lower(other)); }
+    void FindShortestSeparator(std::string *, const Slice &) const override {}
+    void FindShortSuccessor(std::string *) const override {}
+
+  private:
+    static std::string lower(const Slice &key) {
+        std::string made = key.ToString();
+        for (char &at : made)
+            at = at >= 'A' && at <= 'Z' ? static_cast<char>(at - 'A' + 'a') : at;
+        return made;
+    }
+};
+
 /// Keys that rise in another order than their bytes' are in a skip list.
-static void another_order(const std::string &folder) {
+static void another_order(const std::string &folder, const Comparator *order, const std::string &wanted) {
     Options options = options_of(true);
-    options.comparator = ReverseBytewiseComparator();
+    options.comparator = order;
     DB *opened = nullptr;
-    DestroyDB(folder + "/reverse", options);
-    must(DB::Open(options, folder + "/reverse", &opened));
+    DestroyDB(folder + "/order", options);
+    must(DB::Open(options, folder + "/order", &opened));
     const std::unique_ptr<DB> db(opened);
-    for (const char *key : {"b", "c", "a"})
+    for (const char *key : {"b", "C", "a"})
         must(db->Put(WriteOptions(), key, key));
     const std::unique_ptr<Iterator> it(db->NewIterator(ReadOptions()));
     std::string all;
     for (it->SeekToFirst(); it->Valid(); it->Next())
         all += it->key().ToString();
-    if (all != "cba")
-        fail("another order of keys isn't kept: " + all);
+    if (all != wanted)
+        fail(std::string("another order of keys isn't kept, ") + order->Name() + ": " + all);
 }
 
 int main(int count, char **words) {
@@ -248,6 +278,9 @@ int main(int count, char **words) {
         fail("usage: test FOLDER STEPS SEED");
     random_steps(words[1], std::strtoul(words[2], nullptr, 10), std::strtoul(words[3], nullptr, 10));
     threads_at_once(words[1]);
-    another_order(words[1]);
+    order_of_bytes();
+    const without_case order;
+    another_order(words[1], ReverseBytewiseComparator(), "baC");
+    another_order(words[1], &order, "abC");
     std::cout << "right: " << words[2] << " steps beside a skip list, and " << THREADS << " threads at once\n";
 }
