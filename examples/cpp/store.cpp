@@ -128,8 +128,9 @@ class store {
         hot::handle directory_;
     };
 
+    // The directory grows: a record that is in the log has room when it is opened again, however many there are.
     store(const char *path, std::size_t threads)
-        : file_(::open(path, O_RDWR | O_CREAT, 0666)), directory_(100000, 24, threads + 1), threads_(threads) {
+        : file_(::open(path, O_RDWR | O_CREAT, 0666)), directory_(hot::index::growing(threads + 1)), threads_(threads) {
         if (file_ < 0)
             throw std::system_error(errno, std::generic_category(), path);
         std::atomic<std::uint64_t> next_block = 0;

@@ -81,14 +81,15 @@ struct Session<'a> {
 }
 
 impl Store {
+    /// The directory grows: a record that is in the log has room when it is opened again, however many there are.
     fn open(path: &str, threads: u64) -> Result<Store> {
+        let directory = Hot::growing(usize::MAX, threads as usize + 1)?;
         let file = OpenOptions::new()
             .read(true)
             .write(true)
             .create(true)
             .truncate(false)
             .open(path)?;
-        let directory = Hot::with_capacity(100_000, 24, threads as usize + 1)?;
         let store = Store {
             file,
             directory,
