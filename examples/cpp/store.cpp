@@ -129,8 +129,10 @@ class store {
     };
 
     // The directory grows: a record that is in the log has room when it is opened again, however many there are.
-    store(const char *path, std::size_t threads)
-        : file_(::open(path, O_RDWR | O_CREAT, 0666)), directory_(hot::index::growing(threads + 1)), threads_(threads) {
+    store(const char *path, std::size_t threads) : directory_(hot::index::growing(threads + 1)), threads_(threads) {
+        if (threads == 0) // nothing would be read of the log, and it would be written over
+            throw std::invalid_argument("a store has one thread at least");
+        file_ = ::open(path, O_RDWR | O_CREAT, 0666);
         if (file_ < 0)
             throw std::system_error(errno, std::generic_category(), path);
         std::atomic<std::uint64_t> next_block = 0;
@@ -179,7 +181,7 @@ class store {
         return bytes;
     }
 
-    int file_;
+    int file_ = -1;
     hot::index directory_;
     std::size_t threads_;
     std::mutex appends_;

@@ -83,6 +83,10 @@ struct Session<'a> {
 impl Store {
     /// The directory grows: a record that is in the log has room when it is opened again, however many there are.
     fn open(path: &str, threads: u64) -> Result<Store> {
+        if threads == 0 {
+            // Nothing would be read of the log, and it would be written over.
+            return Err("a store has one thread at least".into());
+        }
         let directory = Hot::growing(usize::MAX, threads as usize + 1)?;
         let file = OpenOptions::new()
             .read(true)
