@@ -337,6 +337,12 @@ hot_status part_list(index_part *part, const key_bound *from, const key_bound *u
                                                                &page->more);
 }
 
+size_t part_len(index_part *part) {
+    size_t keys = 0;
+    hot_len(&part->handle, &keys);
+    return keys;
+}
+
 int part_count(index_part *part, const key_bound *from, const key_bound *upto, size_t listed, size_t *count) {
     enum { MOST_TIMES = 32 }; /* as many keys as pairs were listed */
     size_t keys;

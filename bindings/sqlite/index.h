@@ -77,6 +77,9 @@ hot_status part_list(index_part *part, const key_bound *from, const key_bound *u
 /* Has this pair be all that the page has. */
 void page_set(key_page *page, const uint8_t *key, size_t length, uint64_t value);
 
+/* How many keys the index has, without what is beside it. */
+size_t part_len(index_part *part);
+
 /* Counts the pairs from `from` up to `upto`, as hot_count does: 1. It does not, and returns 0, where the index has so many keys that this
  * may take much longer than to list `listed` pairs, or where something is beside it. */
 int part_count(index_part *part, const key_bound *from, const key_bound *upto, size_t listed, size_t *count);

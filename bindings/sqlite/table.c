@@ -365,9 +365,11 @@ static int limit_of(const sqlite3_index_info *plan) {
     return 0;
 }
 
+/* A table may have more rows than it was made for. */
 static int best_index(sqlite3_vtab *vtab, sqlite3_index_info *plan) {
     const table *it = (table *)vtab;
-    double rows = it->keys;
+    const double there = (double)part_len(&it->in->part);
+    double rows = there > it->keys ? there : it->keys;
     int way = choose(it, plan, &rows) | limit_of(plan);
     /* CASELESS goes in rising order alone. Keys are different: what comes after the key in ORDER BY makes no difference. */
     if (plan->nOrderBy > 0 && plan->aOrderBy[0].iColumn == 0 && !(way & CASELESS && plan->aOrderBy[0].desc)) {

@@ -93,6 +93,7 @@ SELECT 'full', count(*) FROM small;
 CREATE VIRTUAL TABLE grown USING hot(keys=0, longest=8);
 INSERT INTO grown WITH RECURSIVE c(n) AS (SELECT 1 UNION ALL SELECT n + 1 FROM c WHERE n < 100000) SELECT 'key ' || n, n FROM c;
 SELECT 'grown', count(*), sum(value) FROM grown;
+EXPLAIN QUERY PLAN SELECT * FROM p, grown WHERE grown.key BETWEEN p.key AND p.key || '~';
 CREATE VIRTUAL TABLE one USING hot(name='words', connections=2);
 CREATE VIRTUAL TABLE other USING hot( NAME = 'words' );
 INSERT INTO one VALUES ('shared', 1);
