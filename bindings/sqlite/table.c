@@ -752,6 +752,14 @@ static int put(table *it, const uint8_t *key, size_t length, sqlite3_int64 value
     return status == HOT_INSERTED || status == HOT_NEW || status == HOT_WAS ? SQLITE_OK : refused(&it->base, status);
 }
 
+/* Refuses a key or value of another type. A row that breaks a constraint is left out by OR IGNORE. As in a STRICT table it leaves out one with
+ * NULL, but none of another type. */
+static int refuse_type(table *it, sqlite3_value *value, const char *text) {
+    int is_null = sqlite3_value_type(value) == SQLITE_NULL;
+    int is_mismatch = !is_null && sqlite3_vtab_on_conflict(it->db) == SQLITE_IGNORE;
+    return fails(&it->base, is_mismatch ? SQLITE_MISMATCH : SQLITE_CONSTRAINT_DATATYPE, text);
+}
+
 static int update_row(sqlite3_vtab *vtab, int count, sqlite3_value **values, sqlite3_int64 *number) {
     table *it = (table *)vtab;
     const uint8_t *key = NULL, *old = NULL;
@@ -762,9 +770,9 @@ static int update_row(sqlite3_vtab *vtab, int count, sqlite3_value **values, sql
     if (count == 1)
         return has_old ? take(it, old, old_length) : SQLITE_OK;
     if (!bytes_of(it, values[2], &key, &length))
-        return fails(vtab, SQLITE_CONSTRAINT_DATATYPE, it->is_text ? "a key must be text" : "a key must be a blob");
+        return refuse_type(it, values[2], it->is_text ? "a key must be text" : "a key must be a blob");
     if (sqlite3_value_numeric_type(values[3]) != SQLITE_INTEGER)
-        return fails(vtab, SQLITE_CONSTRAINT_DATATYPE, "a value must be an integer");
+        return refuse_type(it, values[3], "a value must be an integer");
     value = sqlite3_value_int64(values[3]);
     if (has_old && old_length == length && memcmp(old, key, length) == 0)
         return put(it, key, length, value, 1);
