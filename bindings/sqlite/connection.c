@@ -18,8 +18,7 @@ typedef struct definition {
     held *has;
     int is_named;            /* whether it says the name of its index */
     int made_in, dropped_in; /* in which savepoint the open transaction did so */
-    char *words;             /* the schema's name, of so many bytes, and the table's */
-    size_t schema_length;
+    char *place;             /* of its table: a schema's name may come to be that of another file */
 } definition;
 
 /* A file of a database, as it was when it was last at its path: only the system knows it by its device and number. */
@@ -62,7 +61,7 @@ static void end_definition(connection *of, definition **place) {
     *place = it->next;
     it->has->definitions--;
     let_go(of, it->has);
-    sqlite3_free(it->words);
+    sqlite3_free(it->place);
     sqlite3_free(it);
 }
 
@@ -363,55 +362,51 @@ static char *name_in_file(connection *of, sqlite3 *db, const table_words *words,
     return sqlite3_mprintf("file\n%llu %llu\n%s", it->device, it->number, words->table);
 }
 
-/* The name of an index whose table says none: that of the table in its file, or in this connection's memory. */
-static char *own_name(connection *of, sqlite3 *db, const table_words *words) {
+/* Where a table is: its name in its file, or in this connection's memory. An index whose table says no name has this one. NULL if there is no
+ * memory. */
+static char *place_of(connection *of, sqlite3 *db, const table_words *words) {
     const char *path = sqlite3_db_filename(db, words->schema);
-    if (words->name)
-        return sqlite3_mprintf("name\n%s", words->name);
     if (path && *path)
         return name_in_file(of, db, words, path);
     return sqlite3_mprintf("memory\n%p\n%d %s\n%s", (void *)db, (int)strlen(words->schema), words->schema, words->table);
 }
 
-static int is_of(const definition *it, const table_words *words) {
-    size_t length = it->schema_length;
-    return strlen(words->schema) == length && memcmp(it->words, words->schema, length) == 0 &&
-           strcmp(it->words + length, words->table) == 0;
+static int is_of(const definition *it, const char *place) {
+    return strcmp(it->place, place) == 0;
 }
 
 /* Ends definitions that the open transaction has nothing to do with: of this table, by which it had another index; and of tables
  * that another connection has dropped. */
-static void sweep(connection *of, const table_words *words, const held *has) {
-    definition **place = &of->definitions;
-    while (*place) {
-        definition *it = *place;
-        int is_old = is_of(it, words) ? it->has != has : !it->is_named && !it->has->tables && !shared_is_named(it->has->part.of);
+static void sweep(connection *of, const char *place, const held *has) {
+    definition **next = &of->definitions;
+    while (*next) {
+        definition *it = *next;
+        int is_old = is_of(it, place) ? it->has != has : !it->is_named && !it->has->tables && !shared_is_named(it->has->part.of);
         if (is_old && it->made_in == NOT_NOW && it->dropped_in == NOT_NOW)
-            end_definition(of, place);
+            end_definition(of, next);
         else
-            place = &it->next;
+            next = &it->next;
     }
 }
 
 /* The table's definition that the open transaction has made, or that has the index. */
-static definition *definition_of(connection *of, const table_words *words, const held *has) {
+static definition *definition_of(connection *of, const char *place, const held *has) {
     definition *it = of->definitions;
-    while (it && !(is_of(it, words) && it->dropped_in == NOT_NOW && (has ? it->has == has : it->made_in != NOT_NOW)))
+    while (it && !(is_of(it, place) && it->dropped_in == NOT_NOW && (has ? it->has == has : it->made_in != NOT_NOW)))
         it = it->next;
     return it;
 }
 
 /* NULL if there is no memory. */
-static definition *define(connection *of, const table_words *words, held *has) {
-    definition *it = definition_of(of, words, has);
+static definition *define(connection *of, const table_words *words, const char *place, held *has) {
+    definition *it = definition_of(of, place, has);
     if (it || !(it = sqlite3_malloc(sizeof *it)))
         return it;
     memset(it, 0, sizeof *it);
-    if (!(it->words = sqlite3_mprintf("%s%s", words->schema, words->table))) {
+    if (!(it->place = sqlite3_mprintf("%s", place))) {
         sqlite3_free(it);
         return NULL;
     }
-    it->schema_length = strlen(words->schema);
     it->made_in = it->dropped_in = NOT_NOW;
     it->is_named = words->name != NULL;
     it->has = has;
@@ -434,8 +429,8 @@ static char *mismatch(const table_words *words, const wanted_index *made_as) {
 }
 
 /* Uses the index that the table is to have: NULL if it is refused. */
-static shared_index *index_of(connection *of, sqlite3 *db, const table_words *words, int is_new, int *code, char **error) {
-    char *name = own_name(of, db, words);
+static shared_index *index_of(const table_words *words, const char *place, int is_new, int *code, char **error) {
+    char *name = words->name ? sqlite3_mprintf("name\n%s", words->name) : sqlite3_mprintf("%s", place);
     shared_index *index = NULL;
     *code = SQLITE_NOMEM;
     if (name)
@@ -449,13 +444,13 @@ static shared_index *index_of(connection *of, sqlite3 *db, const table_words *wo
     return index;
 }
 
-static held *join(connection *of, sqlite3 *db, const table_words *words, int is_new, int *code, char **error) {
-    shared_index *index = index_of(of, db, words, is_new, code, error);
+static held *join(connection *of, const table_words *words, const char *place, int is_new, int *code, char **error) {
+    shared_index *index = index_of(words, place, is_new, code, error);
     held *has = index ? hold(of, index, code, error) : NULL;
     definition *it;
     if (!has)
         return NULL;
-    if (!(it = define(of, words, has))) {
+    if (!(it = define(of, words, place, has))) {
         let_go(of, has);
         *code = SQLITE_NOMEM;
         return NULL;
@@ -467,19 +462,28 @@ static held *join(connection *of, sqlite3 *db, const table_words *words, int is_
 }
 
 held *connection_create(connection *of, sqlite3 *db, const table_words *words, int *code, char **error) {
-    if ((*code = hear(of, db)) != SQLITE_OK)
-        return NULL;
-    sweep(of, words, NULL);
-    return join(of, db, words, 1, code, error);
+    char *place = place_of(of, db, words);
+    held *has = NULL;
+    *code = place ? hear(of, db) : SQLITE_NOMEM;
+    if (*code == SQLITE_OK) {
+        sweep(of, place, NULL);
+        has = join(of, words, place, 1, code, error);
+    }
+    sqlite3_free(place);
+    return has;
 }
 
 held *connection_join(connection *of, sqlite3 *db, const table_words *words, int *code, char **error) {
-    definition *it = definition_of(of, words, NULL);
-    held *has = it ? it->has : join(of, db, words, 0, code, error);
+    char *place = place_of(of, db, words);
+    definition *it = place ? definition_of(of, place, NULL) : NULL;
+    held *has = it ? it->has : place ? join(of, words, place, 0, code, error) : NULL;
+    if (!place)
+        *code = SQLITE_NOMEM;
     if (it)
         has->tables++;
     if (has)
-        sweep(of, words, has);
+        sweep(of, place, has);
+    sqlite3_free(place);
     return has;
 }
 
@@ -488,54 +492,73 @@ void connection_leave(connection *of, held *has) {
     let_go(of, has);
 }
 
-int connection_renew(connection *of, sqlite3 *db, const table_words *words, int changes, held **has, char **error) {
-    const definition *it = definition_of(of, words, *has);
+static int renew(connection *of, const table_words *words, const char *place, int changes, held **has, char **error) {
+    const definition *it = definition_of(of, place, *has);
     shared_index *index;
-    char *name;
     held *other;
     int code = SQLITE_OK;
-    if (words->name || (*has)->part.log.last || (it && it->made_in != NOT_NOW))
+    if (it && it->made_in != NOT_NOW)
         return SQLITE_OK;
-    if (!(name = own_name(of, db, words)))
-        return SQLITE_NOMEM;
-    index = shared_use(name, OLD_INDEX, &words->wanted, &code, error);
-    sqlite3_free(name);
+    index = shared_use(place, OLD_INDEX, &words->wanted, &code, error);
     if (!index && changes)
         shared_name((*has)->part.of);
     if (!index)
         return SQLITE_OK;
     if (!(other = hold(of, index, &code, error)))
         return code;
-    if (!define(of, words, other)) {
+    if (!define(of, words, place, other)) {
         let_go(of, other);
         return SQLITE_NOMEM;
     }
     other->tables++;
     connection_leave(of, *has);
     *has = other;
-    sweep(of, words, other);
+    sweep(of, place, other);
     return SQLITE_OK;
 }
 
-int connection_drop(connection *of, sqlite3 *db, const table_words *words, held *has) {
-    int code = hear(of, db);
-    definition *it = definition_of(of, words, has);
-    if (code == SQLITE_OK && it)
-        it->dropped_in = of->point;
+int connection_renew(connection *of, sqlite3 *db, const table_words *words, int changes, held **has, char **error) {
+    int code = SQLITE_NOMEM;
+    char *place;
+    if (words->name || (*has)->part.log.last)
+        return SQLITE_OK;
+    if ((place = place_of(of, db, words)) != NULL)
+        code = renew(of, words, place, changes, has, error);
+    sqlite3_free(place);
     return code;
 }
 
-int connection_rename(connection *of, sqlite3 *db, const table_words *words, held *has, const char *table) {
-    table_words renamed = *words;
-    definition *it, *old = definition_of(of, words, has);
+int connection_drop(connection *of, sqlite3 *db, const table_words *words, held *has) {
+    char *place = place_of(of, db, words);
+    int code = place ? hear(of, db) : SQLITE_NOMEM;
+    definition *it = code == SQLITE_OK ? definition_of(of, place, has) : NULL;
+    if (it)
+        it->dropped_in = of->point;
+    sqlite3_free(place);
+    return code;
+}
+
+static int rename_to(connection *of, sqlite3 *db, const table_words *renamed, const char *place, const char *renamed_place, held *has) {
     int code = hear(of, db);
-    renamed.table = table;
+    definition *it, *old = definition_of(of, place, has);
     if (code != SQLITE_OK)
         return code;
-    if (!(it = define(of, &renamed, has)))
+    if (!(it = define(of, renamed, renamed_place, has)))
         return SQLITE_NOMEM;
     it->made_in = of->point;
     if (old)
         old->dropped_in = of->point;
     return SQLITE_OK;
+}
+
+int connection_rename(connection *of, sqlite3 *db, const table_words *words, held *has, const char *table) {
+    table_words renamed = *words;
+    char *place = place_of(of, db, words), *renamed_place;
+    int code = SQLITE_NOMEM;
+    renamed.table = table;
+    if ((renamed_place = place_of(of, db, &renamed)) != NULL && place)
+        code = rename_to(of, db, &renamed, place, renamed_place, has);
+    sqlite3_free(place);
+    sqlite3_free(renamed_place);
+    return code;
 }

@@ -1112,6 +1112,29 @@ static void files_and_paths(void) {
     sqlite3_free(beside);
 }
 
+/* Two files have one schema's name in turn, and tables of one name: each has its rows as long as the connection is there. */
+static void files_in_turn(const char *arguments) {
+    char *files[2] = {sqlite3_mprintf("%s", scratch), sqlite3_mprintf("%s.beside", scratch)};
+    sqlite3 *db = open_file(":memory:");
+    remove(files[0]);
+    remove(files[1]);
+    for (int turn = 0; turn < 4; turn++) {
+        int at = turn % 2;
+        if (run(db, "ATTACH %Q AS a", files[at]) != SQLITE_OK)
+            fail(files[at], sqlite3_errmsg(db));
+        if (turn < 2 && run(db, "CREATE VIRTUAL TABLE a.t USING hot(%s%d); INSERT INTO a.t VALUES ('a', %d)", arguments, at, at) != SQLITE_OK)
+            fail(arguments, sqlite3_errmsg(db));
+        if (number(db, "SELECT count(*) FROM a.t") != 1 || number(db, "SELECT value FROM a.t") != at)
+            fail(arguments, "a file has not the rows that it had");
+        want(db, SQLITE_OK, "DETACH a");
+    }
+    sqlite3_close(db);
+    for (int at = 0; at < 2; at++) {
+        remove(files[at]);
+        sqlite3_free(files[at]);
+    }
+}
+
 /* An application may have its own mutexes while it uses tables. */
 static void mutexes_of_applications(void) {
     static const int kinds[] = {SQLITE_MUTEX_STATIC_APP1, SQLITE_MUTEX_STATIC_APP2, SQLITE_MUTEX_STATIC_APP3};
@@ -1149,6 +1172,8 @@ int main(int count, char **words) {
     rollback_without_room("ROLLBACK TO s; ROLLBACK");
     one_file();
     files_and_paths();
+    files_in_turn("keys=10");
+    files_in_turn("name=turn");
     mutexes_of_applications();
     plans();
     listed_transactions("keys=100");
