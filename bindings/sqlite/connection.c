@@ -5,6 +5,7 @@
  */
 #include "connection.h"
 #include <pthread.h>
+#include <stdatomic.h>
 #include <string.h>
 #include <sys/stat.h>
 SQLITE_EXTENSION_INIT3
@@ -26,6 +27,7 @@ typedef struct open_file {
     struct open_file *next;
     const sqlite3_file *is;
     sqlite3_uint64 device, number;
+    char path[]; /* another file may come to this place in memory, once this one is closed */
 } open_file;
 
 struct connection {
@@ -333,28 +335,48 @@ static int hear(connection *of, sqlite3 *db) {
 
 /* ---- Tables ---- */
 
+/* What the connection has noted of a file: NULL if nothing. It forgets a closed one, in whose place in memory this one is. */
+static open_file *noted(connection *of, const sqlite3_file *file, const char *path) {
+    open_file **place = &of->files, *it;
+    while (*place && (*place)->is != file)
+        place = &(*place)->next;
+    if (!(it = *place) || strcmp(it->path, path) == 0)
+        return it;
+    *place = it->next;
+    sqlite3_free(it);
+    return NULL;
+}
+
+/* Notes a file that hasn't been seen at its path: NULL if there is no memory. */
+static open_file *note(connection *of, const sqlite3_file *file, const char *path) {
+    static atomic_ullong unseen; /* how many files there were of these */
+    size_t size = strlen(path) + 1;
+    open_file *it = sqlite3_malloc64(sizeof *it + size);
+    if (!it)
+        return NULL;
+    it->next = of->files;
+    it->is = file;
+    it->device = UINT64_MAX;
+    it->number = atomic_fetch_add(&unseen, 1);
+    memcpy(it->path, path, size);
+    return of->files = it;
+}
+
 /* The name of a table's index in a file, whatever paths lead there; and none of another file that has come to its path. One that isn't at its
- * path any more is what it was there; or what no other connection has, if it was never seen there. */
+ * path any more is what it was there; or what no other connection has, if it was never seen there. A file that the system doesn't know is
+ * known by its path. */
 static char *name_in_file(connection *of, sqlite3 *db, const table_words *words, const char *path) {
     struct stat at;
     sqlite3_file *file = NULL;
-    open_file *it = of->files;
+    open_file *it;
     int has_moved = 0, is_there = stat(path, &at) == 0;
     sqlite3_file_control(db, words->schema, SQLITE_FCNTL_FILE_POINTER, &file);
     sqlite3_file_control(db, words->schema, SQLITE_FCNTL_HAS_MOVED, &has_moved);
-    while (it && it->is != file)
-        it = it->next;
-    if (!it && !is_there)
+    it = noted(of, file, path);
+    if (!it && !is_there && !has_moved)
         return sqlite3_mprintf("path\n%d %s\n%s", (int)strlen(path), path, words->table);
-    if (!it) {
-        if (!(it = sqlite3_malloc(sizeof *it)))
-            return NULL;
-        it->next = of->files;
-        it->is = file;
-        it->device = UINT64_MAX;
-        it->number = (uintptr_t)file;
-        of->files = it;
-    }
+    if (!it && !(it = note(of, file, path)))
+        return NULL;
     if (is_there && !has_moved) {
         it->device = at.st_dev;
         it->number = at.st_ino;

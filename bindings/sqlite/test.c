@@ -1112,6 +1112,24 @@ static void files_and_paths(void) {
     sqlite3_free(beside);
 }
 
+/* Two files that were removed before their tables were made have had one path. */
+static void removed_files(void) {
+    sqlite3 *both[2];
+    for (int at = 0; at < 2; at++) {
+        new_scratch();
+        both[at] = open_file(scratch);
+    }
+    new_scratch();
+    for (int at = 0; at < 2; at++)
+        if (run(both[at], "CREATE VIRTUAL TABLE t USING hot(keys=100); INSERT INTO t VALUES ('a', %d)", at) != SQLITE_OK)
+            fail("a removed file", sqlite3_errmsg(both[at]));
+    for (int at = 0; at < 2; at++) {
+        if (number(both[at], "SELECT value FROM t") != at)
+            fail("a removed file", "it has the rows of another one");
+        sqlite3_close(both[at]);
+    }
+}
+
 /* Two files have one schema's name in turn, and tables of one name: each has its rows as long as the connection is there. */
 static void files_in_turn(const char *arguments) {
     char *files[2] = {sqlite3_mprintf("%s", scratch), sqlite3_mprintf("%s.beside", scratch)};
@@ -1172,6 +1190,7 @@ int main(int count, char **words) {
     rollback_without_room("ROLLBACK TO s; ROLLBACK");
     one_file();
     files_and_paths();
+    removed_files();
     files_in_turn("keys=10");
     files_in_turn("name=turn");
     mutexes_of_applications();

@@ -124,6 +124,20 @@ DROP TABLE t;
 CREATE VIRTUAL TABLE t USING hot;
 SELECT 'made again', count(*) FROM t;
 
+-- A file that is open where one was that is closed
+ATTACH 'one.db' AS a;
+CREATE VIRTUAL TABLE a.t USING hot;
+INSERT INTO a.t VALUES ('one', 1);
+DETACH a;
+ATTACH 'other.db' AS b;
+PRAGMA b.journal_mode = MEMORY;
+.shell rm other.db
+CREATE VIRTUAL TABLE b.t USING hot;
+INSERT INTO b.t VALUES ('other', 1);
+DETACH b;
+ATTACH 'one.db' AS a;
+SELECT 'the row of', key FROM a.t;
+
 -- A database in UTF-16, whose text has another order
 .open :memory:
 .load ./hot_table
