@@ -11,6 +11,8 @@
  *     name=words        tables of this name, in any database of the process, have one index
  *     connections=16    how many connections may have the index at a time: by default 16
  *
+ * A value may stand in quotes, single or double: name='words' is name=words. Within them the same quote is written twice.
+ *
  * Without a name, connections to one file have one index for a table of it; a table of a database in memory has its own. An index
  * goes with the last connection that has used it. A table of a name whose index is there is refused if it says another number of
  * keys=, longest= or grow=. */
@@ -81,8 +83,25 @@ static int refused(sqlite3_vtab *vtab, hot_status status) {
 
 /* ---- Tables ---- */
 
-/* The value of the argument, if the text is one of this name. */
-static const char *value_of(const char *text, const char *name) {
+/* Takes the quotes off a text that is in quotes as a whole. */
+static void unquote(char *text) {
+    const char quote = *text, *from = text + 1;
+    char *to = text;
+    if (quote != '\'' && quote != '"')
+        return;
+    while (*from && (*from != quote || from[1] == quote))
+        from += *from == quote ? 2 : 1;
+    if (!*from || from[1])
+        return;
+    for (from = text + 1; from[1]; from++) {
+        *to++ = *from;
+        from += *from == quote;
+    }
+    *to = '\0';
+}
+
+/* The value of the argument, without quotes around it, if the text is one of this name. */
+static const char *value_of(char *text, const char *name) {
     size_t length = strlen(name);
     while (*text == ' ')
         text++;
@@ -94,6 +113,7 @@ static const char *value_of(const char *text, const char *name) {
         return NULL;
     for (text++; *text == ' '; text++) {
     }
+    unquote(text);
     return text;
 }
 
@@ -108,8 +128,8 @@ static int read_number(const char *text, sqlite3_int64 least, sqlite3_int64 most
     return *end == '\0' && *number >= least && *number <= most;
 }
 
-/* Reads an argument: 0 if there is none such. */
-static int read_argument(const char *text, table_words *to) {
+/* Reads an argument: 0 if there is none such. The name of an index stays in the text. */
+static int read_argument(char *text, table_words *to) {
     const char *value;
     if ((value = value_of(text, "keys")) != NULL)
         return to->has_keys = read_number(value, 0, UINT32_MAX, &to->wanted.keys);
@@ -195,19 +215,36 @@ static int make_table(sqlite3 *db, connection *of, const table_words *words, int
     return SQLITE_OK;
 }
 
+/* The arguments, one after another, where they may be changed: NULL if there is no memory. */
+static char *copy_of(int count, const char *const *words) {
+    size_t size = 1;
+    char *all, *to;
+    int at;
+    for (at = 0; at < count; at++)
+        size += strlen(words[at]) + 1;
+    all = to = sqlite3_malloc64(size);
+    for (at = 0; all && at < count; at++)
+        to += strlen(strcpy(to, words[at])) + 1;
+    return all;
+}
+
 /* Reads what the table is made with, and makes it. */
 static int read_table(sqlite3 *db, connection *of, int count, const char *const *words, int is_new, sqlite3_vtab **made,
                       char **error) {
     table_words with = {words[1], words[2], NULL, {10000, 24, 1, 16, 1}, 0, 0, 0};
     table *it = NULL;
-    int at, code;
-    for (at = 3; at < count; at++) {
-        if (!read_argument(words[at], &with)) {
+    char *all = copy_of(count - 3, words + 3), *text = all;
+    int at, code = all ? SQLITE_OK : SQLITE_NOMEM;
+    for (at = 3; at < count && code == SQLITE_OK; at++) {
+        if (!read_argument(text, &with)) {
             *error = sqlite3_mprintf("hot: '%s' is no argument, or out of range", words[at]);
-            return SQLITE_ERROR;
+            code = SQLITE_ERROR;
         }
+        text += strlen(words[at]) + 1;
     }
-    code = make_table(db, of, &with, is_new, &it, error);
+    if (code == SQLITE_OK)
+        code = make_table(db, of, &with, is_new, &it, error);
+    sqlite3_free(all);
     *made = it ? &it->base : NULL;
     return code;
 }
