@@ -305,6 +305,16 @@ class Whole(unittest.TestCase):
         mine |= {b"a": 7}
         self.assertEqual(mine[b"a"], 7)
 
+    def test_copies_of_fixed(self):
+        """They have room for the same keys, and for no more."""
+        pairs = [(str(at), at) for at in range(5000)]
+        mine = SortedMap(pairs, capacity=5000, grow=False)
+        pickled = pickle.loads(pickle.dumps(mine))
+        for other in (mine.copy(), pickled, mine | {}, {} | mine):
+            self.assertEqual(other, mine)
+            with self.assertRaises(FullError):
+                other.update((f"more {at}", at) for at in range(20000))
+
     def assert_refuses(self, number, error, pairs, longest=None) -> None:
         """Refuses the pair of this number, in a map for few keys if a length is given."""
         size = {} if longest is None else {"capacity": 7, "longest": longest, "threads": 1}

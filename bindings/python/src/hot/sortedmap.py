@@ -113,6 +113,9 @@ class SortedMap(Map[K], MutableMapping[K, int], Generic[K]):
         kind: Union[type, Codec] = keys if isinstance(keys, type) else Codec(*keys)
         super().__init__(kind, capacity, longest, threads, grow)
         self._options: dict[str, Any] = {"keys": keys, "threads": threads, "grow": grow}
+        if not grow:
+            # A copy has the same room. One that grows takes what its keys need.
+            self._options.update(capacity=capacity, longest=longest)
         # isinstance believes what an object says of its class.
         if issubclass(type(data), SortedMap) and data._options["keys"] == keys:
             self._copy_of(data)
