@@ -317,7 +317,9 @@ class Whole(unittest.TestCase):
 
     def assert_refuses(self, number, error, pairs, longest=None) -> None:
         """Refuses the pair of this number, in a map for few keys if a length is given."""
-        size = {} if longest is None else {"capacity": 7, "longest": longest, "threads": 1}
+        size = (
+            {} if longest is None else {"capacity": 7, "longest": longest, "threads": 1}
+        )
         with self.assertRaises(error) as raised:
             SortedMap(pairs, sorted=True, grow=longest is None, **size)
         self.assertEqual(raised.exception.number, number)
