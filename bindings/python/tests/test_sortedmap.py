@@ -214,6 +214,21 @@ class Refusals(unittest.TestCase):
         self.assertNotIn(2**63, numbers)
         self.assertRaises(OverflowError, numbers.__setitem__, 2**63, 1)
 
+    def test_beyond_64_bits(self):
+        """Ends of ranges and places may be any ints."""
+        mine = SortedMap({1: 1, 2: 2}, keys=int)
+        for ends in (0, 2**70), (-(2**70), None), (-(2**63) - 1, 2**63):
+            self.assertEqual([*mine.irange(*ends, (False, False))], [1, 2])
+        self.assertEqual([*mine.irange(2**63), *mine.irange(None, -(2**70))], [])
+        self.assertEqual(mine.floor_item(2**63, inclusive=False), (2, 2))
+        for place in 2**63, -(2**63) - 2:
+            self.assertRaises(IndexError, mine.peekitem, place)
+            self.assertRaises(IndexError, mine.keys().__getitem__, place)
+            self.assertRaises(KeyError, mine.popitem, place)
+        self.assertRaises(TypeError, mine.keys().__getitem__, 1.0)
+        with self.assertRaises(OverflowError):
+            SortedMap(keys=Codec.of("u8")).irange(256)
+
     def test_long_keys(self):
         mine = SortedMap({"x" * 240: 1})
         self.assertNotIn("x" * 241, mine)

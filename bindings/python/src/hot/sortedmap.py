@@ -5,6 +5,8 @@ from __future__ import annotations
 from collections.abc import Collection, ItemsView, Iterable, Iterator, KeysView, Mapping
 from collections.abc import MutableMapping, ValuesView
 from itertools import chain, islice
+from operator import index as int_of
+from sys import maxsize
 from typing import TYPE_CHECKING, Any, Generic, NamedTuple, Optional, TypeVar, Union
 from typing import overload
 
@@ -142,6 +144,16 @@ class SortedMap(Map[K], MutableMapping[K, int], Generic[K]):
         """The keys, values or pairs from one key's bytes to another's."""
         return iter(()) if bounds is None else self._pairs(*bounds, reverse, what)
 
+    def _end(self, key: Any) -> bytes:
+        """The bytes of an end of a range: for an int of more than 64 bits, where ints are
+        keys, bytes below or above those of all keys."""
+        try:
+            return self._encode(key)
+        except OverflowError:
+            if self._options.get("keys") is not int:
+                raise
+            return LEAST if key < 0 else GREATEST
+
     def _bounds(
         self, minimum: Any, maximum: Any, inclusive: tuple[bool, bool]
     ) -> Optional[tuple[bytes, bytes]]:
@@ -149,11 +161,11 @@ class SortedMap(Map[K], MutableMapping[K, int], Generic[K]):
         start: Optional[bytes] = LEAST
         end: Optional[bytes] = GREATEST
         if minimum is not None:
-            code = self._encode(minimum)
+            code = self._end(minimum)
             is_inside = inclusive[0] and len(code) <= MAX_KEY
             start = code if is_inside else after(code[:MAX_KEY])
         if maximum is not None:
-            code = self._encode(maximum)
+            code = self._end(maximum)
             is_inside = inclusive[1] or len(code) > MAX_KEY
             end = code[:MAX_KEY] if is_inside else before(code)
         if start is None or end is None or start > end:
@@ -267,8 +279,9 @@ class SortedMap(Map[K], MutableMapping[K, int], Generic[K]):
 
     def _from_place(self, what: int, index: int) -> Iterator[Any]:
         """What is listed from a place on, or for a negative one from there back."""
-        at = -1 - index if index < 0 else index
-        return islice(self._list(what, ALL, index < 0), at, None)
+        place = int_of(index)
+        at = min(-1 - place if place < 0 else place, maxsize)
+        return islice(self._list(what, ALL, place < 0), at, None)
 
     def popitem(self, index: int = -1) -> tuple[K, int]:
         """Deletes the pair of this place, and returns it."""
