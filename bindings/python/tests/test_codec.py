@@ -139,6 +139,9 @@ class Maps(unittest.TestCase):
     def test_copies(self):
         codec = Codec.of(int, "u8", str)
         self.assertEqual(repr(codec), "Codec.of(int, 'u8', str)")
+        for other in (Codec.of(int, "u8", str), pickle.loads(pickle.dumps(codec))):
+            self.assertEqual(other, codec)
+        self.assertNotEqual(Codec.of(int, "u16", str), codec)
         mine = SortedMap({(1, 2, "a"): 3}, keys=codec)
         self.assertEqual(repr(mine), f"SortedMap({{(1, 2, 'a'): 3}}, keys={codec!r})")
         for other in (mine.copy(), pickle.loads(pickle.dumps(mine))):

@@ -2,6 +2,7 @@
 
 from __future__ import annotations
 
+from functools import lru_cache
 from typing import Any, Callable, NamedTuple, Union
 
 from ._hot import Kinds
@@ -26,8 +27,10 @@ class Codec(NamedTuple):
         Kinds are bool, int, float, str and bytes; or names of numbers that take less:
         "u8", "u16", "u32", "u64", "i8", "i16", "i32", "f32". An int takes 8 bytes, as
         "i64" does. bindings/keys.txt has the bytes, the same in each language.
+
+        The same kinds give the same codec: a map with it takes another's pairs at once.
         """
-        return _CodecOf(*kinds)
+        return _codec_of(*kinds)
 
 
 class _CodecOf(Codec):
@@ -47,6 +50,9 @@ class _CodecOf(Codec):
 
     def __reduce__(self) -> tuple[Any, ...]:
         return Codec.of, self.kinds
+
+
+_codec_of = lru_cache(maxsize=None)(_CodecOf)
 
 
 def values_of(key: bytes, *kinds: Kind) -> tuple[Any, ...]:
