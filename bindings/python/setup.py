@@ -17,7 +17,8 @@ def library() -> dict[str, list[str]]:
     if archive.exists():
         return {"include_dirs": [str(at / "include")], "extra_objects": [str(archive)]}
     if os.environ.get("HOT_DIR"):
-        raise SystemExit(f"hot: there is no {archive}, which HOT_DIR names")
+        hint = "" if at.is_absolute() else ": begin it with /, as pip builds elsewhere"
+        raise SystemExit(f"hot: HOT_DIR={at} has no lib/libhot.a{hint}")
     return {"libraries": ["hot"]}
 
 
