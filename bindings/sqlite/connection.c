@@ -3,7 +3,9 @@
  * SQLite tells a table nothing more once it is dropped, and one that is created doesn't hear when a savepoint from before is taken
  * back. So a connection that creates or drops a table makes one more, in temp: it takes part in the transaction, and hears of all.
  */
+#define _GNU_SOURCE
 #include "connection.h"
+#include <fcntl.h>
 #include <pthread.h>
 #include <stdatomic.h>
 #include <string.h>
@@ -22,11 +24,13 @@ typedef struct definition {
     char *place;             /* of its table: a schema's name may come to be that of another file */
 } definition;
 
-/* A file of a database, as it was when it was last at its path: only the system knows it by its device and number. */
+/* A file of a database, as it was when it was last at its path: only the system knows it by its device and number. A later file may have the
+ * number of one that was removed, but was made at another time. */
 typedef struct open_file {
     struct open_file *next;
     const sqlite3_file *is;
     sqlite3_uint64 device, number;
+    sqlite3_int64 made;
     char path[]; /* another file may come to this place in memory, once this one is closed */
 } open_file;
 
@@ -358,8 +362,20 @@ static open_file *note(connection *of, const sqlite3_file *file, const char *pat
     it->is = file;
     it->device = UINT64_MAX;
     it->number = atomic_fetch_add(&unseen, 1);
+    it->made = 0;
     memcpy(it->path, path, size);
     return of->files = it;
+}
+
+/* When the file at a path was made, in nanoseconds: 0 where the system doesn't tell. */
+static sqlite3_int64 time_made(const char *path) {
+#ifdef STATX_BTIME
+    struct statx at;
+    if (statx(AT_FDCWD, path, 0, STATX_BTIME, &at) == 0 && at.stx_mask & STATX_BTIME)
+        return at.stx_btime.tv_sec * 1000000000 + at.stx_btime.tv_nsec;
+#endif
+    (void)path;
+    return 0;
 }
 
 /* The name of a table's index in a file, whatever paths lead there; and none of another file that has come to its path. One that isn't at its
@@ -380,8 +396,9 @@ static char *name_in_file(connection *of, sqlite3 *db, const table_words *words,
     if (is_there && !has_moved) {
         it->device = at.st_dev;
         it->number = at.st_ino;
+        it->made = time_made(path);
     }
-    return sqlite3_mprintf("file\n%llu %llu\n%s", it->device, it->number, words->table);
+    return sqlite3_mprintf("file\n%llu %llu %lld\n%s", it->device, it->number, it->made, words->table);
 }
 
 /* Where a table is: its name in its file, or in this connection's memory. An index whose table says no name has this one. NULL if there is no

@@ -1130,6 +1130,28 @@ static void removed_files(void) {
     }
 }
 
+/* A copy that is made once another is removed may have its number in the system, but has none of its rows. */
+static void copies_in_turn(void) {
+    char *copy = sqlite3_mprintf("%s.beside", scratch);
+    sqlite3 *db;
+    new_scratch();
+    db = open_file(scratch);
+    want(db, SQLITE_OK, "CREATE VIRTUAL TABLE t USING hot(keys=100)");
+    sqlite3_close(db);
+    db = open_file(":memory:");
+    for (int turn = 0; turn < 3; turn++) {
+        copy_file(scratch, copy);
+        if (run(db, "ATTACH %Q AS a", copy) != SQLITE_OK)
+            fail(copy, sqlite3_errmsg(db));
+        if (number(db, "SELECT count(*) FROM a.t") != 0)
+            fail("a copy", "it has the rows of one that was removed");
+        want(db, SQLITE_OK, "INSERT INTO a.t VALUES ('a', 1); DETACH a");
+        remove(copy);
+    }
+    sqlite3_close(db);
+    sqlite3_free(copy);
+}
+
 /* Two files have one schema's name in turn, and tables of one name: each has its rows as long as the connection is there. */
 static void files_in_turn(const char *arguments) {
     char *files[2] = {sqlite3_mprintf("%s", scratch), sqlite3_mprintf("%s.beside", scratch)};
@@ -1191,6 +1213,7 @@ int main(int count, char **words) {
     one_file();
     files_and_paths();
     removed_files();
+    copies_in_turn();
     files_in_turn("keys=10");
     files_in_turn("name=turn");
     mutexes_of_applications();
