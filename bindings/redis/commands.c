@@ -49,14 +49,14 @@ static void give_room(void *few, void *room) {
 /* ---- Single fields ---- */
 
 /* Makes a change, and returns 1; or 0, with a reply where it is refused, or where the client waits and the command is run again. */
-static int change_pairs(RedisModuleCtx *ctx, RedisModuleString *name, setting *it, const char *event, RedisModuleCmdFunc *run) {
+static int change_pairs(RedisModuleCtx *ctx, RedisModuleString *name, setting *it, const char *event) {
     opened of;
     hot_status status;
     if (is_full(ctx))
         return refuse_memory(ctx);
     if (!open_key(&of, ctx, name, REDISMODULE_READ | REDISMODULE_WRITE))
         return 0;
-    if (wait_for_table(ctx, of.was, it->count, run)) {
+    if (wait_for_table(ctx, of.was, it->count)) {
         close_key(&of);
         return 0;
     }
@@ -83,7 +83,7 @@ static int om_set(RedisModuleCtx *ctx, RedisModuleString **argv, int argc) {
     if (!take_room(ctx, argc, few, sizeof *few, &room))
         return REDISMODULE_OK;
     it.words = room;
-    if (read_fields(ctx, argv + 2, (int)it.count * 2, 1, room) && change_pairs(ctx, argv[1], &it, "om.set", om_set))
+    if (read_fields(ctx, argv + 2, (int)it.count * 2, 1, room) && change_pairs(ctx, argv[1], &it, "om.set"))
         RedisModule_ReplyWithLongLong(ctx, (long long)(it.which == HELD_FIELD ? it.set : it.new_fields));
     give_room(few, room);
     return REDISMODULE_OK;
@@ -196,7 +196,7 @@ static int om_add(RedisModuleCtx *ctx, RedisModuleString **argv, int argc) {
         return RedisModule_ReplyWithError(ctx, "ERR increment or decrement would overflow");
     words[1].at = (const uint8_t *)room;
     words[1].length = write_number(number, room);
-    if (change_pairs(ctx, argv[1], &it, "om.add", om_add))
+    if (change_pairs(ctx, argv[1], &it, "om.add"))
         RedisModule_ReplyWithLongLong(ctx, number);
     return REDISMODULE_OK;
 }
@@ -231,7 +231,7 @@ static int om_cas(RedisModuleCtx *ctx, RedisModuleString **argv, int argc) {
     is_same = is_held(ctx, argv, words[0]);
     if (is_same == -1)
         return RedisModule_ReplyWithNull(ctx);
-    if (is_same == -2 || (is_same == 1 && !change_pairs(ctx, argv[1], &it, "om.cas", om_cas)))
+    if (is_same == -2 || (is_same == 1 && !change_pairs(ctx, argv[1], &it, "om.cas")))
         return REDISMODULE_OK;
     return RedisModule_ReplyWithLongLong(ctx, is_same);
 }

@@ -14,6 +14,7 @@ typedef struct RedisModuleBlockedClient RedisModuleBlockedClient;
 typedef struct RedisModuleDigest RedisModuleDigest;
 typedef struct RedisModuleCommand RedisModuleCommand;
 typedef struct RedisModuleInfoCtx RedisModuleInfoCtx;
+typedef struct RedisModuleCallReply RedisModuleCallReply;
 
 enum { REDISMODULE_OK, REDISMODULE_ERR };
 enum { REDISMODULE_READ = 1, REDISMODULE_WRITE = 2, REDISMODULE_KEYTYPE_EMPTY = 0, REDISMODULE_POSTPONED_LEN = -1 };
@@ -31,6 +32,10 @@ enum {
     IS_CHILD = 1 << 20,
     DENIES_BLOCKING = 1 << 21
 };
+
+/* Begins the form of a call that is made as by the client. `!` replicates it. `C` refuses what the user may not do, `S` what disk,
+ * replicas or the role of the server forbid, and `M` what memory forbids. `0` is the client's protocol. */
+#define CALL_AS_CLIENT "!CSM0"
 
 /* Kinds of events of a keyspace. */
 enum { NOTIFY_GENERIC = 1 << 2, NOTIFY_MODULE = 1 << 13 };
@@ -173,7 +178,9 @@ typedef struct RedisModuleTypeMethods {
     X(int, UnblockClient, (RedisModuleBlockedClient * client, void *data))                                                         \
     X(void, SetDisconnectCallback, (RedisModuleBlockedClient * client, RedisModuleDisconnectFunc * call))                          \
     X(uint64_t, CreateTimer, (RedisModuleCtx * ctx, long long milliseconds, RedisModuleTimerProc *call, void *of))                 \
-    X(int, IsBlockedReplyRequest, (RedisModuleCtx * ctx))                                                                          \
+    X(RedisModuleCallReply *, Call, (RedisModuleCtx * ctx, const char *command, const char *form, ...))                            \
+    X(int, ReplyWithCallReply, (RedisModuleCtx * ctx, RedisModuleCallReply * reply))                                               \
+    X(void, FreeCallReply, (RedisModuleCallReply * reply))                                                                         \
     X(int, AvoidReplicaTraffic, (void))                                                                                            \
     X(int, BlockedClientMeasureTimeStart, (RedisModuleBlockedClient * client))                                                     \
     X(int, BlockedClientMeasureTimeEnd, (RedisModuleBlockedClient * client))                                                       \

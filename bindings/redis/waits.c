@@ -46,10 +46,21 @@ static void take_turns(RedisModuleCtx *ctx, void *unused) {
         RedisModule_CreateTimer(ctx, PAUSE_MILLISECONDS, take_turns, NULL);
 }
 
-int wait_for_table(RedisModuleCtx *ctx, map *of, size_t more, RedisModuleCmdFunc *run) {
+/* Has the server call a command that has waited. It refuses a call as it refuses the command of a client: for the slot of the key,
+ * for the user, for memory, disk or replicas. A command that is called doesn't wait again. */
+static int run_again(RedisModuleCtx *ctx, RedisModuleString **argv, int argc) {
+    RedisModuleCallReply *reply =
+        RedisModule_Call(ctx, RedisModule_StringPtrLen(argv[0], NULL), CALL_AS_CLIENT "v", argv + 1, (size_t)argc - 1);
+    if (reply == NULL)
+        return RedisModule_ReplyWithError(ctx, "TRYAGAIN the command has waited, and is refused by now");
+    RedisModule_ReplyWithCallReply(ctx, reply);
+    RedisModule_FreeCallReply(reply);
+    return REDISMODULE_OK;
+}
+
+int wait_for_table(RedisModuleCtx *ctx, map *of, size_t more) {
     waiting *it;
-    if (of == NULL || of->form == SMALL || !index_is_short((indexed_map *)of, more) || !may_wait(ctx) ||
-        RedisModule_IsBlockedReplyRequest(ctx))
+    if (of == NULL || of->form == SMALL || !index_is_short((indexed_map *)of, more) || !may_wait(ctx))
         return 0;
     it = RedisModule_TryAlloc(sizeof *it);
     if (it == NULL)
@@ -58,7 +69,7 @@ int wait_for_table(RedisModuleCtx *ctx, map *of, size_t more, RedisModuleCmdFunc
     it->of = (indexed_map *)of;
     it->pairs = more;
     atomic_fetch_add(&it->of->uses, 1);
-    it->client = RedisModule_BlockClient(ctx, run, NULL, NULL, 0);
+    it->client = RedisModule_BlockClient(ctx, run_again, NULL, NULL, 0);
     if (first_waiting == NULL)
         RedisModule_CreateTimer(ctx, PAUSE_MILLISECONDS, take_turns, NULL);
     *last_waiting = it;

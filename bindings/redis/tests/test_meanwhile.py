@@ -1,0 +1,250 @@
+"""Commands whose clients wait: meanwhile their key goes, or moves to another server of a cluster, or the server comes to refuse such commands.
+
+A command waits for a larger table where the thread that makes tables is held. That takes ptrace.
+"""
+import contextlib
+import ctypes
+import functools
+import os
+import select
+import socket
+import time
+import unittest
+from collections.abc import Callable, Iterator
+from pathlib import Path
+from typing import Any
+
+from plain import packed
+from servers import Server, flat
+
+# Of <sys/ptrace.h> and <sys/wait.h>.
+SEIZE, INTERRUPT, DETACH, ALL_THREADS = 0x4206, 0x4207, 17, 0x40000000
+trace = ctypes.CDLL(None, use_errno=True).ptrace
+trace.argtypes = [ctypes.c_long, ctypes.c_long, ctypes.c_void_p, ctypes.c_void_p]
+trace.restype = ctypes.c_long
+
+
+@functools.cache
+def say_untraced() -> None:
+    """Once for all tests."""
+    print("\nnot tried, since no thread may be traced: what comes between a command and its table")
+
+
+@contextlib.contextmanager
+def held_resizer(server: Server) -> "Iterator[None]":
+    """The server's thread that makes tables stands still."""
+    assert server.process is not None
+    tasks = Path(f"/proc/{server.process.pid}/task").iterdir()
+    thread = next(int(task.name) for task in tasks if (task / "comm").read_text() == "map_resizer\n")
+    if trace(SEIZE, thread, None, None) != 0:
+        say_untraced()
+        raise unittest.SkipTest(os.strerror(ctypes.get_errno()))
+    try:
+        trace(INTERRUPT, thread, None, None)
+        os.waitpid(thread, ALL_THREADS)
+        yield
+    finally:
+        trace(DETACH, thread, None, None)
+
+
+class Client:
+    """One that need not wait for its replies. It returns them as the server writes them, but for lists and texts. It says that it is ASKING
+    before each command, if it is to."""
+
+    def __init__(self, server: Server, asks: bool = False):
+        self.asks = asks
+        self.socket = socket.create_connection(("127.0.0.1", server.port), timeout=120)
+        self.replies = self.socket.makefile("rb")
+
+    def send(self, *words: object) -> "Client":
+        if self.asks:
+            self.socket.sendall(packed("ASKING"))
+            assert self.reply() == "+OK"
+        self.socket.sendall(packed(*words))
+        return self
+
+    def has_reply(self, seconds: float) -> bool:
+        return bool(select.select([self.socket], [], [], seconds)[0])
+
+    def reply(self) -> Any:
+        line = self.replies.readline().rstrip()
+        if line[:1] in (b"*", b"%"):
+            return [self.reply() for _ in range(int(line[1:]) * (1 + (line[:1] == b"%")))]
+        if line[:1] == b"$" and line != b"$-1":
+            return self.replies.read(int(line[1:]) + 2)[:-2]
+        return line.decode()
+
+    def run(self, *words: object) -> Any:
+        return self.send(*words).reply()
+
+    def waits(self, server: Server, *words: object) -> bool:
+        """Whether a command waits. If it doesn't, its reply is read."""
+        blocked = server.client.info("clients")["blocked_clients"]
+        self.send(*words)
+        while not self.has_reply(0.01):
+            if server.client.info("clients")["blocked_clients"] > blocked:
+                return True
+        self.reply()
+        return False
+
+    def close(self) -> None:
+        self.replies.close()
+        self.socket.close()
+
+
+def numbers(count: int, begin: int = 0) -> "dict[bytes, bytes]":
+    return {b"f%07d" % at: b"%d" % at for at in range(begin, begin + count)}
+
+
+def wait_for_table(server: Server, name: str, clients: "list[Client]") -> None:
+    """Fills a map until commands of clients wait: one that sets one field, one that sets many, and two that read before."""
+    first, count, many = clients[0], 0, flat(list(numbers(1_000, 1_000_000).items()))
+    first.run("OM.SET", name, "counter", 7, "word", "old")
+    while first.run("OM.STAT", name)[-1] == ":0":
+        first.run("OM.SET", name, *flat(list(numbers(100, count).items())))
+        count += 100
+    while not first.waits(server, "OM.SET", name, b"f%07d" % count, count):
+        count += 1
+    for client, words in zip(clients[1:], [("OM.SET", name, *many), ("OM.ADD", name, "counter", 5), ("OM.CAS", name, "word", "old", "new")]):
+        assert client.waits(server, *words), words
+
+
+@contextlib.contextmanager
+def clients_of(server: Server, count: int, asks: bool = False) -> "Iterator[list[Client]]":
+    clients = [Client(server, asks) for _ in range(count)]
+    try:
+        yield clients
+    finally:
+        for client in clients:
+            client.close()
+
+
+def replies_behind(server: Server, name: str, meanwhile: "Callable[[], object]", asks: bool = False) -> "list[object]":
+    """What such commands reply with, where something comes before their table. The last client has the newer protocol."""
+    with clients_of(server, 4, asks) as clients:
+        clients[3].run("HELLO", 3)
+        with held_resizer(server):
+            wait_for_table(server, name, clients)
+            meanwhile()
+        return [client.reply() for client in clients]
+
+
+MADE = [":1", ":1000", ":12", ":1"]
+REFUSED = ["-TRYAGAIN the command has waited, and is refused by now"] * 4
+
+
+class Waits(unittest.TestCase):
+    def setUp(self) -> None:
+        self.server = Server()
+        self.addCleanup(self.server.end)
+
+    def behind(self, *words: object) -> "list[object]":
+        return replies_behind(self.server, "m", lambda: self.server.run(*words))
+
+    def test_keys_that_go(self) -> None:
+        """What has waited is run as if it came then, and its reply is in its client's protocol."""
+        self.assertEqual(self.behind("PING"), MADE)
+        self.server.client.delete("m")
+        self.assertEqual(self.behind("DEL", "m"), [":1", ":1000", ":5", "_"])
+        self.assertEqual(self.server.run("OM.LEN", "m"), 1_002)
+        self.server.client.delete("m")
+        self.assertEqual(self.behind("SET", "m", "text"), ["-WRONGTYPE Operation against a key holding the wrong kind of value"] * 4)
+        self.assertEqual(self.server.client.get("m"), b"text")
+
+    def test_refused(self) -> None:
+        """What the server would refuse by then is refused, and has changed nothing."""
+        for refuse, allow in [
+            (("ACL", "SETUSER", "default", "-om.set", "-om.add", "-om.cas"), ("ACL", "SETUSER", "default", "+@all")),
+            (("CONFIG", "SET", "min-replicas-to-write", 1), ("CONFIG", "SET", "min-replicas-to-write", 0)),
+            (("CONFIG", "SET", "maxmemory", 1), ("CONFIG", "SET", "maxmemory", 0)),
+        ]:
+            self.be_refused(refuse, allow)
+
+    def be_refused(self, refuse: "tuple[object, ...]", allow: "tuple[object, ...]") -> None:
+        before: "list[object]" = []
+
+        def come_between() -> None:
+            before.append(self.server.run("DEBUG", "DIGEST"))
+            self.server.run(*refuse)
+            self.server.client.ping()
+
+        self.assertEqual(replies_behind(self.server, "m", come_between), REFUSED, refuse)
+        self.server.run(*allow)
+        self.assertEqual(self.server.run("DEBUG", "DIGEST"), before[0], refuse)
+        self.server.client.delete("m")
+
+
+class Moves(unittest.TestCase):
+    """A cluster of two servers, the first of which has all slots in the beginning."""
+
+    here: Server
+    there: Server
+    keys = 0
+
+    @classmethod
+    def setUpClass(cls) -> None:
+        servers: "list[Server]" = []
+        for _ in range(2):
+            try:
+                servers.append(Server("--cluster-enabled", "yes", "--cluster-node-timeout", "5000"))
+            except RuntimeError as error:
+                print("\nnot tried, since no cluster starts: a slot that moves while a command waits")
+                raise unittest.SkipTest(str(error)) from error
+            cls.addClassCleanup(servers[-1].end)
+        cls.here, cls.there = servers
+        cls.here.run("CLUSTER ADDSLOTSRANGE", 0, 16383)
+        cls.here.run("CLUSTER MEET", "127.0.0.1", cls.there.port)
+        end = time.monotonic() + 60
+        for server in servers:
+            while [server.run("CLUSTER INFO")[of] for of in ("cluster_state", "cluster_known_nodes")] != ["ok", "2"]:
+                assert time.monotonic() < end, server.log()
+                time.sleep(0.05)
+
+    def new_key(self) -> str:
+        """A key whose slot has not moved."""
+        type(self).keys += 1
+        return f"m{self.keys}"
+
+    def begin_move(self, name: str) -> None:
+        slot = self.here.run("CLUSTER KEYSLOT", name)
+        self.there.run("CLUSTER SETSLOT", slot, "IMPORTING", self.here.run("CLUSTER MYID"))
+        self.here.run("CLUSTER SETSLOT", slot, "MIGRATING", self.there.run("CLUSTER MYID"))
+
+    def move(self, name: str) -> bool:
+        """Moves the key itself: False if there is none."""
+        return bool(self.here.run("MIGRATE", "127.0.0.1", self.there.port, name, 0, 60_000) == b"OK")
+
+    def end_move(self, name: str) -> None:
+        slot, to = self.here.run("CLUSTER KEYSLOT", name), self.there.run("CLUSTER MYID")
+        self.there.run("CLUSTER SETSLOT", slot, "NODE", to)
+        self.here.run("CLUSTER SETSLOT", slot, "NODE", to)
+
+    def test_changes(self) -> None:
+        """What has waited makes no key in a slot that has moved, or is on its way. Where its key is still there, it is made."""
+        self.change(MADE, self.begin_move)
+        self.change(REFUSED, self.begin_move, self.move)
+        self.change(REFUSED, self.begin_move, self.move, self.end_move)
+
+    def change(self, expected: "list[str]", *steps: "Callable[[str], object]") -> None:
+        name = self.new_key()
+        before: "list[object]" = []
+
+        def come_between() -> None:
+            before.append(self.here.run("DEBUG", "DIGEST-VALUE", name))
+            for step in steps:
+                step(name)
+
+        self.assertEqual(replies_behind(self.here, name, come_between), expected, steps)
+        if expected == REFUSED:
+            self.assertEqual(self.here.run("CLUSTER COUNTKEYSINSLOT", self.here.run("CLUSTER KEYSLOT", name)), 0, steps)
+            self.assertEqual(self.there.run("DEBUG", "DIGEST-VALUE", name), before[0], steps)
+
+    def test_asking(self) -> None:
+        """What has waited where its slot goes to is made, if its client is ASKING there."""
+        name = self.new_key()
+        self.begin_move(name)
+        self.assertEqual(replies_behind(self.there, name, lambda: None, asks=True), MADE)
+
+
+if __name__ == "__main__":
+    unittest.main()
