@@ -47,10 +47,12 @@ static void take_turns(RedisModuleCtx *ctx, void *unused) {
 }
 
 /* Has the server call a command that has waited. It refuses a call as it refuses the command of a client: for the slot of the key,
- * for the user, for memory, disk or replicas. A command that is called doesn't wait again. */
+ * for the user, for memory, disk or replicas. Only a pause, which may come behind the command's turn, is looked for here. A command
+ * that is called doesn't wait again. */
 static int run_again(RedisModuleCtx *ctx, RedisModuleString **argv, int argc) {
-    RedisModuleCallReply *reply =
-        RedisModule_Call(ctx, RedisModule_StringPtrLen(argv[0], NULL), CALL_AS_CLIENT "v", argv + 1, (size_t)argc - 1);
+    RedisModuleCallReply *reply = NULL;
+    if (!RedisModule_AvoidReplicaTraffic())
+        reply = RedisModule_Call(ctx, RedisModule_StringPtrLen(argv[0], NULL), CALL_AS_CLIENT "v", argv + 1, (size_t)argc - 1);
     if (reply == NULL)
         return RedisModule_ReplyWithError(ctx, "TRYAGAIN the command has waited, and is refused by now");
     RedisModule_ReplyWithCallReply(ctx, reply);

@@ -173,6 +173,29 @@ class Waits(unittest.TestCase):
         self.assertEqual(self.server.run("DEBUG", "DIGEST"), before[0], refuse)
         self.server.client.delete("m")
 
+    def test_paused(self) -> None:
+        """A pause of changes comes behind the turn of what has waited: a server whose threads read may take it before the command is run."""
+        with Server("--io-threads", "2", "--io-threads-do-reads", "yes", "--appendonly", "yes") as server, clients_of(server, 10) as clients:
+            pausing, sleeping, *others = clients
+
+            def sleep() -> None:
+                """Threads read once several clients have commands at one time."""
+                sleeping.send("DEBUG", "SLEEP", 0.3)
+                for client in others:
+                    client.send("PING")
+                time.sleep(0.1)
+
+            def come_between() -> None:
+                sleep()
+                for client in (sleeping, *others):
+                    client.reply()
+                sleep()
+                pausing.send("CLIENT", "PAUSE", 400, "WRITE")
+
+            for said, made, refused in zip(replies_behind(server, "m", come_between), MADE, REFUSED):
+                self.assertIn(said, (made, refused))
+            self.assertEqual(pausing.reply(), "+OK")
+
 
 class Moves(unittest.TestCase):
     """A cluster of two servers, the first of which has all slots in the beginning."""
