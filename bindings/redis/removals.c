@@ -14,11 +14,12 @@ typedef struct removal {
     RedisModuleCtx *to;  /* replies here */
     uint64_t taken;
     key_range took; /* the least and the greatest field of the last portion */
-    int is_done, is_refused;
+    int has_limit; /* so it can't be sent again as it is, once it has taken some */
+    int is_done, is_refused, has_moved;
 } removal;
 
 static removal removal_of_all(RedisModuleCtx *ctx) {
-    removal it = {NULL, 0, all_pairs, ctx, 0, {0, 0, {0}, {0}}, 0, 0};
+    removal it = {NULL, 0, all_pairs, ctx, 0, {0, 0, {0}, {0}}, 0, 0, 0, 0};
     range_of_all(&it.asked.range);
     return it;
 }
@@ -94,9 +95,11 @@ static uint64_t take_portion(opened *of, removal *it, uint64_t most) {
     return taken;
 }
 
-/* Replies once it has ended. */
+/* Replies once it has ended. Where its rest is in another server, it says so if it can be sent again as it is. */
 static void end_reply(removal *it) {
-    if (it->is_refused && it->taken == 0)
+    if (it->has_moved && (it->taken == 0 || !it->has_limit))
+        refuse(it->to, "TRYAGAIN the rest of the fields has moved");
+    else if (it->is_refused && it->taken == 0)
         refuse(it->to, "OOM no memory for a page");
     else if (!it->asked.with_values)
         RedisModule_ReplyWithLongLong(it->to, (long long)it->taken);
@@ -169,6 +172,15 @@ static void note_gone(RedisModuleCtx *ctx, RedisModuleBlockedClient *client) {
     atomic_fetch_add(&gone_count, 1);
 }
 
+/* Whether an absent key is looked for in another server: then the server refuses a call that reads it. */
+static int is_elsewhere(RedisModuleCtx *ctx, RedisModuleString *name) {
+    RedisModuleCallReply *found = RedisModule_Call(ctx, "om.len", "s", name);
+    if (found == NULL)
+        return 1;
+    RedisModule_FreeCallReply(found);
+    return 0;
+}
+
 /* Takes the next portion, if the key still leads to a map, or to none. */
 static void go_on(RedisModuleCtx *ctx, long_removal *of) {
     opened key;
@@ -176,6 +188,7 @@ static void go_on(RedisModuleCtx *ctx, long_removal *of) {
     RedisModule_SelectDb(ctx, of->database);
     if (find_key(&key, ctx, of->name, REDISMODULE_READ | REDISMODULE_WRITE)) {
         uint64_t before = of->it.taken;
+        of->it.has_moved = key.now == NULL && is_elsewhere(ctx, of->name);
         if (of->count > 0)
             take_next_named(&key, &of->it, at_once(key.now));
         else
@@ -301,6 +314,7 @@ static int pop(RedisModuleCtx *ctx, RedisModuleString **argv, int argc, int fall
         return RedisModule_ReplyWithError(ctx, "ERR value is out of range, must be positive");
     if (!open_key(&of, ctx, argv[1], REDISMODULE_READ | REDISMODULE_WRITE))
         return REDISMODULE_OK;
+    it.has_limit = 1;
     it.asked.with_values = 1;
     it.asked.falls = falls;
     it.asked.limit = (uint64_t)count;
@@ -361,6 +375,7 @@ int om_delrange(RedisModuleCtx *ctx, RedisModuleString **argv, int argc) {
         return RedisModule_ReplyWithError(ctx, "ERR value is not an integer or out of range");
     if (!open_key(&of, ctx, argv[1], REDISMODULE_READ | REDISMODULE_WRITE))
         return REDISMODULE_OK;
+    it.has_limit = argc == 6;
     it.asked.limit = (uint64_t)limit;
     take_from_key(&of, argv[2], argv[3], &it);
     close_key(&of);

@@ -15,7 +15,7 @@ from pathlib import Path
 from typing import Any
 
 from plain import packed
-from servers import Server, flat
+from servers import Server, fill, flat
 
 # Of <sys/ptrace.h> and <sys/wait.h>.
 SEIZE, INTERRUPT, DETACH, ALL_THREADS = 0x4206, 0x4207, 17, 0x40000000
@@ -200,6 +200,7 @@ class Waits(unittest.TestCase):
 class Moves(unittest.TestCase):
     """A cluster of two servers, the first of which has all slots in the beginning."""
 
+    COUNT = 60_000
     here: Server
     there: Server
     keys = 0
@@ -267,6 +268,57 @@ class Moves(unittest.TestCase):
         name = self.new_key()
         self.begin_move(name)
         self.assertEqual(replies_behind(self.there, name, lambda: None, asks=True), MADE)
+
+    def move_before(self, *words: object) -> "tuple[str, object] | None":
+        """Begins a removal, moves the slot before its end, and returns its key and its reply; or None, if it has ended before."""
+        name = self.new_key()
+        fill(self.here, name, numbers(self.COUNT))
+        with clients_of(self.here, 1) as [client]:
+            client.send(words[0], name, *words[1:])
+            while self.here.run("OM.LEN", name) == self.COUNT:
+                pass
+            self.begin_move(name)
+            is_moved = self.move(name)
+            self.end_move(name)
+            reply = client.reply()
+        return (name, reply) if is_moved else None
+
+    def moved_before(self, *words: object) -> "tuple[str, object]":
+        """Tries that until the removal hasn't ended: on a busy machine it may have."""
+        for _ in range(20):
+            found = self.move_before(*words)
+            if found is not None:
+                return found
+        raise AssertionError("no slot moves before the end")
+
+    def test_removals(self) -> None:
+        """The rest of a removal has moved. It says so if it can be sent again: then that removes the rest."""
+        for words in [("OM.DELRANGE", "-", "(g"), ("OM.DEL", *numbers(self.COUNT))]:
+            name, reply = self.moved_before(*words)
+            self.assertEqual(reply, "-TRYAGAIN the rest of the fields has moved", words[0])
+            left = self.there.run("OM.LEN", name)
+            self.assertEqual((self.there.run(words[0], name, *words[1:]), self.there.client.exists(name)), (left, 0), words[0])
+
+    def test_removals_with_a_limit(self) -> None:
+        """They reply with what they have removed."""
+        name, reply = self.moved_before("OM.DELRANGE", "-", "+", "LIMIT", self.COUNT - 1)
+        self.assertEqual(reply, f":{self.COUNT - self.there.run('OM.LEN', name)}")
+        name, reply = self.moved_before("OM.POPMIN", self.COUNT)
+        self.assertEqual(reply + self.there.run("OM.RANGE", name, "-", "+", "WITHVALUES"), flat(list(numbers(self.COUNT).items())))
+
+    def test_removals_of_nothing(self) -> None:
+        """They say so if nothing is removed."""
+        name = self.new_key()
+        fill(self.here, name, numbers(self.COUNT))
+        self.begin_move(name)
+        with clients_of(self.here, 2) as [client, sleeping]:
+            sleeping.send("DEBUG", "SLEEP", 0.3)
+            time.sleep(0.1)
+            client.send("OM.POPMAX", name, self.COUNT)
+            self.move(name)
+            self.assertEqual(client.reply(), "-TRYAGAIN the rest of the fields has moved")
+        self.end_move(name)
+        self.assertEqual(self.there.run("OM.LEN", name), self.COUNT)
 
 
 if __name__ == "__main__":
