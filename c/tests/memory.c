@@ -5,6 +5,8 @@
 #include "hot.h"
 #include "check.h"
 #include <malloc.h>
+#include <pthread.h>
+#include <sched.h>
 #include <stdarg.h>
 #include <stdio.h>
 #include <string.h>
@@ -45,7 +47,20 @@ static void *counted(void *at) {
     return at;
 }
 
+/* A scan that stands where it asks for memory: it is to (1), it does (2), and it may go on (3). */
+static unsigned scan_turn;
+static __thread int is_scanning;
+
+static void stand_in_scan(void) {
+    if (!is_scanning || __atomic_load_n(&scan_turn, __ATOMIC_SEQ_CST) != 1)
+        return;
+    __atomic_store_n(&scan_turn, 2, __ATOMIC_SEQ_CST);
+    while (__atomic_load_n(&scan_turn, __ATOMIC_SEQ_CST) != 3)
+        sched_yield();
+}
+
 void *__wrap_malloc(size_t size) {
+    stand_in_scan();
     return is_refused(0) ? NULL : counted(__real_malloc(size));
 }
 
@@ -54,6 +69,7 @@ void *__wrap_calloc(size_t count, size_t size) {
 }
 
 void *__wrap_realloc(void *at, size_t size) {
+    stand_in_scan();
     if (is_refused(0))
         return NULL;
     in_use -= malloc_usable_size(at);
@@ -149,9 +165,17 @@ int __wrap_madvise(void *at, size_t size, int advice) {
     return __real_madvise(at, size, advice);
 }
 
+/* What is done once, behind the next question. */
+static void (*behind_question)(void);
+
 int __wrap_mincore(void *at, size_t size, unsigned char *there) {
+    int status = __real_mincore(at, size, there);
+    void (*what)(void) = behind_question;
     looked_at += size;
-    return __real_mincore(at, size, there);
+    behind_question = NULL;
+    if (what != NULL)
+        what();
+    return status;
 }
 
 static const hot_stock stock = {20, 40, 0, 0, 0, 10}, large_stock = {2500, 2500, 0, 0, 0, 10};
@@ -762,6 +786,61 @@ static void test_handed_over(void) {
     CHECK(hot_close(&handle) == HOT_DONE && hot_close_index(index) == HOT_DONE);
 }
 
+/* An index with an old table, in which a scan stands, and how many keys it has. */
+static struct {
+    hot_index *index;
+    hot_handle handle, scanning;
+    pthread_t scan;
+    unsigned count;
+} behind;
+
+static void put_behind(unsigned count) {
+    for (; count > 0; count--, behind.count++)
+        CHECK(hot_insert(&behind.handle, (const uint8_t *)&behind.count, sizeof behind.count, 1, NULL) == HOT_INSERTED);
+}
+
+static void *scan_behind(void *given) {
+    static hot_pair pairs[1000];
+    size_t count;
+    uint32_t more;
+    (void)given;
+    is_scanning = 1;
+    CHECK(hot_scan(&behind.scanning, hot_last_key, 0, HOT_TO_END, pairs, 1000, &count, &more) == HOT_DONE);
+    return NULL;
+}
+
+/* The scan ends, more keys come, and the old table goes. */
+static void end_scan(void) {
+    uint32_t more = 1;
+    __atomic_store_n(&scan_turn, 3, __ATOMIC_SEQ_CST);
+    CHECK(pthread_join(behind.scan, NULL) == 0);
+    put_behind(20000);
+    CHECK(hot_grow_step(behind.index, &more) == HOT_DONE && !more);
+}
+
+/* An old table goes while hot_bytes asks about the table of now: it tells no less than there was at some moment. */
+static void test_gone(void) {
+    hot_memory before, within, after;
+    uint32_t more = 1;
+    unsigned steps = 0;
+    CHECK(hot_open_growing(NULL, SIZE_MAX, 2, &behind.index) == HOT_DONE);
+    CHECK(hot_open(behind.index, &behind.handle) == HOT_DONE && hot_open(behind.index, &behind.scanning) == HOT_DONE);
+    put_behind(20000);
+    CHECK(hot_grow_begin(behind.index) == HOT_DONE);
+    __atomic_store_n(&scan_turn, 1, __ATOMIC_SEQ_CST);
+    CHECK(pthread_create(&behind.scan, NULL, scan_behind, NULL) == 0);
+    while (__atomic_load_n(&scan_turn, __ATOMIC_SEQ_CST) != 2)
+        sched_yield();
+    for (; steps < 200; steps++) /* the scan alone holds the old table back then */
+        CHECK(hot_grow_step(behind.index, &more) == HOT_DONE && more);
+    hot_bytes(behind.index, &before);
+    behind_question = end_scan;
+    hot_bytes(behind.index, &within);
+    hot_bytes(behind.index, &after);
+    CHECK(scan_turn == 3 && (within.now >= before.now || within.now >= after.now));
+    CHECK(hot_close(&behind.handle) == HOT_DONE && hot_close(&behind.scanning) == HOT_DONE && hot_close_index(behind.index) == HOT_DONE);
+}
+
 int main(void) {
     long few, more, growing = 1;
     test_resident();
@@ -780,6 +859,7 @@ int main(void) {
     test_asked_about();
     test_fences();
     test_handed_over();
+    test_gone();
     while (test_growing_refused(growing))
         growing++;
     few = test_each_refused(&stock);
