@@ -1,6 +1,7 @@
 -- What calls have told is what their passes have done.
 pub mod Asked
 pub mod Quiet
+pub mod Telling
 use Rattle.hot_c.proofs.Common.{◌≡◌, ⊎_elim, ℕ, suc, ◌<◌, ◌≤◌, List, [], ◌∷◌, ◌++◌, map, Option, None, Some, refl, sym, ap, subst, ◌∙◌, arith, append_assoc, append-nil, length, Result, IsPermutation, cases_lt, IsPermutation-refl, MAX_BYTES, Call, Get, Insert, Change, Note, Reply, Absent, Inserted, Value, LegalCalls, Layout, Act, Known, Does, Ends, Runs, silent, SeatView, TableView, GetsOr, loads_in, AreNoted, HasMadeGetManySteps, gets, IsNewPass, PassView, pass_of, untold, Refusal, HandleView, Stays, IsLoaderPass, pairs_noted, notes_of_response, Happening, responds, shows, steps, HandleHasDone, HasEndedAs, HasGoneThrough, HasSeenLeader, call_of, called, load_call, loader, many_ended, new, notes_of_end, quiet, shown, stamped, steps_of, handles_are_linearizable, seeing_is_done, silent_steps_end}
 use Rattle.std.specs.Prelude.{All, ◌≢◌}
 use Rattle.rowex_core.specs.Events.{after}
@@ -10,8 +11,10 @@ use Rattle.rowex_table.specs.Traces.{IsTableRun}
 use Rattle.rowex_table.proofs.Onward.{led_more}
 use Rattle.tries.specs.Keys.{Key}
 use Rattle.index_laws.specs.Executions.{insertion_notes}
+use Rattle.index_laws.specs.Joined.{HasRested, caught_up, idle}
+use Rattle.rowex_core.specs.declared.event.Event.{Event}
 use Rattle.hot_c.specs.Calls.{Answers, FitsInKey, StaysOpen, TellsOutcome}
-use Rattle.hot_c.specs.Histories.{AreNotesOf, AsksNothing, CallsAreLinearizable, HasSeenAnother, HaveTold, IsAt, asked, loaded, loaded_each, looked_up, more, none, answered_notes, opened, saw, steps_known, told_of, told_of_each, was_seen, went_on}
+use Rattle.hot_c.specs.Histories.{AreNotesOf, AsksNothing, CallsAreLinearizable, HasSeenAnother, HasToldAll, HaveTold, IsAt, asked, followed, loaded, loaded_each, looked_up, more, none, answered_notes, opened, rested, saw, steps_known, told_of, told_of_each, was_seen, went_on}
 use Rattle.hot_c.specs.Lookups.{LooksUpAll, are_answered, key_in}
 use Rattle.hot_c.specs.Statuses.{value_after}
 use Rattle.hot_c.specs.declared.lookups.Lookup.{Lookup}
@@ -237,11 +240,20 @@ gone_is_run {index} low (called x calls acts last said ends so) =
 gone_is_run low (shown x all front known) = (all.run.core, all.run.led)
 gone_is_run {index} low (stamped x is) = subst (IsTableRun index.layout) (sym (ap (λ (s : SeatView). s.trace) is)) (gone_is_run low x)
 
-module _ (index : TableView) (told : ℕ → List (List (Call × Reply))) (was : ℕ → Opened) (each : (q : ℕ) → q < index.layout.passes → HaveTold index q (told q) (was q).handle) where
+-- what a pass has told that has told all, and that it rests
+told_so : {index : TableView} {run : List Event} {q : ℕ} {told : List (List (Call × Reply))} {h : HandleView} → HasToldAll index run q told h → HaveTold index q told h
+told_so (rested has others) = has
+told_so (followed has begun seen leads) = has
+
+rests : {index : TableView} {run : List Event} {q : ℕ} {told : List (List (Call × Reply))} {h : HandleView} → HasToldAll index run q told h → HasRested q run h
+rests (rested has others) = idle others
+rests (followed {now = now} {leader = leader} {led = led} has begun seen leads) = caught_up now.handle leader.handle led.handle begun (leader_seen seen) leads
+
+module _ (index : TableView) (told : ℕ → List (List (Call × Reply))) (was : ℕ → HandleView) (each : (q : ℕ) → q < index.layout.passes → HaveTold index q (told q) (was q)) where
   -- what each pass has done; nothing for a number that is no pass's
   record Lived (q : ℕ) : Type 0 where
     pub done : List Happening
-    pub gone : q < index.layout.passes → HandleHasDone index q done (was q).handle
+    pub gone : q < index.layout.passes → HandleHasDone index q done (was q)
     pub notes : q < index.layout.passes → AreNotesOf (told q) (answered_notes done)
 
   lived : (q : ℕ) → Lived q
@@ -254,8 +266,9 @@ module _ (index : TableView) (told : ℕ → List (List (Call × Reply))) (was :
       never low high = omega (arith, low, high)
 
 pub calls_are_linearizable : CallsAreLinearizable
-calls_are_linearizable index told was now leader led each p low others all so knew seen leads =
+calls_are_linearizable index told was p low others all so told_all =
+    let each : (q : ℕ) → q < index.layout.passes → HaveTold index q (told q) (was q) = λ q below. told_so (told_all q below) in
     let done : ℕ → List Happening = λ q. (lived index told was each q).done in
-    let r = handles_are_linearizable index (steps_known all) done (λ q. (was q).handle) (λ q. (now q).handle) (λ q. (leader q).handle) (λ q. (led q).handle)
-    (gone_is_run low (is_done so).gone.2) (λ q. (lived index told was each q).gone) knew (λ q below. leader_seen (seen q below)) leads in
+    let r = handles_are_linearizable index (steps_known all) done was
+    (gone_is_run low (is_done so).gone.2) (λ q. (lived index told was each q).gone) (λ q below. rests (told_all q below)) in
     (done, r.0, r.1, r.2, (λ q. (lived index told was each q).notes), r.3, r.4)

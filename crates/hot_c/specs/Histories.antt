@@ -1,5 +1,5 @@
 -- What calls through handles have told a program in C, and that all that was told stands in one legal history of a finite map.
-use Rattle.std.specs.Prelude.{◌≡◌, ◌≢◌, ◌⊎◌, ℕ, ◌<◌, All, List, [], ◌∷◌, ◌++◌, IsPermutation, Option, None, Some, if◌then◌else◌, map, nat_eq}
+use Rattle.std.specs.Prelude.{◌≡◌, ◌≢◌, ◌⊎◌, ℕ, ◌<◌, ◌≤◌, ◌^◌, All, List, [], ◌∷◌, ◌++◌, IsPermutation, Option, None, Some, if◌then◌else◌, map, nat_eq}
 use Rattle.std.specs.Option.{option_to_list}
 use Rattle.finite_map.specs.declared.Call.{Call}
 use Rattle.finite_map.specs.declared.Call.TheVariants.{Get, Insert}
@@ -10,7 +10,7 @@ use Rattle.finite_map.specs.Calls.{LegalCalls}
 use Rattle.tries.specs.Keys.{Key}
 use Rattle.rowex_core.specs.declared.event.Event.{Event}
 use Rattle.rowex_table.specs.Seats.{TableView}
-use Rattle.rowex_table.specs.Traces.{RunBeginsWith}
+use Rattle.rowex_table.specs.Traces.{OthersStepOn, RunBeginsWith}
 use Rattle.hot_index_calls.specs.Calls.{GetsOr}
 use Rattle.hot_index_calls.specs.Census.{HasCounted}
 use Rattle.hot_index_calls.specs.Passes.{IsNewPass, Owns, PassView, pass_of}
@@ -149,19 +149,35 @@ pub data AreNotesOf : List (List (Call × Reply)) → List Note → Type 0 where
 abbrev pub steps_known : Opened → List Event
 steps_known open_handle = open_handle.handle.pass.seat.trace
 
--- Let each pass of an index have an open handle, whose calls have told a program in C `told`. Let some handle of the index (`all`) know all
--- steps that these handles knew. Let each handle then see a leader that knows all steps that `all` knew. There is one execution in which
--- each pass makes just the calls that its handle told of, with these replies. It is linearizable: the calls have one order in which a map
--- could have made them. Of two calls that don't overlap, the earlier stands first.
+-- The calls of a pass had told `told` when its handle was `was`, and the pass made no step of the run after those that it knew then.
+-- `rested`: the run goes on by steps of other passes alone. So it is with a handle that was never opened, that was closed, or that makes no
+-- later call. `followed`: the run begins with the steps that the pass knew, and the handle then saw a leader that knew the whole run. So
+-- the handle itself shows that it made no other step.
+pub data HasToldAll (index : TableView) (run : List Event) (pass : ℕ) (told : List (List (Call × Reply))) : HandleView → Type 0 where
+  rested : {was : HandleView} → HaveTold index pass told was → OthersStepOn pass was.pass.seat.trace run → HasToldAll index run pass told was
+  followed : {was now leader led : Opened} → HaveTold index pass told was.handle → RunBeginsWith run (steps_known was) →
+      HasSeenAnother was now leader led → RunBeginsWith (steps_known leader) run → HasToldAll index run pass told was.handle
+
+-- Let some handle of an index (`all`) know a run of steps. Let each pass of the index have told all that it did in this run, whether its
+-- handle is open, closed, or was never opened. There is one execution in which each pass makes just the calls that its handle told of, with
+-- these replies. It is linearizable: the calls have one order in which a map could have made them. Of two calls that don't overlap, the
+-- earlier stands first.
 abbrev pub CallsAreLinearizable : Type 0
 CallsAreLinearizable =
-    (index : TableView) (told : ℕ → List (List (Call × Reply))) (was now leader led : ℕ → Opened) →
-    ((pass : ℕ) → pass < index.layout.passes → HaveTold index pass (told pass) (was pass).handle) →
+    (index : TableView) (told : ℕ → List (List (Call × Reply))) (was : ℕ → HandleView) →
     (one : ℕ) → one < index.layout.passes → (others : List (List (Call × Reply))) (all : Opened) → HaveTold index one others all.handle →
-    ((pass : ℕ) → pass < index.layout.passes → RunBeginsWith (steps_known all) (steps_known (was pass))) →
-    ((pass : ℕ) → pass < index.layout.passes → HasSeenAnother (was pass) (now pass) (leader pass) (led pass)) →
-    ((pass : ℕ) → pass < index.layout.passes → RunBeginsWith (steps_known (leader pass)) (steps_known all)) →
+    ((pass : ℕ) → pass < index.layout.passes → HasToldAll index (steps_known all) pass (told pass) (was pass)) →
     (done : ℕ → List Happening) × (last : ℕ) × (at : ℕ → Instant) × (happens : ℕ → Happening) ×
     ((pass : ℕ) → pass < index.layout.passes → AreNotesOf (told pass) (answered_notes (done pass))) ×
-    IsExecutionOf index (steps_known all) done (λ pass. (was pass).handle.pass.seat) last at happens ×
+    IsExecutionOf index (steps_known all) done (λ pass. (was pass).pass.seat) last at happens ×
     IsLinearizable index.layout last (λ time. configuration_of index.layout (at time)) happens
+
+-- Let an index have at least two handles; `any` is some open handle. For each value of 64 bits its handles may have told this. The first
+-- inserted the key of no bytes with this value, the second then found it, and the others were never opened. So the premise of
+-- `CallsAreLinearizable` can be met, by an index with more handles than a program opens.
+abbrev pub AnInsertIsTold : Type 0
+AnInsertIsTold =
+    (any : Opened) (index : TableView) → 2 ≤ index.layout.passes → (value : ℕ) → value < 2 ^ 64 →
+    (told : ℕ → List (List (Call × Reply))) × (was : ℕ → HandleView) × (all : Opened) × HaveTold index 1 (told 1) all.handle ×
+    ((pass : ℕ) → pass < index.layout.passes → HasToldAll index (steps_known all) pass (told pass) (was pass)) ×
+    (told 0 ≡ ((Insert [] value, Inserted) ∷ []) ∷ []) × (told 1 ≡ ((Get [], Value value) ∷ []) ∷ []) × ((pass : ℕ) → 2 ≤ pass → told pass ≡ [])

@@ -1,12 +1,18 @@
 //! Laws of the calls for C over whole runs. The functions do nothing: their contracts are the laws.
 
-ghost use Rattle.hot_c.specs.Histories.{CallsAreLinearizable, QuietCalls};
+ghost use Rattle.hot_c.specs.Histories.{AnInsertIsTold, CallsAreLinearizable, QuietCalls};
 
-/// Let each pass of an index have an open handle. Let one handle of the index know all steps that these handles knew. Let each of these
-/// handles then see a leader that knows all steps that the one handle knew. The calls of which the handles had told before are one
-/// execution, which is linearizable.
+/// Let one handle of an index know a run of steps. Let no pass of the index have made a step of this run after those that its handle knew:
+/// the handle was never opened, was closed, made no later call, or saw a leader that knows the run. The calls of which all handles have told
+/// are one execution, which is linearizable.
 pub fn calls_are_linearizable()
     ensures { CallsAreLinearizable }
+{}
+
+/// In an index of two handles or more, one handle inserts a key, and another finds it; the others were never opened. This meets the premise
+/// of `calls_are_linearizable`.
+pub fn an_insert_is_told()
+    ensures { AnInsertIsTold }
 {}
 
 /// Scans, searches for an end, counts of a range, rounds and censuses through an open handle ask nothing of the map. They add no note, and

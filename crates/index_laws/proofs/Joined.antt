@@ -4,11 +4,13 @@ pub mod Interleaving
 pub mod Moving
 pub mod Placing
 use Rattle.index_laws.proofs.Common.{◌≡◌, ◌≢◌, ⊎_elim, ℕ, suc, ◌<◌, List, [], ◌∷◌, if◌then◌else◌, refl, sym, ap, subst, ◌∙◌, arith, le_refl, cases_eq, ne_eqb, All-cons, All-nil, Event, after, opening, load_of, with_front, StepsWith, silent, SeatView, TableView, OthersStepOn, Change, BeginsWith, PassView, pass_of, untold, Happening, Configuration, none_some, begins_on, others_none}
+use Rattle.rowex_table.specs.Seats.{IsShownAll}
+use Rattle.rowex_table.specs.Traces.{RunBeginsWith}
 use Rattle.hot_index.specs.Handles.{HandleView}
 use Rattle.hot_index.specs.Stamps.{HasCaughtUp, HasStamped}
 use Rattle.linearizability.specs.Histories.{PendingEndOrChangeAsAsked}
 use Rattle.hot_index_calls.proofs.Traces.{ends_untold, runs_untold}
-use Rattle.index_laws.specs.Joined.{HandlesAreLinearizable, HasGoneThrough, HasSeenLeader, LoadedHaveEnded, OneRunIsAnExecution, SeeingIsDone, ShownHaveEnded, SilentStepsEnd, StepsNeedNoGate, TwoThatMeetHaveEnded, load_call, loader, new, of_two, shown as is_shown, stamped as has_stamped}
+use Rattle.index_laws.specs.Joined.{HandleHasDone, HandlesAreLinearizable, HasGoneThrough, HasRested, HasSeenLeader, LoadedHaveEnded, OneRunIsAnExecution, SeeingIsDone, ShownHaveEnded, SilentStepsEnd, StepsNeedNoGate, TwoThatMeetHaveEnded, caught_up, idle, load_call, loader, new, of_two, shown as is_shown, stamped as has_stamped}
 use Rattle.index_laws.specs.Traced.{configuration_of}
 use Rattle.index_laws.proofs.Joined.Interleaving.{named_by, one_execution}
 use Rattle.index_laws.proofs.Joined.Placing.{others_between}
@@ -23,12 +25,17 @@ one_run_is_an_execution table run done seat x =
     let ends : PendingEndOrChangeAsAsked table.layout last last moments = λ q low call is. none_some call _ (sym (r.3.idle q low) ∙ is) in
     (last, r.1, r.2, r.3, executions_are_linearizable table.layout last last moments r.2 (le_refl last) (traced_are_executions table last r.1 r.2 r.3.traced) ends)
 
+-- a pass that is shown a run that it began has made no other step of the run
+others_shown : (table : TableView) (q : ℕ) (run : List Event) (done : List Happening) (seat shown : SeatView) → HasGoneThrough table q done seat → RunBeginsWith run seat.trace →
+    IsShownAll table.layout seat shown → RunBeginsWith shown.trace run → OthersStepOn q seat.trace run
+others_shown table q run done seat shown gone begun later begins =
+    others_between q seat.trace run shown.trace (subst (λ p. OthersStepOn p seat.trace shown.trace) (named_by gone) later.run.others) begun begins
+
 pub shown_have_ended : ShownHaveEnded
 shown_have_ended table run done seat shown led each begun later begins = record {
   led = led;
   each = each;
-  others = λ q low. others_between q (seat q).trace run (shown q).trace
-      (subst (λ p. OthersStepOn p (seat q).trace (shown q).trace) (named_by (each q low)) (later q low).run.others) (begun q low) (begins q low);
+  others = λ q low. others_shown table q run (done q) (seat q) (shown q) (each q low) (begun q low) (later q low) (begins q low);
 }
 
 -- Handles
@@ -61,12 +68,23 @@ seeing_is_done index p q ours theirs was now leader led (here, is_seat, gone) (t
         let now : j ≡ pass_of (record k.seat { asides = suc k.seat.asides }) = has ∙ ap (λ (z : PassView). let y : PassView = record z { seat = record k.seat { asides = suc k.seat.asides } } in y) is in
         now ∙ ap pass_of (sym (ap (λ (z : PassView). z.seat) now))
 
+-- a handle that saw a leader has made no step of the run but those that it knew
+saw_others : (index : TableView) (q : ℕ) (run : List Event) (done : List Happening) (was now leader led : HandleView) → HandleHasDone index q done was → RunBeginsWith run was.pass.seat.trace →
+    HasSeenLeader was now leader led → RunBeginsWith leader.pass.seat.trace run → OthersStepOn q was.pass.seat.trace run
+saw_others index q run done was now leader led (here, is_seat, gone) begun seen leads =
+    others_shown index q run done was.pass.seat now.pass.seat gone begun (caught_at here seen).shown (begins_on run leader.pass.seat.trace now.pass.seat.trace leads seen.traced)
+
+rested_others : (index : TableView) (q : ℕ) (run : List Event) (done : List Happening) (was : HandleView) → HandleHasDone index q done was → HasRested q run was → OthersStepOn q was.pass.seat.trace run
+rested_others index q run done was does (idle others) = others
+rested_others index q run done was does (caught_up now leader led begun seen leads) = saw_others index q run done was now leader led does begun seen leads
+
 pub handles_are_linearizable : HandlesAreLinearizable
-handles_are_linearizable index run done was now leader led table each begun seen leads =
-    one_run_is_an_execution index run done (λ q. (was q).pass.seat)
-    (shown_have_ended index run done (λ q. (was q).pass.seat) (λ q. (now q).pass.seat) table (λ q low. (each q low).2) begun
-    (λ q low. (caught_at (each q low).0 (seen q low)).shown)
-    (λ q low. begins_on run (leader q).pass.seat.trace (now q).pass.seat.trace (leads q low) (seen q low).traced))
+handles_are_linearizable index run done was table each rest =
+    one_run_is_an_execution index run done (λ q. (was q).pass.seat) (record {
+      led = table;
+      each = λ q low. (each q low).2;
+      others = λ q low. rested_others index q run (done q) (was q) (each q low) (rest q low);
+    })
 
 -- what is so of pass 0 and pass 1
 pub of_both : {A : Type 0} (P : ℕ → A → Type 0) (x y : A) → P 0 x → P 1 y → (passes : ℕ) → passes ≡ 2 → (q : ℕ) → q < passes → P q (of_two x y q)

@@ -4,6 +4,7 @@ pub mod Executions
 pub mod Steps
 pub mod Traced
 pub mod Joined
+pub mod Finding
 pub mod Lives
 pub mod Headline
 pub mod Standing

@@ -1,3 +1,2 @@
 -- Lemmas about `src/laws.rt`.
-pub mod Finding
 pub mod Shown

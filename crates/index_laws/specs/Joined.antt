@@ -186,17 +186,22 @@ SeeingIsDone =
     HandleHasDone index leading_pass (theirs ++ shows leading_pass leader.pass.seat.known.front ∷ []) led ×
     IsTableRun index.layout now.pass.seat.trace × RunBeginsWith now.pass.seat.trace leader.pass.seat.trace
 
--- Let each pass of an index have a handle, and have done what `done` gives. Let a run of the table begin with the trace of each handle. Let
--- each handle then see a leader whose trace begins with this run. What the passes had done before is one execution, which is linearizable:
--- there is one order of look-ups and changes in which a map could have made them. Of two calls that don't overlap, the earlier stands
--- first.
+-- The pass of this handle made no step of the run after those that it knew. `idle`: the run goes on by steps of other passes alone. So it is
+-- with a handle that was never opened, or is closed, or makes no call. `caught_up`: the run begins with the steps that the pass knew,
+-- and the handle then saw a leader that knew the whole run. So the handle itself shows that it made no other step.
+pub data HasRested (pass : ℕ) (run : List Event) (was : HandleView) : Type 0 where
+  idle : OthersStepOn pass was.pass.seat.trace run → HasRested pass run was
+  caught_up : (now leader led : HandleView) → RunBeginsWith run was.pass.seat.trace → HasSeenLeader was now leader led →
+      RunBeginsWith leader.pass.seat.trace run → HasRested pass run was
+
+-- Let each pass of an index have a handle, open or closed, and have done what `done` gives. Let a run of the table have no other step of any
+-- pass. What the passes have done is one execution, which is linearizable: there is one order of look-ups and changes in which a map could
+-- have made them. Of two calls that don't overlap, the earlier stands first.
 abbrev pub HandlesAreLinearizable : Type 0
 HandlesAreLinearizable =
-    (index : TableView) (run : List Event) (done : ℕ → List Happening) (was now leader led : ℕ → HandleView) → IsTableRun index.layout run →
+    (index : TableView) (run : List Event) (done : ℕ → List Happening) (was : ℕ → HandleView) → IsTableRun index.layout run →
     ((pass : ℕ) → pass < index.layout.passes → HandleHasDone index pass (done pass) (was pass)) →
-    ((pass : ℕ) → pass < index.layout.passes → RunBeginsWith run (was pass).pass.seat.trace) →
-    ((pass : ℕ) → pass < index.layout.passes → HasSeenLeader (was pass) (now pass) (leader pass) (led pass)) →
-    ((pass : ℕ) → pass < index.layout.passes → RunBeginsWith (leader pass).pass.seat.trace run) →
+    ((pass : ℕ) → pass < index.layout.passes → HasRested pass run (was pass)) →
     (last : ℕ) × (at : ℕ → Instant) × (happens : ℕ → Happening) ×
     IsExecutionOf index run done (λ pass. (was pass).pass.seat) last at happens ×
     IsLinearizable index.layout last (λ time. configuration_of index.layout (at time)) happens
@@ -204,6 +209,10 @@ HandlesAreLinearizable =
 -- `first` for pass 0, and `others` for each other pass
 abbrev pub of_two : {A : Type 0} → (first others : A) (pass : ℕ) → A
 of_two first others pass = if nat_eq pass 0 then first else others
+
+-- `first` for pass 0, `second` for pass 1, and what `others` gives for each other pass
+abbrev pub of_two_first : {A : Type 0} → (first second : A) (others : ℕ → A) (pass : ℕ) → A
+of_two_first first second others pass = if nat_eq pass 0 then first else (if nat_eq pass 1 then second else others pass)
 
 -- Let the only two passes of a table meet, as the clauses `shown` and `traces` of a meeting say. The traces that they had before the
 -- meeting have ended in one run. This run is the trace that both have after the meeting.
@@ -230,15 +239,16 @@ SilentStepsEnd =
     (table : TableView) (act : Act) (acts : List Act) (start end : SeatView) → Runs table untold (act ∷ acts) (start, tt) (end, tt) →
     (before : List Act) × (last : Act) × (act ∷ acts ≡ before ++ last ∷ []) × Ends table untold before last silent (start, tt) (end, tt)
 
--- In each table of two passes, and for each value of 64 bits, there is a run in which both passes have ended. Pass 0 has one note, that it
--- inserted the key of no bytes with this value. Pass 1 has one note, that a get found it. So the premise of `OneRunIsAnExecution` can be
--- met.
+-- In each table of two passes or more, and for each value of 64 bits, there is a run in which all passes have ended. Pass 0 has one note,
+-- that it inserted the key of no bytes with this value. Pass 1 has one note, that a get found it. The others have done nothing. So the
+-- premise of `OneRunIsAnExecution` can be met.
 abbrev pub AnInsertIsFound : Type 0
 AnInsertIsFound =
-    (table : TableView) → table.layout.passes ≡ 2 → (value : ℕ) → value < 2 ^ 64 →
+    (table : TableView) → 2 ≤ table.layout.passes → (value : ℕ) → value < 2 ^ 64 →
     (run : List Event) × (done : ℕ → List Happening) × (seat : ℕ → SeatView) × HaveEndedInOneRun table run done seat ×
     ((seat 0).known.notes ≡ record { place = 0; call = Insert [] value; reply = Inserted } ∷ []) ×
-    ((seat 1).known.notes ≡ record { place = 1; call = Get []; reply = Value value } ∷ [])
+    ((seat 1).known.notes ≡ record { place = 1; call = Get []; reply = Value value } ∷ []) ×
+    ((pass : ℕ) → 2 ≤ pass → done pass ≡ [])
 
 -- Steps of which a gate was told are steps without a gate, too, with the same notes. So calls with a gate meet what `HasGoneThrough` asks,
 -- which knows no gate. It is said of steps without notes (`Runs`), and of steps that end a call (`Ends`).

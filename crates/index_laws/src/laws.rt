@@ -63,8 +63,9 @@ pub fn seeing_is_done()
     ensures { SeeingIsDone }
 {}
 
-/// Let each pass of an index have a handle, from Rattle or from C. Let a run begin with the steps of which each pass knew. Let each handle
-/// then see what a leader has seen, one that knows of this run. The calls that all handles had made before are linearizable.
+/// Let each pass of an index have a handle, from Rattle or from C. A handle may be open or closed. Let a run of the index have no step of a
+/// pass after those that its handle knew: the handle made no call since, or it saw a leader that knew the run. The calls that all handles
+/// had made before are linearizable.
 pub fn handles_that_see_are_linearizable()
     ensures { HandlesAreLinearizable }
 {}
@@ -80,8 +81,8 @@ pub fn loaded_passes_have_ended_in_one_run()
     ensures { LoadedHaveEnded }
 {}
 
-/// For each index of two passes, and each value of 64 bits, there are calls that have ended in one run. Pass 0 inserts the empty key with
-/// this value, and pass 1 finds it. So the premise of `calls_of_one_run_are_an_execution` can be met.
+/// For each index of two passes or more, and each value of 64 bits, there are calls that have ended in one run. Pass 0 inserts the empty key
+/// with this value, pass 1 finds it, and the others do nothing. So the premise of `calls_of_one_run_are_an_execution` can be met.
 pub fn an_insert_is_found()
     ensures { AnInsertIsFound }
 {}

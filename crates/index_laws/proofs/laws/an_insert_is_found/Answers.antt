@@ -1,5 +1,5 @@
 -- The law an_insert_is_found.
-use Rattle.index_laws.proofs.laws.Finding.{an_insert_is_found}
+use Rattle.index_laws.proofs.Finding.{an_insert_is_found}
 use Rattle.index_laws.proofs.laws.an_insert_is_found.Goals as goal
 
 pub returns : goal.returns

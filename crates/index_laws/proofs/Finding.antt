@@ -1,5 +1,6 @@
--- Two passes end in one run: one inserts a key, and the other finds it.
-use Rattle.index_laws.proofs.Common.{◌≡◌, ℕ, ◌<◌, ◌≤◌, ◌^◌, List, [], ◌∷◌, ◌++◌, refl, sym, ap, subst, ◌∙◌, arith, le_refl, inl, ◌≢◌, None, All-nil, All-from_recursion, All-cons, TableId, Note, Layout, Live, leaf_size, state_word, a_leaf, Act, Claim, Fill, LoadEpoch, LoadRef, Lock, SetPin, ClearPin, Publish, Unlock, Event, Root, Known, Pass, Core, IsLawful, IsAtomic, Legal, after, next_change, Knows, learned, opening, EventsLead, learns, opening_is_lawful, stays_lawful, opening_of, StepsWith, Ends, Runs, SeatView, TableView, OthersStepOn, learned_pass, renoted, led_more, others_none, untold, Get, Insert, Inserted, Value, LegalCalls, StandsIn, Item, item, IsNoted, AreByPasses, pass_of, Happening, responds, Change}
+-- All passes end in one run: one inserts a key, another finds it, and the others do nothing.
+use Rattle.index_laws.proofs.Common.{◌≡◌, ℕ, ◌<◌, ◌≤◌, ◌^◌, List, [], ◌∷◌, ◌++◌, refl, sym, ap, subst, ◌∙◌, arith, le_refl, inl, ◌≢◌, ⊎_elim, cases_eq, ne_eqb, if◌then◌else◌, None, All-nil, All-from_recursion, All-cons, TableId, Note, Layout, Live, leaf_size, state_word, a_leaf, Act, Claim, Fill, LoadEpoch, LoadRef, Lock, SetPin, ClearPin, Publish, Unlock, Event, Root, Known, Pass, Core, IsLawful, IsAtomic, Legal, after, next_change, Knows, learned, opening, EventsLead, learns, opening_is_lawful, stays_lawful, opening_of, StepsWith, Ends, Runs, SeatView, TableView, OthersStepOn, learned_pass, renoted, led_more, others_none, untold, Get, Insert, Inserted, Value, LegalCalls, StandsIn, Item, item, IsNoted, AreByPasses, pass_of, Happening, responds, Change}
+use Rattle.std.specs.Prelude.{nat_eq}
 use Rattle.std.proofs.lemmas.Bool.Decides.{nat_tests}
 use Rattle.record_words.specs.declared.state.Tag.TheVariants.{Free}
 use Rattle.record_words.specs.Leaf.{HasLeafWords, key_word, leaf_words, up_to_key}
@@ -12,8 +13,18 @@ use Rattle.record_words.specs.Entry.{entry_word}
 use Rattle.version_laws.specs.Writer.{added_change}
 use Rattle.rowex_table.specs.Publishes.{HasPublished, Publishes}
 use Rattle.publish_laws.proofs.Insertions.Inserting.{first_made}
-use Rattle.index_laws.specs.Joined.{AnInsertIsFound, HasGoneThrough, HaveEndedInOneRun, answered, call_of, called, new, of_two}
-use Rattle.index_laws.proofs.Joined.{both_done, of_both}
+use Rattle.std.specs.Prelude.{Ok}
+use Rattle.rowex_core.proofs.Knowing.Keeping.{seen_by}
+use Rattle.rowex_table.specs.Runs.{IsTold, SeesAllOfRun, events_of}
+use Rattle.rowex_table.specs.Stays.{LeavesFresh}
+use Rattle.rowex_reading.specs.Reads.{IsBelowRoot}
+use Rattle.rowex_writing.specs.attempts.Attempts.{IsOfSearch}
+use Rattle.rowex_writing.specs.declared.attempts.TryFault.{TryFault}
+use Rattle.rowex_writing.specs.locks.Locks.{IsOfAttempt}
+use Rattle.hot_index_calls.specs.Calls.{IsTried}
+use Rattle.hot_index_calls.specs.Noting.{change_notes}
+use Rattle.hot_index_calls.specs.Traces.{HasMadeChangeSteps, HasMadeGetSteps, IsAttempt}
+use Rattle.index_laws.specs.Joined.{AnInsertIsFound, HasGoneThrough, HaveEndedInOneRun, answered, call_of, called, new, of_two_first}
 
 -- Two passes and the core between their steps: the one that steps, and the other
 
@@ -125,18 +136,56 @@ all_run table q p apart w (act ∷ acts) x legal =
       all_run table q p apart next acts (step_true table q p apart w act [] x legal.0) legal.2,
     )
 
+-- a step with these notes is one with what gives them
+saying : {table : TableView} {act : Act} {a b : SeatView × Unit {0}} (said : Known → List Note) (notes : List Note) → (x : StepsWith table untold act (λ k. notes) a b) →
+    said (learned x.event.core act a.0.known) ≡ notes → StepsWith table untold act said a b
+saying {table} {act} {a} {b} said notes x same = record {
+  seat = x.seat;
+  event = record {
+    core = x.event.core;
+    lawful = x.event.lawful;
+    layout_is = x.event.layout_is;
+    knows = x.event.knows;
+    legal = x.event.legal;
+    learned_is = x.event.learned_is ∙ ap (λ (l : List Note). record (learned x.event.core act a.0.known) { notes = a.0.known.notes ++ l }) (sym same);
+  };
+  next = x.next;
+  touches = x.touches;
+  told = x.told;
+  atomic = x.atomic;
+}
+
+-- of a call with no gate nothing is told
+all_untold : (events : List Event) → IsTold untold events tt tt
+all_untold [] = refl
+all_untold (event ∷ events) = (tt, tt, all_untold events)
+
 zero_not : let z : ℕ = 0 in z ≢ 1
 zero_not e = absurd (omega (arith, e))
 
 one_not : let z : ℕ = 1 in z ≢ 0
 one_not e = absurd (omega (arith, e))
 
+-- what is so of pass 0, of pass 1, and of each other pass
+pub by_two_first : {A : Type 0} (P : ℕ → A → Type 0) (first second : A) (others : ℕ → A) → P 0 first → P 1 second → ((q : ℕ) → 2 ≤ q → P q (others q)) → (q : ℕ) →
+    P q (of_two_first first second others q)
+by_two_first P first second others here there rest q = ⊎_elim
+    (λ (e : q ≡ 0). subst (λ k. P k (of_two_first first second others k)) (sym e) here)
+    (λ (ne : q ≢ 0). ⊎_elim
+    (λ (e : q ≡ 1). subst (λ k. P k (of_two_first first second others k)) (sym e) there)
+    (λ (neither : q ≢ 1). subst (P q) (sym (is_other ne neither)) (rest q (omega (arith, ne, neither))))
+    (cases_eq q 1))
+    (cases_eq q 0)
+  where
+    is_other : q ≢ 0 → q ≢ 1 → of_two_first first second others q ≡ others q
+    is_other ne neither = ap (λ b. if b then first else (if nat_eq q 1 then second else others q)) (ne_eqb q 0 ne) ∙ ap (λ b. if b then second else others q) (ne_eqb q 1 neither)
+
 -- The steps
 
 leaf_has_room : (layout : Layout) (n : ℕ) → 4 ≤ leaf_size layout n
 leaf_has_room layout n = grind (arith, nat_tests)
 
-module _ (table : TableView) (two : table.layout.passes ≡ 2) (value : ℕ) (fits : value < 2 ^ 64) where
+module _ (table : TableView) (two : 2 ≤ table.layout.passes) (value : ℕ) (fits : value < 2 ^ 64) where
   abbrev layout : Layout
   layout = table.layout
 
@@ -276,14 +325,20 @@ module _ (table : TableView) (two : table.layout.passes ≡ 2) (value : ℕ) (fi
   abbrev w13 : World
   w13 = stepped 1 (turned w12) (LoadEpoch 1) []
 
+  abbrev w14 : World
+  w14 = stepped 1 w13 (SetPin 1) []
+
   abbrev root : ℕ
-  root = entry_word (stepped 1 w13 (SetPin 1) []).core.root
+  root = entry_word w14.core.root
 
   abbrev looking : List Act
   looking = LoadEpoch 1 ∷ SetPin 1 ∷ LoadRef Root root ∷ []
 
   may_look : AreLegal 1 (turned w12) looking
   may_look = ((one_low, refl), tt, ((one_low, (refl, refl, le_refl 1)), tt, ((one_low, refl), tt, tt)))
+
+  t14 : IsTrue layout 1 0 w14
+  t14 = all_true table 1 0 zero_not (turned w12) (LoadEpoch 1 ∷ SetPin 1 ∷ []) t12 ((one_low, refl), tt, ((one_low, (refl, refl, le_refl 1)), tt, tt))
 
   abbrev w15 : World
   w15 = all_stepped 1 (turned w12) looking
@@ -302,16 +357,16 @@ module _ (table : TableView) (two : table.layout.passes ≡ 2) (value : ℕ) (fi
 
   -- Both calls, as their contracts say
 
-  abbrev s0 : SeatView
+  abbrev pub s0 : SeatView
   s0 = seat_at table.id 0 (opening_of 0) []
 
-  abbrev e0 : SeatView
+  abbrev pub e0 : SeatView
   e0 = seat_at table.id 0 w12.one w12.run
 
-  abbrev s1 : SeatView
+  abbrev pub s1 : SeatView
   s1 = seat_at table.id 1 (opening_of 1) []
 
-  abbrev e1 : SeatView
+  abbrev pub e1 : SeatView
   e1 = seat_at table.id 1 w16.one w16.run
 
   abbrev seat_of : ℕ → World → SeatView × Unit {0}
@@ -361,7 +416,7 @@ module _ (table : TableView) (two : table.layout.passes ≡ 2) (value : ℕ) (fi
   by_passes : AreByPasses layout (change ∷ [])
   by_passes = All-cons (λ (x : Change). x.pass < layout.passes) change [] zero_low (All-nil (λ (x : Change). x.pass < layout.passes))
 
-  abbrev insert_noted : IsNoted layout (pass_of s0) (pass_of e0) (Insert [] value) Inserted
+  pub insert_noted : IsNoted layout (pass_of s0) (pass_of e0) (Insert [] value) Inserted
   insert_noted = record {
     on = record {
       number = refl;
@@ -379,7 +434,7 @@ module _ (table : TableView) (two : table.layout.passes ≡ 2) (value : ℕ) (fi
     legal = at_change (λ f. LegalCalls f 0 (inserted ∷ [])) legal_inserted;
   }
 
-  abbrev get_noted : IsNoted layout (pass_of s1) (pass_of e1) (Get []) (Value value)
+  pub get_noted : IsNoted layout (pass_of s1) (pass_of e1) (Get []) (Value value)
   get_noted = record {
     on = record {
       number = refl;
@@ -404,32 +459,196 @@ module _ (table : TableView) (two : table.layout.passes ≡ 2) (value : ℕ) (fi
   theirs = call_of 1 (Get [] ∷ []) looking ClearPin (found ∷ []) (responds 1 (found ∷ []))
 
   first_done : HasGoneThrough table 0 ours e0
+  unfolding insert_noted
   first_done = called (new (refl, refl, refl, refl)) (Insert [] value ∷ []) changing ClearPin (λ k. inserted ∷ []) ends_so
       (answered (Insert [] value) Inserted refl insert_noted)
 
   second_done : HasGoneThrough table 1 theirs e1
+  unfolding get_noted
   second_done = called (new (refl, refl, refl, refl)) (Get [] ∷ []) looking ClearPin (λ k. found ∷ []) found_so (answered (Get []) (Value value) refl get_noted)
 
-  behind_get : OthersStepOn 0 w12.run w16.run
+  pub behind_get : OthersStepOn 0 w12.run w16.run
   behind_get =
       let event : Act → Event = λ act. record { pass = 1; act = act } in
       let more : List Event = event (LoadEpoch 1) ∷ event (SetPin 1) ∷ event (LoadRef Root root) ∷ event ClearPin ∷ [] in
       (more, refl, All-from_recursion (λ (x : Event). x.pass ≢ 0) more (one_not, (one_not, (one_not, (one_not, tt)))))
 
-  pub ended : HaveEndedInOneRun table w16.run (of_two ours theirs) (of_two e0 e1)
+  -- The steps of both calls, as their contracts say
+
+  -- the core at the last load of the root
+  abbrev w4 : World
+  w4 = all_stepped 0 w0 (LoadEpoch 1 ∷ SetPin 1 ∷ LoadRef Root 0 ∷ Lock Anchor (state_word Live) ∷ [])
+
+  t4 : IsTrue layout 0 1 w4
+  t4 = all_true table 0 1 one_not w0 (LoadEpoch 1 ∷ SetPin 1 ∷ LoadRef Root 0 ∷ Lock Anchor (state_word Live) ∷ []) t0
+      ((zero_low, refl), tt, ((zero_low, (refl, refl, le_refl 1)), tt, ((zero_low, refl), tt, ((zero_low, refl), tt, tt))))
+
+  abbrev behind_load : List Act
+  behind_load = Claim (a_leaf 0) (state_word Free) ∷ Fill (a_leaf 0) 1 value ∷ Ready (a_leaf 0) ∷ Publish Root 1 ∷ LoadEpoch 1 ∷ Unlock Anchor ∷ ClearPin ∷ []
+
+  insert_sees : SeesAllOfRun layout s0 e0
+  insert_sees = record {
+    sees = record {
+      core = w4.core;
+      lawful = t4.lawful;
+      layout_is = t4.layout_is;
+      at = w4.one;
+      knows = t4.one;
+      pass = refl;
+      since = omega arith;
+      until = omega arith;
+      fresh = refl;
+      all = λ other knows. seen_by w4.core other knows;
+    };
+    run = w4.run;
+    led = t4.led;
+    since = (w4.run, refl);
+    root = 0;
+    legal = (zero_low, refl);
+    rest = events_of 0 behind_load;
+    until = refl;
+    last = All-from_recursion LeavesFresh behind_load (tt, (tt, (tt, (tt, (tt, (tt, (tt, tt)))))));
+  }
+
+  abbrev attempt : List Act
+  attempt = LoadRef Root 0 ∷ Lock Anchor (state_word Live) ∷ LoadRef Root 0 ∷ Claim (a_leaf 0) (state_word Free) ∷ Fill (a_leaf 0) 1 value ∷ Ready (a_leaf 0) ∷ Publish Root 1 ∷ LoadEpoch 1 ∷ Unlock Anchor ∷ []
+
+  insert_attempt : IsAttempt layout changing
+  insert_attempt = record {
+    epoch = 1;
+    rest = attempt;
+    acts_are = refl;
+    steps = record {
+      search = LoadRef Root 0 ∷ [];
+      rest = Lock Anchor (state_word Live) ∷ LoadRef Root 0 ∷ Claim (a_leaf 0) (state_word Free) ∷ Fill (a_leaf 0) 1 value ∷ Ready (a_leaf 0) ∷ Publish Root 1 ∷ LoadEpoch 1 ∷ Unlock Anchor ∷ [];
+      acts_are = refl;
+      searches = All-from_recursion IsOfSearch (LoadRef Root 0 ∷ []) (tt, tt);
+      pinned = All-from_recursion IsOfAttempt attempt (tt, (tt, (tt, (tt, (tt, (tt, (tt, (tt, (tt, tt)))))))));
+      once = grind arith;
+      depth = omega arith;
+      locks = omega arith;
+      few = omega arith;
+    };
+  }
+
+  insert_ends : Ends table untold changing ClearPin (change_notes {F = TryFault} (Insert [] value) (Ok Inserted)) (s0, tt) (e0, tt)
+  unfolding ends_so
+  insert_ends = (ends_so.0, ends_so.1, saying (change_notes {F = TryFault} (Insert [] value) (Ok Inserted)) (inserted ∷ []) ends_so.2 refl)
+
+  insert_made : HasMadeChangeSteps table untold (Insert [] value) (Ok Inserted) (pass_of s0, tt) (pass_of e0, tt)
+  insert_made = record {
+    acts = changing;
+    begins = refl;
+    ends = refl;
+    tries = record {
+      before = [];
+      rest = changing;
+      acts_are = refl;
+      tidies = inl refl;
+      tidied = (s0, tt);
+      steps = refl;
+      tries = inl (insert_attempt, refl);
+    };
+    steps = insert_ends;
+    sees = insert_sees;
+    told = all_untold (events_of 0 (changing ++ ClearPin ∷ []));
+    few = omega arith;
+    touched = omega arith;
+  }
+
+  -- an insertion that the contract of `try_insert` admits
+  pub insert_tried : IsTried (Insert [] value) (Ok Inserted) table untold (pass_of s0, tt) (pass_of e0, tt)
+  insert_tried = record {
+    own = refl;
+    call = insert_noted;
+    cause = tt;
+    leafless = tt;
+    made = insert_made;
+    room = record {
+      spares = λ spare core lone. let one = lone.passes in absurd (omega (arith, one, two));
+      finds = λ removal. absurd removal;
+    };
+  }
+
+  get_sees : SeesAllOfRun layout s1 e1
+  get_sees = record {
+    sees = record {
+      core = w14.core;
+      lawful = t14.lawful;
+      layout_is = t14.layout_is;
+      at = w14.one;
+      knows = t14.one;
+      pass = refl;
+      since = omega arith;
+      until = omega arith;
+      fresh = refl;
+      all = λ other knows. seen_by w14.core other knows;
+    };
+    run = w14.run;
+    led = t14.led;
+    since = (w14.run, refl);
+    root = root;
+    legal = (one_low, refl);
+    rest = record { pass = 1; act = ClearPin } ∷ [];
+    until = refl;
+    last = All-from_recursion LeavesFresh (ClearPin ∷ []) (tt, tt);
+  }
+
+  -- a get that the contract of `get` admits
+  pub get_made : HasMadeGetSteps table untold (pass_of s1, tt) (pass_of e1, tt)
+  get_made = record {
+    read = record {
+      epoch = 1;
+      root = root;
+      loads = [];
+      said = λ k. found ∷ [];
+      begins = refl;
+      ends = refl;
+      below = All-nil IsBelowRoot;
+      steps = found_so;
+      sees = get_sees;
+      told = all_untold (events_of 1 (looking ++ ClearPin ∷ []));
+    };
+    depth = omega arith;
+    few = omega arith;
+    touched = omega arith;
+  }
+
+  -- each other pass is new
+
+  abbrev pub idle_seat : ℕ → SeatView
+  idle_seat q = seat_at table.id q (opening_of q) []
+
+  abbrev all : ℕ → List Happening × SeatView
+  all = of_two_first (ours, e0) (theirs, e1) (λ q. ([], idle_seat q))
+
+  pub not_by_others : (q : ℕ) → 2 ≤ q → OthersStepOn q [] w16.run
+  not_by_others q high =
+      let low : 0 ≢ q = λ e. absurd (omega (arith, high, e)) in
+      let also : 1 ≢ q = λ e. absurd (omega (arith, high, e)) in (
+        w16.run,
+        refl,
+        All-from_recursion (λ (x : Event). x.pass ≢ q) w16.run
+            (low, (low, (low, (low, (low, (low, (low, (low, (low, (low, (low, (low, (also, (also, (also, (also, tt)))))))))))))))),
+      )
+
+  pub ended : HaveEndedInOneRun table w16.run (λ q. (all q).0) (λ q. (all q).1)
   ended = record {
     led = (w16.core, t16.led);
-    each = both_done table ours theirs e0 e1 first_done second_done layout.passes two;
-    others = of_both (λ q (z : SeatView). OthersStepOn q z.trace w16.run) e0 e1 behind_get (others_none 1 w16.run) layout.passes two;
+    each = λ q low. by_two_first (λ k (z : List Happening × SeatView). HasGoneThrough table k z.0 z.1) (ours, e0) (theirs, e1) (λ k. ([], idle_seat k))
+        first_done second_done (λ k high. new (refl, refl, refl, refl)) q;
+    others = λ q low. by_two_first (λ k (z : List Happening × SeatView). OthersStepOn k z.1.trace w16.run) (ours, e0) (theirs, e1) (λ k. ([], idle_seat k))
+        behind_get (others_none 1 w16.run) not_by_others q;
   }
 
 pub an_insert_is_found : AnInsertIsFound
 an_insert_is_found table two value fits = (
   (w16 table two value fits).run,
-  of_two (ours table two value fits) (theirs table two value fits),
-  of_two (e0 table two value fits)
-      (e1 table two value fits),
+  (λ q. (all table two value fits q).0),
+  (λ q. (all table two value fits q).1),
   ended table two value fits,
   refl,
   refl,
+  by_two_first (λ q (z : List Happening × SeatView). 2 ≤ q → z.0 ≡ []) (ours table two value fits, e0 table two value fits) (theirs table two value fits, e1 table two value fits)
+      (λ q. ([], idle_seat table two value fits q)) (λ high. absurd (omega (arith, high))) (λ high. absurd (omega (arith, high))) (λ q high again. refl),
 )
