@@ -69,20 +69,20 @@ knows_bare c p low none = record {
 none_there : {X : Type 0} (xs : List X) (x : X) → xs ≡ [] → Contains xs x → ⊥
 none_there xs x none (i, low, is) = let size = ap length none in absurd (omega (arith, low, size))
 
--- it has no lock
-no_lock : (c : Core) (p : ℕ) (d : Core) → IsLawful d → Knows d (known_bare c p) → ¬ (HoldsLock d p)
-no_lock c p d law knows (inl held) = let z : None ≡ Some d.root = (knows_all d (known_bare c p) knows).all_anchor held in absurd (cc)
-no_lock c p d law knows (inr (n, held)) = of (d.fate (a_node n)) refl (law.core.locked n p held)
+-- a pass that knows of no record and no lock of its own has no lock
+pub no_lock : (d : Core) (k : Known) → IsLawful d → Knows d k → k.own ≡ [] → k.locks ≡ [] → k.anchor ≡ None → ¬ (HoldsLock d k.pass)
+no_lock d k law knows own locks anchor (inl held) = let z : None ≡ Some d.root = sym anchor ∙ (knows_all d k knows).all_anchor held in absurd (cc)
+no_lock d k law knows own locks anchor (inr (n, held)) = of (d.fate (a_node n)) refl (law.core.locked n k.pass held)
   where
-    of : (f : Fate) → d.fate (a_node n) ≡ f → IsLockable p (d.fate (a_node n)) → ⊥
-    of (InTree since) is may = none_there [] _ refl ((knows_all d (known_bare c p) knows).all_locks n held (since, is))
+    of : (f : Fate) → d.fate (a_node n) ≡ f → IsLockable k.pass (d.fate (a_node n)) → ⊥
+    of (InTree since) is may = none_there k.locks _ locks ((knows_all d k knows).all_locks n held (since, is))
     of (Unlinked since last q) is may =
-        let mine : q ≡ p = subst (IsLockable p) is may in
-        none_there [] _ refl ((knows_all d (known_bare c p) knows).all_own (a_node n) (UnlinkedRecord since last) (is ∙ ap (Unlinked since last) mine))
-    of Free is may = subst (IsLockable p) is may
-    of (Held q) is may = subst (IsLockable p) is may
-    of (Ready q) is may = subst (IsLockable p) is may
-    of (Marked since last epoch) is may = subst (IsLockable p) is may
+        let mine : q ≡ k.pass = subst (IsLockable k.pass) is may in
+        none_there k.own _ own ((knows_all d k knows).all_own (a_node n) (UnlinkedRecord since last) (is ∙ ap (Unlinked since last) mine))
+    of Free is may = subst (IsLockable k.pass) is may
+    of (Held q) is may = subst (IsLockable k.pass) is may
+    of (Ready q) is may = subst (IsLockable k.pass) is may
+    of (Marked since last epoch) is may = subst (IsLockable k.pass) is may
 
 -- ---- steps of one pass alone
 own_others : (c : Core) (p q : ℕ) (xs : List Event) → p ≢ q → All (λ x. x.pass ≡ q) xs → AreOthers (a_pass (known_bare c p)) xs
@@ -139,7 +139,7 @@ module _ (layout : Layout) (q : ℕ) (s t : SeatView) (alone : RunsAlone layout 
   -- what is known of the other pass once these steps have been made
   bare : (run : List Event) (d : Core) → EventsLead (opening layout) run d → RunBeginsWith run alone.before → RunBeginsWith t.trace run → Knows d (known_bare alone.core h.met.by)
   bare run d led grown more =
-      still_bare alone.core h.met.by q grown.0 d (runs_stay_lawful layout alone.before alone.core alone.led) low (alone.none h.met.by another) another
+      still_bare alone.core h.met.by q grown.0 d (runs_stay_lawful layout alone.before alone.core alone.led) low (alone.none h.met.by h.met.below another) another
       (behind alone.before alone.own run t.trace q alone.until alone.each grown more)
       (lead_rest (opening layout) alone.before alone.core grown.0 d (subst (λ l. EventsLead (opening layout) l d) grown.1 led) alone.led)
 
@@ -151,7 +151,7 @@ module _ (layout : Layout) (q : ℕ) (s t : SeatView) (alone : RunsAlone layout 
       let count = length-append alone.core.changes more.0 in
       let size : length alone.core.changes ≤ length h.pinned.changes = omega (arith, ap length more.1, count) in
       ⊎_elim
-      (λ (has : HoldsLock h.met.core h.met.by). no_lock alone.core h.met.by h.met.core (runs_stay_lawful layout h.met.run h.met.core h.met.led) knows has)
+      (λ (has : HoldsLock h.met.core h.met.by). no_lock h.met.core (known_bare alone.core h.met.by) (runs_stay_lawful layout h.met.run h.met.core h.met.led) knows refl refl refl has)
       (λ (made : HasMadeSince h.met.core (length h.pinned.changes) h.met.by). none_made alone.core h.met.by h.met.core (length h.pinned.changes) knows size made)
       h.met.is
 
@@ -271,7 +271,7 @@ first_alone layout q p t new own = record {
   others = ([], sym (append-nil p.seat.trace ∙ new.4), All-nil (λ (x : Event). x.pass ≢ q));
   core = opening layout;
   led = refl;
-  none = λ r another. record { locks = λ has. unlocked r has; own = λ i has. absurd (cc); pin = refl };
+  none = λ r low another. record { locks = λ has. unlocked r has; own = λ i has. absurd (cc) };
   own = t.trace;
   until = refl;
   each = own;

@@ -1,4 +1,4 @@
--- What contracts say of a call that is alone. When it begins, no other pass holds anything, and while it runs, no other makes a step.
+-- What contracts say of a call that is alone. When it begins, no other pass holds a lock or a record, and while it runs, no other makes a step.
 use Rattle.std.specs.Prelude.{◌≡◌, ℕ, [], All, Result, IsOk}
 use Rattle.finite_map.specs.declared.Call.{Call}
 use Rattle.finite_map.specs.declared.Reply.{Reply}

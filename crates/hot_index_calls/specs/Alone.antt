@@ -1,5 +1,5 @@
 -- Calls that are alone: while such a call runs, no other pass makes a step.
-use Rattle.std.specs.Prelude.{◌≡◌, ◌≢◌, ℕ, List, [], ◌∷◌, ◌++◌, length, All, Some, None}
+use Rattle.std.specs.Prelude.{◌≡◌, ◌≢◌, ℕ, ◌<◌, List, [], ◌∷◌, ◌++◌, length, All, Some}
 use Rattle.record_words.specs.declared.layout.Layout.{Layout}
 use Rattle.record_words.specs.declared.records.Rec.{Rec}
 use Rattle.rowex_core.specs.declared.event.Event.{Event}
@@ -10,21 +10,20 @@ use Rattle.rowex_table.specs.Seats.{SeatView}
 use Rattle.rowex_table.specs.Traces.{OthersStepOn, RunBeginsWith}
 use Rattle.rowex_writing.specs.locks.Others.{HoldsLock, HasMetOther}
 
--- In this core the pass holds nothing: no lock of a node or of the anchor, no record that it has claimed or unlinked, and no pin.
+-- In this core the pass holds nothing: no lock of a node or of the anchor, and no record that it has claimed or unlinked. It may be pinned.
 pub record HoldsNone (core : Core) (pass : ℕ) : Type 0 where
   pub locks : ¬ (HoldsLock core pass)
   pub own : (rec : Rec) → holder_of (core.fate rec) ≢ Some pass
-  pub pin : core.pins pass ≡ None
 
 -- A call of the pass was alone, from its seat `old` to its seat `new`. When the call began, the steps `before` had been made. These are
--- what the pass knew at `old`, and steps of others. In the core after them no other pass held a lock, a pin or a record. All steps of the
--- table behind them are the pass's own.
+-- what the pass knew at `old`, and steps of others. In the core after them no other pass held a lock or a record. It may have been within a
+-- look-up. All steps of the table behind them are the pass's own.
 pub record RunsAlone (layout : Layout) (pass : ℕ) (old new : SeatView) : Type 0 where
   pub before : List Event
   pub others : OthersStepOn pass old.trace before
   pub core : Core
   pub led : EventsLead (opening layout) before core
-  pub none : (other : ℕ) → other ≢ pass → HoldsNone core other
+  pub none : (other : ℕ) → other < layout.passes → other ≢ pass → HoldsNone core other
   pub own : List Event
   pub until : new.trace ≡ before ++ own
   pub each : All (λ event. event.pass ≡ pass) own

@@ -4,10 +4,12 @@ use Rattle.versions.specs.declared.Pin.{Pin}
 use Rattle.rowex_core.specs.declared.known.Holding.TheVariants.{Held as HeldBy, Ready as ReadyBy, Unlinked as UnlinkedBy}
 use Rattle.rowex_core.proofs.Sharing.Owning.{knows_all, pin_is, round_is}
 use Rattle.publish_laws.proofs.Lone.{lead_layout, lead_split, one_of, step_knows}
+use Rattle.rowex_writing.specs.locks.Others.{HoldsLock}
 use Rattle.hot_index_calls.specs.declared.census.RecordCounts.{RecordCounts}
 use Rattle.hot_index_calls.proofs.Rooms.{round_acts, step_here}
+use Rattle.hot_index.proofs.Unhindered.{no_lock}
 use Rattle.index_laws.specs.Joined.{HasGoneThrough, new}
-use Rattle.index_laws.specs.Rest.{AreAllIdle, CountsKeys, CountsNoneLost, GoesOnAlone, HasNoneAtWork, NoRecordIsLost, OnePassLosesNone, StepsAlone, number_of_keys, with_seat}
+use Rattle.index_laws.specs.Rest.{AreAllIdle, CountsKeys, CountsNoneLost, GoesOnAlone, HasNoneAtWork, IdlePassesLeaveAlone, NoRecordIsLost, OnePassLosesNone, StepsAlone, number_of_keys, with_seat}
 use Rattle.index_laws.specs.Traced.{core_led_to, configuration_of}
 use Rattle.index_laws.proofs.Counting.{HaveFound, count_finds, counts_keys, counts_none_lost}
 use Rattle.index_laws.proofs.Joined.Interleaving.{named_by}
@@ -65,6 +67,35 @@ module _ (table : TableView) (run : List Event) (seat : ℕ → SeatView) (rest 
       let passes : c.layout.passes ≡ table.layout.passes = ap (λ (l : Layout). l.passes) (lead_layout (opening table.layout) run c led) in
       none_at_work c (runs_stay_lawful table.layout run c led) (λ q. (seat q).known)
       (λ q low. (let few : q < table.layout.passes = omega (arith, low, passes) in (true_there q few, named_by (rest.ended.each q few), rest.settled q few)))
+
+-- so where one of idle passes goes on alone, its calls are alone
+pub idle_passes_leave_alone : IdlePassesLeaveAlone
+idle_passes_leave_alone index run s e on = record {
+  before = run;
+  others = subst (λ (z : SeatView). OthersStepOn s.known.pass z.trace run) on.seat_is (on.idle.ended.others s.known.pass on.pass);
+  core = on.idle.ended.led.0;
+  led = on.idle.ended.led.1;
+  none = λ o low another. record { locks = unlocked o low; own = λ r held. none_some o (sym (free.unowned r) ∙ held) };
+  own = on.alone.0;
+  until = on.alone.1;
+  each = on.alone.2;
+}
+  where
+    c : Core
+    c = on.idle.ended.led.0
+
+    free : HasNoneAtWork c
+    free = rest_none_at_work index run on.seat on.idle c on.idle.ended.led.1
+
+    none_some : (o : ℕ) → None ≡ Some o → ⊥
+    none_some o is = absurd cc
+
+    unlocked : (o : ℕ) → o < index.layout.passes → ¬ (HoldsLock c o)
+    unlocked o low =
+        let known : Known = (on.seat o).known in
+        let settled = on.idle.settled o low in
+        subst (λ z. ¬ (HoldsLock c z)) (named_by (on.idle.ended.each o low))
+        (no_lock c known (runs_stay_lawful index.layout run c on.idle.ended.led.1) (true_there index run on.seat on.idle c on.idle.ended.led.1 o low) settled.own settled.locks settled.anchor)
 
 -- new passes have done nothing
 new_idle : (index : TableView) (seat : ℕ → SeatView) → ((q : ℕ) → q < index.layout.passes → IsNewSeatOf index q (seat q)) → AreAllIdle index [] seat

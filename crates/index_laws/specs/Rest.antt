@@ -14,6 +14,7 @@ use Rattle.rowex_core.specs.Opening.{opening}
 use Rattle.rowex_core.specs.Runs.{EventsLead}
 use Rattle.rowex_table.specs.Seats.{IsNewSeatOf, SeatView, TableView}
 use Rattle.rowex_table.specs.Traces.{IsTableRun}
+use Rattle.hot_index_calls.specs.Alone.{RunsAlone}
 use Rattle.hot_index_calls.specs.Census.{HasCounted}
 use Rattle.hot_index_calls.specs.Passes.{IsSettled, PassView}
 use Rattle.hot_index_calls.specs.Traces.{HasCollected}
@@ -95,6 +96,13 @@ pub record GoesOnAlone (index : TableView) (run : List Event) (start end : SeatV
   pub pass : start.known.pass < index.layout.passes
   pub seat_is : seat start.known.pass ≡ start
   pub alone : StepsAlone start.known.pass run end.trace
+
+-- Let all passes of an index be idle, and let one go on alone. Its calls are alone, from the seat that it had to the seat that it comes to.
+-- So a call is alone wherever it finds the others between two calls.
+abbrev pub IdlePassesLeaveAlone : Type 0
+IdlePassesLeaveAlone =
+    (index : TableView) (run : List Event) (start end : SeatView) → GoesOnAlone index run start end →
+    RunsAlone index.layout start.known.pass start end
 
 -- the seats of all passes: `view` for the pass whose seat it is, and what `seat` gives for each other
 abbrev pub with_seat : (seat : ℕ → SeatView) (view : SeatView) (pass : ℕ) → SeatView

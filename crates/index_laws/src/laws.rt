@@ -1,7 +1,7 @@
 //! Laws of the index over whole runs. The functions do nothing: their contracts are the laws.
 ghost use Rattle.index_laws.specs.Headline.{Headline};
 ghost use Rattle.index_laws.specs.Joined.{AnInsertIsFound, HandlesAreLinearizable, LoadedHaveEnded, OneRunIsAnExecution, SeeingIsDone, ShownHaveEnded, SilentStepsEnd, StepsNeedNoGate, TwoThatMeetHaveEnded};
-ghost use Rattle.index_laws.specs.Rest.{NoRecordIsLost, OnePassLosesNone};
+ghost use Rattle.index_laws.specs.Rest.{IdlePassesLeaveAlone, NoRecordIsLost, OnePassLosesNone};
 ghost use Rattle.index_laws.specs.Statements.{AGetReturns, Responses};
 ghost use Rattle.index_laws.specs.Steps.{StepsAreMoments, StepsFollow};
 ghost use Rattle.index_laws.specs.Traced.{AGetIsTraced, CallsMakeNoAsides, EndedBeforeLoaded, EndedOrLoadedBefore, EndedOrShownBefore, LoadsAreMoments, LoadsSeeAll, MetAreOfOneRun, TracedAreExecutions};
@@ -85,6 +85,12 @@ pub fn loaded_passes_have_ended_in_one_run()
 /// with this value, pass 1 finds it, and the others do nothing. So the premise of `calls_of_one_run_are_an_execution` can be met.
 pub fn an_insert_is_found()
     ensures { AnInsertIsFound }
+{}
+
+/// Let all passes of an index be idle, between two calls each. The calls that one of them then makes are alone while no other makes a step, so
+/// `alone_calls_end` of `hot_index` speaks of them.
+pub fn idle_passes_leave_alone()
+    ensures { IdlePassesLeaveAlone }
 {}
 
 /// Steps of which a gate is told are steps with no gate, too. So laws that know no gate hold of calls with one.
