@@ -29,13 +29,14 @@ IsOfRefusedPair status = (status ≡ NOT_RISING) ⊎ (status ≡ KEY_TOO_LONG) �
 
 -- An open load was given a pair. It has taken the pair, or is as before, and the status says why. `NOT_RISING` is told exactly if the key
 -- isn't above the last one. The other statuses have the reasons that their fields give: no leaf record has room for the key, all that have
--- are taken, or the pairs are no fewer than the node records.
+-- are taken, or the pairs are no fewer than the node records, and at least 32 if there are two node records.
 pub record TellsPush (key : List ℕ) (value : ℕ) (old new : LoadView) (status : ℕ) : Type 0 where
   pub told : ((status ≡ DONE) × HasTakenPair key value old new) ⊎ (IsOfRefusedPair status × (new ≡ old))
   pub rising : (status ≡ NOT_RISING) ↔ ¬ IsAboveLast old.items key
   pub long : status ≡ KEY_TOO_LONG → HasNoLeafFor old.layout key
   pub leaves : status ≡ FULL_LEAVES → HasNoRoomFor old key × ¬ HasNoLeafFor old.layout key
   pub nodes : status ≡ FULL_NODES → old.layout.nodes ≤ length old.items
+  pub many : status ≡ FULL_NODES → 2 ≤ old.layout.nodes → 32 ≤ length old.items
 
 -- A pair is given to a load. If the load is closed, or the key longer than any index takes, the status says so, and nothing has changed.
 -- Else the load stays open, and has taken the pair or refused it (`TellsPush`).
