@@ -12,6 +12,7 @@
  *    some moment since, and each key that changed since is in a log.
  * 2. When the load has ended, the handles of the next table are opened, and the phase becomes BOTH. When all changes that began before have
  *    ended, the first logs get no more keys. Each key in one gets in the next table the state that it has in the table of now, under its stripe.
+ *    A key whose stripe is locked is put off, since the thread of that change may wait for a processor.
  * 3. Then the phase becomes LAST, and the same is done with the other logs: they have the few keys that found their stripe locked.
  *    All stripes are locked. Where no copy was refused until then, each key has the same state in both: the next table becomes that of now, and the
  *    phase STILL. Changes that waited for a stripe begin anew.
@@ -78,8 +79,9 @@ typedef struct job {
     begun_load begun;
     size_t from_length;  /* of the key at which the scan goes on */
     uint8_t from[HOT_MAX_KEY];
-    chunk *logs;
-    size_t at;           /* where the first of them was read to */
+    chunk *logs, *later; /* with the keys that are still to be made alike, and with those that were put off */
+    size_t at;           /* where the first log was read to */
+    size_t put_off;      /* how many of its bytes up to there are keys that were put off */
     hot_status status;   /* why it is given up */
     hot_head heads[PORTION];
     uint8_t bytes[ROOM];
@@ -473,8 +475,8 @@ static hot_status begin_growth(grower *of, uint64_t eighths, hot_status why, siz
     it->lacks.why = why;
     it->lacks.length = length;
     it->begun.load = none;
-    it->logs = NULL;
-    it->at = 0;
+    it->logs = it->later = NULL;
+    it->at = it->put_off = 0;
     look_away();
     it->to = new_table(of, &of->head.now->stock);
     if (it->to != NULL)
@@ -514,13 +516,29 @@ static void take_logs(grower *of, int which) {
         }
 }
 
-static void free_log(grower *of) {
+static void free_logs(grower *of, chunk *first) {
+    chunk *old;
+    while ((old = first) != NULL) {
+        first = old->next;
+        __atomic_sub_fetch(&of->head.logged, sizeof *old, __ATOMIC_RELAXED);
+        free(old);
+    }
+}
+
+/* Ends with the first log. It stays for later, if keys in it were put off. */
+static void end_log(grower *of) {
     job *it = of->job;
-    chunk *old = it->logs;
-    it->logs = old->next;
-    it->at = 0;
-    __atomic_sub_fetch(&of->head.logged, sizeof *old, __ATOMIC_RELAXED);
-    free(old);
+    chunk *read = it->logs;
+    it->logs = read->next;
+    read->next = NULL;
+    if (it->put_off > 0) {
+        read->used = it->put_off;
+        read->next = it->later;
+        it->later = read;
+    } else {
+        free_logs(of, read);
+    }
+    it->at = it->put_off = 0;
 }
 
 /* Ends a job. What it has made goes, if that has not taken over. */
@@ -528,8 +546,8 @@ static void end_job(grower *of, int is_over) {
     job *it = of->job;
     take_logs(of, 0);
     take_logs(of, 1);
-    while (it->logs != NULL)
-        free_log(of);
+    free_logs(of, it->logs);
+    free_logs(of, it->later);
     if (!is_over) {
         proved_give_up_load(&it->begun.load);
         free_table(it->to);
@@ -609,27 +627,37 @@ static hot_status open_one(grower *of) {
     return status;
 }
 
-/* Makes keys of the logs alike. */
-static void make_logs_alike(grower *of) {
+/* Makes keys of the logs alike, and puts off those whose stripe is locked. Returns whether there are none left; writes 1 to `is_waiting` if all
+ * that are left were put off. */
+static int make_logs_alike(grower *of, int *is_waiting) {
     job *it = of->job;
     int count;
     for (count = 0; count < ALIKE && it->logs != NULL; count++) {
-        const uint8_t *key = &it->logs->bytes[it->at + 1];
-        size_t length = it->logs->bytes[it->at];
-        uint32_t *stripe = stripe_of(&of->head, key, length);
-        lock_word(stripe);
-        make_alike(&of->head, &of->head.now->own, &it->to->own, key, length);
-        unlock_word(stripe);
+        uint8_t *noted = &it->logs->bytes[it->at];
+        size_t length = noted[0];
+        uint32_t *stripe = stripe_of(&of->head, noted + 1, length);
+        if (try_to_lock(stripe)) {
+            make_alike(&of->head, &of->head.now->own, &it->to->own, noted + 1, length);
+            unlock_word(stripe);
+        } else {
+            memmove(&it->logs->bytes[it->put_off], noted, 1 + length);
+            it->put_off += 1 + length;
+        }
         it->at += 1 + length;
         if (it->at == it->logs->used)
-            free_log(of);
+            end_log(of);
     }
+    if (it->logs != NULL)
+        return 0;
+    *is_waiting = it->later != NULL;
+    it->logs = it->later;
+    it->later = NULL;
+    return it->logs == NULL;
 }
 
 /* The same of the first logs. Behind them changes are to wait for their stripes. */
-static void catch_up(grower *of) {
-    make_logs_alike(of);
-    if (of->job->logs != NULL)
+static void catch_up(grower *of, int *is_waiting) {
+    if (!make_logs_alike(of, is_waiting))
         return;
     __atomic_store_n(&of->head.phase, LAST, __ATOMIC_SEQ_CST);
     watch(of, of->job->to->seen, 0);
@@ -723,10 +751,10 @@ static hot_status make_stage(grower *of, int *is_waiting) {
     case LIST: status = list_page(of); break;
     case MAKE: status = make_next(of); break;
     case OPEN: status = open_one(of); break;
-    case CATCH_UP: catch_up(of); break;
+    case CATCH_UP: catch_up(of, is_waiting); break;
     case CATCH_UP_AT_LAST:
-        make_logs_alike(of);
-        it->next = it->logs == NULL ? TAKE_OVER : CATCH_UP_AT_LAST;
+        if (make_logs_alike(of, is_waiting))
+            it->next = TAKE_OVER;
         break;
     case TAKE_OVER: status = take_over(of); break;
     default: status = settle(of, is_waiting); break;

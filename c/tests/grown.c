@@ -430,6 +430,58 @@ static void test_members(unsigned count, unsigned calls, unsigned growths_wanted
     printf("%u threads made %u calls or more, in %u growths\n", count, calls, growths);
 }
 
+/* Whether a growth that other threads are to let through took too long. */
+static unsigned is_late;
+
+/* Changes values again and again, until the growth is over, or is late. It makes no other call of the system, at which it would be stopped between
+ * two changes. */
+static void *change_values(void *given) {
+    enum { MANY = 1000000 };
+    hot_handle handle = HOT_HANDLE;
+    unsigned count = *(unsigned *)given, turn;
+    CHECK(hot_open(shared, &handle) == HOT_DONE);
+    for (turn = 0; turn < MANY && !is_done(); turn++) {
+        key it = key_of(turn % count);
+        CHECK(hot_upsert(&handle, it.bytes, it.length, turn, NULL) == HOT_WAS);
+    }
+    if (turn == MANY)
+        __atomic_store_n(&is_late, 1, __ATOMIC_SEQ_CST);
+    CHECK(hot_close(&handle) == HOT_DONE);
+    return NULL;
+}
+
+/* A growth isn't held up by changes whose threads wait for the one processor that there is. */
+static void test_one_processor(unsigned count) {
+    enum { THREADS = 3 };
+    hot_handle handle = HOT_HANDLE;
+    pthread_t threads[THREADS];
+    cpu_set_t had, one;
+    hot_counts before, counts;
+    unsigned at;
+    CHECK(sched_getaffinity(0, sizeof had, &had) == 0);
+    CPU_ZERO(&one);
+    CPU_SET((size_t)sched_getcpu(), &one);
+    CHECK(sched_setaffinity(0, sizeof one, &one) == 0);
+    share(open_small(THREADS + 1, &handle), 0);
+    for (at = 0; at < count; at++) {
+        key it = key_of(at);
+        CHECK(hot_insert(&handle, it.bytes, it.length, 1, NULL) == HOT_INSERTED);
+    }
+    CHECK(hot_trim(shared) == HOT_DONE && hot_census(&handle, &before) == HOT_DONE);
+    for (at = 0; at < THREADS; at++)
+        CHECK(pthread_create(&threads[at], NULL, change_values, &count) == 0);
+    for (at = count; at < 2 * count; at++) {
+        key it = key_of(at);
+        CHECK(hot_insert(&handle, it.bytes, it.length, 1, NULL) == HOT_INSERTED);
+    }
+    __atomic_store_n(&is_over, 1, __ATOMIC_SEQ_CST);
+    for (at = 0; at < THREADS; at++)
+        CHECK(pthread_join(threads[at], NULL) == 0);
+    CHECK(hot_census(&handle, &counts) == HOT_DONE && counts.bytes > before.bytes && !is_late);
+    CHECK(sched_setaffinity(0, sizeof had, &had) == 0);
+    close_all(&handle, shared);
+}
+
 /* ---- Changes that meet a growth ---- */
 
 enum { MET = 200 };
@@ -936,6 +988,7 @@ int main(int count, char **words) {
     test_sections();
     test_load();
     test_stands();
+    test_one_processor(times < 5 ? 2000 : 20000);
     test_catching_up(20 * times);
     test_judge();
     test_histories(40 * times, 5 * times);
