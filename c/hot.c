@@ -1,8 +1,9 @@
 /* What of the library for C is written in C, and tested: the texts of statuses, pairs that are handed over one by one, and taken one by one
  * by a load, calls for many keys, an index that opens its handles one by one, and the calls that wait: the proved library may neither wait
  * nor yield, so it says when to try again, and the wait is here. */
-#define _POSIX_C_SOURCE 199309L
+#define _POSIX_C_SOURCE 199506L
 #include "index.h"
+#include <pthread.h>
 #include <sched.h>
 #include <stdlib.h>
 #include <string.h>
@@ -317,13 +318,17 @@ hot_status hot_try_remove_if(hot_handle *handle, const uint8_t *key, size_t leng
     return tried(handle, proved_try_remove_if(handle, key, length, expected, had));
 }
 
-/* Sleeps so many nanoseconds, and twice as long for each time that it has slept before, up to 32 times as long. */
+/* Sleeps so many nanoseconds, and twice as long for each time that it has slept before, up to 32 times as long. That would be a cancellation point,
+ * but the thread may hold locks. */
 static __attribute__((cold, noinline)) void rest(hot_waits *so_far, long nanoseconds) {
     struct timespec time = {0, 0};
+    int state;
     time.tv_nsec = nanoseconds << so_far->sleeps;
     if (so_far->sleeps < 5)
         ++so_far->sleeps;
+    pthread_setcancelstate(PTHREAD_CANCEL_DISABLE, &state);
     nanosleep(&time, NULL);
+    pthread_setcancelstate(state, &state);
 }
 
 /* Lets the processor pause so many times. */

@@ -34,8 +34,8 @@
  * What the library relies on, and doesn't check. No pointer is NULL but `had`, `context` and where a call says so, not even a key's if its
  * length is 0. Each points to what its type says, and what a call writes overlaps no other argument. A handle is zeroed before it is
  * opened, and the program never copies, moves or writes its bytes. malloc, realloc and free belong to one allocator, and 16 bytes or more
- * begin at a multiple of 16. No call is made from a signal handler. A call has 48 KiB of stack. As long as an index that grows is open, the system
- * lets the process call membarrier, where it did before.
+ * begin at a multiple of 16. No call is made from a signal handler, or by a thread that may be cancelled asynchronously. A call is no cancellation
+ * point. A call has 48 KiB of stack. As long as an index that grows is open, the system lets the process call membarrier, where it did before.
  *
  * Forks. The child of a fork has an index of its own, as it was then. If other threads were in calls, the child only looks up, scans and
  * counts, through a handle of which no call was under way. All else may find a change in its way whose thread the child hasn't: hot_try_insert
@@ -215,7 +215,7 @@ hot_status hot_open_index(const hot_stock *stock, size_t handles, hot_index **in
 hot_status hot_open_index_within(const hot_stock *stock, size_t handles, size_t most, hot_index **index);
 
 /* What a load takes its pairs from: a call writes the next one, whose key is there until the function is called again or the load returns.
- * It returns 0 if there is none. It does return: neither longjmp nor an exception leads out of it. */
+ * It returns 0 if there is none. It does return: neither longjmp, an exception nor the end of its thread leads out of it. */
 typedef int hot_source(void *context, const uint8_t **key, size_t *length, uint64_t *value);
 
 /* Makes an index as hot_open_index does, of the pairs that `next` gives it, with the `context`, until it returns 0; and writes how many there

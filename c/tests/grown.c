@@ -4,12 +4,14 @@
 #define _GNU_SOURCE
 #include "hot.h"
 #include "check.h"
+#include <errno.h>
 #include <pthread.h>
 #include <sched.h>
 #include <signal.h>
 #include <stdlib.h>
 #include <string.h>
 #include <time.h>
+#include <unistd.h>
 
 /* Numbers by chance (xorshift, Marsaglia 2003). */
 static unsigned next(uint64_t *state) {
@@ -625,10 +627,41 @@ static void test_unnoted(unsigned is_locked) {
     unnoted.turn = 0;
 }
 
+static void *grow_once(void *given) {
+    CHECK(hot_grow(given) == HOT_DONE);
+    return NULL;
+}
+
+/* No thread ends within a call, where it has locks: one that is cancelled while it waits there goes on. */
+static void test_cancelled(void) {
+    enum { SOME_TIME = 20000 };
+    hot_handle handle = HOT_HANDLE;
+    hot_index *index = open_small(2, &handle);
+    pthread_t grower;
+    void *ended = NULL;
+    key it = met_key(0);
+    CHECK(hot_open(index, &unnoted.handle) == HOT_DONE && hot_upsert(&handle, it.bytes, it.length, 1, NULL) == HOT_NEW);
+    unnoted.number = 0;
+    CHECK(hot_grow_begin(index) == HOT_DONE);
+    begin_unnoted();
+    CHECK(pthread_create(&grower, NULL, grow_once, index) == 0 && usleep(SOME_TIME) == 0);
+    CHECK(pthread_cancel(grower) == 0 && usleep(SOME_TIME) == 0);
+    CHECK(pthread_tryjoin_np(grower, &ended) == EBUSY);
+    set_turn(&unnoted.turn, 3);
+    CHECK(pthread_join(unnoted.thread, NULL) == 0);
+    if (!failures) {
+        CHECK(pthread_join(grower, &ended) == 0 && ended == NULL && hot_grow(index) == HOT_DONE);
+        CHECK(hot_close(&unnoted.handle) == HOT_DONE);
+        close_all(&handle, index);
+    }
+    unnoted.turn = 0;
+}
+
 static void test_stands(void) {
     test_between();
     test_unnoted(0);
     test_unnoted(1);
+    test_cancelled();
 }
 #else
 static void test_stands(void) {
