@@ -20,13 +20,16 @@
  *    way. When all calls that began before have ended, the old table goes.
  *
  * A call notes that it begins and then loads the phase and the table of now, with no fence between: membarrier makes one in each thread, where the
- * grower has stored a phase or a table and then looks which calls are under way. Where memory is refused, or a change can't be made in the next
- * table, the phase becomes STILL again, and when all changes that began before have ended, the next table goes. */
+ * grower has stored a phase or a table and then looks which calls are under way. Where the system has none, each call makes a fence.
+ *
+ * Where memory is refused, or a change can't be made in the next table, the phase becomes STILL again, and when all changes that began before have
+ * ended, the next table goes. */
 #define _GNU_SOURCE
 #include "index.h"
 #include <stdlib.h>
 #include <string.h>
 #include <sys/syscall.h>
+#include <time.h>
 #include <unistd.h>
 
 enum { SIZES = 5, STRIPES = 64 };
@@ -137,10 +140,26 @@ static void look_again(void) {
 
 enum { MEMBARRIER_EXPEDITED = 1 << 3, MEMBARRIER_REGISTER = 1 << 4 };
 
-/* From now on each call sees what was stored before, or is seen. Where calls make a fence, so does who stored. */
-static void meet_calls(const grower *of) {
-    if (!of->head.is_fenced)
-        syscall(SYS_membarrier, MEMBARRIER_EXPEDITED, 0, 0);
+/* Sleeps for 100 ms, also where signals end a sleep. */
+static void sleep_for_long(void) {
+    enum { NANOSECONDS = 100000000 };
+    hot_waits so_far = HOT_NO_WAITS;
+    struct timespec began, now;
+    clock_gettime(CLOCK_MONOTONIC, &began);
+    do {
+        hot_wait(HOT_HELD_BACK, &so_far);
+        clock_gettime(CLOCK_MONOTONIC, &now);
+    } while ((now.tv_sec - began.tv_sec) * 1000000000 + now.tv_nsec - began.tv_nsec < NANOSECONDS);
+}
+
+/* From now on each call sees what was stored before, or is seen. Where calls make a fence, so does who stored. Once the system refuses membarrier, as
+ * a filter that came later has it do, calls make fences from then on. One that saw no need of that has noted before that it begins. A processor
+ * shows that to others within microseconds, and at the latest when the system's clock interrupts it, as it does each 10 ms or more often. */
+static void meet_calls(grower *of) {
+    if (of->head.is_fenced || syscall(SYS_membarrier, MEMBARRIER_EXPEDITED, 0, 0) == 0)
+        return;
+    __atomic_store_n(&of->head.is_fenced, 1, __ATOMIC_SEQ_CST);
+    sleep_for_long();
 }
 
 /* Notes which changes are under way, and which calls that look something up, if they are to be waited for, too. */

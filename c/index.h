@@ -220,7 +220,7 @@ typedef struct table {
 typedef struct growth {
     table *now, *next; /* the next one is there while it is opened, and once changes are made there, too */
     uint32_t phase;
-    uint32_t is_fenced;    /* whether calls make a fence, since the system has no membarrier */
+    uint32_t is_fenced;    /* whether calls make a fence, since the system has no membarrier, or refuses it by now */
     uint32_t has_left;     /* whether changes look after a table that was left */
     hot_status refused;    /* why the growth is to be given up, or HOT_DONE */
     size_t held, logged;   /* how many bytes there are besides those that the index counts, and in logs */
@@ -241,14 +241,13 @@ typedef struct growing_place {
 } growing_place;
 
 /* Notes that a call begins, before it loads what a growth changes. Who changes that waits for it, once it has made sure by membarrier that
- * each call sees the change or is seen. */
+ * each call sees the change or is seen; else by a fence of each call, which looks whether it is to make one once it has noted that it begins. */
 static __inline__ void begins(growing_place *place, uint64_t *count) {
-    if (place->of->is_fenced) {
-        __atomic_exchange_n(count, *count + 1, __ATOMIC_SEQ_CST);
-    } else {
-        __atomic_store_n(count, *count + 1, __ATOMIC_RELAXED);
-        __atomic_signal_fence(__ATOMIC_SEQ_CST);
-    }
+    __atomic_store_n(count, *count + 1, __ATOMIC_RELAXED);
+    __atomic_signal_fence(__ATOMIC_SEQ_CST);
+    if (__atomic_load_n(&place->of->is_fenced, __ATOMIC_RELAXED))
+        __atomic_exchange_n(count, *count, __ATOMIC_SEQ_CST);
+    __atomic_signal_fence(__ATOMIC_SEQ_CST);
 }
 
 static __inline__ void ends(uint64_t *count) {

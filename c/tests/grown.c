@@ -5,12 +5,19 @@
 #include "hot.h"
 #include "check.h"
 #include <errno.h>
+#include <linux/filter.h>
+#include <linux/seccomp.h>
 #include <pthread.h>
 #include <sched.h>
 #include <signal.h>
+#include <stddef.h>
 #include <stdlib.h>
 #include <string.h>
+#include <sys/prctl.h>
+#include <sys/syscall.h>
+#include <sys/wait.h>
 #include <time.h>
+#include <ucontext.h>
 #include <unistd.h>
 
 /* Numbers by chance (xorshift, Marsaglia 2003). */
@@ -270,6 +277,54 @@ static void test_sections(void) {
     CHECK(hot_stamp(&handles[1], &moment) == HOT_DONE && hot_follow(&handles[0], &moment) == HOT_DONE);
     CHECK(hot_close(&handles[1]) == HOT_DONE && hot_close(&handles[2]) == HOT_DONE);
     close_all(&handles[0], index);
+}
+
+/* How often membarrier was refused. */
+static volatile int barriers_refused;
+
+static void refuse_barrier(int number, siginfo_t *why, void *context) {
+    (void)number, (void)why;
+    ((ucontext_t *)context)->uc_mcontext.gregs[REG_RAX] = -EPERM;
+    barriers_refused++;
+}
+
+/* Whether each call membarrier of this process is refused from now on. */
+static int refuses_barriers(void) {
+    static struct sock_filter steps[] = {
+        BPF_STMT(BPF_LD | BPF_W | BPF_ABS, offsetof(struct seccomp_data, nr)),
+        BPF_JUMP(BPF_JMP | BPF_JEQ | BPF_K, SYS_membarrier, 0, 1),
+        BPF_STMT(BPF_RET | BPF_K, SECCOMP_RET_TRAP),
+        BPF_STMT(BPF_RET | BPF_K, SECCOMP_RET_ALLOW),
+    };
+    struct sock_fprog filter = {sizeof steps / sizeof *steps, steps};
+    struct sigaction refusal;
+    memset(&refusal, 0, sizeof refusal);
+    refusal.sa_sigaction = refuse_barrier;
+    refusal.sa_flags = SA_SIGINFO;
+    return sigaction(SIGSYS, &refusal, NULL) == 0 && prctl(PR_SET_NO_NEW_PRIVS, 1, 0, 0, 0) == 0 &&
+           prctl(PR_SET_SECCOMP, SECCOMP_MODE_FILTER, &filter) == 0;
+}
+
+/* Once the system refuses membarrier calls make fences: an index asks for no more, and one that is made then grows, too. */
+static void test_filter(void) {
+    enum { NOT_TRIED = 2 };
+    hot_handle handle = HOT_HANDLE;
+    hot_index *index = open_small(1, &handle);
+    int status = 0;
+    pid_t child = fork();
+    if (child == 0) {
+        if (!refuses_barriers())
+            _exit(NOT_TRIED);
+        CHECK(hot_grow(index) == HOT_DONE && hot_grow(index) == HOT_DONE && barriers_refused <= 1);
+        close_all(&handle, index);
+        CHECK(hot_open_growing(NULL, SIZE_MAX, 1, &index) == HOT_DONE && hot_grow(index) == HOT_DONE && barriers_refused <= 2);
+        CHECK(hot_close_index(index) == HOT_DONE);
+        _exit(failures);
+    }
+    CHECK(child > 0 && waitpid(child, &status, 0) == child && WIFEXITED(status) && WEXITSTATUS(status) != 1);
+    if (WIFEXITED(status) && WEXITSTATUS(status) == NOT_TRIED)
+        puts("not tried, since the system takes no filter: growths without membarrier");
+    close_all(&handle, index);
 }
 
 /* ---- Loads ---- */
@@ -1019,6 +1074,7 @@ int main(int count, char **words) {
     test_closed();
     test_bound();
     test_sections();
+    test_filter();
     test_load();
     test_stands();
     test_one_processor(times < 5 ? 2000 : 20000);
