@@ -24,9 +24,9 @@
  * is retired meanwhile.
  *
  * Removals are never full, so that a full index can be emptied. Insertions leave one node record free for them, and an index has one more
- * than asked, up to 4294967295. With one handle a removal finds that record, within 2^60 steps of the index. That is proved; with several
- * handles it is tested alone. Then another call may have the record, or hold back what was retired instead: so removals are held back, and
- * no count is made.
+ * than asked, up to 4294967295. If an index doesn't grow and has one handle, a removal finds that record, within 2^60 steps of the index: that
+ * is proved. All else here is tested alone. With several handles another call may have the record, or hold back what was retired instead. Then
+ * removals are held back, and no count is made: hot_try_remove returns HOT_HELD_BACK, and hot_remove waits, without a bound.
  *
  * Keys in calls. A key, a prefix or an end of a range that has more than HOT_MAX_KEY bytes is refused as HOT_KEY_TOO_LONG by each call. The
  * value that a key had is written to `had` if the call says so, and else `had` stays as it is. It may be NULL, if it is not wanted.
@@ -223,7 +223,8 @@ typedef int hot_source(void *context, const uint8_t **key, size_t *length, uint6
  * any other call. Where a pair is refused, the load ends: the index has those before it, and `count` is the number of the refused one, from 0
  * on. A load takes no more memory than hot_open_index and the pairs do, but page tables of a 500th of the table. Below 1 MiB, and where the
  * system refuses pages, it takes two tables for a moment. It leaves node records for what it has to end: so it may be HOT_FULL_NODES where
- * insertions go on, but never while the stock has a node for each pair, nor for the first 32 pairs. `next` may make calls with other indexes.
+ * insertions go on, but never while the stock has a node for each pair, which is proved, nor for the first 32 pairs, which is tested. `next` may
+ * make calls with other indexes.
  * hot_load_packed takes pairs that lie in memory.
  * HOT_DONE; or HOT_NOT_RISING, HOT_KEY_TOO_LONG, HOT_FULL_NODES, HOT_FULL_LEAVES, if a pair was refused; or HOT_OUT_OF_RANGE, HOT_NO_MEMORY,
  * HOT_OLD_PROCESSOR, and then nothing is written. */
@@ -243,15 +244,21 @@ hot_status hot_close(hot_handle *handle);
  * HOT_DONE; or HOT_OPEN if a handle is open, and then it stays as it is. */
 hot_status hot_close_index(hot_index *index);
 
-/* An index that grows, for keys of which nobody can say how many there will be. Where there is no room a larger table is made beside the one that
- * it has, takes the pairs from it while other calls go on, and takes over: no pair is lost or there twice. All calls are as with any other index,
- * but for this. hot_insert, hot_upsert, hot_remove, hot_remove_if, and calls that make them, make the larger table where they find no room or
- * records are held back for long, or wait for who makes it. They return HOT_NO_MEMORY where that fails, and hot_insert and hot_upsert that the
- * index is full where it may not be larger; then it is as it was. hot_try_insert and the like return that it is full. Look-ups and scans never
- * wait. Other changes go on meanwhile. One may ask for memory for its key, or be made in both tables. Then a try waits, too, while another change
- * is in its way in the larger table. Each key has one of 64 locks. Just before the hand-over a change is busy while the lock of its key is taken.
- * Another change has it, or the copy of a key that was changed late, or the hand-over. Sections, moments, hot_len and hot_stats are of the index,
- * and go on across growths; hot_census is of the table of now. The old table goes once all calls that ran in it have returned. */
+/* An index that grows, for when the number of keys isn't known in advance. Where there is no room a larger table is made beside the one that it
+ * has, takes the pairs from it while other calls go on, and takes over: no pair is lost or there twice. That is tested, and not proved: each table
+ * is a proved index, but no theorem is about the change from one to the next. The bindings for Python and SQLite make such an index unless they
+ * are told not to, and those for Redis and RocksDB always do.
+ *
+ * Calls are as with any other index, but for this. hot_insert, hot_upsert, hot_remove, hot_remove_if, and calls that make them, make the larger
+ * table where they find no room or records are held back for long, or wait for the thread that makes it. They return HOT_NO_MEMORY where that
+ * fails, and hot_insert and hot_upsert that the index is full where it may not be larger; then it is as it was. hot_try_insert and the like
+ * return that it is full. Look-ups and scans never wait. They make three more atomic accesses each, which their bounds of steps leave out. Other
+ * changes go on meanwhile, but their bounds don't hold. One may ask for memory for its key, make a portion of the growth, or be made in both
+ * tables. Then a try waits, too, while another change is in its way in the larger table. Each key has one of 64 locks. Just before the larger table
+ * takes over, a try is HOT_BUSY while the lock of its key is taken: by another change, by the copy of a key that was changed late, or by the
+ * growth. Sections, moments, hot_len and hot_stats are of the index, and go on across growths; hot_census is of the table of now. The old table
+ * goes once all calls that ran in it have returned. If one takes long, a later change, hot_collect or hot_grow_step frees it, and no look-up
+ * does. */
 
 /* Makes an empty index that grows, with room for so many handles, 1 to 1023. Its first table has this stock, or a small one if it is NULL. No
  * table has more than `most` bytes, as hot_stock_bytes counts them; SIZE_MAX is no bound. While the index grows it has two. Those that it has had
@@ -303,8 +310,8 @@ typedef struct hot_moment {
     hot_index *index;
 } hot_moment;
 
-/* Writes a moment, which tells of all that the handle has seen. The first such call takes one of the index's handles for good, as hot_open
- * would: so make the index with room for one more. It makes at most 3 loads, once no other thread makes such a call or hot_follow.
+/* Writes a moment, which tells of all that the handle has seen. The first such call opens one of the index's handles for good, as hot_open
+ * does: so make the index with room for one more. Beside that it makes at most 3 loads, once no other thread makes such a call or hot_follow.
  * HOT_DONE; or HOT_CLOSED, HOT_NO_HANDLE if none is free, as with handles of hot_create, or HOT_NO_MEMORY. */
 hot_status hot_stamp(hot_handle *handle, hot_moment *moment);
 
@@ -611,9 +618,10 @@ typedef struct hot_memory {
     size_t now;
 } hot_memory;
 
-/* Writes what the index takes of memory. The numbers are never too low: a page of 4 KiB counts once something was written there, and may count once
- * it was read, as hot_census reads all. What a handle may keep after a scan counts for each that was opened. The system's page tables don't count:
- * they come to a 500th of the table at most. The call makes no steps. It asks the system which pages of the table are there, in calls for 2 MiB
+/* Writes what the index takes of memory. The numbers leave out two things: the system's page tables, a 500th of the table at most, and what the
+ * making of a table takes beside it while the index grows, 2 MB or a 125th of the table. Else they are never too low: a page of 4 KiB counts once
+ * something was written there, and may count once it was read, as hot_census reads all. What a handle may keep after a scan counts for each that
+ * was opened. The call makes no steps. It asks the system which pages of the table are there, in calls for 2 MiB
  * each, but not about 2 MiB that were full when it last did: they count as taken from then on. So it takes time for what has not filled of a table,
  * a few tenths of a millisecond for 1 GB. With an index that grows it waits for other such calls, and for an insertion that asks for a huge page.
  * Any thread may make it until the index is closed. */
