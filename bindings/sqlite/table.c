@@ -360,9 +360,9 @@ static int use_bound(const table *of, sqlite3_index_info *plan, int at, int numb
     return is_from ? FROM | (is_strict(plan, at) ? ABOVE : 0) : UPTO | (is_strict(plan, at) ? BELOW : 0);
 }
 
-/* SQLite makes a range of LIKE and GLOB, if they are its own: that of LIKE is one by NOCASE, of what begins with some letters. It
- * checks each row again, unless a bound is exact: so of several constraints of a kind one is enough, and a range may be wider than what was
- * asked for. */
+/* SQLite makes a range of LIKE and GLOB, if they are its own: that of LIKE is one by NOCASE, without its end, of text that begins with some
+ * letters. It checks each row again, unless a bound is exact: so of several constraints of a kind one is enough, and a range may be wider than
+ * what was asked for. */
 static int choose(const table *of, sqlite3_index_info *plan, double *rows) {
     int equal = find_constraint(plan, EQUAL, "BINARY");
     int from = find_constraint(plan, FROM, "BINARY"), upto = find_constraint(plan, UPTO, "BINARY");
@@ -375,7 +375,7 @@ static int choose(const table *of, sqlite3_index_info *plan, double *rows) {
     if (from < 0 && upto < 0) {
         from = find_constraint(plan, FROM, "NOCASE");
         upto = find_constraint(plan, UPTO, "NOCASE");
-        if (from < 0 || upto < 0)
+        if (from < 0 || upto < 0 || !is_strict(plan, upto) || !of->is_text)
             return 0;
         plan->aConstraintUsage[from].argvIndex = 1;
         plan->aConstraintUsage[upto].argvIndex = 2;

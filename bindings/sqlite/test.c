@@ -1,5 +1,6 @@
-/* Tests hot_table.so beside ordinary tables: by random statements, also by ones that count, or create and drop tables, by rollbacks of
- * which another connection has taken the room, by refusing each allocation, and by threads with a connection each.
+/* Tests hot_table.so beside ordinary tables: by random statements, also by ones that count, or create and drop tables, by all comparisons of
+ * the key in twos, by rollbacks of which another connection has taken the room, by refusing each allocation, and by threads with a
+ * connection each.
  *
  *     test HOT_TABLE.so [threads]     the threads alone
  *
@@ -948,6 +949,125 @@ static void grown_tables(void) {
     sqlite3_close(db);
 }
 
+/* ---- Comparisons ---- */
+
+/* A term is `key COLLATE collation operator literal`, or another one. */
+static const char *const operators[] = {"<", "<=", "=", ">=", ">"};
+static const char *const collations[] = {"BINARY", "NOCASE", "RTRIM"};
+static const char *const literals[] = {"''", "'a'", "'B'", "'b '", "'Ab'", "'aC'", "5", "x'41'", "x'62'", "NULL"};
+static const char *const other_terms[] = {
+    "key <> 'a'",
+    "key COLLATE NOCASE <> 'b'",
+    "key IS 'B'",
+    "key COLLATE NOCASE IS 'b'",
+    "key IS NOT 5",
+    "key IS NULL",
+    "'a' COLLATE NOCASE <= key",
+    "5 > key",
+    "key BETWEEN 'A' AND 'ab'",
+    "key COLLATE NOCASE NOT BETWEEN 'a' AND 'b'",
+    "key IN ('a', 'B', 5, NULL)",
+    "key COLLATE NOCASE IN ('a', 'B', x'41')",
+    "key NOT IN ('a', 5)",
+    "key LIKE 'a%'",
+    "key LIKE 'AB%'",
+    "key LIKE 'z%'",
+    "key NOT LIKE 'a%'",
+    "key GLOB 'a*'",
+};
+enum {
+    COLLATIONS = sizeof collations / sizeof *collations,
+    LITERALS = sizeof literals / sizeof *literals,
+    FORMS = sizeof operators / sizeof *operators * COLLATIONS,
+    TERMS = FORMS * LITERALS + sizeof other_terms / sizeof *other_terms
+};
+
+/* A form with a value, which is to be freed. */
+static char *form_with(int form, const char *value) {
+    return sqlite3_mprintf("key COLLATE %s %s %s", collations[form % COLLATIONS], operators[form / COLLATIONS], value);
+}
+
+static char *term_of(int at) {
+    int form = at / LITERALS;
+    return form < FORMS ? form_with(form, literals[at % LITERALS]) : sqlite3_mprintf("%s", other_terms[at - FORMS * LITERALS]);
+}
+
+/* A query that says whether both tables have the same rows for two terms, which it frees: in any order, by the key, or downwards. */
+static sqlite3_stmt *same_rows(sqlite3 *db, char *one, char *two) {
+    static const char *const forms[] = {
+        "SELECT (SELECT sum(value) FROM t WHERE %s AND %s) IS (SELECT sum(value) FROM p WHERE %s AND %s)",
+        "SELECT (SELECT group_concat(value) FROM (SELECT value FROM t WHERE %s AND %s ORDER BY key)) IS "
+        "(SELECT group_concat(value) FROM (SELECT value FROM p WHERE %s AND %s ORDER BY key))",
+        "SELECT (SELECT group_concat(value) FROM (SELECT value FROM t WHERE %s AND %s ORDER BY key DESC)) IS "
+        "(SELECT group_concat(value) FROM (SELECT value FROM p WHERE %s AND %s ORDER BY key DESC))",
+    };
+    static unsigned turn;
+    sqlite3_stmt *query;
+    char *sql = sqlite3_mprintf(forms[turn++ % 3], one, two, one, two);
+    if (sqlite3_prepare_v2(db, sql, -1, &query, NULL) != SQLITE_OK)
+        fail(sql, sqlite3_errmsg(db));
+    sqlite3_free(sql);
+    sqlite3_free(one);
+    sqlite3_free(two);
+    return query;
+}
+
+static void want_same(sqlite3_stmt *query) {
+    if (sqlite3_step(query) != SQLITE_ROW || !sqlite3_column_int(query, 0))
+        fail("differs", sqlite3_expanded_sql(query));
+    sqlite3_reset(query);
+}
+
+/* Values that SQLite doesn't know when it makes the plan. */
+static void compare_bound(sqlite3 *db, sqlite3_stmt *values, int one, int two) {
+    sqlite3_stmt *query = same_rows(db, form_with(one, "?1"), form_with(two, "?2"));
+    for (int at = 0; at < LITERALS * LITERALS; at++) {
+        sqlite3_bind_value(query, 1, sqlite3_column_value(values, at / LITERALS));
+        sqlite3_bind_value(query, 2, sqlite3_column_value(values, at % LITERALS));
+        want_same(query);
+    }
+    sqlite3_finalize(query);
+}
+
+/* A query that has all literals. */
+static sqlite3_stmt *all_literals(sqlite3 *db) {
+    sqlite3_stmt *query;
+    char *sql = sqlite3_mprintf("SELECT %s", literals[0]);
+    for (int at = 1; at < LITERALS; at++)
+        sql = sqlite3_mprintf("%z, %s", sql, literals[at]);
+    if (sqlite3_prepare_v2(db, sql, -1, &query, NULL) != SQLITE_OK || sqlite3_step(query) != SQLITE_ROW)
+        fail(sql, sqlite3_errmsg(db));
+    sqlite3_free(sql);
+    return query;
+}
+
+/* Each two terms have the same rows in both tables. */
+static void comparisons(const char *type) {
+    char *arguments = sqlite3_mprintf("keys=100, type=%s", type);
+    sqlite3 *db = connect_to(arguments);
+    sqlite3_stmt *values = all_literals(db);
+    want(db, SQLITE_OK, "DROP TABLE p");
+    if (run(db, "CREATE TABLE p(key %s PRIMARY KEY NOT NULL, value INTEGER NOT NULL) WITHOUT ROWID", type) != SQLITE_OK ||
+        run(db,
+            "INSERT INTO p SELECT CAST(column1 AS %s), 1 << row_number() OVER () FROM (VALUES (''), ('5'), ('@'), ('A'), ('AB'), ('Ab'), ('B'), "
+            "('B '), ('Z'), ('['), ('`'), ('a'), ('a '), ('aB'), ('ab'), ('abc'), ('ac'), ('b'), ('b '), ('bb'), ('z'), ('zz'), ('{'), ('~'))",
+            type) != SQLITE_OK)
+        fail(type, sqlite3_errmsg(db));
+    want(db, SQLITE_OK, "INSERT INTO t SELECT * FROM p");
+    for (int one = 0; one < TERMS; one++)
+        for (int two = 0; two <= one; two++) {
+            sqlite3_stmt *query = same_rows(db, term_of(one), term_of(two));
+            want_same(query);
+            sqlite3_finalize(query);
+        }
+    for (int one = 0; one < FORMS; one++)
+        for (int two = 0; two <= one; two++)
+            compare_bound(db, values, one, two);
+    sqlite3_finalize(values);
+    sqlite3_close(db);
+    sqlite3_free(arguments);
+}
+
 /* ---- Plans ---- */
 
 /* A line of a query plan in words that tables of both kinds have: "t key>?" or "t all keys". It is to be freed. */
@@ -1232,6 +1352,8 @@ int main(int count, char **words) {
     loaded_twice();
     names_and_handles();
     own_functions();
+    comparisons("TEXT");
+    comparisons("BLOB");
     full_tables();
     grown_tables();
     all_threads();

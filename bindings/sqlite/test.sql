@@ -88,6 +88,8 @@ CREATE TABLE gone(x);
 INSERT INTO t VALUES ('gone', 1);
 ROLLBACK;
 SELECT 'the schema put back', group_concat(key || value, ' ') FROM t;
+DELETE FROM t WHERE key COLLATE NOCASE BETWEEN 'PLUL' AND 'plum';
+SELECT 'without the end of a range by NOCASE', group_concat(key || value, ' ') FROM t;
 
 -- Indexes, names and types
 CREATE VIRTUAL TABLE small USING hot(keys=0, longest=8, grow=0);
