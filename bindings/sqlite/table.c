@@ -789,6 +789,19 @@ static int put(table *it, const uint8_t *key, size_t length, sqlite3_int64 value
     return status == HOT_INSERTED || status == HOT_NEW || status == HOT_WAS ? SQLITE_OK : refused(&it->base, status);
 }
 
+/* Gives a row another key. Where the table is full, its old key makes room for it. If there is still none, or another connection has put the key
+ * in meanwhile, SQLite takes the removal back by SQLITE_FULL: for a constraint it would not, in a statement for one row. */
+static int change_key(table *it, const uint8_t *old, size_t old_length, const uint8_t *key, size_t length, sqlite3_int64 value) {
+    int replaces = sqlite3_vtab_on_conflict(it->db) == SQLITE_REPLACE, code = put(it, key, length, value, replaces);
+    if (code != SQLITE_FULL)
+        return code == SQLITE_OK ? take(it, old, old_length) : code;
+    sqlite3_free(it->base.zErrMsg);
+    it->base.zErrMsg = NULL;
+    if ((code = take(it, old, old_length)) == SQLITE_OK)
+        code = put(it, key, length, value, replaces);
+    return code == SQLITE_CONSTRAINT ? refused(&it->base, HOT_FULL_LEAVES) : code;
+}
+
 /* Refuses a key or value of another type. A row that breaks a constraint is left out by OR IGNORE. As in a STRICT table it leaves out one with
  * NULL, but none of another type. */
 static int refuse_type(table *it, sqlite3_value *value, const char *text) {
@@ -801,7 +814,7 @@ static int update_row(sqlite3_vtab *vtab, int count, sqlite3_value **values, sql
     table *it = (table *)vtab;
     const uint8_t *key = NULL, *old = NULL;
     size_t length = 0, old_length = 0;
-    int has_old = bytes_of(it, values[0], &old, &old_length), code;
+    int has_old = bytes_of(it, values[0], &old, &old_length), is_same;
     sqlite3_int64 value;
     (void)number;
     if (count == 1)
@@ -811,10 +824,10 @@ static int update_row(sqlite3_vtab *vtab, int count, sqlite3_value **values, sql
     if (sqlite3_value_numeric_type(values[3]) != SQLITE_INTEGER)
         return refuse_type(it, values[3], "a value must be an integer");
     value = sqlite3_value_int64(values[3]);
-    if (has_old && old_length == length && memcmp(old, key, length) == 0)
-        return put(it, key, length, value, 1);
-    code = put(it, key, length, value, sqlite3_vtab_on_conflict(it->db) == SQLITE_REPLACE);
-    return code == SQLITE_OK && has_old ? take(it, old, old_length) : code;
+    is_same = has_old && old_length == length && memcmp(old, key, length) == 0;
+    if (has_old && !is_same)
+        return change_key(it, old, old_length, key, length, value);
+    return put(it, key, length, value, is_same || sqlite3_vtab_on_conflict(it->db) == SQLITE_REPLACE);
 }
 
 static int begin(sqlite3_vtab *vtab) {

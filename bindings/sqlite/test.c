@@ -914,7 +914,7 @@ static int fill_with_blobs(sqlite3 *db) {
     return count;
 }
 
-/* A full table takes new values, and can be emptied and filled again. */
+/* A full table takes new values and new keys of its rows, and can be emptied and filled again. */
 static void full_tables(void) {
     static const int keys[] = {0, 1, 100, 1000};
     for (size_t at = 0; at < sizeof keys / sizeof *keys; at++) {
@@ -924,6 +924,9 @@ static void full_tables(void) {
         want(db, SQLITE_OK, "UPDATE t SET value = value + 1; BEGIN; DELETE FROM t; ROLLBACK");
         if (number(db, "SELECT count(*) FROM t") != count || number(db, "SELECT sum(value) FROM t") != count * (count + 1) / 2)
             fail(arguments, "a rollback did not put all back");
+        want(db, SQLITE_OK, "UPDATE t SET key = CAST(x'ff' || substr(key, 2) AS BLOB)");
+        if (number(db, "SELECT sum(value) FROM t WHERE key > x'fe'") != count * (count + 1) / 2)
+            fail(arguments, "a row has not its new key");
         want(db, SQLITE_OK, "DELETE FROM t");
         if (number(db, "SELECT count(*) FROM t") != 0 || fill_with_blobs(db) != count)
             fail(arguments, "it is not as empty as it was");
