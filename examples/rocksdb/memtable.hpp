@@ -20,6 +20,7 @@
 #include <set>
 #include <string>
 #include <string_view>
+#include <sys/mman.h>
 #include <utility>
 #include <vector>
 
@@ -191,7 +192,10 @@ class memtable final : public MemTableRep {
     bool InsertKeyConcurrently(KeyHandle added) override {
         auto *it = static_cast<version *>(added);
         const std::string_view key = user_key(it);
-        return index_.with([&](hot_handle *by) { return key.size() < HOT_MAX_KEY ? insert(by, key, it) : insert_long(by, key, it); });
+        if (!index_.with([&](hot_handle *by) { return key.size() < HOT_MAX_KEY ? insert(by, key, it) : insert_long(by, key, it); }))
+            return false;
+        versions_.fetch_add(1, std::memory_order_relaxed);
+        return true;
     }
     bool Contains(const char *key) const override {
         iterator at(this);
@@ -203,7 +207,25 @@ class memtable final : public MemTableRep {
         const looking here(this);
         MemTableRep::Get(key, context, call);
     }
-    std::size_t ApproximateMemoryUsage() override { return bytes_.load(std::memory_order_relaxed); }
+    /// What isn't charged yet.
+    std::size_t ApproximateMemoryUsage() override { return bytes_.load(std::memory_order_relaxed) % CHARGE; }
+    /// Counts the keys from one on and below another, each with as many versions as all have on average.
+    std::uint64_t ApproximateNumEntries(const Slice &start, const Slice &end) override {
+        const std::string_view first = indexed(user_key(start)), below = user_key(end);
+        std::array<std::uint8_t, HOT_MAX_KEY> before;
+        std::string_view last = indexed(below);
+        std::size_t length, all = 0, some = 0;
+        if (below.size() <= HOT_MAX_KEY) {
+            if (hot_before(bytes(below), below.size(), before.data(), &length) != HOT_DONE)
+                return 0;
+            last = {reinterpret_cast<const char *>(before.data()), length};
+        }
+        index_.with([&](hot_handle *by) {
+            check(hot_len(by, &all));
+            return check(hot_count(by, bytes(first), first.size(), bytes(last), last.size(), &some));
+        });
+        return all ? static_cast<std::uint64_t>(static_cast<double>(some) / all * versions_.load(std::memory_order_relaxed)) : 0;
+    }
     Iterator *GetIterator(Arena *arena) override {
         return arena ? new (arena->AllocateAligned(sizeof(iterator), 0, nullptr)) iterator(this) : new iterator(this);
     }
@@ -391,16 +413,28 @@ class memtable final : public MemTableRep {
     }
     static bool same(const Slice &one, const Slice &other) { return one == other; }
 
-    /// Counts what the index takes for a new key: 64 bytes, and what its leaf record has more than the smallest one.
-    void count(std::size_t length) {
-        const std::size_t more = length <= 8 ? 0 : length <= 24 ? 16 : length <= 56 ? 48 : length <= 88 ? 80 : 232;
-        bytes_.fetch_add(64 + more, std::memory_order_relaxed);
+    static constexpr std::size_t CHARGE = 256 << 10, SYSTEM_PAGE = 4096;
+
+    /// Charges memory that isn't the allocator's. RocksDB's limits, also a WriteBufferManager's, count what the allocator gives. So for CHARGE bytes
+    /// from elsewhere as many are asked of it, and stay unused: their pages go back to the system.
+    void charge(std::size_t more) {
+        const std::size_t had = bytes_.fetch_add(more, std::memory_order_relaxed);
+        char *taken = nullptr;
+        for (std::size_t left = (had + more) / CHARGE - had / CHARGE; left > 0; left--) {
+            MemTableRep::Allocate(CHARGE, &taken);
+            const std::size_t before = -reinterpret_cast<std::uintptr_t>(taken) % SYSTEM_PAGE;
+            madvise(taken + before, (CHARGE - before) / SYSTEM_PAGE * SYSTEM_PAGE, MADV_DONTNEED);
+        }
+    }
+    /// Charges what the index takes for a new key: 64 bytes, and what its leaf record has more than the smallest one.
+    void charge_key(std::size_t length) {
+        charge(length <= 8 ? 64 : length <= 24 ? 80 : length <= 56 ? 112 : length <= 88 ? 144 : 296);
     }
     bool insert(hot_handle *by, std::string_view key, version *added) {
         std::uint64_t had;
         added->older.store(nullptr, std::memory_order_relaxed);
         if (check(hot_insert(by, bytes(key), key.size(), value_of(added), &had)) == HOT_INSERTED) {
-            count(key.size());
+            charge_key(key.size());
             return true;
         }
         for (;;) {
@@ -414,14 +448,14 @@ class memtable final : public MemTableRep {
     }
     bool insert_long(hot_handle *by, std::string_view key, version *added) {
         std::uint64_t value;
-        bytes_.fetch_add(key.size() + 96, std::memory_order_relaxed);
+        charge(key.size() + 96);
         if (hot_get(by, bytes(key), HOT_MAX_KEY, &value) == HOT_FOUND)
             return bucket_of(value)->insert(added);
         bucket *made = new_bucket();
         made->insert(added);
         if (check(hot_insert(by, bytes(key), HOT_MAX_KEY, value_of(made), &value)) != HOT_INSERTED)
             return bucket_of(value)->insert(added);
-        count(HOT_MAX_KEY);
+        charge_key(HOT_MAX_KEY);
         return true;
     }
     bucket *new_bucket() {
@@ -430,7 +464,8 @@ class memtable final : public MemTableRep {
     }
 
     mutable places index_;
-    std::atomic<std::size_t> bytes_{0};
+    std::atomic<std::size_t> bytes_{0}; // that aren't the allocator's
+    std::atomic<std::size_t> versions_{0};
     std::mutex buckets_lock_;
     std::vector<std::unique_ptr<bucket>> buckets_;
 };

@@ -1,6 +1,6 @@
 // Tests the memtable beside the skip list's: two databases, one of each, get the same random changes, and must list and find the same; also in
 // snapshots, from both ends, and once they have been opened anew. Then threads write and read at the same time, keys of their own and keys that
-// all of them want.
+// all of them want. What RocksDB is told of the memory and the entries is what there is.
 //
 //     test FOLDER STEPS SEED
 #include "memtable.hpp"
@@ -10,7 +10,9 @@
 #include <random>
 #include <rocksdb/db.h>
 #include <rocksdb/write_batch.h>
+#include <rocksdb/write_buffer_manager.h>
 #include <thread>
+#include <unistd.h>
 
 using namespace ROCKSDB_NAMESPACE;
 
@@ -225,6 +227,42 @@ static void threads_at_once(const std::string &folder) {
     }
 }
 
+/// What is resident of the process, in bytes.
+static double resident() {
+    long all = 0, pages = 0;
+    std::FILE *file = std::fopen("/proc/self/statm", "r");
+    if (!file || std::fscanf(file, "%ld %ld", &all, &pages) != 2)
+        fail("/proc/self/statm");
+    std::fclose(file);
+    return static_cast<double>(pages * sysconf(_SC_PAGESIZE));
+}
+
+static bool is_near(double one, double other) { return one > 0.85 * other && one < 1.15 * other; }
+
+/// RocksDB is told what a memtable takes, the index included, and how many entries are in a range.
+static void told(const std::string &folder) {
+    enum { KEYS = 100000 };
+    Options options = options_of(true);
+    WriteOptions unlogged;
+    DB *opened = nullptr;
+    std::uint64_t entries = 0, size = 0;
+    unlogged.disableWAL = true;
+    options.write_buffer_size = std::size_t{1} << 30;
+    options.write_buffer_manager = std::make_shared<WriteBufferManager>(options.write_buffer_size);
+    DestroyDB(folder + "/told", options);
+    must(DB::Open(options, folder + "/told", &opened));
+    const std::unique_ptr<DB> db(opened);
+    const double first = resident();
+    for (int at = 0; at < KEYS * 3 / 2; at++)
+        must(db->Put(unlogged, std::to_string(100000 + at % KEYS * 7919 % KEYS), "a value of some bytes"));
+    const double taken = resident() - first, charged = static_cast<double>(options.write_buffer_manager->memory_usage());
+    if (!is_near(charged, taken))
+        fail("of " + std::to_string(taken) + " bytes " + std::to_string(charged) + " are charged");
+    db->GetApproximateMemTableStats(Range("130000", "150000"), &entries, &size);
+    if (!is_near(static_cast<double>(entries), 20000 * 1.5))
+        fail("of 30000 entries " + std::to_string(entries) + " are counted");
+}
+
 /// Keys that rise in the order of their bytes are in an index: else two skip lists would be compared. One crashes here, without an allocator.
 static void order_of_bytes() {
     struct by_bytes final : MemTableRep::KeyComparator {
@@ -276,6 +314,7 @@ static void another_order(const std::string &folder, const Comparator *order, co
 int main(int count, char **words) {
     if (count != 4)
         fail("usage: test FOLDER STEPS SEED");
+    told(words[1]);
     random_steps(words[1], std::strtoul(words[2], nullptr, 10), std::strtoul(words[3], nullptr, 10));
     threads_at_once(words[1]);
     order_of_bytes();
