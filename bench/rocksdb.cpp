@@ -1,7 +1,8 @@
 // Measures RocksDB with the memtable of examples/rocksdb beside its own skip list, in nanoseconds of the processors for each call, with keys of 16
 // bytes and values of 100, without a log, all in one memtable: changes and look-ups in an order by chance, seeks with ten steps, and what is
-// resident. The index begins with room for all keys, or for 10,000. Each is done three times, by turns, in a process of its own; the median counts. A
-// line has four cells, as bench/room.py reads them. `bench/run rocksdb` builds and runs it.
+// resident. With values of 20 bytes: insertions of keys that rise, and what is resident after those of others. The index begins with room for all
+// keys, or for 10,000. Each is done three times, by turns, in a process of its own; the median counts. A line has four cells, as bench/room.py reads
+// them. `bench/run rocksdb` builds and runs it.
 #include "../examples/rocksdb/memtable.hpp"
 #include <algorithm>
 #include <cstdio>
@@ -15,8 +16,16 @@
 using namespace ROCKSDB_NAMESPACE;
 
 namespace {
-enum { TIMES = 3, CALLS = 5 };
-const char *const calls[CALLS] = {"fillrandom", "readrandom", "overwrite", "seek and ten steps", "resident, bytes a key"};
+enum { FILL, RISING, READ, OVERWRITE, SEEK, RESIDENT, SHORT, CALLS, TIMES = 3 };
+const char *const calls[CALLS] = {
+    "fillrandom",
+    "fillseq, values of 20 bytes",
+    "readrandom",
+    "overwrite",
+    "seek and ten steps",
+    "resident, values of 100 bytes",
+    "resident, values of 20 bytes",
+};
 
 void need(bool is_so) {
     if (!is_so) {
@@ -37,11 +46,13 @@ std::uint64_t mixed(std::uint64_t word) {
     return word ^ word >> 32;
 }
 
-std::string key_of(std::uint64_t number) {
+std::string rising_key(std::uint64_t number) {
     char text[24];
-    std::snprintf(text, sizeof text, "%016llu", static_cast<unsigned long long>(mixed(number) % 10000000000000000u));
+    std::snprintf(text, sizeof text, "%016llu", static_cast<unsigned long long>(number));
     return text;
 }
+
+std::string key_of(std::uint64_t number) { return rising_key(mixed(number) % 10000000000000000u); }
 
 double resident() {
     long bytes = 0, pages = 0;
@@ -65,48 +76,80 @@ template <class Call> double timed(std::uint64_t count, unsigned threads, Call c
     return (processors() - began) / static_cast<double>(count);
 }
 
-/// What memtable there is: RocksDB's, or ours with room for so many keys.
+/// A database of so many keys by so many threads, with a memtable of RocksDB's, or ours with room for so many keys.
+class filled {
+  public:
+    filled(std::uint64_t count, unsigned threads, std::uint32_t room, const std::string &folder) : count_(count), threads_(threads) {
+        Options options;
+        options.create_if_missing = true;
+        options.compression = kNoCompression;
+        options.write_buffer_size = std::size_t{8} << 30;
+        if (room > 0)
+            options.memtable_factory = std::make_shared<hot_memtable::factory>(room, 16);
+        unlogged_.disableWAL = true;
+        DestroyDB(folder, options);
+        first_ = resident();
+        need(DB::Open(options, folder, &opened_).ok());
+    }
+    template <class Key> double put(Key key, const std::string &value) {
+        return timed(count_, threads_, [&](std::uint64_t at) { need(opened_->Put(unlogged_, key(at), value).ok()); });
+    }
+    double bytes_a_key() const { return (resident() - first_) / static_cast<double>(count_); }
+    DB *operator->() { return opened_; }
+
+  private:
+    std::uint64_t count_;
+    unsigned threads_;
+    WriteOptions unlogged_;
+    double first_;
+    DB *opened_ = nullptr;
+};
+
 void measure(std::uint64_t count, unsigned threads, std::uint32_t room, const std::string &folder, double *to) {
-    Options options;
-    options.create_if_missing = true;
-    options.compression = kNoCompression;
-    options.write_buffer_size = std::size_t{8} << 30;
-    if (room > 0)
-        options.memtable_factory = std::make_shared<hot_memtable::factory>(room, 16);
-    WriteOptions unlogged;
-    unlogged.disableWAL = true;
-    DB *opened = nullptr;
-    DestroyDB(folder, options);
-    const double first = resident();
-    need(DB::Open(options, folder, &opened).ok());
-    const std::string value(100, 'v'), other(100, 'w');
-    to[0] = timed(count, threads, [&](std::uint64_t at) { need(opened->Put(unlogged, key_of(at), value).ok()); });
-    to[4] = (resident() - first) / static_cast<double>(count);
-    to[1] = timed(count, threads, [&](std::uint64_t at) {
+    filled db(count, threads, room, folder);
+    const auto by_chance = [&](std::uint64_t at) { return key_of(mixed(at) % count); };
+    to[FILL] = db.put(key_of, std::string(100, 'v'));
+    to[RESIDENT] = db.bytes_a_key();
+    to[READ] = timed(count, threads, [&](std::uint64_t at) {
         std::string found;
-        need(opened->Get(ReadOptions(), key_of(mixed(at) % count), &found).ok());
+        need(db->Get(ReadOptions(), by_chance(at), &found).ok());
     });
-    to[2] = timed(count, threads, [&](std::uint64_t at) { need(opened->Put(unlogged, key_of(mixed(at) % count), other).ok()); });
-    to[3] = timed(count / 10, threads, [&](std::uint64_t at) {
-        const std::unique_ptr<Iterator> it(opened->NewIterator(ReadOptions()));
-        it->Seek(key_of(mixed(at) % count));
+    to[OVERWRITE] = db.put(by_chance, std::string(100, 'w'));
+    to[SEEK] = timed(count / 10, threads, [&](std::uint64_t at) {
+        const std::unique_ptr<Iterator> it(db->NewIterator(ReadOptions()));
+        it->Seek(by_chance(at));
         for (int step = 0; step < 10 && it->Valid(); step++)
             it->Next();
     });
 }
 
-/// The same in a process of its own.
+void measure_short(std::uint64_t count, unsigned threads, std::uint32_t room, const std::string &folder, double *to) {
+    filled db(count, threads, room, folder);
+    db.put(key_of, std::string(20, 'v'));
+    to[SHORT] = db.bytes_a_key();
+}
+
+void measure_rising(std::uint64_t count, unsigned threads, std::uint32_t room, const std::string &folder, double *to) {
+    filled db(count, threads, room, folder);
+    to[RISING] = db.put(rising_key, std::string(20, 'v'));
+}
+
+/// Each in a process of its own.
 void measure_apart(std::uint64_t count, unsigned threads, std::uint32_t room, const std::string &folder, double *to) {
-    int pipes[2];
-    need(pipe(pipes) == 0);
-    const pid_t child = fork();
-    if (child == 0) {
+    for (const auto part : {measure, measure_short, measure_rising}) {
         double got[CALLS] = {};
-        measure(count, threads, room, folder, got);
-        _exit(write(pipes[1], got, sizeof got) != sizeof got); // what is in memory alone needn't be written
+        int pipes[2];
+        need(pipe(pipes) == 0);
+        const pid_t child = fork();
+        if (child == 0) {
+            part(count, threads, room, folder, got);
+            _exit(write(pipes[1], got, sizeof got) != sizeof got); // what is in memory alone needn't be written
+        }
+        need(child > 0 && read(pipes[0], got, sizeof got) == sizeof got && waitpid(child, nullptr, 0) == child);
+        close(pipes[0]), close(pipes[1]);
+        for (int call = 0; call < CALLS; call++)
+            to[call] += got[call];
     }
-    need(child > 0 && read(pipes[0], to, CALLS * sizeof *to) == static_cast<ssize_t>(CALLS * sizeof *to) && waitpid(child, nullptr, 0) == child);
-    close(pipes[0]), close(pipes[1]);
 }
 
 /// The medians of each kind of memtable, by turns.
@@ -116,7 +159,7 @@ void show(std::uint64_t count, unsigned threads, const std::string &folder) {
     std::vector<double> figures[3][CALLS];
     for (int time = 0; time < TIMES; time++)
         for (int kind = 0; kind < 3; kind++) {
-            double got[CALLS];
+            double got[CALLS] = {};
             measure_apart(count, threads, rooms[kind], folder, got);
             for (int call = 0; call < CALLS; call++)
                 figures[kind][call].push_back(got[call]);
