@@ -39,6 +39,7 @@ void keep(opened *it) {
     if (it->was == NULL) {
         RedisModule_ModuleTypeSetValue(it->key, map_type, it->now);
     } else {
+        it->now->number = it->was->number;
         RedisModule_ModuleTypeReplaceValue(it->key, map_type, it->now, &old);
         map_drop(old);
     }
@@ -56,6 +57,7 @@ void tell(opened *it, const char *event) {
     RedisModule_NotifyKeyspaceEvent(it->ctx, NOTIFY_MODULE, event, it->name);
     if (it->now == NULL || map_length(it->now) == 0) {
         RedisModule_DeleteKey(it->key);
+        it->was = it->now = NULL;
         RedisModule_NotifyKeyspaceEvent(it->ctx, NOTIFY_GENERIC, "del", it->name);
     }
 }

@@ -32,6 +32,13 @@ uint64_t map_length(const map *of) {
     return of->form == SMALL ? small_of(of)->count : indexed_of(of)->count;
 }
 
+uint64_t map_number(map *of) {
+    static uint64_t last;
+    if (of->number == 0)
+        of->number = ++last;
+    return of->number;
+}
+
 size_t map_bytes(const map *of) {
     return of->form == SMALL ? RedisModule_MallocSize((void *)of) : index_memory(indexed_of(of));
 }
@@ -49,6 +56,7 @@ map *map_of_block(const uint8_t *bytes, size_t used, size_t count) {
     small_map *made = RedisModule_TryAlloc(sizeof *made + used);
     if (made == NULL)
         return NULL;
+    ((map *)made)->number = 0;
     made->form = SMALL;
     made->count = (uint16_t)count;
     made->used = (uint16_t)used;

@@ -17,13 +17,15 @@ typedef struct field {
     size_t length;
 } field;
 
-/* A map is either of the two below, which the first byte says. */
+/* A map is either of the two below, which the form says. */
 enum form { SMALL, INDEXED };
 typedef struct map {
+    uint64_t number; /* see map_number; 0 until that is called */
     uint8_t form;
 } map;
 
 typedef struct small_map {
+    uint64_t number;
     uint8_t form;
     uint16_t count, used;
     uint8_t bytes[];
@@ -36,6 +38,7 @@ typedef struct retired {
 } retired;
 
 typedef struct indexed_map {
+    uint64_t number;
     uint8_t form;
     atomic_uint uses;      /* the key's, until it is deleted, and that of each job */
     atomic_int is_growing; /* a job gives it a larger table, or a smaller one */
@@ -103,6 +106,10 @@ int range_go_on(key_range *range, int falls, const key_page *page);
 hot_handle *map_handle(map *of);
 
 uint64_t map_length(const map *of);
+
+/* The number of a map, which no other map of the server has or has had. A key has the same map as long as its map has the same
+ * number: the map keeps it in either form, and a copy has another. */
+uint64_t map_number(map *of);
 
 /* Looks a field up: 1 if it is there. */
 int map_get(map *of, field key, word *value);

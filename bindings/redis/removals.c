@@ -10,11 +10,11 @@
 typedef struct removal {
     RedisModuleString **names; /* the fields that are left of it; NULL of a range */
     uint64_t named;            /* how many these are */
-    range_request asked; /* what is left of it; `with_values` if it replies with the pairs, and not with their number */
-    RedisModuleCtx *to;  /* replies here */
+    range_request asked;       /* what is left of it; `with_values` if it replies with the pairs, and not with their number */
+    RedisModuleCtx *to;        /* replies here */
     uint64_t taken;
     key_range took; /* the least and the greatest field of the last portion */
-    int has_limit; /* so it can't be sent again as it is, once it has taken some */
+    int has_limit;  /* so it can't be sent again as it is, once it has taken some */
     int is_done, is_refused, has_moved;
 } removal;
 
@@ -148,6 +148,7 @@ typedef struct long_removal {
     removal it;
     const char *event;
     RedisModuleString *name;
+    uint64_t map; /* the number of the map in which it began */
     RedisModuleBlockedClient *client;
     int database, is_gone;
     size_t count;
@@ -181,22 +182,27 @@ static int is_elsewhere(RedisModuleCtx *ctx, RedisModuleString *name) {
     return 0;
 }
 
-/* Takes the next portion, if the key still leads to a map, or to none. */
+static void take_next(opened *key, long_removal *of) {
+    uint64_t before = of->it.taken;
+    if (of->count > 0)
+        take_next_named(key, &of->it, at_once(key->now));
+    else
+        take_and_tell(key, &of->it, at_once(key->now), of->event);
+    note_at_once(of->it.taken - before);
+}
+
+/* Takes the next portion, if the key still has the map in which the removal began: another one is not touched. */
 static void go_on(RedisModuleCtx *ctx, long_removal *of) {
     opened key;
     RedisModule_BlockedClientMeasureTimeStart(of->client);
     RedisModule_SelectDb(ctx, of->database);
+    of->it.is_done = 1;
     if (find_key(&key, ctx, of->name, REDISMODULE_READ | REDISMODULE_WRITE)) {
-        uint64_t before = of->it.taken;
-        of->it.has_moved = key.now == NULL && is_elsewhere(ctx, of->name);
-        if (of->count > 0)
-            take_next_named(&key, &of->it, at_once(key.now));
-        else
-            take_and_tell(&key, &of->it, at_once(key.now), of->event);
-        note_at_once(of->it.taken - before);
+        if (key.now == NULL)
+            of->it.has_moved = is_elsewhere(ctx, of->name);
+        else if (map_number(key.now) == of->map)
+            take_next(&key, of);
         close_key(&key);
-    } else {
-        of->it.is_done = 1;
     }
     RedisModule_BlockedClientMeasureTimeEnd(of->client);
 }
@@ -252,6 +258,7 @@ static int wait_for_rest(const opened *of, const removal *it, const char *event)
     made->is_gone = 0;
     made->database = RedisModule_GetSelectedDb(of->ctx);
     made->name = RedisModule_CreateString(NULL, (const char *)name.at, name.length);
+    made->map = map_number(of->now);
     made->client = RedisModule_BlockClient(of->ctx, NULL, NULL, NULL, 0);
     made->it.to = RedisModule_GetThreadSafeContext(made->client);
     RedisModule_SetDisconnectCallback(made->client, note_gone);

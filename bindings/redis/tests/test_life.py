@@ -9,7 +9,7 @@ import threading
 import time
 import unittest
 from pathlib import Path
-from typing import Callable
+from typing import Any, Callable
 
 import redis
 
@@ -285,6 +285,15 @@ class Portions(unittest.TestCase):
             self.assertEqual(server.client.wait(1, 30_000), 1)
             self.assertEqual(replica.client.dbsize(), 0)
 
+    def test_forms(self) -> None:
+        """A removal goes on where its map has become small."""
+        fields = [b"f%05d" % at for at in range(5_000)]
+        with Server() as server:
+            fill(server, "m", dict.fromkeys(fields, b"1"))
+            names = [*fields[100:], *(b"absent %d" % at for at in range(3_000)), *fields[:100]]
+            self.assertEqual(server.run("OM.DEL", "m", *names), 5_000)
+            self.assertEqual(server.client.exists("m"), 0)
+
     def test_clients_that_go(self) -> None:
         """Once its client has left, a removal ends."""
         with Server() as server:
@@ -336,6 +345,43 @@ class Portions(unittest.TestCase):
         other = self.remove_all(server)
         server.run(*words)
         return bool(other.read_response() < self.COUNT)
+
+    def test_other_maps(self) -> None:
+        """A removal ends where its key has another map, however that came there, and leaves that map as it is."""
+        words = ["OM.SET", "m", *flat(list(self.OTHER.items()))]
+        removals = [("OM.DELRANGE", "m", "[a", "+"), ("OM.DEL", "m", *self.MANY), ("OM.POPMIN", "m", 10**6), ("OM.POPMAX", "m", 10**6)]
+        changes: "list[list[Any]]" = [[("RENAME", "other", "m")], [("COPY", "other", "m", "REPLACE")], [("SWAPDB", 0, 1)], [("FLUSHALL",), words]]
+        with Server() as server:
+            fill(server, "other", self.OTHER)
+            changes.append([("RESTORE", "m", 0, server.client.dump("other"), "REPLACE")])
+            works = [(removal, [("DEL", "m"), words]) for removal in removals] + [(removals[0], change) for change in changes]
+            for removal, change in works:
+                with self.subTest(removal=removal[0], change=change[0][0]):
+                    self.until_caught(lambda removal=removal, change=change: self.change_map(server, removal, change))
+
+    MANY = {b"f%07d" % at: b"%d" % at for at in range(20_000)}
+    OTHER = {b"a": b"first", b"f0010000": b"between", b"f0019999": b"late", b"z": b"last"}
+
+    def change_map(self, server: Server, removal: "tuple[object, ...]", change: "list[Any]") -> bool:
+        """Has another client begin a removal, and gives its key another map."""
+        server.client.flushall()
+        fill(server, "m", self.MANY)
+        fill(server, "other", self.OTHER)
+        server.client.copy("other", "m", destination_db=1)
+        other = redis.Redis(port=server.port).connection_pool.get_connection("_")
+        other.send_command(*removal)
+        while server.client.info("clients")["blocked_clients"] == 0 and not other.can_read(0.001):
+            pass
+        with server.client.pipeline(transaction=False) as pipe:
+            for words in change:
+                pipe.execute_command(*words)
+            pipe.execute()
+        said = other.read_response()
+        removed = said if isinstance(said, int) else len(said) // 2
+        if removed == len(self.MANY):
+            return False
+        self.assertEqual(server.run("OM.RANGE", "m", "-", "+", "WITHVALUES"), flat(list(self.OTHER.items())))
+        return True
 
     def test_at_one_time(self) -> None:
         """In MULTI and in a script all goes at once."""
