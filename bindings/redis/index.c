@@ -28,32 +28,59 @@ static void forget_pages(void *at, size_t bytes) {
         madvise((void *)begin, end - begin, MADV_DONTNEED);
 }
 
-/* How much memory an index takes. Of small tables hot_bytes counts much that is never written: so a bound goes by the pairs that
- * there were, and the mean length of their keys. */
-static size_t bytes_of(const indexed_map *of) {
-    enum { FIRST = 64 << 10, FOR_A_PAIR = 80 };
-    hot_memory bytes;
-    size_t most = FIRST + of->most * (FOR_A_PAIR + of->mean_key + of->mean_key / 8);
-    hot_bytes(of->index, &bytes);
-    return bytes.now < most ? bytes.now : most;
+/* What a pair takes of the records of an index: a leaf record of the smallest size with room for its key, and a thirteenth of a
+ * node record, which is what random keys take of one in a table that has grown. */
+static size_t pair_bytes(size_t length) {
+    enum { NODE_PART = 36 };
+    return NODE_PART + (length <= 8 ? 32 : length <= 24 ? 48 : length <= 56 ? 80 : length <= 88 ? 112 : 264);
 }
 
+/* What an index takes whose pairs take so much of its records. The first table takes as much as 500 short fields do. */
+static size_t bytes_for(size_t record_bytes) {
+    enum { BESIDE = 36 << 10, LEAST = 80 << 10 };
+    return BESIDE + record_bytes > LEAST ? BESIDE + record_bytes : LEAST;
+}
+
+/* How much memory an index takes. Of a small table hot_bytes counts what was never written, too: so there it goes by the records
+ * that pairs have had. */
+static size_t bytes_of(const indexed_map *of) {
+    enum { MANY = 16384 };
+    hot_memory bytes;
+    size_t most = bytes_for(of->most_bytes);
+    hot_bytes(of->index, &bytes);
+    return of->most >= MANY || bytes.now < most ? bytes.now : most;
+}
+
+/* Gives a block out that is never used. */
+static void *give_out(size_t bytes) {
+    void *made = bytes == 0 ? NULL : RedisModule_TryAlloc(bytes);
+    if (made != NULL)
+        forget_pages(made, bytes);
+    return made;
+}
+
+/* The server's allocator has four sizes of large blocks for each doubling, and counts the one that it gives. So one block is of the
+ * largest size that is not too large, and one has the rest: both together are a thirtieth too large at most. */
 void index_tell(indexed_map *of) {
-    size_t bytes = bytes_of(of), far = bytes > of->told_bytes ? bytes - of->told_bytes : of->told_bytes - bytes;
-    if (far < of->told_bytes / 16)
+    enum { SIZE_BITS = 3 };
+    size_t bytes = bytes_of(of), far = bytes > of->told_bytes ? bytes - of->told_bytes : of->told_bytes - bytes, first;
+    int unused = 64 - SIZE_BITS - __builtin_clzll(bytes);
+    if (far < of->told_bytes / 32)
         return;
-    RedisModule_Free(of->told);
-    of->told = RedisModule_TryAlloc(bytes);
-    if (of->told != NULL)
-        forget_pages(of->told, bytes);
+    first = bytes >> unused << unused;
+    RedisModule_Free(of->told[0]);
+    RedisModule_Free(of->told[1]);
+    of->told[0] = give_out(first);
+    of->told[1] = give_out(bytes - first);
     atomic_fetch_add(&index_bytes, bytes - of->told_bytes);
     of->told_bytes = bytes;
 }
 
 void index_leave(indexed_map *of) {
-    RedisModule_Free(of->told);
+    RedisModule_Free(of->told[0]);
+    RedisModule_Free(of->told[1]);
     atomic_fetch_sub(&index_bytes, of->told_bytes);
-    of->told = NULL;
+    of->told[0] = of->told[1] = NULL;
     of->told_bytes = 0;
 }
 
@@ -167,15 +194,17 @@ static int take_next(void *context, const uint8_t **key, size_t *length, uint64_
         if (from->is_refused)
             return 0;
     }
-    from->of->key_bytes += *length;
+    from->of->record_bytes += pair_bytes(*length);
     from->of->text_bytes += word_bytes(*value);
     return 1;
 }
 
 /* The main thread notes how many pairs there are, while no other makes a table. */
 static void note_most(indexed_map *of) {
-    of->most = of->count;
-    of->mean_key = of->count > 0 ? of->key_bytes / of->count : HOT_MAX_KEY;
+    if (of->most < of->count)
+        of->most = of->count;
+    if (of->most_bytes < of->record_bytes)
+        of->most_bytes = of->record_bytes;
 }
 
 /* Opens the handle of the main thread, once there is an index. */
@@ -253,8 +282,7 @@ static void look(indexed_map *of) {
     of->next_look = (uint32_t)(of->count / 64 < UINT32_MAX ? of->count / 64 : UINT32_MAX) + 64;
     if (of->is_growing)
         return;
-    if (of->count > of->most)
-        note_most(of);
+    note_most(of);
     index_tell(of);
     of->asked = of->count;
     if (of->count >= LARGE && hot_is_filling(of->index))
@@ -275,7 +303,7 @@ hot_status index_put(indexed_map *of, field key, word value, word *had) {
     of->text_bytes += word_bytes(value);
     if (status == HOT_NEW) {
         of->count++;
-        of->key_bytes += key.length;
+        of->record_bytes += pair_bytes(key.length);
         if (--of->next_look == 0)
             look(of);
     }
@@ -286,16 +314,19 @@ int index_take(indexed_map *of, field key, word *had) {
     if (hot_remove(&of->handle, key.at, key.length, had) != HOT_REMOVED)
         return 0;
     of->count--;
-    of->key_bytes -= key.length;
+    of->record_bytes -= pair_bytes(key.length);
     return 1;
 }
 
 void index_trim(indexed_map *of) {
-    uint64_t most = of->most;
+    uint64_t most = of->most, most_bytes = of->most_bytes;
     if (most < LARGE || of->count >= most / 8 || of->is_growing)
         return;
     of->most = of->count;
+    of->most_bytes = of->record_bytes;
     of->asked = most;
-    if (!jobs_resize(of, 1))
+    if (!jobs_resize(of, 1)) {
         of->most = most;
+        of->most_bytes = most_bytes;
+    }
 }

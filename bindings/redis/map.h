@@ -7,8 +7,8 @@
 #include <hot.h>
 #include <stdatomic.h>
 
-/* A small map has so many pairs and bytes at most: a look-up in it takes up to 1 us, and an index of more takes 60 KB at least.
- * That becomes small again when it has half as many pairs, which are a page. */
+/* A small map has so many pairs and bytes at most: a look-up in it takes up to 1 us, and an index of more takes some 80 KB at
+ * least. That becomes small again when it has half as many pairs, which are a page. */
 enum { SMALL_COUNT = 256, SMALL_BYTES = 65535, SMALL_AGAIN = SMALL_COUNT / 2 };
 
 /* A field or a value of a command. */
@@ -43,15 +43,14 @@ typedef struct indexed_map {
     atomic_uint uses;      /* the key's, until it is deleted, and that of each job */
     atomic_int is_growing; /* a job gives it a larger table, or a smaller one */
     hot_index *index;
-    hot_handle handle; /* of the main thread, which makes all changes */
-    uint64_t count, key_bytes, text_bytes;
-    uint64_t most; /* so many pairs it had since its table was made, whose keys had this length on average */
-    uint64_t mean_key;
-    uint32_t next_look; /* after so many further new pairs it is looked how full the table is */
-    uint64_t asked;     /* so many pairs it had when a job was asked for another table, or more */
-    retired *gone;      /* values that jobs may still read */
+    hot_handle handle;                        /* of the main thread, which makes all changes */
+    uint64_t count, record_bytes, text_bytes; /* see pair_bytes */
+    uint64_t most, most_bytes;                /* so many pairs, and bytes of records, it had since its table was made */
+    uint32_t next_look;                       /* after so many further new pairs it is looked how full the table is */
+    uint64_t asked;                           /* so many pairs it had when a job was asked for another table, or more */
+    retired *gone;                            /* values that jobs may still read */
     size_t gone_first, gone_count, gone_room;
-    void *told; /* memory of the server that stands for the index's: see index_tell */
+    void *told[2]; /* memory of the server that stands for the index's: see index_tell */
     size_t told_bytes;
 } indexed_map;
 

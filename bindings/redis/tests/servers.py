@@ -86,6 +86,12 @@ class Server:
     def figure(self, name: str) -> int:
         return int(self.client.info("everything")[name])
 
+    def resident(self) -> int:
+        """How many bytes of memory the server has."""
+        assert self.process is not None
+        text = Path(f"/proc/{self.process.pid}/smaps_rollup").read_text()
+        return 1024 * sum(int(said) for said in re.findall(r"^Rss: +(\d+)", text, re.MULTILINE))
+
     def until(self, section: str, name: str, value: object) -> None:
         """Waits until a field of INFO has a value."""
         end = time.monotonic() + 60

@@ -15,7 +15,7 @@ import redis
 
 import damaged
 import model
-from servers import Server, fill, flat
+from servers import PRELOAD, Server, fill, flat
 
 IS_LONG = os.environ.get("ORDERED_MAP_LONG") == "1"
 
@@ -413,6 +413,27 @@ class Memory(unittest.TestCase):
                 time.sleep(0.02)
             self.assertEqual(server.figure("ordered_map_index_bytes"), 0)
             self.assertLess(server.figure("used_memory") - before, used / 3)
+
+    @unittest.skipIf(PRELOAD, "what stands before the server's libraries takes memory, too")
+    def test_estimate(self) -> None:
+        """The server counts what is resident, for fields of any length, and for few as well as many."""
+        few, some, many = (100, 257), (30, 1_000), (1, 40_000)
+        for length, (maps, count) in [(8, few), (8, some), (24, some), (90, some), (150, some), (24, many), (90, many), (150, many)]:
+            with self.subTest(length=length, count=count), Server() as server:
+                self.weigh(server, length, maps, count)
+
+    def weigh(self, server: Server, length: int, maps: int, count: int) -> None:
+        some = random.Random(length)
+        server.run("MEMORY", "PURGE")
+        used, resident = server.figure("used_memory"), server.resident()
+        for at in range(maps):
+            fill(server, f"m{at}", {some.randbytes(length): b"1" for _ in range(count)}, 100)
+        while any(server.run("OM.STAT", f"m{at}")[-1] for at in range(maps)):
+            time.sleep(0.01)
+        server.client.connection_pool.disconnect()
+        server.run("MEMORY", "PURGE")
+        share = (server.figure("used_memory") - used) / (server.resident() - resident)
+        self.assertTrue(0.75 < share < 1.25, share)
 
     def test_eviction(self) -> None:
         """Maps are evicted for their memory, and without eviction changes are refused."""
