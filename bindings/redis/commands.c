@@ -27,7 +27,7 @@ static int read_fields(RedisModuleCtx *ctx, RedisModuleString **argv, int argc, 
 
 /* Whether changes that take memory are refused: not those that another server has made, nor those of a file. */
 static int is_full(RedisModuleCtx *ctx) {
-    return is_over_limit() && (RedisModule_GetContextFlags(ctx) & (IS_REPLICATED | IS_LOADING)) == 0;
+    return is_over_limit(1) && (RedisModule_GetContextFlags(ctx) & (IS_REPLICATED | IS_LOADING)) == 0;
 }
 
 static int refuse_memory(RedisModuleCtx *ctx) {

@@ -13,8 +13,8 @@ enum { LARGE = 2048 };
 long long memory_limit;
 atomic_ullong index_count, index_bytes, growth_count;
 
-int is_over_limit(void) {
-    return memory_limit > 0 && atomic_load(&index_bytes) >= (unsigned long long)memory_limit;
+int is_over_limit(size_t more) {
+    return memory_limit > 0 && atomic_load(&index_bytes) + more > (unsigned long long)memory_limit;
 }
 
 /* ---- Memory ---- */
@@ -28,15 +28,15 @@ static void forget_pages(void *at, size_t bytes) {
         madvise((void *)begin, end - begin, MADV_DONTNEED);
 }
 
-/* What a pair takes of the records of an index: a leaf record of the smallest size with room for its key, and a thirteenth of a
- * node record, which is what random keys take of one in a table that has grown. */
-static size_t pair_bytes(size_t length) {
+/* A leaf record of the smallest size with room for the key, and a thirteenth of a node record, which is what random keys take of
+ * one in a table that has grown. */
+size_t pair_bytes(size_t length) {
     enum { NODE_PART = 36 };
     return NODE_PART + (length <= 8 ? 32 : length <= 24 ? 48 : length <= 56 ? 80 : length <= 88 ? 112 : 264);
 }
 
-/* What an index takes whose pairs take so much of its records. The first table takes as much as 500 short fields do. */
-static size_t bytes_for(size_t record_bytes) {
+/* The first table takes as much as 500 short fields do. */
+size_t bytes_for(size_t record_bytes) {
     enum { BESIDE = 36 << 10, LEAST = 80 << 10 };
     return BESIDE + record_bytes > LEAST ? BESIDE + record_bytes : LEAST;
 }

@@ -10,8 +10,12 @@ extern long long memory_limit; /* of all indexes, in bytes; 0 is none */
 /* What it tells of itself. */
 extern atomic_ullong index_count, index_bytes, growth_count;
 
-/* Whether the indexes have more bytes than they may. */
-int is_over_limit(void);
+/* What a pair with a key of so many bytes takes of the records of an index, and what an index takes whose pairs take so much. */
+size_t pair_bytes(size_t length);
+size_t bytes_for(size_t record_bytes);
+
+/* Whether so many bytes more would be more than the indexes may have. */
+int is_over_limit(size_t more);
 
 /* A map of pairs, as map_of_pairs makes it. */
 indexed_map *index_new(hot_source *next, void *context);

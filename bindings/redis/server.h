@@ -27,6 +27,7 @@ enum { HANDLE_IO_ERRORS = 1 << 0, NO_IMPLICIT_SIGNAL_MODIFIED = 1 << 1, HANDLE_R
 enum {
     IN_LUA = 1 << 0,
     IN_MULTI = 1 << 1,
+    IS_REPLICA = 1 << 3,
     IS_REPLICATED = 1 << 12,
     IS_LOADING = 1 << 13,
     IS_CHILD = 1 << 20,

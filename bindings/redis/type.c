@@ -119,6 +119,11 @@ static void save(RedisModuleIO *io, void *value) {
 
 /* ---- Loading ---- */
 
+/* Whether an index is refused for pairs that take so much of its records: not to a replica, nor while a file is loaded. */
+static int is_over(size_t record_bytes) {
+    return is_over_limit(bytes_for(record_bytes)) && (RedisModule_GetContextFlags(NULL) & (IS_REPLICA | IS_LOADING)) == 0;
+}
+
 /* The blocks of a saved map. All are read and checked before a table is made. */
 typedef struct saved_block {
     uint8_t *bytes;
@@ -129,6 +134,7 @@ typedef struct saved_map {
     saved_block *blocks;
     size_t count, room;
     uint64_t pairs;
+    size_t record_bytes;
     size_t at; /* the block that is read next */
     block_reader from;
 } saved_map;
@@ -149,11 +155,13 @@ static int has_block_room(saved_map *to) {
     return 1;
 }
 
-/* Checks a block, whose first key is above the last one of the block before. */
-static int check_block(const saved_block *of, block_reader *from, int is_first) {
+/* Checks a block that was read, whose first key is above the last one of the block before. */
+static int check_block(const saved_block *of, saved_map *to) {
+    block_reader *from = &to->from;
     uint8_t last[HOT_MAX_KEY];
     size_t last_length = from->length;
     uint64_t count = 0;
+    int is_first = to->count == 1;
     memcpy(last, from->key, last_length);
     from->at = of->bytes;
     from->end = of->bytes + of->used;
@@ -166,6 +174,7 @@ static int check_block(const saved_block *of, block_reader *from, int is_first) 
         if (count == 0 && !is_first && (common == from->length || (common < last_length && from->key[common] < last[common])))
             return 0;
         count++;
+        to->record_bytes += pair_bytes(from->length);
     }
     return count > 0 && count == of->count;
 }
@@ -184,7 +193,7 @@ static int read_block(RedisModuleIO *io, saved_map *to) {
         return 0;
     }
     to->blocks[to->count++] = it;
-    return check_block(&it, &to->from, to->count == 1);
+    return check_block(&it, to);
 }
 
 static int read_blocks(RedisModuleIO *io, saved_map *to) {
@@ -214,11 +223,13 @@ static int next_saved(void *context, const uint8_t **key, size_t *length, uint64
     return 1;
 }
 
-/* Makes the map of blocks that are right; NULL if there is no memory. */
+/* Makes the map of blocks that are right; NULL if there is no memory, or no index may have so much. */
 static map *map_of_saved(saved_map *from) {
     map *made;
     if (from->count == 1 && from->pairs <= SMALL_COUNT && from->blocks[0].used <= SMALL_BYTES)
         return map_of_block(from->blocks[0].bytes, from->blocks[0].used, (size_t)from->pairs);
+    if (is_over(from->record_bytes))
+        return NULL;
     from->at = 0;
     from->from.at = from->from.end = NULL;
     made = map_of_pairs(next_saved, from);
@@ -236,7 +247,7 @@ static void *load(RedisModuleIO *io, int version) {
     if (version == ENCODING) {
         why = "damaged";
         if (read_blocks(io, &from)) {
-            why = "refused, since there is no memory";
+            why = "refused, since ordered maps have no more memory";
             made = map_of_saved(&from);
         }
     }
@@ -310,6 +321,10 @@ static size_t effort(RedisModuleString *name, const void *value) {
 static void *copy(RedisModuleString *from, RedisModuleString *to, const void *value) {
     (void)from;
     (void)to;
+    if (((const map *)value)->form == INDEXED && is_over(((const indexed_map *)value)->record_bytes)) {
+        RedisModule_Log(NULL, "warning", "an ordered map is not copied: ordered maps have no more memory");
+        return NULL;
+    }
     return map_copy(value);
 }
 

@@ -462,6 +462,35 @@ class Memory(unittest.TestCase):
             self.assertRaises(redis.ResponseError, server.client.config_set, "ordered_map.threads", 1)
 
 
+    def test_limit_of_copies(self) -> None:
+        """It bounds COPY and RESTORE, too. Small maps are copied. A file is loaded, and a replica takes what its server has."""
+        limit = ("--ordered_map.memory-limit", "3mb")
+        with Server(*limit, "--appendonly", "yes") as server, Server("--replicaof", f"127.0.0.1 {server.port}", *limit) as replica:
+            fill(server, "m", some_pairs(20_000))
+            fill(server, "small", some_pairs(100))
+            payload = server.client.dump("m")
+            with self.assertRaisesRegex(redis.ResponseError, "failed to copy"):
+                for at in range(5):
+                    server.client.copy("m", f"copy{at}")
+            with self.assertRaisesRegex(redis.ResponseError, "Bad data"):
+                for at in range(5):
+                    server.client.restore(f"restored{at}", 0, payload)
+            self.assertLess(server.figure("ordered_map_index_bytes"), 3 << 20)
+            self.assertIn("no more memory", server.log())
+            self.assertTrue(server.client.copy("small", "other"))
+            self.assertTrue(server.client.restore("more", 0, server.client.dump("small")))
+            server.client.config_set("ordered_map.memory-limit", 0)
+            self.assertTrue(server.client.copy("m", "large"))
+            self.assertTrue(server.client.restore("larger", 0, payload))
+            before = digest(server)
+            self.assertEqual(server.client.wait(1, 30_000), 1)
+            self.assertEqual(digest(replica), before)
+            server.stop()
+            server.start()
+            self.assertGreater(server.figure("ordered_map_index_bytes"), 3 << 20)
+            self.assertEqual(digest(server), before)
+
+
 def hold_resizer(server: Server) -> None:
     """All threads have one processor, and the one that makes tables what others leave of it."""
     assert server.process is not None
