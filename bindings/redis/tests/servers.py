@@ -52,7 +52,7 @@ class Server:
 
     def start(self, *more: str) -> None:
         words = [SERVER, "--port", str(self.port), "--bind", "127.0.0.1", "--dir", str(self.folder), "--save", ""]
-        words += ["--enable-debug-command", "local", "--logfile", str(self.folder / "log"), "--loadmodule", str(MODULE)]
+        words += ["--repl-diskless-sync-delay", "0", "--enable-debug-command", "local", "--logfile", str(self.folder / "log"), "--loadmodule", str(MODULE)]
         environment = os.environ | SANITIZER | {"LD_PRELOAD": PRELOAD} | self.environment
         with open(self.folder / "said", "ab") as said:
             # A signal for a file that is too long stays ignored, as it is here.
