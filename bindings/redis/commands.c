@@ -156,7 +156,7 @@ static int om_del(RedisModuleCtx *ctx, RedisModuleString **argv, int argc) {
     if (!take_room(ctx, argc, few, sizeof *few, &room))
         return REDISMODULE_OK;
     if (read_fields(ctx, argv + 2, argc - 2, 0, room) && open_key(&of, ctx, argv[1], REDISMODULE_READ | REDISMODULE_WRITE)) {
-        take_named(&of, argv + 2, room, (size_t)argc - 2);
+        take_named(&of, argv + 2, (size_t)argc - 2);
         close_key(&of);
     }
     give_room(few, room);

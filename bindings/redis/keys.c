@@ -46,10 +46,10 @@ void keep(opened *it) {
     it->was = it->now;
 }
 
-size_t take_fields(opened *it, const field *fields, size_t count) {
-    size_t taken = it->now == NULL ? 0 : map_take(it->was, fields, count, &it->now);
+size_t take_fields(opened *it, const field *fields, size_t count, portion *left, uint64_t *taken) {
+    size_t tried = it->now == NULL ? count : map_take(it->was, fields, count, left, taken, &it->now);
     keep(it);
-    return taken;
+    return tried;
 }
 
 void tell(opened *it, const char *event) {

@@ -24,8 +24,8 @@ void close_key(opened *it);
 /* Has the key lead to the map that takes the place of what it had. */
 void keep(opened *it);
 
-/* Removes fields, and returns how many there were. */
-size_t take_fields(opened *it, const field *fields, size_t count);
+/* Removes fields as map_take does. */
+size_t take_fields(opened *it, const field *fields, size_t count, portion *left, uint64_t *taken);
 
 /* Tells of a change that is replicated already: who watches the key and who listens. A map without pairs goes. */
 void tell(opened *it, const char *event);

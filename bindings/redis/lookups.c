@@ -57,15 +57,27 @@ static int give_to_job(RedisModuleCtx *ctx, map *of, const hot_lookup *lookups, 
     return 1;
 }
 
-int reply_with_values(RedisModuleCtx *ctx, map *of, hot_lookup *lookups, size_t count) {
-    int may = may_wait(ctx);
+/* Whether what was found has more bytes than the main thread goes through in one go. */
+static int is_heavy(const map *of, const hot_lookup *lookups, size_t count) {
+    uint64_t bytes = 0;
     size_t at;
-    if (of != NULL && of->form == INDEXED && count > at_once(of) && may && jobs_threads() > 0 && give_to_job(ctx, of, lookups, count))
+    for (at = 0; may_be_heavy(of) && at < count; at++)
+        if (lookups[at].status == HOT_FOUND)
+            bytes += word_length(lookups[at].value);
+    return bytes > at_once.bytes;
+}
+
+int reply_with_values(RedisModuleCtx *ctx, map *of, hot_lookup *lookups, size_t count) {
+    int may = may_wait(ctx), may_give = of != NULL && of->form == INDEXED && may && jobs_threads() > 0;
+    size_t at;
+    if (may_give && count > at_once.pairs && give_to_job(ctx, of, lookups, count))
         return REDISMODULE_OK;
     for (at = 0; of == NULL && at < count; at++)
         lookups[at].status = HOT_ABSENT;
     if (of != NULL)
         map_get_many(of, lookups, count);
+    if (may_give && is_heavy(of, lookups, count) && give_to_job(ctx, of, lookups, count))
+        return REDISMODULE_OK;
     RedisModule_ReplyWithArray(ctx, (long)count);
     reply_with_found(ctx, lookups, count);
     if (of != NULL && may)

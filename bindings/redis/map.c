@@ -50,6 +50,11 @@ void map_drop(map *of) {
         jobs_free(indexed_of(of));
 }
 
+void take_off(portion *from, size_t bytes) {
+    from->pairs--;
+    from->bytes -= bytes < from->bytes ? bytes : from->bytes;
+}
+
 /* ---- Small maps ---- */
 
 map *map_of_block(const uint8_t *bytes, size_t used, size_t count) {
@@ -269,26 +274,38 @@ static map *small_again(indexed_map *of) {
     return map_of_block(edited, to.used, page.count);
 }
 
-size_t map_take(map *of, const field *fields, size_t count, map **made) {
-    indexed_map *from = indexed_of(of);
-    size_t at, taken = 0;
+/* Gives an index that has lost pairs another form, or a smaller table, if few are left. */
+static void settle(indexed_map *of, map **made) {
+    map *smaller = of->count > 0 && of->count <= SMALL_AGAIN ? small_again(of) : NULL;
+    if (smaller != NULL)
+        *made = smaller;
+    else
+        index_trim(of);
+}
+
+static size_t take_indexed(indexed_map *of, const field *fields, size_t count, portion *left, uint64_t *taken, map **made) {
+    uint64_t before = of->count;
+    size_t at;
     word had;
-    if (of->form == SMALL)
-        return take_small(of, fields, count, made);
-    *made = of;
-    for (at = 0; at < count; at++)
-        if (index_take(from, fields[at], &had)) {
-            index_retire(from, had);
-            taken++;
-        }
-    if (taken > 0 && from->count > 0 && from->count <= SMALL_AGAIN) {
-        map *smaller = small_again(from);
-        if (smaller != NULL)
-            *made = smaller;
-    } else if (taken > 0) {
-        index_trim(from);
+    for (at = 0; at < count && left->pairs > 0 && left->bytes > 0; at++) {
+        int is_there = index_take(of, fields[at], &had);
+        take_off(left, is_there ? fields[at].length + word_length(had) : 0);
+        if (is_there)
+            index_retire(of, had);
     }
-    return taken;
+    *taken += before - of->count;
+    if (of->count < before)
+        settle(of, made);
+    return at;
+}
+
+size_t map_take(map *of, const field *fields, size_t count, portion *left, uint64_t *taken, map **made) {
+    *made = of;
+    if (of->form == INDEXED)
+        return take_indexed(indexed_of(of), fields, count, left, taken, made);
+    left->pairs -= count < left->pairs ? count : left->pairs;
+    *taken += take_small(of, fields, count, made);
+    return count;
 }
 
 /* ---- Look-ups ---- */

@@ -69,8 +69,15 @@ typedef struct setting {
 /* HOT_DONE; or HOT_NO_MEMORY, HOT_FULL_NODES or HOT_FULL_LEAVES, and then nothing is set. */
 hot_status map_set(map *of, setting *it, map **made);
 
-/* Removes the fields, and returns how many were there. */
-size_t map_take(map *of, const field *fields, size_t count, map **made);
+/* How many pairs one may go through, and how many bytes of them. The pair with which it comes to these bytes may have more. */
+typedef struct portion {
+    uint64_t pairs, bytes;
+} portion;
+void take_off(portion *from, size_t bytes);
+
+/* Removes the first of the fields, as many as the portion has pairs and bytes left, or all from a small map. Adds how many were
+ * there to `taken`, and returns how many these fields are. */
+size_t map_take(map *of, const field *fields, size_t count, portion *left, uint64_t *taken, map **made);
 
 /* A range of fields, both ends included, and a page of it. */
 typedef struct key_range {

@@ -224,19 +224,60 @@ static int give_to_job(RedisModuleCtx *ctx, map *of, const range_request *asked)
     return 1;
 }
 
-uint64_t at_once(const map *of) {
-    enum { PAIRS = 1000, BYTES = 1 << 20 };
-    const indexed_map *large = of == NULL || of->form == SMALL ? NULL : (const indexed_map *)of;
-    uint64_t each = large == NULL || large->count == 0 ? 0 : large->text_bytes / large->count;
-    return each <= BYTES / PAIRS ? PAIRS : 1 + BYTES / each;
+/* ---- How much is asked ---- */
+
+const portion at_once = {1000, 1 << 20}, everything = {UINT64_MAX, UINT64_MAX};
+
+int may_be_heavy(const map *of) {
+    return of->form == INDEXED && ((const indexed_map *)of)->text_bytes + at_once.pairs * HOT_MAX_KEY > at_once.bytes;
 }
 
-/* Whether it may have so many pairs that a job is to read them. */
-static int is_long(RedisModuleCtx *ctx, const map *of, const listing *it) {
-    uint64_t far = it->asked.skip + it->asked.limit < map_length(of) ? it->asked.skip + it->asked.limit : map_length(of);
-    if (is_last_page(it))
-        far = it->asked.with_values ? asked_of_page(it) : 0;
-    return of->form == INDEXED && far > at_once(of) && jobs_threads() > 0 && may_wait(ctx);
+/* How many bytes the pairs of a page have that are asked for. It takes them off what is left. */
+static uint64_t weigh_page(listing *it) {
+    uint64_t bytes = 0;
+    size_t at;
+    for (at = 0; at < it->page->count && it->asked.limit > 0; at++)
+        if (it->asked.skip > 0) {
+            it->asked.skip--;
+        } else {
+            it->asked.limit--;
+            bytes += it->page->heads[at].length + word_length(it->page->heads[at].value);
+        }
+    return bytes;
+}
+
+/* Whether the pairs of a listing, whose first page is there, have more bytes than the main thread goes through in one go. */
+static int is_heavy(const listing *of) {
+    static key_page next;
+    listing it = *of;
+    uint64_t bytes = 0;
+    for (;;) {
+        int is_last = is_last_page(&it);
+        bytes += weigh_page(&it);
+        if (is_last || bytes > at_once.bytes || !range_go_on(&it.asked.range, it.asked.falls, it.page))
+            break;
+        it.page = &next;
+        if (list_next(&it) != HOT_DONE)
+            break;
+    }
+    return bytes > at_once.bytes;
+}
+
+/* The same of their number, too, which is at most the map's. */
+static int goes_far(const map *of, const listing *it) {
+    uint64_t far = it->asked.skip + it->asked.limit;
+    if (of->form == INDEXED && !is_last_page(it) && far > at_once.pairs && map_length(of) > at_once.pairs)
+        return 1;
+    return it->asked.with_values && may_be_heavy(of) && is_heavy(it);
+}
+
+int is_long(map *of, const range_request *asked) {
+    static key_page page;
+    listing it = {NULL, of, map_handle(of), NULL, *asked, 0, 0, &page};
+    if (asked->limit <= 1 || of->form == SMALL)
+        return 0;
+    return (asked->limit > at_once.pairs && map_length(of) > at_once.pairs) ||
+           (may_be_heavy(of) && list_next(&it) == HOT_DONE && is_heavy(&it));
 }
 
 static int reply_with_none(RedisModuleCtx *ctx, const range_request *asked) {
@@ -257,7 +298,7 @@ int reply_with_range(RedisModuleCtx *ctx, map *of, const range_request *asked) {
         return reply_with_none(ctx, asked);
     it.handle = map_handle(of);
     status = list_next(&it);
-    if (status == HOT_DONE && is_long(ctx, of, &it) && give_to_job(ctx, of, asked))
+    if (status == HOT_DONE && jobs_threads() > 0 && may_wait(ctx) && goes_far(of, &it) && give_to_job(ctx, of, asked))
         return REDISMODULE_OK;
     reply_with_first(&it, status);
     if (may_wait(ctx))

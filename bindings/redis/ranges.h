@@ -22,8 +22,14 @@ int read_range(RedisModuleString *least, RedisModuleString *most, range_request 
 int read_prefix(RedisModuleString *prefix, range_request *to);
 int refuse_range(RedisModuleCtx *ctx);
 
-/* How many pairs of a map the main thread goes through in one go: a thousand, or fewer if their values are long. */
-uint64_t at_once(const map *of);
+/* What the main thread goes through in one go, and what it goes through where the client can't wait. */
+extern const portion at_once, everything;
+
+/* Whether what is asked may have more pairs, or has more bytes. */
+int is_long(map *of, const range_request *asked);
+
+/* Whether the values of a map may have more bytes than the main thread goes through in one go. */
+int may_be_heavy(const map *of);
 
 /* Replies with what is asked of a map, or of none if it is NULL. A map with an index that may have more pairs of it than the main
  * thread goes through is read by a job, where the client may wait. */

@@ -31,11 +31,13 @@ static void take_page(opened *of, const key_page *page) {
     field fields[PAGE];
     const uint8_t *key = page->bytes;
     size_t at;
+    portion left = everything;
+    uint64_t taken = 0;
     for (at = 0; at < page->count; key += page->heads[at++].length) {
         fields[at].at = key;
         fields[at].length = page->heads[at].length;
     }
-    take_fields(of, fields, page->count);
+    take_fields(of, fields, page->count, &left, &taken);
 }
 
 static void reply_with_pairs(RedisModuleCtx *ctx, const key_page *page) {
@@ -47,13 +49,26 @@ static void reply_with_pairs(RedisModuleCtx *ctx, const key_page *page) {
     }
 }
 
+/* Leaves the pairs of a page that a portion has left, and takes them off it. */
+static void cut_page(key_page *page, portion *left) {
+    size_t at;
+    for (at = 0; at < page->count && left->bytes > 0; at++)
+        take_off(left, page->heads[at].length + word_length(page->heads[at].value));
+    page->more |= at < page->count;
+    page->count = at;
+}
+
 /* Lists the next pairs that it takes: 0 if there are none, or memory is refused. */
-static int list_next(const opened *of, removal *it, uint64_t most, key_page *page) {
+static int list_next(const opened *of, removal *it, portion *left, key_page *page) {
+    uint64_t most = left->pairs < it->asked.limit ? left->pairs : it->asked.limit;
     if (of->now == NULL)
         return 0;
-    most = most < PAGE ? most : PAGE;
-    it->is_refused = map_list(of->now, map_handle(of->now), &it->asked.range, it->asked.falls, most, page) != HOT_DONE;
-    return !it->is_refused && page->count > 0;
+    it->is_refused =
+        map_list(of->now, map_handle(of->now), &it->asked.range, it->asked.falls, most < PAGE ? most : PAGE, page) != HOT_DONE;
+    if (it->is_refused)
+        return 0;
+    cut_page(page, left);
+    return page->count > 0;
 }
 
 static void note_field(uint8_t *to, size_t *to_length, field key) {
@@ -70,14 +85,13 @@ static void note_page(removal *it, const key_page *page, int is_first) {
         note_field(it->took.upto, &it->took.upto_length, it->asked.falls ? begin : end);
 }
 
-/* Takes up to so many pairs, and returns how many. A reply begins once a page is there. */
-static uint64_t take_portion(opened *of, removal *it, uint64_t most) {
+/* Takes a portion, and returns how many pairs. A reply begins once a page is there. */
+static uint64_t take_portion(opened *of, removal *it, portion left) {
     static key_page page;
     uint64_t taken = 0;
-    most = most < it->asked.limit ? most : it->asked.limit;
     it->is_done = it->asked.is_empty || it->asked.limit == 0;
-    while (!it->is_done && taken < most) {
-        if (!list_next(of, it, most - taken, &page)) {
+    while (!it->is_done && left.pairs > 0 && left.bytes > 0) {
+        if (!list_next(of, it, &left, &page)) {
             it->is_done = 1;
             break;
         }
@@ -110,9 +124,9 @@ static void end_reply(removal *it) {
 }
 
 /* Takes a portion that replicas take by its fields: they are all that there are from the least to the greatest. */
-static void take_and_tell(opened *of, removal *it, uint64_t most, const char *event) {
+static void take_and_tell(opened *of, removal *it, portion left, const char *event) {
     char least[1 + HOT_MAX_KEY] = "[", greatest[1 + HOT_MAX_KEY] = "[";
-    if (take_portion(of, it, most) == 0)
+    if (take_portion(of, it, left) == 0)
         return;
     memcpy(least + 1, it->took.from, it->took.from_length);
     memcpy(greatest + 1, it->took.upto, it->took.upto_length);
@@ -121,23 +135,27 @@ static void take_and_tell(opened *of, removal *it, uint64_t most, const char *ev
     tell(of, event);
 }
 
-/* Takes up to so many named fields, and has replicas take the same. */
-static void take_next_named(opened *of, removal *it, uint64_t most) {
-    uint64_t at, count = most < it->named ? most : it->named, taken = 0;
+/* Takes a portion of the named fields, and has replicas take the same: as the command is written, if it goes as a whole. */
+static void take_next_named(opened *of, removal *it, portion left, int is_whole) {
+    RedisModuleString **first = it->names;
+    uint64_t before = it->taken;
     field fields[PAGE];
-    for (at = 0; at < count; at++) {
-        fields[at % PAGE] = field_of(it->names[at]);
-        if (at % PAGE == PAGE - 1 || at + 1 == count)
-            taken += take_fields(of, fields, at % PAGE + 1);
+    while (it->named > 0 && of->now != NULL && left.pairs > 0 && left.bytes > 0) {
+        size_t at, count = it->named < PAGE ? it->named : PAGE;
+        for (at = 0; at < count; at++)
+            fields[at] = field_of(it->names[at]);
+        count = take_fields(of, fields, count, &left, &it->taken);
+        it->names += count;
+        it->named -= count;
     }
-    it->is_done = count == it->named || of->now == NULL || map_length(of->now) == 0;
-    if (taken > 0) {
-        RedisModule_Replicate(of->ctx, "om.del", "sv", of->name, it->names, (size_t)count);
-        tell(of, "om.del");
-    }
-    it->taken += taken;
-    it->names += count;
-    it->named -= count;
+    it->is_done = it->named == 0 || of->now == NULL || map_length(of->now) == 0;
+    if (it->taken == before)
+        return;
+    if (is_whole && it->is_done)
+        RedisModule_ReplicateVerbatim(of->ctx);
+    else
+        RedisModule_Replicate(of->ctx, "om.del", "sv", of->name, first, (size_t)(it->names - first));
+    tell(of, "om.del");
 }
 
 /* ---- Long removals ---- */
@@ -185,9 +203,9 @@ static int is_elsewhere(RedisModuleCtx *ctx, RedisModuleString *name) {
 static void take_next(opened *key, long_removal *of) {
     uint64_t before = of->it.taken;
     if (of->count > 0)
-        take_next_named(key, &of->it, at_once(key->now));
+        take_next_named(key, &of->it, at_once, 0);
     else
-        take_and_tell(key, &of->it, at_once(key->now), of->event);
+        take_and_tell(key, &of->it, at_once, of->event);
     note_at_once(of->it.taken - before);
 }
 
@@ -268,46 +286,35 @@ static int wait_for_rest(const opened *of, const removal *it, const char *event)
     return 1;
 }
 
-/* How many pairs a command takes in one go: all, where its client can't wait. */
-static uint64_t first_portion(const opened *of) {
-    return may_wait(of->ctx) ? at_once(of->now) : UINT64_MAX;
-}
-
 /* ---- Commands ---- */
 
-void take_named(opened *of, RedisModuleString **names, const field *fields, size_t count) {
+void take_named(opened *of, RedisModuleString **names, size_t count) {
     removal it = removal_of_all(of->ctx);
-    uint64_t portion = first_portion(of);
+    int may = may_wait(of->ctx);
     it.names = names;
     it.named = count;
-    if (of->now != NULL && count > portion) {
-        take_next_named(of, &it, portion);
-        if (!it.is_done && wait_for_rest(of, &it, "om.del"))
-            return;
-        if (!it.is_done)
-            take_next_named(of, &it, UINT64_MAX);
-    } else {
-        it.taken = take_fields(of, fields, count);
-        if (it.taken > 0)
-            finish(of, "om.del");
-    }
-    if (portion < UINT64_MAX)
+    take_next_named(of, &it, may ? at_once : everything, 1);
+    if (may)
         note_at_once(it.taken);
+    if (!it.is_done && wait_for_rest(of, &it, "om.del"))
+        return;
+    if (!it.is_done)
+        take_next_named(of, &it, everything, 0);
     end_reply(&it);
 }
 
 static void pop_from_key(opened *of, removal *it, const char *name) {
-    uint64_t length = of->now == NULL ? 0 : map_length(of->now), most = first_portion(of);
-    if (length > most && it->asked.limit > most && wait_for_rest(of, it, name))
+    int may = may_wait(of->ctx);
+    if (may && of->now != NULL && is_long(of->now, &it->asked) && wait_for_rest(of, it, name))
         return;
-    take_portion(of, it, UINT64_MAX);
+    take_portion(of, it, everything);
     /* Replicas take as many as were taken here. */
     if (it->taken > 0) {
         RedisModule_Replicate(of->ctx, name, "sl", of->name, (long long)it->taken);
         tell(of, name);
     }
     end_reply(it);
-    if (most < UINT64_MAX)
+    if (may)
         note_at_once(it->taken);
 }
 
@@ -347,14 +354,14 @@ static int is_all(const removal *it, const map *of) {
 
 /* Removes a range of a key, whose ends are the words of a command, and replies. */
 static void take_from_key(opened *of, RedisModuleString *least, RedisModuleString *most, removal *it) {
-    uint64_t portion = first_portion(of);
+    int may = may_wait(of->ctx);
     if (is_all(it, of->now)) {
         it->taken = map_length(of->now);
         it->is_done = 1;
         of->now = NULL;
     } else {
-        take_portion(of, it, portion);
-        if (portion < UINT64_MAX)
+        take_portion(of, it, may ? at_once : everything);
+        if (may)
             note_at_once(it->taken);
     }
     if (it->taken > 0) {
@@ -364,7 +371,7 @@ static void take_from_key(opened *of, RedisModuleString *least, RedisModuleStrin
     if (!it->is_done && wait_for_rest(of, it, "om.delrange"))
         return;
     if (!it->is_done)
-        take_and_tell(of, it, UINT64_MAX, "om.delrange");
+        take_and_tell(of, it, everything, "om.delrange");
     end_reply(it);
 }
 

@@ -7,7 +7,7 @@
 #include "server.h"
 
 /* Removes the fields that the words of a command name, and replies with how many there were. */
-void take_named(opened *of, RedisModuleString **names, const field *fields, size_t count);
+void take_named(opened *of, RedisModuleString **names, size_t count);
 
 int om_popmin(RedisModuleCtx *ctx, RedisModuleString **argv, int argc);
 int om_popmax(RedisModuleCtx *ctx, RedisModuleString **argv, int argc);

@@ -220,6 +220,10 @@ void word_free(word of) {
         RedisModule_Free(long_text_of(of));
 }
 
+size_t word_length(word of) {
+    return word_kind(of) == LONG_TEXT ? long_text_of(of)->length : sizeof of;
+}
+
 size_t word_bytes(word of) {
     return word_kind(of) == LONG_TEXT ? RedisModule_MallocSize(long_text_of(of)) : 0;
 }

@@ -34,6 +34,9 @@ int word_make(text of, word *to);
 void word_free(word of);
 size_t word_bytes(word of);
 
+/* How many bytes its text has, if that has memory of its own; else 8, which is about as many. */
+size_t word_length(word of);
+
 /* Reads a whole number of 64 bits: 1 if the text is as such a number is written. */
 int read_number(text of, int64_t *to);
 size_t write_number(int64_t of, char *room);

@@ -237,6 +237,28 @@ class Portions(unittest.TestCase):
             self.assertEqual(server.run("OM.DELRANGE", "m", "-", "[f0498"), 99)
             self.assertLessEqual(server.figure("ordered_map_most_pairs_at_once"), 128)
 
+    def test_few_long_values(self) -> None:
+        """Nor through more than 1 MB of them, however short the others are."""
+        long = {b"l%02d" % at: b"%02d" % at * 500_000 for at in range(12)}
+        fields, pairs = list(long), flat(list(long.items()))
+        short = {b"f%07d" % at: b"%d" % at for at in range(20_000)}
+        reads: "list[tuple[tuple[object, ...], object]]" = [
+            (("OM.RANGE", "m", "[l", "+", "WITHVALUES"), pairs),
+            (("OM.RANGE", "m", "-", "(l05", "REV", "LIMIT", 2, 600, "WITHVALUES"), flat(list((short | long).items())[20_002:19_402:-1])),
+            (("OM.PREFIX", "m", "l", "WITHVALUES", "LIMIT", 3, 2), pairs[6:10]),
+            (("OM.SCAN", "m", 0, "COUNT", 100, "PREFIX", "l"), [b"0", pairs]),
+            (("OM.MGET", "m", *fields), pairs[1::2]),
+        ]
+        with Server() as server:
+            fill(server, "m", short | long)
+            for words, expected in reads:
+                self.assertEqual(server.run(*words), expected, words[:4])
+            self.assertEqual(server.run("OM.POPMAX", "m", 3), flat(list(reversed(list(long.items())[-3:]))))
+            self.assertEqual(server.run("OM.DELRANGE", "m", "[l", "[l04"), 5)
+            self.assertEqual(server.run("OM.DEL", "m", *fields), 4)
+            self.assertLessEqual(server.figure("ordered_map_most_pairs_at_once"), 2)
+            self.assertEqual(server.figure("ordered_map_reads"), len(reads))
+
     def until_caught(self, attempt: "Callable[[], bool]") -> None:
         """Tries until a removal has not ended before what is to come between: on a busy machine it may have."""
         self.assertTrue(any(attempt() for _ in range(20)))
