@@ -41,6 +41,12 @@ int may_wait(RedisModuleCtx *ctx) {
     return (RedisModule_GetContextFlags(ctx) & (IN_LUA | IN_MULTI | IS_REPLICATED | IS_LOADING | DENIES_BLOCKING)) == 0;
 }
 
+int is_tracking(RedisModuleCtx *ctx) {
+    RedisModuleClientInfo info = {.version = 1};
+    return RedisModule_GetClientInfoById(&info, RedisModule_GetClientId(ctx)) == REDISMODULE_OK &&
+           (info.flags & CLIENT_TRACKS) != 0;
+}
+
 void note_at_once(uint64_t pairs) {
     if (pairs > most_at_once)
         most_at_once = pairs;

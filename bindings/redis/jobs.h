@@ -21,6 +21,10 @@ extern atomic_ullong read_count, gone_count;
 /* Whether the client of a command may wait: not in MULTI and scripts, nor where the command comes from another server or a file. */
 int may_wait(RedisModuleCtx *ctx);
 
+/* Whether the client of a command tracks keys. A job's reply would come behind what it is told of changes meanwhile, and the client
+ * would keep that reply for good: so it is read for by the main thread. */
+int is_tracking(RedisModuleCtx *ctx);
+
 /* How many pairs a command has had the main thread go through in one go at most, if its client might have waited. */
 extern unsigned long long most_at_once;
 void note_at_once(uint64_t pairs);

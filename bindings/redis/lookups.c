@@ -57,6 +57,12 @@ static int give_to_job(RedisModuleCtx *ctx, map *of, const hot_lookup *lookups, 
     return 1;
 }
 
+/* Has a job reply, unless the client tracks keys. */
+static int is_given(RedisModuleCtx *ctx, map *of, const hot_lookup *lookups, size_t count, int *tracks) {
+    *tracks = is_tracking(ctx);
+    return !*tracks && give_to_job(ctx, of, lookups, count);
+}
+
 /* Whether what was found has more bytes than the main thread goes through in one go. */
 static int is_heavy(const map *of, const hot_lookup *lookups, size_t count) {
     uint64_t bytes = 0;
@@ -68,19 +74,19 @@ static int is_heavy(const map *of, const hot_lookup *lookups, size_t count) {
 }
 
 int reply_with_values(RedisModuleCtx *ctx, map *of, hot_lookup *lookups, size_t count) {
-    int may = may_wait(ctx), may_give = of != NULL && of->form == INDEXED && may && jobs_threads() > 0;
+    int may = may_wait(ctx), may_give = of != NULL && of->form == INDEXED && may && jobs_threads() > 0, tracks = 0;
     size_t at;
-    if (may_give && count > at_once.pairs && give_to_job(ctx, of, lookups, count))
+    if (may_give && count > at_once.pairs && is_given(ctx, of, lookups, count, &tracks))
         return REDISMODULE_OK;
     for (at = 0; of == NULL && at < count; at++)
         lookups[at].status = HOT_ABSENT;
     if (of != NULL)
         map_get_many(of, lookups, count);
-    if (may_give && is_heavy(of, lookups, count) && give_to_job(ctx, of, lookups, count))
+    if (may_give && is_heavy(of, lookups, count) && is_given(ctx, of, lookups, count, &tracks))
         return REDISMODULE_OK;
     RedisModule_ReplyWithArray(ctx, (long)count);
     reply_with_found(ctx, lookups, count);
-    if (of != NULL && may)
+    if (of != NULL && may && !tracks)
         note_at_once(count);
     return REDISMODULE_OK;
 }

@@ -294,14 +294,17 @@ int reply_with_range(RedisModuleCtx *ctx, map *of, const range_request *asked) {
     static key_page page;
     listing it = {ctx, of, NULL, NULL, *asked, 0, 0, &page};
     hot_status status;
+    int is_far, tracks;
     if (of == NULL || asked->is_empty || asked->limit == 0)
         return reply_with_none(ctx, asked);
     it.handle = map_handle(of);
     status = list_next(&it);
-    if (status == HOT_DONE && jobs_threads() > 0 && may_wait(ctx) && goes_far(of, &it) && give_to_job(ctx, of, asked))
+    is_far = status == HOT_DONE && jobs_threads() > 0 && may_wait(ctx) && goes_far(of, &it);
+    tracks = is_far && is_tracking(ctx);
+    if (is_far && !tracks && give_to_job(ctx, of, asked))
         return REDISMODULE_OK;
     reply_with_first(&it, status);
-    if (may_wait(ctx))
+    if (may_wait(ctx) && !tracks)
         note_at_once(it.listed);
     return REDISMODULE_OK;
 }

@@ -38,6 +38,14 @@ enum {
  * replicas or the role of the server forbid, and `M` what memory forbids. `0` is the client's protocol. */
 #define CALL_AS_CLIENT "!CSM0"
 
+/* What is said of a client, in version 1, and a flag of it: it keeps what it reads, and is told of changes. */
+typedef struct RedisModuleClientInfo {
+    uint64_t version, flags, id;
+    char addr[46];
+    uint16_t port, db;
+} RedisModuleClientInfo;
+enum { CLIENT_TRACKS = 1 << 3 };
+
 /* Kinds of events of a keyspace. */
 enum { NOTIFY_GENERIC = 1 << 2, NOTIFY_MODULE = 1 << 13 };
 
@@ -182,6 +190,8 @@ typedef struct RedisModuleTypeMethods {
     X(RedisModuleCallReply *, Call, (RedisModuleCtx * ctx, const char *command, const char *form, ...))                            \
     X(int, ReplyWithCallReply, (RedisModuleCtx * ctx, RedisModuleCallReply * reply))                                               \
     X(void, FreeCallReply, (RedisModuleCallReply * reply))                                                                         \
+    X(unsigned long long, GetClientId, (RedisModuleCtx * ctx))                                                                     \
+    X(int, GetClientInfoById, (RedisModuleClientInfo * to, uint64_t client))                                                       \
     X(int, AvoidReplicaTraffic, (void))                                                                                            \
     X(int, BlockedClientMeasureTimeStart, (RedisModuleBlockedClient * client))                                                     \
     X(int, BlockedClientMeasureTimeEnd, (RedisModuleBlockedClient * client))                                                       \

@@ -31,11 +31,11 @@ def say_untraced() -> None:
 
 
 @contextlib.contextmanager
-def held_resizer(server: Server) -> "Iterator[None]":
-    """The server's thread that makes tables stands still."""
+def held(server: Server, name: str) -> "Iterator[None]":
+    """A thread of the server stands still."""
     assert server.process is not None
     tasks = Path(f"/proc/{server.process.pid}/task").iterdir()
-    thread = next(int(task.name) for task in tasks if (task / "comm").read_text() == "map_resizer\n")
+    thread = next(int(task.name) for task in tasks if (task / "comm").read_text() == name + "\n")
     if trace(SEIZE, thread, None, None) != 0:
         say_untraced()
         raise unittest.SkipTest(os.strerror(ctypes.get_errno()))
@@ -68,7 +68,7 @@ class Client:
 
     def reply(self) -> Any:
         line = self.replies.readline().rstrip()
-        if line[:1] in (b"*", b"%"):
+        if line[:1] in (b"*", b"%", b">"):
             return [self.reply() for _ in range(int(line[1:]) * (1 + (line[:1] == b"%")))]
         if line[:1] == b"$" and line != b"$-1":
             return self.replies.read(int(line[1:]) + 2)[:-2]
@@ -123,7 +123,7 @@ def replies_behind(server: Server, name: str, meanwhile: "Callable[[], object]",
     """What such commands reply with, where something comes before their table. The last client has the newer protocol."""
     with clients_of(server, 4, asks) as clients:
         clients[3].run("HELLO", 3)
-        with held_resizer(server):
+        with held(server, "map_resizer"):
             wait_for_table(server, name, clients)
             meanwhile()
         return [client.reply() for client in clients]
@@ -195,6 +195,24 @@ class Waits(unittest.TestCase):
             for said, made, refused in zip(replies_behind(server, "m", come_between), MADE, REFUSED):
                 self.assertIn(said, (made, refused))
             self.assertEqual(pausing.reply(), "+OK")
+
+
+class Tracking(unittest.TestCase):
+    def test_long_reads(self) -> None:
+        """A client that tracks keys is told of a change behind what it has read before: else it would keep that for good."""
+        pairs = numbers(5_000)
+        with Server("--ordered_map.threads", "1") as server, clients_of(server, 1) as [client]:
+            fill(server, "m", pairs | {b"long": b"x" * 2_000_000})
+            client.run("HELLO", 3)
+            client.run("CLIENT", "TRACKING", "ON")
+            for words in [("RANGE", "-", "+"), ("PREFIX", "f"), ("COUNT", "-", "+"), ("MGET", *pairs), ("MGET", "long"), ("SCAN", 0, "PREFIX", "l")]:
+                with held(server, "map_reader"):
+                    client.send(f"OM.{words[0]}", "m", *words[1:])
+                    while not client.has_reply(0.01) and not server.client.info("clients")["blocked_clients"]:
+                        pass
+                    server.run("OM.ADD", "m", "counter", 1)
+                said = [client.reply(), client.reply()]
+                self.assertEqual(said[1], [b"invalidate", [b"m"]], words[0])
 
 
 class Moves(unittest.TestCase):
