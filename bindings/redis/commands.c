@@ -49,14 +49,14 @@ static void give_room(void *few, void *room) {
 /* ---- Single fields ---- */
 
 /* Makes a change, and returns 1; or 0, with a reply where it is refused, or where the client waits and the command is run again. */
-static int change_pairs(RedisModuleCtx *ctx, RedisModuleString *name, setting *it, const char *event) {
+static int change_pairs(RedisModuleCtx *ctx, RedisModuleString *name, setting *it, const char *event, RedisModuleCmdFunc *run) {
     opened of;
     hot_status status;
     if (is_full(ctx))
         return refuse_memory(ctx);
     if (!open_key(&of, ctx, name, REDISMODULE_READ | REDISMODULE_WRITE))
         return 0;
-    if (wait_for_table(ctx, of.was, it->count)) {
+    if (wait_for_table(ctx, of.was, it->count, run)) {
         close_key(&of);
         return 0;
     }
@@ -83,7 +83,7 @@ static int om_set(RedisModuleCtx *ctx, RedisModuleString **argv, int argc) {
     if (!take_room(ctx, argc, few, sizeof *few, &room))
         return REDISMODULE_OK;
     it.words = room;
-    if (read_fields(ctx, argv + 2, (int)it.count * 2, 1, room) && change_pairs(ctx, argv[1], &it, "om.set"))
+    if (read_fields(ctx, argv + 2, (int)it.count * 2, 1, room) && change_pairs(ctx, argv[1], &it, "om.set", om_set))
         RedisModule_ReplyWithLongLong(ctx, (long long)(it.which == HELD_FIELD ? it.set : it.new_fields));
     give_room(few, room);
     return REDISMODULE_OK;
@@ -196,7 +196,7 @@ static int om_add(RedisModuleCtx *ctx, RedisModuleString **argv, int argc) {
         return RedisModule_ReplyWithError(ctx, "ERR increment or decrement would overflow");
     words[1].at = (const uint8_t *)room;
     words[1].length = write_number(number, room);
-    if (change_pairs(ctx, argv[1], &it, "om.add"))
+    if (change_pairs(ctx, argv[1], &it, "om.add", om_add))
         RedisModule_ReplyWithLongLong(ctx, number);
     return REDISMODULE_OK;
 }
@@ -231,9 +231,20 @@ static int om_cas(RedisModuleCtx *ctx, RedisModuleString **argv, int argc) {
     is_same = is_held(ctx, argv, words[0]);
     if (is_same == -1)
         return RedisModule_ReplyWithNull(ctx);
-    if (is_same == -2 || (is_same == 1 && !change_pairs(ctx, argv[1], &it, "om.cas")))
+    if (is_same == -2 || (is_same == 1 && !change_pairs(ctx, argv[1], &it, "om.cas", om_cas)))
         return REDISMODULE_OK;
     return RedisModule_ReplyWithLongLong(ctx, is_same);
+}
+
+/* A change of nothing. */
+static int om_may(RedisModuleCtx *ctx, RedisModuleString **argv, int argc) {
+    opened of;
+    if (argc != 2)
+        return RedisModule_WrongArity(ctx);
+    if (!open_key(&of, ctx, argv[1], REDISMODULE_READ))
+        return REDISMODULE_OK;
+    close_key(&of);
+    return RedisModule_ReplyWithLongLong(ctx, 1);
 }
 
 static int om_len(RedisModuleCtx *ctx, RedisModuleString **argv, int argc) {
@@ -393,20 +404,22 @@ typedef struct command {
 static const command commands[] = {
     {"om.set", om_set, "write deny-oom fast", -4, KEY_RW | KEY_UPDATE, "Sets fields of an ordered map", "O(k) a field"},
     {"om.get", om_get, "readonly fast", 3, KEY_RO | KEY_ACCESS, "Returns the value of a field", "O(k)"},
-    {"om.mget", om_mget, "readonly fast", -3, KEY_RO | KEY_ACCESS, "Returns the values of fields", "O(k) a field"},
+    {"om.mget", om_mget, "readonly", -3, KEY_RO | KEY_ACCESS, "Returns the values of fields", "O(k) a field"},
     {"om.del", om_del, "write fast", -3, KEY_RW | KEY_DELETE, "Removes fields", "O(k) a field"},
     {"om.add", om_add, "write deny-oom fast", 4, KEY_RW | KEY_ACCESS | KEY_UPDATE, "Adds to the integer of a field", "O(k)"},
     {"om.cas", om_cas, "write deny-oom fast", 5, KEY_RW | KEY_ACCESS | KEY_UPDATE, "Sets a field if it has the expected value",
      "O(k)"},
+    {"om.may", om_may, "write deny-oom fast", 2, KEY_RW | KEY_UPDATE,
+     "Returns 1 where the server takes changes, else its refusal: what has waited asks it", "O(1)"},
     {"om.exists", om_exists, "readonly fast", 3, KEY_RO, "Says whether there is a field", "O(k)"},
     {"om.len", om_len, "readonly fast", 2, KEY_RO, "Counts the fields", "O(1)"},
     {"om.range", om_range, "readonly", -4, KEY_RO | KEY_ACCESS, "Lists fields of a range", "O(k + n)"},
     {"om.prefix", om_prefix, "readonly", -3, KEY_RO | KEY_ACCESS, "Lists fields with a prefix", "O(k + n)"},
     {"om.count", om_count, "readonly", 4, KEY_RO, "Counts the fields of a range", "O(k + n)"},
     {"om.scan", om_scan, "readonly", -3, KEY_RO | KEY_ACCESS, "Lists fields page by page", "O(k + n)"},
-    {"om.popmin", om_popmin, "write fast", -2, KEY_RW | KEY_ACCESS | KEY_DELETE, "Removes the first pairs and returns them",
+    {"om.popmin", om_popmin, "write", -2, KEY_RW | KEY_ACCESS | KEY_DELETE, "Removes the first pairs and returns them",
      "O(k) a pair"},
-    {"om.popmax", om_popmax, "write fast", -2, KEY_RW | KEY_ACCESS | KEY_DELETE, "Removes the last pairs and returns them",
+    {"om.popmax", om_popmax, "write", -2, KEY_RW | KEY_ACCESS | KEY_DELETE, "Removes the last pairs and returns them",
      "O(k) a pair"},
     {"om.delrange", om_delrange, "write", -4, KEY_RW | KEY_DELETE, "Removes the fields of a range", "O(k) a field"},
     {"om.stat", om_stat, "readonly fast", 2, KEY_RO, "Says how a map is stored", "O(1)"},

@@ -14,6 +14,7 @@ typedef struct RedisModuleBlockedClient RedisModuleBlockedClient;
 typedef struct RedisModuleDigest RedisModuleDigest;
 typedef struct RedisModuleCommand RedisModuleCommand;
 typedef struct RedisModuleInfoCtx RedisModuleInfoCtx;
+typedef struct RedisModuleUser RedisModuleUser;
 typedef struct RedisModuleCallReply RedisModuleCallReply;
 
 enum { REDISMODULE_OK, REDISMODULE_ERR };
@@ -34,9 +35,9 @@ enum {
     DENIES_BLOCKING = 1 << 21
 };
 
-/* Begins the form of a call that is made as by the client. `!` replicates it. `C` refuses what the user may not do, `S` what disk,
- * replicas or the role of the server forbid, and `M` what memory forbids. `0` is the client's protocol. */
-#define CALL_AS_CLIENT "!CSM0"
+/* Begins the form of a call that the server refuses as it refuses that of a client: `S` for its disk, replicas or role, `M` for
+ * memory. */
+#define CALL_REFUSABLE "SM"
 
 /* What is said of a client, in version 1, and a flag of it: it keeps what it reads, and is told of changes. */
 typedef struct RedisModuleClientInfo {
@@ -188,8 +189,12 @@ typedef struct RedisModuleTypeMethods {
     X(void, SetDisconnectCallback, (RedisModuleBlockedClient * client, RedisModuleDisconnectFunc * call))                          \
     X(uint64_t, CreateTimer, (RedisModuleCtx * ctx, long long milliseconds, RedisModuleTimerProc *call, void *of))                 \
     X(RedisModuleCallReply *, Call, (RedisModuleCtx * ctx, const char *command, const char *form, ...))                            \
-    X(int, ReplyWithCallReply, (RedisModuleCtx * ctx, RedisModuleCallReply * reply))                                               \
     X(void, FreeCallReply, (RedisModuleCallReply * reply))                                                                         \
+    X(void *, GetBlockedClientPrivateData, (RedisModuleCtx * ctx))                                                                 \
+    X(RedisModuleString *, GetCurrentUserName, (RedisModuleCtx * ctx))                                                             \
+    X(RedisModuleUser *, GetModuleUserFromUserName, (RedisModuleString * name))                                                    \
+    X(int, ACLCheckCommandPermissions, (RedisModuleUser * user, RedisModuleString * *argv, int argc))                              \
+    X(int, FreeModuleUser, (RedisModuleUser * user))                                                                               \
     X(unsigned long long, GetClientId, (RedisModuleCtx * ctx))                                                                     \
     X(int, GetClientInfoById, (RedisModuleClientInfo * to, uint64_t client))                                                       \
     X(int, AvoidReplicaTraffic, (void))                                                                                            \

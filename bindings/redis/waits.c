@@ -7,6 +7,7 @@ typedef struct waiting {
     struct waiting *next;
     indexed_map *of;
     RedisModuleBlockedClient *client;
+    RedisModuleCmdFunc *run;
     size_t pairs;
 } waiting;
 
@@ -25,7 +26,11 @@ static void go_on(waiting **at) {
     if (it->next == NULL)
         last_waiting = at;
     map_drop((map *)it->of);
-    RedisModule_UnblockClient(it->client, NULL);
+    RedisModule_UnblockClient(it->client, it);
+}
+
+static void free_waiting(RedisModuleCtx *ctx, void *it) {
+    (void)ctx;
     RedisModule_Free(it);
 }
 
@@ -46,32 +51,53 @@ static void take_turns(RedisModuleCtx *ctx, void *unused) {
         RedisModule_CreateTimer(ctx, PAUSE_MILLISECONDS, take_turns, NULL);
 }
 
-/* Has the server call a command that has waited. It refuses a call as it refuses the command of a client: for the slot of the key,
- * for the user, for memory, disk or replicas. Only a pause, which may come behind the command's turn, is looked for here. A command
- * that is called doesn't wait again. */
-static int run_again(RedisModuleCtx *ctx, RedisModuleString **argv, int argc) {
-    RedisModuleCallReply *reply = NULL;
-    if (!RedisModule_AvoidReplicaTraffic())
-        reply = RedisModule_Call(ctx, RedisModule_StringPtrLen(argv[0], NULL), CALL_AS_CLIENT "v", argv + 1, (size_t)argc - 1);
+/* Whether the user may still run a command. */
+static int is_allowed(RedisModuleCtx *ctx, RedisModuleString **argv, int argc) {
+    RedisModuleString *name = RedisModule_GetCurrentUserName(ctx);
+    RedisModuleUser *user = RedisModule_GetModuleUserFromUserName(name);
+    int is = user != NULL && RedisModule_ACLCheckCommandPermissions(user, argv, argc) == REDISMODULE_OK;
+    if (user != NULL)
+        RedisModule_FreeModuleUser(user);
+    RedisModule_FreeString(ctx, name);
+    return is;
+}
+
+/* Whether the server still takes a change of a key. It refuses a call for the slot of the key, for memory, disk or replicas. A
+ * pause, which may come behind the command's turn, is looked for here. */
+static int is_taken(RedisModuleCtx *ctx, RedisModuleString *name) {
+    RedisModuleCallReply *reply =
+        RedisModule_AvoidReplicaTraffic() ? NULL : RedisModule_Call(ctx, "om.may", CALL_REFUSABLE "s", name);
     if (reply == NULL)
-        return RedisModule_ReplyWithError(ctx, "TRYAGAIN the command has waited, and is refused by now");
-    RedisModule_ReplyWithCallReply(ctx, reply);
+        return 0;
     RedisModule_FreeCallReply(reply);
+    return 1;
+}
+
+/* Runs a command that has waited, and doesn't wait again. It is not called, since the server would count it twice. */
+static int is_again;
+static int run_again(RedisModuleCtx *ctx, RedisModuleString **argv, int argc) {
+    const waiting *it = RedisModule_GetBlockedClientPrivateData(ctx);
+    if (!is_allowed(ctx, argv, argc) || !is_taken(ctx, argv[1]))
+        return RedisModule_ReplyWithError(ctx, "TRYAGAIN the command has waited, and is refused by now");
+    is_again = 1;
+    it->run(ctx, argv, argc);
+    is_again = 0;
     return REDISMODULE_OK;
 }
 
-int wait_for_table(RedisModuleCtx *ctx, map *of, size_t more) {
+int wait_for_table(RedisModuleCtx *ctx, map *of, size_t more, RedisModuleCmdFunc *run) {
     waiting *it;
-    if (of == NULL || of->form == SMALL || !index_is_short((indexed_map *)of, more) || !may_wait(ctx))
+    if (is_again || of == NULL || of->form == SMALL || !index_is_short((indexed_map *)of, more) || !may_wait(ctx))
         return 0;
     it = RedisModule_TryAlloc(sizeof *it);
     if (it == NULL)
         return 0;
     it->next = NULL;
     it->of = (indexed_map *)of;
+    it->run = run;
     it->pairs = more;
     atomic_fetch_add(&it->of->uses, 1);
-    it->client = RedisModule_BlockClient(ctx, run_again, NULL, NULL, 0);
+    it->client = RedisModule_BlockClient(ctx, run_again, NULL, free_waiting, 0);
     if (first_waiting == NULL)
         RedisModule_CreateTimer(ctx, PAUSE_MILLISECONDS, take_turns, NULL);
     *last_waiting = it;

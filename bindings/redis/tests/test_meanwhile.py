@@ -151,6 +151,13 @@ class Waits(unittest.TestCase):
         self.assertEqual(self.behind("SET", "m", "text"), ["-WRONGTYPE Operation against a key holding the wrong kind of value"] * 4)
         self.assertEqual(self.server.client.get("m"), b"text")
 
+    def test_statistics(self) -> None:
+        """What has waited counts once."""
+        self.server.client.config_resetstat()
+        self.assertEqual(self.behind("PING"), MADE)
+        stats = self.server.client.info("commandstats")
+        self.assertEqual([stats[f"cmdstat_om.{name}"]["calls"] for name in ("add", "cas")], [1, 1])
+
     def test_refused(self) -> None:
         """What the server would refuse by then is refused, and has changed nothing."""
         for refuse, allow in [
