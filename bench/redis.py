@@ -3,7 +3,8 @@
 its own on loopback, and ends them.
 
 What a command takes is the time of a processor that the server's main thread was at it, with a client that has 64 commands under way. Fields have 15
-bytes, values are whole numbers of up to 9 digits, and a ZSET has the fields alone. It prints a line for each figure, which bench/room.py reads.
+bytes, values are whole numbers of up to 9 digits, and a ZSET has the fields alone. What memory takes is what is resident, but used_memory of maps of
+10 fields. It prints a line for each figure, which bench/room.py reads.
 """
 import argparse
 import os
@@ -20,6 +21,7 @@ sys.path.insert(0, str(Path(__file__).resolve().parent.parent / "bindings/redis/
 from plain import Plain, packed
 
 FIELDS = "fields of 15 bytes"
+SHORTER = "fields of 14 bytes"
 KINDS = {"map": "map", "HASH": "hash", "ZSET": "zset"}
 SET = {"map": b"OM.SET", "HASH": b"HSET", "ZSET": b"ZADD"}
 GET = {"map": b"OM.GET", "HASH": b"HGET", "ZSET": b"ZSCORE"}
@@ -88,8 +90,8 @@ class Server:
         return os.path.getsize(Path(self.folder.name) / "dump.rdb")
 
 
-def tell(what: str, count: int, figure: float) -> None:
-    print(f"{what}\t{FIELDS}\t{count}\t{figure:.2f}", flush=True)
+def tell(what: str, count: int, figure: float, fields: str = FIELDS) -> None:
+    print(f"{what}\t{fields}\t{count}\t{figure:.2f}", flush=True)
 
 
 def set_of(kind: str, at: int) -> bytes:
@@ -117,6 +119,28 @@ def measure_small(module: str) -> None:
                 commands.append(packed(SET[kind], b"t:%d" % of, *pairs))
             tell(f"map of 10 fields, us: {kind}", maps, server.timed(commands) / 1000)
             tell(f"map of 10 fields, bytes: {kind}", maps, (server.figure("used_memory") - before) / maps)
+
+
+def measure_first_index(module: str) -> None:
+    """What maps take on both sides of the size from which they have an index."""
+    maps = 400
+    for fields in (256, 257):
+        for kind in KINDS:
+            with Server(module) as server:
+                before = server.resident()
+                for of in range(maps):
+                    pairs = [word for at in range(fields) for word in pair_of(kind, of * fields + at)]
+                    server.client.run(SET[kind], b"t:%d" % of, *pairs)
+                tell(f"map of {fields} fields, bytes: {kind}", maps, (server.resident() - before) / maps)
+
+
+def measure_shorter(module: str, count: int) -> None:
+    """What a pair of a HASH takes whose field has a byte less: the server's allocator has a smaller block for it."""
+    with Server(module) as server:
+        before = server.resident()
+        server.client.run_all(packed(b"HSET", b"hash", field_of(at)[1:], value_of(at)) for at in range(count))
+        time.sleep(2)
+        tell("bytes a pair: HASH", count, (server.resident() - before) / count, SHORTER)
 
 
 def measure_large(module: str, count: int) -> None:
@@ -196,6 +220,8 @@ def main() -> None:
     if given.scan:
         scan(given.scan)
     measure_small(given.module)
+    measure_first_index(given.module)
+    measure_shorter(given.module, given.count)
     measure_large(given.module, given.count)
     with Server(given.module) as server:
         for kind in KINDS:
