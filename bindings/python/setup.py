@@ -3,6 +3,7 @@ lies in, or where the compiler finds it. An archive becomes part of the module."
 
 import os
 from pathlib import Path
+from tempfile import TemporaryDirectory
 
 from setuptools import Extension, setup
 
@@ -25,10 +26,19 @@ def library() -> dict[str, list[str]]:
 module = Extension(
     "hot._hot",
     sorted(str(file.relative_to(HERE)) for file in HERE.glob("native/*.c")),
-    depends=sorted(str(file.relative_to(HERE)) for file in HERE.glob("native/*.h")),
     extra_compile_args=["-std=c11", "-fvisibility=hidden"],
     extra_link_args=["-Wl,--exclude-libs,ALL", "-pthread"],
     py_limited_api=True,
     **library(),
 )
-setup(ext_modules=[module], options={"bdist_wheel": {"py_limited_api": "cp39"}})
+# It is compiled anew each time, apart from the sources: what an earlier build left may
+# have another library in it.
+with TemporaryDirectory(prefix="hot-") as room:
+    setup(
+        ext_modules=[module],
+        options={
+            "bdist_wheel": {"py_limited_api": "cp39"},
+            "build": {"build_base": room},
+            "build_ext": {"force": True},
+        },
+    )
