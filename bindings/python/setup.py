@@ -37,7 +37,7 @@ with TemporaryDirectory(prefix="hot-") as room:
     setup(
         ext_modules=[module],
         options={
-            "bdist_wheel": {"py_limited_api": "cp39"},
+            "bdist_wheel": {"py_limited_api": "cp310"},
             "build": {"build_base": room},
             "build_ext": {"force": True},
         },

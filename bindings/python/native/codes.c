@@ -48,53 +48,22 @@ int code_own(code *to, PyObject *owner) {
     return 0;
 }
 
-/* Writes a code point beyond ASCII as UTF-8 does, a surrogate like any other: how many bytes that takes. */
-static size_t put_point(uint8_t *to, Py_UCS4 point) {
-    if (point < 0x800) {
-        to[0] = (uint8_t)(0xc0 | point >> 6);
-        to[1] = (uint8_t)(0x80 | (point & 0x3f));
-        return 2;
-    }
-    if (point < 0x10000) {
-        to[0] = (uint8_t)(0xe0 | point >> 12);
-        to[1] = (uint8_t)(0x80 | (point >> 6 & 0x3f));
-        to[2] = (uint8_t)(0x80 | (point & 0x3f));
-        return 3;
-    }
-    to[0] = (uint8_t)(0xf0 | point >> 18);
-    to[1] = (uint8_t)(0x80 | (point >> 12 & 0x3f));
-    to[2] = (uint8_t)(0x80 | (point >> 6 & 0x3f));
-    to[3] = (uint8_t)(0x80 | (point & 0x3f));
-    return 4;
-}
-
-/* The order of these bytes is that of the code points, as of str. */
+/* The order of these bytes is that of the code points, as of str. Those of a str with surrogates, which UTF-8 lacks, are made for each call. */
 int code_str(PyObject *key, code *to, const char *wanted) {
-    enum { LONGEST_POINT = 4 };
-    Py_UCS4 points[HOT_MAX_KEY];
+    Py_ssize_t length;
     to->owner = NULL;
     if (!PyUnicode_Check(key))
         return raise_type(wanted, key);
-    Py_ssize_t count = PyUnicode_GetLength(key);
-    if (count < 0)
-        return -1;
-    if (count <= HOT_MAX_KEY) {
-        if (count && !PyUnicode_AsUCS4(key, points, HOT_MAX_KEY, 0))
-            return -1;
-        size_t length = 0;
-        Py_ssize_t at = 0;
-        for (; at < count && length + LONGEST_POINT <= HOT_MAX_KEY; at++) {
-            if (points[at] < 0x80)
-                to->room[length++] = (uint8_t)points[at];
-            else
-                length += put_point(to->room + length, points[at]);
-        }
-        if (at == count) {
-            to->bytes = to->room;
-            to->length = length;
-            return 0;
-        }
+    to->bytes = (const uint8_t *)PyUnicode_AsUTF8AndSize(key, &length);
+    if (to->bytes) {
+        to->length = (size_t)length;
+        Py_INCREF(key);
+        to->owner = key;
+        return 0;
     }
+    if (!PyErr_ExceptionMatches(PyExc_UnicodeEncodeError))
+        return -1;
+    PyErr_Clear();
     return code_own(to, PyUnicode_AsEncodedString(key, "utf-8", "surrogatepass"));
 }
 

@@ -189,19 +189,19 @@ PyTypeObject *map_type(PyObject *it) {
 }
 
 static PyMethodDef methods[] = {
-    {"get", METHOD(map_get), METH_VARARGS | METH_KEYWORDS, "get($self, key, default=None)\n--\n\nThe key's value, or the default."},
-    {"setdefault", METHOD(map_setdefault), METH_VARARGS | METH_KEYWORDS,
+    {"get", METHOD(map_get), METH_FASTCALL | METH_KEYWORDS, "get($self, key, default=None)\n--\n\nThe key's value, or the default."},
+    {"setdefault", METHOD(map_setdefault), METH_FASTCALL | METH_KEYWORDS,
      "setdefault($self, key, default=None)\n--\n\nThe key's value, after it was set to the default if it was absent."},
-    {"pop", METHOD(map_pop), METH_VARARGS | METH_KEYWORDS,
+    {"pop", METHOD(map_pop), METH_FASTCALL | METH_KEYWORDS,
      "pop($self, key, *default)\n--\n\nDeletes a key: its value, or the default if it was absent."},
-    {"exchange", METHOD(map_exchange), METH_VARARGS | METH_KEYWORDS,
+    {"exchange", METHOD(map_exchange), METH_FASTCALL | METH_KEYWORDS,
      "exchange($self, key, expected, value)\n--\n\nSets a key if it has the expected value: whether it had."},
-    {"remove_if", METHOD(map_remove_if), METH_VARARGS | METH_KEYWORDS,
+    {"remove_if", METHOD(map_remove_if), METH_FASTCALL | METH_KEYWORDS,
      "remove_if($self, key, expected)\n--\n\nDeletes a key if it has the expected value: whether it had."},
-    {"add", METHOD(map_add), METH_VARARGS | METH_KEYWORDS,
+    {"add", METHOD(map_add), METH_FASTCALL | METH_KEYWORDS,
      "add($self, key, number=1)\n--\n\nAdds to the value of a key that is there, and returns the one before. It raises KeyError\n"
      "if the key is absent. No other thread's addition is lost."},
-    {"fetch_add", METHOD(map_fetch_add), METH_VARARGS | METH_KEYWORDS,
+    {"fetch_add", METHOD(map_fetch_add), METH_FASTCALL | METH_KEYWORDS,
      "fetch_add($self, key, number=1)\n--\n\nAdds to the key's value, or to 0 if it is absent, and returns the one before. No "
      "other\n"
      "thread's addition is lost."},

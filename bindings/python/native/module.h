@@ -2,8 +2,8 @@
 #ifndef MODULE_H
 #define MODULE_H
 
-/* One binary for Python 3.9 and all later versions. */
-#define Py_LIMITED_API 0x03090000
+/* One binary for Python 3.10 and all later versions. */
+#define Py_LIMITED_API 0x030A0000
 #define PY_SSIZE_T_CLEAN
 #include <Python.h>
 
@@ -30,7 +30,7 @@ typedef struct codec {
     PyObject *kinds, *encode, *decode;
 } codec;
 
-/* A key's bytes: in `room`, or those of `owner`, which is a bytes object. */
+/* A key's bytes: in `room`, or those of `owner`, a bytes object or a str. */
 typedef struct code {
     const uint8_t *bytes;
     size_t length;
@@ -120,13 +120,13 @@ void map_forked(void);
 PyObject *map_subscript(PyObject *self, PyObject *key);
 int map_contains(PyObject *self, PyObject *key);
 int map_ass_subscript(PyObject *self, PyObject *key, PyObject *value);
-PyObject *map_get(PyObject *self, PyObject *words, PyObject *named);
-PyObject *map_setdefault(PyObject *self, PyObject *words, PyObject *named);
-PyObject *map_pop(PyObject *self, PyObject *words, PyObject *named);
-PyObject *map_exchange(PyObject *self, PyObject *words, PyObject *named);
-PyObject *map_remove_if(PyObject *self, PyObject *words, PyObject *named);
-PyObject *map_add(PyObject *self, PyObject *words, PyObject *named);
-PyObject *map_fetch_add(PyObject *self, PyObject *words, PyObject *named);
+PyObject *map_get(PyObject *self, PyObject *const *words, Py_ssize_t count, PyObject *names);
+PyObject *map_setdefault(PyObject *self, PyObject *const *words, Py_ssize_t count, PyObject *names);
+PyObject *map_pop(PyObject *self, PyObject *const *words, Py_ssize_t count, PyObject *names);
+PyObject *map_exchange(PyObject *self, PyObject *const *words, Py_ssize_t count, PyObject *names);
+PyObject *map_remove_if(PyObject *self, PyObject *const *words, Py_ssize_t count, PyObject *names);
+PyObject *map_add(PyObject *self, PyObject *const *words, Py_ssize_t count, PyObject *names);
+PyObject *map_fetch_add(PyObject *self, PyObject *const *words, Py_ssize_t count, PyObject *names);
 PyObject *map_get_many(PyObject *self, PyObject *keys);
 PyObject *map_pairs(PyObject *self, PyObject *words);
 PyObject *map_count(PyObject *self, PyObject *words);

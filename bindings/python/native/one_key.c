@@ -97,11 +97,46 @@ static PyObject *value_or(int status, const key_call *what, PyObject *other) {
 
 /* ---- Methods for one key ---- */
 
-/* The words of a call, of which the second may be left out. Few calls name them, and the others needn't look for names. */
-static int key_and(PyObject *words, PyObject *named, const char *second, const char *call, PyObject **key, PyObject **other) {
-    char *names[] = {"key", (char *)(uintptr_t)second, NULL};
-    return named ? PyArg_ParseTupleAndKeywords(words, named, "O|O", names, key, other)
-                 : PyArg_UnpackTuple(words, call, 1, 2, key, other);
+/* A call and the names of its words: how many there are at most, and how many must be given. */
+typedef struct call_words {
+    const char *call, *names[3];
+    int most, least;
+} call_words;
+
+/* Puts a word that was named in its place: -1 with TypeError. */
+static int put_named(const call_words *of, PyObject *name, PyObject *word, PyObject **to) {
+    for (int at = 0; at < of->most; at++) {
+        if (PyUnicode_CompareWithASCIIString(name, of->names[at]) != 0)
+            continue;
+        if (to[at]) {
+            PyErr_Format(PyExc_TypeError, "%s() got multiple values for argument '%U'", of->call, name);
+            return -1;
+        }
+        to[at] = word;
+        return 0;
+    }
+    PyErr_Format(PyExc_TypeError, "%s() got an unexpected keyword argument '%U'", of->call, name);
+    return -1;
+}
+
+/* Takes the words of a call, of which the last ones may have names: -1 with TypeError. A word that is left out is NULL. */
+static int take_words(const call_words *of, PyObject *const *words, Py_ssize_t count, PyObject *names, PyObject **to) {
+    Py_ssize_t named = names ? PyTuple_Size(names) : 0;
+    if (count + named > of->most || count + named < of->least) {
+        PyErr_Format(PyExc_TypeError, "%s() takes from %d to %d arguments (%zd given)", of->call, of->least, of->most, count + named);
+        return -1;
+    }
+    for (int at = 0; at < of->most; at++)
+        to[at] = at < count ? words[at] : NULL;
+    for (Py_ssize_t at = 0; at < named; at++)
+        if (put_named(of, PyTuple_GetItem(names, at), words[count + at], to) < 0)
+            return -1;
+    for (int at = 0; at < of->least; at++)
+        if (!to[at]) {
+            PyErr_Format(PyExc_TypeError, "%s() missing required argument '%s'", of->call, of->names[at]);
+            return -1;
+        }
+    return 0;
 }
 
 PyObject *map_subscript(PyObject *self, PyObject *key) {
@@ -129,62 +164,64 @@ int map_ass_subscript(PyObject *self, PyObject *key, PyObject *value) {
     return status == HOT_REMOVED ? 0 : -1;
 }
 
-PyObject *map_get(PyObject *self, PyObject *words, PyObject *named) {
-    PyObject *key, *other = Py_None;
+PyObject *map_get(PyObject *self, PyObject *const *words, Py_ssize_t count, PyObject *names) {
+    static const call_words of = {"get", {"key", "default"}, 2, 1};
+    PyObject *to[2];
     key_call what;
     what.kind = GET;
-    if (!key_and(words, named, "default", "get", &key, &other))
+    if (take_words(&of, words, count, names, to) < 0)
         return NULL;
-    return value_or(call_if_known((map *)self, key, &what), &what, other);
+    return value_or(call_if_known((map *)self, to[0], &what), &what, to[1] ? to[1] : Py_None);
 }
 
-PyObject *map_setdefault(PyObject *self, PyObject *words, PyObject *named) {
-    PyObject *key, *other = Py_None;
+PyObject *map_setdefault(PyObject *self, PyObject *const *words, Py_ssize_t count, PyObject *names) {
+    static const call_words of = {"setdefault", {"key", "default"}, 2, 1};
+    PyObject *to[2];
     key_call what;
     what.kind = GET;
-    if (!key_and(words, named, "default", "setdefault", &key, &other))
+    if (take_words(&of, words, count, names, to) < 0)
         return NULL;
-    int status = call_if_known((map *)self, key, &what);
+    PyObject *other = to[1] ? to[1] : Py_None;
+    int status = call_if_known((map *)self, to[0], &what);
     if (status == HOT_ABSENT) {
         what.kind = INSERT;
-        status = set((map *)self, key, other, &what);
+        status = set((map *)self, to[0], other, &what);
         if (status == HOT_INSERTED)
             status = HOT_ABSENT;
     }
     return value_or(status, &what, other);
 }
 
-PyObject *map_pop(PyObject *self, PyObject *words, PyObject *named) {
-    PyObject *key, *other = NULL;
+PyObject *map_pop(PyObject *self, PyObject *const *words, Py_ssize_t count, PyObject *names) {
+    static const call_words of = {"pop", {"key", "default"}, 2, 1};
+    PyObject *to[2];
     key_call what;
     what.kind = REMOVE;
-    if (!key_and(words, named, "default", "pop", &key, &other))
+    if (take_words(&of, words, count, names, to) < 0)
         return NULL;
-    int status = call_if_known((map *)self, key, &what);
-    return status == HOT_ABSENT && !other ? raise_absent(key) : value_or(status, &what, other);
+    int status = call_if_known((map *)self, to[0], &what);
+    return status == HOT_ABSENT && !to[1] ? raise_absent(to[0]) : value_or(status, &what, to[1]);
 }
 
-PyObject *map_exchange(PyObject *self, PyObject *words, PyObject *named) {
-    static char *names[] = {"key", "expected", "value", NULL};
-    PyObject *key, *expected, *value;
+PyObject *map_exchange(PyObject *self, PyObject *const *words, Py_ssize_t count, PyObject *names) {
+    static const call_words of = {"exchange", {"key", "expected", "value"}, 3, 3};
+    PyObject *to[3];
     key_call what;
     what.kind = EXCHANGE;
-    if (!PyArg_ParseTupleAndKeywords(words, named, "OOO:exchange", names, &key, &expected, &value) ||
-        value_of(expected, &what.expected) < 0)
+    if (take_words(&of, words, count, names, to) < 0 || value_of(to[1], &what.expected) < 0)
         return NULL;
-    int status = set((map *)self, key, value, &what);
+    int status = set((map *)self, to[0], to[2], &what);
     return status < 0 ? NULL : PyBool_FromLong(status == HOT_EXCHANGED);
 }
 
-PyObject *map_remove_if(PyObject *self, PyObject *words, PyObject *named) {
-    static char *names[] = {"key", "expected", NULL};
-    PyObject *key, *expected;
+PyObject *map_remove_if(PyObject *self, PyObject *const *words, Py_ssize_t count, PyObject *names) {
+    static const call_words of = {"remove_if", {"key", "expected"}, 2, 2};
+    PyObject *to[2];
     key_call what;
     what.kind = REMOVE_IF;
-    if (!PyArg_ParseTupleAndKeywords(words, named, "OO:remove_if", names, &key, &expected) ||
-        value_of(expected, &what.expected) < 0)
+    if (take_words(&of, words, count, names, to) < 0 || value_of(to[1], &what.expected) < 0)
         return NULL;
-    int status = call_for((map *)self, key, &what);
+    int status = call_for((map *)self, to[0], &what);
     return status < 0 ? NULL : PyBool_FromLong(status == HOT_REMOVED);
 }
 
@@ -250,26 +287,30 @@ static int add(map *it, key_call *what, const addend *by, int puts) {
     }
 }
 
-static PyObject *added(PyObject *self, PyObject *words, PyObject *named, const char *name, int puts) {
-    PyObject *key, *number = NULL;
+/* Adds the second word, or 1 if it is left out. */
+static PyObject *added(PyObject *self, PyObject **words, int puts) {
     map *it = (map *)self;
     addend by = {.distance = 1};
     key_call what;
-    if (!key_and(words, named, "number", name, &key, &number) || code_of(&it->codec, key, &what.key) < 0)
+    if (code_of(&it->codec, words[0], &what.key) < 0)
         return NULL;
     int status = -1;
-    if (!number || addend_of(number, &by) == 0)
+    if (!words[1] || addend_of(words[1], &by) == 0)
         status = !puts && what.key.length > HOT_MAX_KEY ? HOT_ABSENT : add(it, &what, &by, puts);
     code_end(&what.key);
     if (status == HOT_ABSENT)
-        return raise_absent(key);
+        return raise_absent(words[0]);
     return status < 0 ? NULL : PyLong_FromUnsignedLongLong(status == HOT_INSERTED ? 0 : what.had);
 }
 
-PyObject *map_add(PyObject *self, PyObject *words, PyObject *named) {
-    return added(self, words, named, "add", 0);
+PyObject *map_add(PyObject *self, PyObject *const *words, Py_ssize_t count, PyObject *names) {
+    static const call_words of = {"add", {"key", "number"}, 2, 1};
+    PyObject *to[2];
+    return take_words(&of, words, count, names, to) < 0 ? NULL : added(self, to, 0);
 }
 
-PyObject *map_fetch_add(PyObject *self, PyObject *words, PyObject *named) {
-    return added(self, words, named, "fetch_add", 1);
+PyObject *map_fetch_add(PyObject *self, PyObject *const *words, Py_ssize_t count, PyObject *names) {
+    static const call_words of = {"fetch_add", {"key", "number"}, 2, 1};
+    PyObject *to[2];
+    return take_words(&of, words, count, names, to) < 0 ? NULL : added(self, to, 1);
 }

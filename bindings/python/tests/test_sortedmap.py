@@ -169,6 +169,36 @@ class Random(unittest.TestCase):
         self.assertGreaterEqual({*keys}, {"c"})
 
 
+class Words(unittest.TestCase):
+    def test_names(self):
+        """Words of calls may be named, and are as many as they take."""
+        mine = SortedMap({"a": 1})
+        self.assertEqual(mine.get("b", default=2), mine.get(default=2, key="b"))
+        self.assertEqual(
+            (mine.get(key="a"), mine.get("b"), mine.pop("b", 3)), (1, None, 3)
+        )
+        self.assertEqual((mine.setdefault("", default=5), mine.pop(key="")), (5, 5))
+        self.assertTrue(mine.exchange("a", value=2, expected=1))
+        self.assertFalse(mine.remove_if(expected=1, key="a"))
+        self.assertEqual((mine.add("a", number=3), mine.fetch_add(key="c")), (2, 0))
+        for call, words, names in [
+            (mine.get, (), {}),
+            (mine.get, (), {"default": 1}),
+            (mine.get, ("a", 1, 2), {}),
+            (mine.get, ("a",), {"key": "a"}),
+            (mine.get, ("a",), {"other": 1}),
+            (mine.get, ("a",), {"key\0": 1}),
+            (mine.pop, (), {}),
+            (mine.setdefault, ("a", 1), {"default": 1}),
+            (mine.exchange, ("a", 2), {}),
+            (mine.exchange, ("a", 2), {"expected": 3}),
+            (mine.remove_if, ("a",), {"number": 3}),
+            (mine.fetch_add, (), {"number": 3}),
+        ]:
+            self.assertRaises(TypeError, call, *words, **names)
+        self.assertEqual(mine, {"a": 5, "c": 1})
+
+
 class Refusals(unittest.TestCase):
     def test_values(self):
         mine = SortedMap({"a": 1})
