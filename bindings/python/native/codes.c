@@ -29,10 +29,15 @@ int codec_init(codec *it, PyObject *keys) {
 
 int raise_type(const char *wanted, PyObject *object) {
     PyObject *name = PyObject_GetAttrString((PyObject *)Py_TYPE(object), "__name__");
-    if (name)
-        PyErr_Format(PyExc_TypeError, "%s, not %S", wanted, name);
-    Py_XDECREF(name);
-    return -1;
+    if (!name)
+        return -1;
+    PyErr_Format(PyExc_TypeError, "%s, not %S", wanted, name);
+    Py_DECREF(name);
+    return NO_KEY;
+}
+
+int raised_by_number(void) {
+    return PyErr_ExceptionMatches(PyExc_OverflowError) ? NO_KEY : -1;
 }
 
 int code_own(code *to, PyObject *owner) {
@@ -101,7 +106,7 @@ static int code_int(PyObject *key, code *to) {
         return raise_type("a key must be int", key);
     long long number = PyLong_AsLongLong(key);
     if (number == -1 && PyErr_Occurred())
-        return -1;
+        return raised_by_number();
     put_word(to->room, (uint64_t)number + INT_ZERO, INT_BYTES);
     to->bytes = to->room;
     to->length = INT_BYTES;
@@ -129,12 +134,13 @@ int code_of(const codec *it, PyObject *key, code *to) {
 }
 
 int code_if_known(const codec *it, PyObject *key, code *to) {
-    if (code_of(it, key, to) < 0) {
-        if (!PyErr_ExceptionMatches(PyExc_TypeError) && !PyErr_ExceptionMatches(PyExc_OverflowError))
-            return -1;
+    int status = code_of(it, key, to);
+    if (status == NO_KEY) {
         PyErr_Clear();
         return PyObject_Hash(key) == -1 && PyErr_Occurred() ? -1 : 0;
     }
+    if (status < 0)
+        return -1;
     if (to->length <= HOT_MAX_KEY)
         return 1;
     code_end(to);

@@ -60,8 +60,10 @@ static uint64_t sign_of(const kind *of) {
     return (uint64_t)1 << (8 * of->size - 1);
 }
 
-/* The int as an unsigned number, whose order is that of the kind: -1 with an exception. */
+/* The int as an unsigned number, whose order is that of the kind: NO_KEY or -1 with an exception. */
 static int word_of_int(const kind *of, PyObject *value, uint64_t *word) {
+    if (!PyIndex_Check(value))
+        return raise_type("an int is wanted", value);
     PyObject *number = PyNumber_Index(value);
     if (!number)
         return -1;
@@ -71,11 +73,11 @@ static int word_of_int(const kind *of, PyObject *value, uint64_t *word) {
         *word = (uint64_t)PyLong_AsLongLong(number) + (of->form == SIGNED ? sign_of(of) : 0);
     Py_DECREF(number);
     if (PyErr_Occurred())
-        return -1;
+        return raised_by_number();
     if (of->size == sizeof *word || *word >> 8 * of->size == 0)
         return 0;
     PyErr_Format(PyExc_OverflowError, "the int is out of the range of %s", of->name);
-    return -1;
+    return NO_KEY;
 }
 
 /* The float in the same way: positive ones have the other sign bit, and negative ones have all bits turned. All zeros are one, and so is each
@@ -99,13 +101,30 @@ static uint64_t word_of_double(const kind *of, double number) {
     return bits & sign ? ~bits & (sign | (sign - 1)) : bits | sign;
 }
 
+/* Whether a number of another type is equal to the float that it becomes: 0, or NO_KEY or -1 with an exception. */
+static int is_same(PyObject *value, double number) {
+    PyObject *made = PyFloat_FromDouble(number);
+    int is_equal = made ? PyObject_RichCompareBool(value, made, Py_EQ) : -1;
+    Py_XDECREF(made);
+    if (is_equal)
+        return is_equal < 0 ? -1 : 0;
+    PyErr_SetString(PyExc_ValueError, "the number is equal to no float");
+    return NO_KEY;
+}
+
 static int word_of_float(const kind *of, PyObject *value, uint64_t *word) {
+    int is_own = PyFloat_Check(value) || PyLong_Check(value);
+    if (!is_own && !PyIndex_Check(value) && !PyObject_HasAttrString((PyObject *)Py_TYPE(value), "__float__"))
+        return raise_type("a float is wanted", value);
     double number = PyFloat_AsDouble(value);
     if (number == -1 && PyErr_Occurred())
-        return -1;
+        return raised_by_number();
+    int status = is_own ? 0 : is_same(value, number);
+    if (status < 0)
+        return status;
     if (of->size == sizeof(float) && isinf((float)number) && !isinf(number)) {
         PyErr_SetString(PyExc_OverflowError, "the float is out of the range of f32");
-        return -1;
+        return NO_KEY;
     }
     *word = word_of_double(of, number);
     return 0;
@@ -134,9 +153,9 @@ static int put_bytes(writer *to, const code *from) {
     return 0;
 }
 
-/* Puts a value behind the others: -1 with TypeError or OverflowError if it is none of the kind. It may run any Python code. */
+/* Puts a value behind the others: NO_KEY with an exception if it is none of the kind, or -1. It may run any Python code. */
 static int put_value(writer *to, const kind *of, PyObject *value) {
-    uint64_t word;
+    uint64_t word = 0;
     code bytes;
     uint8_t *next;
     int status;
@@ -152,7 +171,9 @@ static int put_value(writer *to, const kind *of, PyObject *value) {
         return status;
     default: status = word_of_int(of, value, &word); break;
     }
-    if (status < 0 || !(next = next_bytes(to, of->size)))
+    if (status < 0)
+        return status;
+    if (!(next = next_bytes(to, of->size)))
         return -1;
     put_word(next, word, of->size);
     return 0;
@@ -162,12 +183,12 @@ static int put_tuple(writer *to, const kinds *of, PyObject *key) {
     Py_ssize_t count = PyTuple_Check(key) ? PyTuple_Size(key) : -1;
     if (count < 0 || count > Py_SIZE(of)) {
         PyErr_Format(PyExc_TypeError, "a key must be a tuple of at most %zd values", Py_SIZE(of));
-        return -1;
+        return NO_KEY;
     }
-    for (Py_ssize_t at = 0; at < count; at++)
-        if (put_value(to, kind_at(of, at), PyTuple_GetItem(key, at)) < 0)
-            return -1;
-    return 0;
+    int status = 0;
+    for (Py_ssize_t at = 0; status == 0 && at < count; at++)
+        status = put_value(to, kind_at(of, at), PyTuple_GetItem(key, at));
+    return status;
 }
 
 static writer begin(code *to) {

@@ -41,15 +41,21 @@ typedef struct code {
 /* -1 with TypeError unless `keys` is str, bytes, int or a pair of functions. */
 int codec_init(codec *it, PyObject *keys);
 
-/* The bytes of a str or of bytes: TypeError, which says what is wanted, for what is neither. */
+/* What there is no key for, with an exception that says why: another object than a key, or a number that is out of range. */
+enum { NO_KEY = -2 };
+
+/* The bytes of a str or of bytes: NO_KEY with TypeError, which says what is wanted, for what is neither; or -1. */
 int code_str(PyObject *key, code *to, const char *wanted);
 int code_bytes(PyObject *key, code *to, const char *wanted);
 
 /* Takes the bytes of a bytes object, whose own length they have, whatever a subclass says. The reference is taken over. */
 int code_own(code *to, PyObject *owner);
 
-/* TypeError for an object that is of another type than is wanted: -1. */
+/* TypeError for an object that is of another type than is wanted: NO_KEY, or -1 if there is no such exception. */
 int raise_type(const char *wanted, PyObject *object);
+
+/* What an exception of a number's conversion means: NO_KEY if the number is out of range. */
+int raised_by_number(void);
 
 /* An unsigned number of so many bytes, the greatest byte first. */
 void put_word(uint8_t *to, uint64_t word, size_t size);
@@ -58,11 +64,11 @@ uint64_t word_at(const uint8_t *bytes, size_t size);
 /* The number whose bits, as of two's complement, are these. */
 PyObject *signed_of(uint64_t word);
 
-/* Writes a key's bytes: -1 with an exception if it is no key. It may run any Python code. */
+/* Writes a key's bytes: NO_KEY or -1 with an exception if it is no key. What a Codec's own function raises is -1. It may run any Python code. */
 int code_of(const codec *it, PyObject *key, code *to);
 void code_end(code *it);
 
-/* The same for a key that may be of any type: 1, or 0 where no key of a map is equal to it; then there is nothing to end. */
+/* The same for a key that may be of any type: 1; or 0 for NO_KEY, where no key of a map is equal to it, and then there is nothing to end. */
 int code_if_known(const codec *it, PyObject *key, code *to);
 
 /* A key of these bytes. It may run any Python code. */

@@ -4,6 +4,8 @@ import math
 import pickle
 import random
 import unittest
+from decimal import Decimal
+from fractions import Fraction
 from pathlib import Path
 
 from hot import Codec, SortedMap, key_of, values_of
@@ -44,8 +46,11 @@ class Examples(unittest.TestCase):
 class Number:
     """What raises as it is asked which it is."""
 
+    def __init__(self, error):
+        self.error = error
+
     def __index__(self):
-        return 1 // 0
+        raise self.error
 
 
 class Values(unittest.TestCase):
@@ -76,7 +81,9 @@ class Values(unittest.TestCase):
             codec = Codec.of(kind)
             self.assertRaises(error, codec.encode, value)
             self.assertNotIn(value, SortedMap(keys=codec))
-        self.assertRaises(ZeroDivisionError, Codec.of(int).encode, Number())
+        self.assertRaises(
+            ZeroDivisionError, Codec.of(int).encode, Number(ZeroDivisionError())
+        )
         for key in ("a", ["a", 1], ("a", 1, 2), (1,)):
             self.assertRaises(TypeError, Codec.of(str, int).encode, key)
         for kinds in ([complex], ["u128"], [None]):
@@ -100,6 +107,39 @@ class Values(unittest.TestCase):
         self.assertEqual((mine[1.0], mine[2**53]), (1, 2))
         self.assertNotIn(1.0, SortedMap({1: 1}, keys=int))
         self.assertIn(True, SortedMap({1: 1}, keys=int))
+
+    def test_other_numbers(self):
+        """A number of another type is the float that it is equal to, as in a dict."""
+        keys = {0.1: 1, 0.5: 2}
+        for kind in float, "f32":
+            mine = SortedMap(keys, keys=Codec.of(kind))
+            for number in Decimal("0.5"), Fraction(1, 2):
+                self.assertEqual((mine[number], keys[number]), (2, 2))
+            for number in Decimal("0.1"), Fraction(1, 10), Decimal("NaN"):
+                self.assertNotIn(number, mine)
+                self.assertIsNone(mine.get(number))
+                self.assertRaises(ValueError, mine.__setitem__, number, 3)
+            self.assertNotIn(0.5j, mine)
+
+    def test_faults(self):
+        """What a Codec raises goes on where a key is looked up, as what a key raises."""
+        fault = TypeError("a fault")
+        for keys, key in [
+            (Codec(lambda key: key.encode() + 1, bytes), "a"),
+            (Codec(lambda key: "text", bytes), "a"),
+            (Codec.of(int), Number(fault)),
+            (Codec.of(float), Number(fault)),
+            (Codec.of(str, int), ("a", Number(fault))),
+        ]:
+            mine = SortedMap(keys=keys)
+            for call in mine.get, mine.__contains__, mine.__getitem__, mine.pop:
+                self.assertRaises(TypeError, call, key)
+            for call in (
+                mine.__delitem__,
+                mine.setdefault,
+                lambda it: mine.get_many([it]),
+            ):
+                self.assertRaises(TypeError, call, key)
 
     def test_what_is_no_key(self):
         for key, kind in [

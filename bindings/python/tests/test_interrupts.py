@@ -109,7 +109,6 @@ class Signals(unittest.TestCase):
             assert len(mine) == len(list(mine))
         """)
 
-
     def test_interrupted_making(self):
         """Of a map with much room, and of one with pairs that no Python code gives."""
         run_apart("""
@@ -285,8 +284,8 @@ class Lies(unittest.TestCase):
             mine = SortedMap(keys=Codec(lambda key: wrong, bytes))
             self.assertRaises(TypeError, mine.__setitem__, b"a", 1)
             self.assertRaises(TypeError, mine.irange, b"a")
-            self.assertNotIn(b"a", mine)
-            self.assertEqual(mine.get_many([b"a"]), [None])
+            self.assertRaises(TypeError, mine.__contains__, b"a")
+            self.assertRaises(TypeError, mine.get_many, [b"a"])
 
     def test_buffers(self):
         mine = SortedMap(keys=bytes)

@@ -14,7 +14,7 @@ Kind = Union[type, str]
 
 class Codec(NamedTuple):
     """How keys become bytes, whose order is then that of the keys, and back again.
-    `encode` raises TypeError for what is no key."""
+    What the functions raise goes on, also where a map looks a key up."""
 
     encode: Callable[[Any], bytes]
     decode: Callable[[bytes], Any]
