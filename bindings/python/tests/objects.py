@@ -28,7 +28,6 @@ class Objects(SortedMap):
     def __init__(self, data=(), /, **more):
         self.held, self.places = [], {}
         super().__init__(keys=Codec(encode, decode), threads=2)
-        self._options = {}
         self.update(data)
         self.update(more)
 

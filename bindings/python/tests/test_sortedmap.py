@@ -336,8 +336,39 @@ class Memory(unittest.TestCase):
         subprocess.run([sys.executable, "-c", SCARCE], check=True)
 
 
+class Named(SortedMap):
+    """A map whose __init__ is its own, and which has an attribute."""
+
+    def __init__(self, name):
+        super().__init__(keys=int, capacity=9, grow=False)
+        self.name = name
+
+
 class Whole(unittest.TestCase):
     """Calls that make, copy and show whole maps."""
+
+    def test_copies_of_subclass(self):
+        mine = Named(["a name"])
+        mine[1] = 2
+        made = [copy.copy(mine), mine.copy(), mine | {3: 4}, {3: 4} | mine]
+        made += [copy.deepcopy(mine)]
+        made += [pickle.loads(pickle.dumps(mine, way)) for way in range(6)]
+        for other in made:
+            self.assertIs(type(other), Named)
+            self.assertEqual((other.name, other[1]), (["a name"], 2))
+            with self.assertRaises(FullError):
+                other.update((at, at) for at in range(20000))
+        self.assertIs(made[0].name, mine.name)
+        self.assertIsNot(made[4].name, mine.name)
+
+    def test_pickle_of_earlier_version(self):
+        with_pair = (
+            b"\x80\x04\x95k\x00\x00\x00\x00\x00\x00\x00\x8c\rhot.sortedmap\x94\x8c\x08"
+            b"_rebuilt\x94\x93\x94h\x00\x8c\tSortedMap\x94\x93\x94}\x94K\x01K\x02s}\x94(\x8c"
+            b"\x04keys\x94\x8c\x08builtins\x94\x8c\x03int\x94\x93\x94\x8c\x07threads\x94K\x08"
+            b"\x8c\x04grow\x94\x88u\x87\x94R\x94."
+        )
+        self.assertEqual(repr(pickle.loads(with_pair)), "SortedMap({1: 2}, keys=int)")
 
     def test_copies(self):
         mine = SortedMap({b"b": 2, b"a": 1}, keys=bytes)

@@ -15,6 +15,7 @@ from ._hot import CODES, ITEMS, KEYS, MAX_KEY, VALUES, Map
 from .codec import Codec
 
 K = TypeVar("K")
+N = TypeVar("N")
 T = TypeVar("T", covariant=True)
 Self = TypeVar("Self", bound="SortedMap[Any]")
 
@@ -350,15 +351,43 @@ class SortedMap(Map[K], MutableMapping[K, int], Generic[K]):
             self[key] = value
 
     def copy(self: Self) -> Self:
-        """A map of its own with the same pairs."""
-        return type(self)(self, **self._options)
+        """A map of its own with the same pairs. One of a subclass has the same
+        attributes, and isn't made by its __init__."""
+        return _made(type(self), self._options, vars(self), self)
 
     __copy__ = copy
 
+    @overload
     @classmethod
     def fromkeys(
-        cls: type[Self], iterable: Iterable[Any], value: Any = None, **options: Any
-    ) -> Self:
+        cls: type[Self],
+        iterable: Iterable[Any],
+        value: int,
+        *,
+        capacity: Optional[int] = ...,
+        longest: int = ...,
+        threads: int = ...,
+        grow: bool = ...,
+    ) -> Self: ...
+
+    @overload
+    @classmethod
+    def fromkeys(
+        cls,
+        iterable: Iterable[N],
+        value: int,
+        *,
+        keys: Union[type[N], Codec],
+        capacity: Optional[int] = ...,
+        longest: int = ...,
+        threads: int = ...,
+        grow: bool = ...,
+    ) -> SortedMap[N]: ...
+
+    @classmethod
+    def fromkeys(
+        cls, iterable: Iterable[Any], value: Any = None, **options: Any
+    ) -> Any:
         """A map that gives each key the value."""
         made = cls(**options)
         for key in iterable:
@@ -375,7 +404,8 @@ class SortedMap(Map[K], MutableMapping[K, int], Generic[K]):
     def __ror__(self: Self, other: object) -> Self:
         if not isinstance(other, Mapping):
             return NotImplemented
-        both = type(self)(other, **self._options)
+        both = _made(type(self), self._options, vars(self))
+        both.update(other)
         both.update(self)
         return both
 
@@ -391,10 +421,23 @@ class SortedMap(Map[K], MutableMapping[K, int], Generic[K]):
         return f"{type(self).__name__}({{{pairs}}}{kind})"
 
     def __reduce__(self) -> tuple[Any, ...]:
-        return _rebuilt, (type(self), dict(self.items()), self._options)
+        # From Python 3.11 on each object has a __getstate__.
+        state = self.__getstate__() if hasattr(self, "__getstate__") else vars(self)
+        return _made, (type(self), self._options), state, None, iter(self.items())
+
+
+def _made(
+    kind: type[Self], options: dict[str, Any], attributes: Any = (), data: Any = ()
+) -> Self:
+    """A map that was not made by the __init__ of a subclass."""
+    made = kind.__new__(kind)
+    vars(made).update(attributes)
+    SortedMap.__init__(made, data, **options)
+    return made
 
 
 def _rebuilt(kind: Any, data: Any, options: dict[str, Any]) -> Any:
+    """What a pickle of a version before 3.1 calls."""
     return kind(data, **options)
 
 
