@@ -8,6 +8,12 @@ static PyObject *forked(PyObject *self, PyObject *unused) {
     Py_RETURN_NONE;
 }
 
+static PyObject *library_version(PyObject *self, PyObject *unused) {
+    uint32_t version = hot_version();
+    (void)self, (void)unused;
+    return PyUnicode_FromFormat("%u.%u.%u", version >> 16, version >> 8 & 0xff, version & 0xff);
+}
+
 /* Makes a type of the module, and has the module show it: a reference, or NULL. */
 static PyObject *add_type(PyObject *module, const char *name, PyType_Spec *spec) {
     PyObject *type = PyType_FromModuleAndSpec(module, spec, NULL);
@@ -55,6 +61,7 @@ static void state_free(void *module) {
 static PyMethodDef functions[] = {
     {"forked", forked, METH_NOARGS, "forked()\n--\n\nLets no map be used that there is. A child calls it after a fork of threads."},
     {"key_of", code_of_values, METH_VARARGS, "key_of(*values)\n--\n\nThe bytes of values of the types bool, int, float, str and bytes."},
+    {"library_version", library_version, METH_NOARGS, "library_version()\n--\n\nThe version of libhot."},
     {NULL, NULL, 0, NULL},
 };
 

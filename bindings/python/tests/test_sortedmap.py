@@ -10,6 +10,7 @@ import unittest
 import weakref
 from pathlib import Path
 
+import hot
 from hot import Codec, FullError, LoadError, SortedMap
 
 from apart import run_apart
@@ -346,6 +347,9 @@ class Named(SortedMap):
 
 class Whole(unittest.TestCase):
     """Calls that make, copy and show whole maps."""
+
+    def test_versions(self):
+        self.assertEqual(hot.library_version(), hot.__version__)
 
     def test_copies_of_subclass(self):
         mine = Named(["a name"])

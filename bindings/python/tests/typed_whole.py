@@ -1,5 +1,6 @@
 """What a type checker knows of maps that a class makes, and of subclasses."""
 
+import hot
 from hot import Codec, SortedMap
 
 
@@ -16,4 +17,4 @@ pairs: SortedMap[tuple[str, int]] = SortedMap.fromkeys(
     [("a", 1)], 1, keys=Codec.of(str, int)
 )
 named: Named = Named("a").copy() | {1: 2}
-name: str = named.name
+versions: str = named.name + hot.__version__ + hot.library_version()

@@ -8,7 +8,7 @@ except ModuleNotFoundError as error:
 
 from . import _forks
 from ._errors import FullError, HotError, LoadError
-from ._hot import key_of
+from ._hot import key_of, library_version
 from .codec import Codec, values_of
 from .sortedmap import SortedMap, Stats
 
@@ -20,7 +20,11 @@ __all__ = [
     "SortedMap",
     "Stats",
     "key_of",
+    "library_version",
     "values_of",
 ]
+
+# The package's own version, which is that of the library whose sources it comes with.
+__version__ = "3.1.0"
 
 _forks.watch()
