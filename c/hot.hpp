@@ -121,8 +121,8 @@ inline void call_ends() {}
 #endif
 } // namespace detail
 
-/// Throws for each refusal that isn't returned as a value: std::length_error for a key of more than HOT_MAX_KEY bytes, or one for which no leaf
-/// record has room; std::bad_alloc; std::invalid_argument for numbers out of range, and for what is of another index; std::logic_error for
+/// Throws for each refusal that isn't returned as a value: std::length_error for a key that is too long to be put in, and for an end of a range of
+/// more than HOT_MAX_KEY bytes; std::bad_alloc; std::invalid_argument for numbers out of range, and for what is of another index; std::logic_error for
 /// handles that are closed or open, sections that are open, and an index that doesn't grow; std::runtime_error where no handle is free, or the processor is too old.
 inline void check(hot_status status) {
     detail::call_ends();
@@ -490,9 +490,10 @@ class handle {
         it_ = nullptr;
     }
 
+    /// The key's value, or none if it is absent. So is a key of more than HOT_MAX_KEY bytes for each call but those that put one in.
     [[nodiscard]] std::optional<std::uint64_t> get(key_view key) {
         std::uint64_t value = 0;
-        const hot_status status = hot_get(it(), bytes(key), key.size(), &value);
+        const hot_status status = absent_if_long(hot_get(it(), bytes(key), key.size(), &value));
         check(status);
         return status == HOT_FOUND ? std::optional(value) : std::nullopt;
     }
@@ -502,15 +503,16 @@ class handle {
     template <class Keys> [[nodiscard]] std::vector<std::optional<std::uint64_t>> get_many(const Keys &keys) {
         using key = decltype(*std::begin(keys));
         static_assert(std::is_lvalue_reference_v<key> || std::is_base_of_v<std::string_view, key>, "the keys would be gone");
+        static constexpr std::uint8_t too_long = 0; // the empty key is looked up instead of one that is
         std::vector<hot_lookup> lookups;
         lookups.reserve(1); // so that it points somewhere with no key too
         for (const key_view one : keys)
-            lookups.push_back({bytes(one), one.size(), 0, HOT_ABSENT});
+            lookups.push_back(one.size() > HOT_MAX_KEY ? hot_lookup{&too_long, 0, 0, HOT_ABSENT} : hot_lookup{bytes(one), one.size(), 0, HOT_ABSENT});
         check(hot_get_many(it(), lookups.data(), lookups.size()));
         std::vector<std::optional<std::uint64_t>> found;
         found.reserve(lookups.size());
         for (const hot_lookup &one : lookups)
-            found.push_back(one.status == HOT_FOUND ? std::optional(one.value) : std::nullopt);
+            found.push_back(one.status == HOT_FOUND && one.key != &too_long ? std::optional(one.value) : std::nullopt);
         return found;
     }
     [[nodiscard]] std::vector<std::optional<std::uint64_t>> get_many(std::initializer_list<key_view> keys) {
@@ -528,10 +530,10 @@ class handle {
     change exchange(key_view key, std::uint64_t expected, std::uint64_t value) {
         return put_if(hot_exchange, key, expected, value);
     }
-    change remove_if(key_view key, std::uint64_t expected) { return put(hot_remove_if, key, expected); }
+    change remove_if(key_view key, std::uint64_t expected) { return turn(hot_remove_if, key, expected); }
 
     /// Adds to the value of a key that is there, modulo 2 to the power of 64: hot_add.
-    change add(key_view key, std::uint64_t delta) { return put(hot_add, key, delta); }
+    change add(key_view key, std::uint64_t delta) { return turn(hot_add, key, delta); }
 
     /// Adds to a key's value, and returns the one before; a key that is absent gets the value, as if it had had 0. It waits, too, and
     /// throws std::length_error, or std::runtime_error where the index is full.
@@ -572,8 +574,8 @@ class handle {
     change try_exchange(key_view key, std::uint64_t expected, std::uint64_t value) {
         return put_if(hot_try_exchange, key, expected, value);
     }
-    change try_remove_if(key_view key, std::uint64_t expected) { return put(hot_try_remove_if, key, expected); }
-    change try_add(key_view key, std::uint64_t delta) { return put(hot_try_add, key, delta); }
+    change try_remove_if(key_view key, std::uint64_t expected) { return turn(hot_try_remove_if, key, expected); }
+    change try_add(key_view key, std::uint64_t delta) { return turn(hot_try_add, key, delta); }
 
     /// The pairs from one key to another, both included; those from a key on; those whose keys begin with a prefix. A handle that is a
     /// temporary has no range, which would last longer.
@@ -773,20 +775,28 @@ class handle {
         popped->value = found.value;
         return popped;
     }
+    // A key that is too long is in no index.
+    static hot_status absent_if_long(hot_status status) { return status == HOT_KEY_TOO_LONG ? hot_status{HOT_ABSENT} : status; }
     template <class Call> change put(Call call, key_view key, std::uint64_t value) {
         std::uint64_t had = 0;
         const hot_status status = call(it(), bytes(key), key.size(), value, &had);
         return told(status, had);
     }
+    // These change a key that is there.
+    template <class Call> change turn(Call call, key_view key, std::uint64_t number) {
+        std::uint64_t had = 0;
+        const hot_status status = call(it(), bytes(key), key.size(), number, &had);
+        return told(absent_if_long(status), had);
+    }
     template <class Call> change put_if(Call call, key_view key, std::uint64_t expected, std::uint64_t value) {
         std::uint64_t had = expected;
         const hot_status status = call(it(), bytes(key), key.size(), expected, value, &had);
-        return told(status, had);
+        return told(absent_if_long(status), had);
     }
     template <class Call> change take(Call call, key_view key) {
         std::uint64_t had = 0;
         const hot_status status = call(it(), bytes(key), key.size(), &had);
-        return told(status, had);
+        return told(absent_if_long(status), had);
     }
     static change told(hot_status status, std::uint64_t had) {
         check(status);

@@ -261,7 +261,7 @@ static void test_updates() {
     CHECK(!handle.fetch_update("a", [](value) { return value(5); }) && handle.get("a") == 5);
     CHECK(throws<std::runtime_error>([&] { return handle.fetch_update("b", [](value) { return value(6); }); }));
     CHECK(throws<int>([&] { return handle.fetch_update("a", [](value) -> value { throw 1; }); }));
-    CHECK(throws<std::length_error>([&] { return handle.fetch_update(std::string(HOT_MAX_KEY + 1, 'a'), [](value had) { return had; }); }));
+    CHECK(throws<std::length_error>([&] { return handle.fetch_update(std::string(HOT_MAX_KEY + 1, 'a'), [](value) { return value(1); }); }));
     CHECK(handle.get("a") == 5 && handle.size() == 1);
     // Another call comes in between each time.
     handle = hot::index(10, 8, 1).open();

@@ -45,6 +45,7 @@ template <class Look, class Call> static long refused(Look look, Call call) {
 
 // Keys of more than fifteen bytes, which a std::string keeps in memory of its own.
 static const std::string one = "the first of the keys", two = "the second of the keys", three = "the third of the keys";
+static const std::string too_long(HOT_MAX_KEY + 1, 'a');
 static const hot_stock stock = hot::stock_for_keys(100, 40);
 
 static void test_look_ups(hot::handle &at) {
@@ -52,6 +53,7 @@ static void test_look_ups(hot::handle &at) {
     const auto takes = [&](auto call) { return refused(look, call) > 0; };
     hot::packed page(10, 400);
     CHECK(!takes([&] { return at.get(one); }) && !takes([&] { return at.contains(one); }) && !takes([&] { return at.size(); }));
+    CHECK(!takes([&] { return at.get(too_long); }) && !takes([&] { return at.remove(too_long); }) && takes([&] { return at.get_many({too_long}); }));
     CHECK(takes([&] { return at.get_many({one, "none"}); }) && takes([&] { return at.get_many({}); }));
     CHECK(takes([&] { return at.scan(one, two, 1).entries(); }) && takes([&] { return at.scan().entries(); }));
     CHECK(takes([&] { return at.scan_prefix("the").entries(); }) && takes([&] { return at.scan_prefix_reverse("the").entries(); }));

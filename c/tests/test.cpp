@@ -76,11 +76,31 @@ static void test_calls() {
     CHECK(first.census().long_leaves.obsolete == 1);
     CHECK(first.collect().leaves == 1 && first.census().long_leaves.free == 99);
     CHECK(throws<std::logic_error>([&] { return handles[0].get("b"); }));
-    CHECK(throws<std::length_error>([&] { return first.get(std::string(HOT_MAX_KEY + 1, 'a')); }));
     CHECK(throws<std::invalid_argument>([] { return hot::create(0, 10); }));
     CHECK(throws<std::invalid_argument>([] { return hot::create(10, 10, 1025); }));
     handles.clear();
     CHECK(first.get({}) == 10);
+}
+
+// A key that is too long is absent, and can't be put in.
+static void test_long_keys() {
+    hot::handle handle = hot::index(10, 8, 1).open();
+    const std::string longest(HOT_MAX_KEY, 'a'), too_long = longest + 'a';
+    CHECK(handle.insert({}, 1).what == hot::status::inserted);
+    for (const std::string &key : {longest, too_long}) {
+        CHECK(!handle.get(key) && !handle.contains(key) && handle.remove(key).what == hot::status::absent);
+        CHECK(handle.try_remove(key).what == hot::status::absent && handle.add(key, 1).what == hot::status::absent);
+        CHECK(handle.try_add(key, 1).what == hot::status::absent && handle.exchange(key, 1, 2).what == hot::status::absent);
+        CHECK(handle.try_exchange(key, 1, 2).what == hot::status::absent && handle.remove_if(key, 1).what == hot::status::absent);
+        const auto removed = handle.try_remove_if(key, 1);
+        CHECK(removed.what == hot::status::absent && !removed.had);
+        const auto found = handle.get_many({key, {}, key});
+        CHECK(found.size() == 3 && !found[0] && found[1] == 1 && !found[2]);
+        CHECK(!handle.fetch_update(key, [](auto had) { return had; }));
+        CHECK(throws<std::length_error>([&] { return handle.insert(key, 1); }) && throws<std::length_error>([&] { return handle.upsert(key, 1); }));
+        CHECK(throws<std::length_error>([&] { return handle.try_insert(key, 1); }) && throws<std::length_error>([&] { return handle.fetch_add(key, 1); }));
+    }
+    CHECK(throws<std::length_error>([&] { return handle.first(too_long); }) && throws<std::length_error>([&] { return handle.count({}, too_long); }));
 }
 
 // An index that opens handles one by one: a moved one goes on, a handle outlives its index, and there are no more than it has room for.
@@ -558,6 +578,7 @@ static void test_loads() {
 int main() {
     alarm(900); // a call that never returns ends the test
     test_calls();
+    test_long_keys();
     test_index();
     test_order();
     test_expected();
