@@ -869,6 +869,16 @@ class load_error : public std::runtime_error {
 };
 
 namespace detail {
+// What each pair of a sequence has as its value, and whether that is a std::uint64_t without narrowing.
+template <class Pairs> auto value_in(Pairs &pairs) {
+    using std::begin;
+    auto &&[its_key, its_value] = *begin(pairs);
+    return its_value;
+}
+template <class Pairs, class = void> inline constexpr bool has_values = false;
+template <class Pairs>
+inline constexpr bool has_values<Pairs, std::void_t<decltype(std::uint64_t{value_in(std::declval<Pairs &>())})>> = true;
+
 // What a load takes from a sequence of pairs. A pair may be gone once its iterator goes on, so the key is kept here. What is thrown goes on when
 // the call of C has returned.
 template <class At, class End> struct source {
@@ -918,9 +928,11 @@ class index {
     index(std::size_t keys, std::size_t longest, std::size_t handles = 64)
         : index(stock_for_keys(std::max(keys, least_for(handles)), longest), handles) {}
     /// Makes an index of pairs, whose keys rise: hot_load. They are a key and a value each, in anything that can be iterated over, such as a
-    /// std::map, a vector of entries, or the range of a scan in another index. Throws as the constructor does,
-    /// load_error where a pair is refused, and what the iterators throw. Nothing is left then.
-    template <class Pairs> [[nodiscard]] static index load(const hot_stock &stock, Pairs &&pairs, std::size_t handles = 64) {
+    /// std::map, a vector of entries, or the range of a scan in another index. It doesn't compile with values of a type that a std::uint64_t
+    /// doesn't hold all of, such as int or double. Throws as the constructor does, load_error where a pair is refused, and what the iterators
+    /// throw. Nothing is left then.
+    template <class Pairs, std::enable_if_t<detail::has_values<Pairs>, int> = 0>
+    [[nodiscard]] static index load(const hot_stock &stock, Pairs &&pairs, std::size_t handles = 64) {
         return load_by([&](auto... with) { return hot_load(&stock, handles, with...); }, pairs);
     }
 
@@ -931,7 +943,8 @@ class index {
     }
     [[nodiscard]] static index growing(std::size_t handles = 64, std::size_t most = SIZE_MAX) { return open_growing(nullptr, handles, most); }
     /// Such an index of pairs, as `load` makes one: hot_load_growing.
-    template <class Pairs> [[nodiscard]] static index load_growing(Pairs &&pairs, std::size_t handles = 64, std::size_t most = SIZE_MAX) {
+    template <class Pairs, std::enable_if_t<detail::has_values<Pairs>, int> = 0>
+    [[nodiscard]] static index load_growing(Pairs &&pairs, std::size_t handles = 64, std::size_t most = SIZE_MAX) {
         return load_by([&](auto... with) { return hot_load_growing(most, handles, with...); }, pairs);
     }
     /// Have such an index grow ahead of need, or give memory back; begin a growth, and make a portion of it, which returns whether there is more to

@@ -58,6 +58,14 @@ static_assert(!scans_half_open<hot::handle> && !scans_reverse<hot::handle> && !s
 // A 0 would be a null pointer, where a key's text begins.
 static_assert(!finds_number<open> && !finds_null<open>);
 static_assert(finds_bytes<open> && !finds_number_of_bytes<open> && !finds_null_of_bytes<open>);
+// Values that are narrower for some numbers. A load takes what fits.
+template <class Value, class = void> constexpr bool loads = false;
+template <class Value>
+constexpr bool loads<Value, std::void_t<decltype(hot::index::load({}, std::declval<std::map<std::string, Value>>())),
+                                        decltype(hot::index::load_growing(std::declval<std::map<std::string, Value> &>()))>> = true;
+static_assert(loads<std::uint64_t> && loads<unsigned> && loads<unsigned char> && loads<bool> && loads<const unsigned long>);
+static_assert(!loads<int> && !loads<long> && !loads<double> && !loads<float> && !loads<const char *>);
+static_assert(std::is_same_v<std::iterator_traits<hot::range::iterator>::value_type, hot::entry>);
 // A pair would keep the key of a page that is gone.
 static_assert(!std::is_constructible_v<hot::pair, hot::range::item> && std::is_convertible_v<hot::range::item, hot::entry>);
 
@@ -556,7 +564,7 @@ static void test_loads() {
     hot::handle one = hot::index::load(hot::stock_for_keys(10, 8), all).open(), other = hot::index::load(hot::stock_for_keys(10, 8), page).open();
     CHECK(one.scan().entries() == handle.scan().entries() && other.scan().entries() == handle.scan().entries());
     CHECK(hot::index::load(hot::stock_for_keys(1, 1), std::vector<hot::entry>()).open().empty());
-    const std::array<std::pair<const char *, int>, 3> falls{{{"a", 1}, {"c", 2}, {"b", 3}}};
+    const std::array<std::pair<const char *, unsigned>, 3> falls{{{"a", 1}, {"c", 2}, {"b", 3}}};
     try {
         (void)hot::index::load(hot::stock_for_keys(10, 8), falls);
         CHECK(false);
