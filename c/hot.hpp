@@ -299,6 +299,27 @@ class range {
         operator entry() const { return {std::string(key), value}; }
     };
 
+    /// An entry that is also the item of its own key. std::ranges copies a pair as such, so that a projection may be a member of `item`. It is
+    /// assigned to as a whole: the item doesn't follow another change of the key.
+    class owned : public entry, public item {
+      public:
+        using entry::key, entry::value;
+        owned(const item &from) : entry(from), item{entry::key, from.value} {}
+        owned(const owned &other) : owned(static_cast<const item &>(other)) {}
+        owned &operator=(const owned &other) {
+            entry::operator=(other);
+            item::operator=({key, value});
+            return *this;
+        }
+        /// By which it can be taken apart, as an entry can.
+        template <std::size_t Place> const auto &get() const {
+            if constexpr (Place == 0)
+                return key;
+            else
+                return value;
+        }
+    };
+
     class iterator {
         struct arrow {
             item at;
@@ -387,6 +408,20 @@ class range {
     std::size_t at_ = 0, count_ = 0;
     std::uint32_t more_ = 0;
 };
+
+} // namespace hot
+
+template <> struct std::tuple_size<hot::range::owned> : std::integral_constant<std::size_t, 2> {};
+template <std::size_t Place> struct std::tuple_element<Place, hot::range::owned> {
+    using type = const std::remove_reference_t<decltype(std::declval<const hot::range::owned &>().template get<Place>())>;
+};
+#if __cplusplus >= 202002L
+template <> struct std::indirectly_readable_traits<hot::range::iterator> {
+    using value_type = hot::range::owned;
+};
+#endif
+
+namespace hot {
 
 /// A page with room for so many pairs, and for so many bytes of their keys, which lie one after another. It may be filled again and
 /// again, and the keys of its pairs are valid until then.

@@ -5,6 +5,7 @@
 #include <array>
 #include <atomic>
 #include <cstdio>
+#include <functional>
 #include <map>
 #include <thread>
 #include <type_traits>
@@ -13,7 +14,7 @@
 #include <ranges>
 #include <span>
 static_assert(std::input_iterator<hot::range::iterator> && std::ranges::input_range<hot::range> && std::ranges::viewable_range<hot::range>);
-static_assert(std::is_same_v<std::ranges::range_value_t<hot::range>, hot::entry>);
+static_assert(std::derived_from<std::ranges::range_value_t<hot::range>, hot::entry>);
 static_assert(std::bidirectional_iterator<hot::packed::iterator> && std::ranges::bidirectional_range<const hot::packed>);
 static_assert(std::ranges::sized_range<hot::packed> && std::ranges::common_range<hot::packed> && std::ranges::viewable_range<hot::packed &>);
 static_assert(!std::ranges::borrowed_range<hot::packed> && std::convertible_to<hot::pair, hot::entry>);
@@ -365,6 +366,17 @@ static void test_containers() {
         all.append(key);
     std::ranges::for_each(scan, [&](const auto &it) { all.append(it.key); });
     CHECK(all == "acacabac");
+    // Projections by members.
+    using item = hot::range::item;
+    auto both = handle.scan();
+    CHECK(std::ranges::find(scan, "ac", &item::key)->value == 2 && std::ranges::count(scan, 1u, &item::value) == 1);
+    const auto greatest = std::ranges::max(both, {}, &item::key), least = std::ranges::min(both, {}, &item::value);
+    CHECK(greatest == hot::entry{"ac", 2} && static_cast<const item &>(greatest).key.data() == greatest.key.data());
+    auto other = greatest;
+    other = least;
+    const auto [key, value] = other;
+    CHECK(other == hot::entry{"ab", 1} && std::invoke(&item::key, other) == "ab" && key == "ab" && value == 1);
+    CHECK(std::ranges::find(page, "ac", &hot::pair::key)->value == 2);
 #endif
 }
 
