@@ -3,8 +3,8 @@
 use crate::{Census, Error, Memory, Stats, Stock, MAX_KEY};
 use std::any::Any;
 use std::cell::UnsafeCell;
-use std::collections::VecDeque;
 use std::ffi::CStr;
+use std::ops::Range;
 use std::os::raw::{c_char, c_int, c_void};
 use std::panic::{catch_unwind, resume_unwind, AssertUnwindSafe};
 use std::ptr;
@@ -531,27 +531,22 @@ impl Lease {
         (status, had)
     }
 
-    /// The first pairs from one key to another, at most `limit`, and whether there are more.
-    pub(crate) fn scan(&self, from: &[u8], upto: &[u8], limit: usize) -> Result<(Pairs, bool), Error> {
-        self.list(hot_scan_packed, from, upto, limit, Pairs::push_back)
+    /// Lists the first pairs from one key to another, at most `limit`, in a page that has none left: whether there are more.
+    pub(crate) fn scan(&self, from: &[u8], upto: &[u8], limit: usize, page: &mut Page) -> Result<bool, Error> {
+        page.falls = false;
+        self.list(hot_scan_packed, from, upto, limit, page)
     }
 
-    /// The last pairs from one key to another, at most `limit`, in rising order, and whether there are more.
-    pub(crate) fn scan_last(&self, from: &[u8], upto: &[u8], limit: usize) -> Result<(Pairs, bool), Error> {
-        self.list(hot_scan_packed_reverse, from, upto, limit, Pairs::push_front)
+    /// Lists the last pairs in the same way.
+    pub(crate) fn scan_last(&self, from: &[u8], upto: &[u8], limit: usize, page: &mut Page) -> Result<bool, Error> {
+        page.falls = true;
+        self.list(hot_scan_packed_reverse, from, upto, limit, page)
     }
 
-    fn list(
-        &self,
-        call: PackedScan,
-        from: &[u8],
-        upto: &[u8],
-        limit: usize,
-        push: fn(&mut Pairs, (Vec<u8>, u64)),
-    ) -> Result<(Pairs, bool), Error> {
+    fn list(&self, call: PackedScan, from: &[u8], upto: &[u8], limit: usize, page: &mut Page) -> Result<bool, Error> {
         // Room for pairs of middling keys, and for one of any length: with less than that a call would not get on.
-        let mut bytes = room(limit * 32 + MAX_KEY, 0)?;
-        let mut heads = room(limit, RawHead { length: 0, value: 0 })?;
+        make_room(&mut page.bytes, limit * 32 + MAX_KEY, 0)?;
+        make_room(&mut page.heads, limit, RawHead { length: 0, value: 0 })?;
         let (mut count, mut more) = (0, 0);
         Error::check(unsafe {
             call(
@@ -560,23 +555,18 @@ impl Lease {
                 from.len(),
                 upto.as_ptr(),
                 upto.len(),
-                bytes.as_mut_ptr(),
-                bytes.len(),
-                heads.as_mut_ptr(),
-                heads.len(),
+                page.bytes.as_mut_ptr(),
+                page.bytes.len(),
+                page.heads.as_mut_ptr(),
+                page.heads.len(),
                 &mut count,
                 &mut more,
             )
         })?;
-        let mut pairs = Pairs::new();
-        pairs.try_reserve_exact(count).map_err(|_| Error::NoMemory)?;
-        let mut at = 0;
-        for head in heads.iter().take(count) {
-            let end = at + usize::from(head.length);
-            push(&mut pairs, (copy(bytes.get(at..end).unwrap_or_default())?, head.value));
-            at = end;
-        }
-        Ok((pairs, more != 0))
+        let lengths = page.heads.iter().take(count).map(|head| usize::from(head.length));
+        page.place = 0..lengths.sum();
+        page.left = 0..count;
+        Ok(more != 0)
     }
 
     /// How many keys there are from one key to another.
@@ -737,8 +727,68 @@ impl Lease {
     }
 }
 
-/// Pairs that were listed.
-pub(crate) type Pairs = VecDeque<(Vec<u8>, u64)>;
+/// Pairs that were listed and not taken yet. Their keys lie one behind another, in the order in which they were listed.
+#[derive(Default)]
+pub(crate) struct Page {
+    bytes: Vec<u8>,
+    heads: Vec<RawHead>,
+    falls: bool,
+    /// Which of the heads are left, and where their keys lie.
+    left: Range<usize>,
+    place: Range<usize>,
+}
+
+impl Page {
+    pub(crate) fn is_empty(&self) -> bool {
+        self.left.is_empty()
+    }
+
+    /// The key that was listed last.
+    pub(crate) fn last(&self) -> Option<&[u8]> {
+        self.at(self.falls)
+            .map(|(place, _)| self.bytes.get(place).unwrap_or_default())
+    }
+
+    /// Where the least key that is left lies, or the greatest one, and its value.
+    fn at(&self, is_least: bool) -> Option<(Range<usize>, u64)> {
+        let heads = self.heads.get(self.left.clone())?;
+        if is_least != self.falls {
+            let head = heads.first()?;
+            Some((
+                self.place.start..self.place.start + usize::from(head.length),
+                head.value,
+            ))
+        } else {
+            let head = heads.last()?;
+            Some((self.place.end - usize::from(head.length)..self.place.end, head.value))
+        }
+    }
+
+    /// Takes the least pair that is left, or the greatest one.
+    pub(crate) fn take(&mut self, is_least: bool) -> Option<(&[u8], u64)> {
+        let (place, value) = self.at(is_least)?;
+        if is_least != self.falls {
+            self.left.start += 1;
+            self.place.start = place.end;
+        } else {
+            self.left.end -= 1;
+            self.place.end = place.start;
+        }
+        Some((self.bytes.get(place)?, value))
+    }
+
+    /// The same with a key of its own. A pair for which there is no memory stays.
+    pub(crate) fn take_copy(&mut self, is_least: bool) -> Result<Option<(Vec<u8>, u64)>, Error> {
+        let mut key = Vec::new();
+        if let Some((place, _)) = self.at(is_least) {
+            key.try_reserve_exact(place.len()).map_err(|_| Error::NoMemory)?;
+        }
+        Ok(self.take(is_least).map(|(bytes, value)| {
+            key.extend_from_slice(bytes);
+            (key, value)
+        }))
+    }
+}
 
 impl RawPair {
     fn copy(&self) -> Result<(Vec<u8>, u64), Error> {
@@ -750,9 +800,16 @@ impl RawPair {
 /// A list of so many items that are to be written.
 fn room<T: Clone>(count: usize, item: T) -> Result<Vec<T>, Error> {
     let mut list = Vec::new();
-    list.try_reserve_exact(count).map_err(|_| Error::NoMemory)?;
-    list.resize(count, item);
+    make_room(&mut list, count, item)?;
     Ok(list)
+}
+
+/// Gives a list so many items that are to be written.
+fn make_room<T: Clone>(list: &mut Vec<T>, count: usize, item: T) -> Result<(), Error> {
+    list.try_reserve_exact(count.saturating_sub(list.len()))
+        .map_err(|_| Error::NoMemory)?;
+    list.resize(count, item);
+    Ok(())
 }
 
 fn copy(key: &[u8]) -> Result<Vec<u8>, Error> {

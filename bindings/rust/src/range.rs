@@ -1,5 +1,5 @@
 //! Ranges of keys, and the pairs in them.
-use crate::ffi::Pairs;
+use crate::ffi::Page;
 use crate::{Error, Handle, MAX_KEY};
 use std::alloc::{handle_alloc_error, Layout};
 use std::fmt;
@@ -75,10 +75,16 @@ impl Key {
     }
 }
 
-/// A range of keys, as `..`, `"a".."b"`, `&from..=&upto`, or a pair of bounds: what `RangeBounds` is for other maps.
+/// A range of keys, as `..`, `"a".."b"`, `&from..=&upto`, or a pair of bounds, or a reference to one: what `RangeBounds` is for other maps.
 pub trait KeyRange {
     /// Its bounds, as bytes.
     fn key_bounds(&self) -> (Bound<&[u8]>, Bound<&[u8]>);
+}
+
+impl<R: KeyRange + ?Sized> KeyRange for &R {
+    fn key_bounds(&self) -> (Bound<&[u8]>, Bound<&[u8]>) {
+        (**self).key_bounds()
+    }
 }
 
 impl KeyRange for ops::RangeFull {
@@ -180,8 +186,8 @@ pub struct Range<'a> {
     handle: &'a Handle,
     /// The keys that are still to be asked for.
     left: Option<(Key, Key)>,
-    front: Pairs,
-    back: Pairs,
+    front: Page,
+    back: Page,
     page: usize,
 }
 
@@ -202,42 +208,86 @@ impl<'a> Range<'a> {
         Range {
             handle,
             left,
-            front: Pairs::new(),
-            back: Pairs::new(),
+            front: Page::default(),
+            back: Page::default(),
             page: SMALLEST_PAGE,
         }
     }
 
-    /// [`next`](Iterator::next), which returns [`Error::NoMemory`] where that would end the program. The pair comes with a later call.
-    pub fn try_next(&mut self) -> Result<Option<(Vec<u8>, u64)>, Error> {
-        if self.front.is_empty() {
-            if let Some((from, upto)) = self.left {
-                let (pairs, more) = self.handle.lease().scan(from.bytes(), upto.bytes(), self.page)?;
-                let next = pairs.back().and_then(|(last, _)| Key::new(last).after());
-                self.left = next
-                    .filter(|next| more && next.bytes() <= upto.bytes())
-                    .map(|next| (next, upto));
-                self.front = pairs;
-                self.page = LARGEST_PAGE.min(self.page * 2);
-            }
+    /// The page with the least pair that is left, if there is one.
+    fn least(&mut self) -> Result<&mut Page, Error> {
+        if let (true, Some((from, upto))) = (self.front.is_empty(), self.left) {
+            let lease = self.handle.lease();
+            let more = lease.scan(from.bytes(), upto.bytes(), self.page, &mut self.front)?;
+            let next = self.front.last().and_then(|last| Key::new(last).after());
+            self.left = next
+                .filter(|next| more && next.bytes() <= upto.bytes())
+                .map(|next| (next, upto));
+            self.page = LARGEST_PAGE.min(self.page * 2);
         }
-        Ok(self.front.pop_front().or_else(|| self.back.pop_front()))
+        Ok(if self.front.is_empty() {
+            &mut self.back
+        } else {
+            &mut self.front
+        })
+    }
+
+    /// The page with the greatest pair that is left, if there is one.
+    fn greatest(&mut self) -> Result<&mut Page, Error> {
+        if let (true, Some((from, upto))) = (self.back.is_empty(), self.left) {
+            let lease = self.handle.lease();
+            let more = lease.scan_last(from.bytes(), upto.bytes(), self.page, &mut self.back)?;
+            let next = self.back.last().and_then(|first| Key::new(first).before());
+            self.left = next
+                .filter(|next| more && from.bytes() <= next.bytes())
+                .map(|next| (from, next));
+            self.page = LARGEST_PAGE.min(self.page * 2);
+        }
+        Ok(if self.back.is_empty() {
+            &mut self.front
+        } else {
+            &mut self.back
+        })
+    }
+
+    /// [`next`](Iterator::next) without a copy of the key, which lies in the range until its next call.
+    ///
+    /// ```
+    /// let handle = hot::Hot::with_capacity(10, 8, 1)?.handle()?;
+    /// handle.extend([("a", 1), ("b", 2), ("c", 3)])?;
+    /// let mut pairs = handle.range("b"..);
+    /// while let Some((key, value)) = pairs.next_ref() {
+    ///     println!("{} {value}", String::from_utf8_lossy(key));
+    /// }
+    /// # Ok::<(), hot::Error>(())
+    /// ```
+    pub fn next_ref(&mut self) -> Option<(&[u8], u64)> {
+        self.try_next_ref().unwrap_or_else(|why| out_of_memory(why))
+    }
+
+    /// [`next_back`](DoubleEndedIterator::next_back) in the same way.
+    pub fn next_back_ref(&mut self) -> Option<(&[u8], u64)> {
+        self.try_next_back_ref().unwrap_or_else(|why| out_of_memory(why))
+    }
+
+    /// [`next_ref`](Range::next_ref), which returns [`Error::NoMemory`] where that would end the program. The pair comes with a later call.
+    pub fn try_next_ref(&mut self) -> Result<Option<(&[u8], u64)>, Error> {
+        self.least().map(|page| page.take(true))
+    }
+
+    /// [`next_back_ref`](Range::next_back_ref) in the same way.
+    pub fn try_next_back_ref(&mut self) -> Result<Option<(&[u8], u64)>, Error> {
+        self.greatest().map(|page| page.take(false))
+    }
+
+    /// [`next`](Iterator::next) in the same way.
+    pub fn try_next(&mut self) -> Result<Option<(Vec<u8>, u64)>, Error> {
+        self.least()?.take_copy(true)
     }
 
     /// [`next_back`](DoubleEndedIterator::next_back) in the same way.
     pub fn try_next_back(&mut self) -> Result<Option<(Vec<u8>, u64)>, Error> {
-        if self.back.is_empty() {
-            if let Some((from, upto)) = self.left {
-                let (pairs, more) = self.handle.lease().scan_last(from.bytes(), upto.bytes(), self.page)?;
-                let next = pairs.front().and_then(|(first, _)| Key::new(first).before());
-                self.left = next
-                    .filter(|next| more && from.bytes() <= next.bytes())
-                    .map(|next| (from, next));
-                self.back = pairs;
-                self.page = LARGEST_PAGE.min(self.page * 2);
-            }
-        }
-        Ok(self.back.pop_back().or_else(|| self.front.pop_back()))
+        self.greatest()?.take_copy(false)
     }
 }
 

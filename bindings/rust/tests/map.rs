@@ -138,6 +138,27 @@ fn check_range(handle: &Handle, model: &Model, random: &mut Random) {
     assert_eq!(front, wanted);
 }
 
+/// The same, and now and then without a copy of the key. The bounds are borrowed.
+fn check_range_by_reference(handle: &Handle, model: &Model, random: &mut Random) {
+    let keys = (random.bound(), random.bound());
+    let mut wanted = listed(model, |key| within(key, &keys)).into_iter();
+    let mut range = handle.range(&keys);
+    loop {
+        let own = |(key, value): (&[u8], u64)| (key.to_vec(), value);
+        let (found, expected) = match random.below(4) {
+            0 => (range.next(), wanted.next()),
+            1 => (range.next_back(), wanted.next_back()),
+            2 => (range.next_ref().map(own), wanted.next()),
+            _ => (range.next_back_ref().map(own), wanted.next_back()),
+        };
+        assert_eq!(found, expected);
+        if found.is_none() {
+            break;
+        }
+    }
+    assert_eq!(handle.count_range(&keys), listed(model, |key| within(key, &keys)).len());
+}
+
 /// Takes a pair from an end of a range, or now and then all pairs of a range.
 fn check_taking(handle: &Handle, model: &mut Model, random: &mut Random) {
     let keys = (random.bound(), random.bound());
@@ -185,6 +206,7 @@ fn random_calls_return_what_a_btree_map_does() {
             change(&handle, &mut model, &mut random);
             if round % 8 == 0 {
                 check_range(&handle, &model, &mut random);
+                check_range_by_reference(&handle, &model, &mut random);
                 check_look_ups(&handle, &model, &mut random);
                 check_taking(&handle, &mut model, &mut random);
             }
