@@ -24,6 +24,8 @@ pub enum Error {
     Inside,
     /// The index doesn't grow.
     NotGrowing,
+    /// The key is there already: what a [`TryInsertError::Occupied`] becomes.
+    Occupied,
     /// The number of keys, records or handles is out of range.
     OutOfRange,
     /// There is no memory.
@@ -70,6 +72,7 @@ impl fmt::Display for Error {
             Error::OldProcessor => ffi::text(ffi::OLD_PROCESSOR),
             Error::Inside => ffi::text(ffi::INSIDE),
             Error::NotGrowing => ffi::text(ffi::FIXED),
+            Error::Occupied => ffi::text(ffi::EXISTS),
             Error::OutOfRange => ffi::text(ffi::OUT_OF_RANGE),
             Error::NoMemory => ffi::text(ffi::NO_MEMORY),
             Error::Unexpected(status) => ffi::text(status),
@@ -155,6 +158,16 @@ pub enum TryInsertError {
 impl From<Error> for TryInsertError {
     fn from(why: Error) -> Self {
         TryInsertError::Refused(why)
+    }
+}
+
+impl From<TryInsertError> for Error {
+    /// Why it was not inserted, without the value that the key has.
+    fn from(why: TryInsertError) -> Self {
+        match why {
+            TryInsertError::Occupied(_) => Error::Occupied,
+            TryInsertError::Refused(why) => why,
+        }
     }
 }
 

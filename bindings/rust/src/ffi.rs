@@ -15,6 +15,7 @@ pub(crate) type Status = u32;
 pub(crate) const FOUND: Status = 1;
 pub(crate) const ABSENT: Status = 2;
 pub(crate) const INSERTED: Status = 3;
+pub(crate) const EXISTS: Status = 4;
 pub(crate) const WAS: Status = 6;
 pub(crate) const REMOVED: Status = 7;
 pub(crate) const FULL_NODES: Status = 9;

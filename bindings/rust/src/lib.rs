@@ -48,6 +48,9 @@ pub const MAX_KEY: usize = 240;
 /// How many keys are looked up by one call of the library, as `hot.h` advises.
 const MANY: usize = 256;
 
+/// How many handles an index has room for that is collected from pairs.
+const COLLECTED: usize = 64;
+
 /// How many records of each size an index has: `hot_stock`.
 #[repr(C)]
 #[derive(Clone, Copy, Debug, Default, PartialEq, Eq, Hash)]
@@ -258,6 +261,39 @@ impl Hot {
     /// What the index takes of memory. It asks the system which pages are there: a few tenths of a millisecond for 1 GB.
     pub fn bytes(&self) -> Memory {
         self.index.bytes()
+    }
+}
+
+/// Makes an index that grows, with room for 64 handles at a time. Of pairs with the same key the last one counts.
+///
+/// It panics where a key has more than [`MAX_KEY`] bytes; [`Handle::extend`] returns why.
+///
+/// ```
+/// let index: hot::Hot = [("oak", 1), ("ash", 2)].into_iter().collect();
+/// assert_eq!(index.handle()?.get("oak"), Some(1));
+/// # Ok::<(), hot::Error>(())
+/// ```
+impl<K: AsRef<[u8]>> FromIterator<(K, u64)> for Hot {
+    fn from_iter<I: IntoIterator<Item = (K, u64)>>(pairs: I) -> Hot {
+        Hot::growing(usize::MAX, COLLECTED)
+            .and_then(|index| index.handle()?.extend(pairs).map(|_| index))
+            .unwrap_or_else(|why| refused(why))
+    }
+}
+
+/// [`Handle::extend`] for what takes an `Extend`. It panics where that returns an error.
+impl<K: AsRef<[u8]>> Extend<(K, u64)> for &Handle {
+    fn extend<I: IntoIterator<Item = (K, u64)>>(&mut self, pairs: I) {
+        Handle::extend(self, pairs).unwrap_or_else(|why| refused(why));
+    }
+}
+
+/// Ends a call that returns no error, as it would end for Rust's collections.
+#[allow(clippy::panic)]
+fn refused(why: Error) -> ! {
+    match why {
+        Error::NoMemory => range::out_of_memory(why),
+        _ => panic!("{why}"),
     }
 }
 

@@ -279,6 +279,45 @@ fn keys_that_are_too_long() {
 }
 
 #[test]
+fn an_index_is_collected() {
+    let model: Model = (0..3000u64)
+        .map(|n| (n.wrapping_mul(0x9e37_79b9_7f4a_7c15).to_be_bytes().to_vec(), n))
+        .collect();
+    let index: Hot = model
+        .clone()
+        .into_iter()
+        .rev()
+        .chain([(vec![7], 1), (vec![7], 2)])
+        .collect();
+    let handle = index.handle().unwrap();
+    assert_eq!(
+        (handle.remove([7]), handle.len(), index.handles()),
+        (Ok(Some(2)), 3000, 64)
+    );
+    assert!(handle.iter().eq(model));
+    Extend::extend(&mut &handle, [("", 1), ("", 2)]);
+    assert_eq!(handle.pop_first(), Ok(Some((vec![], 2))));
+    let mut borrowed = index.handle().unwrap();
+    let still: &mut Handle = &mut borrowed;
+    assert_eq!(still.extend([("c", 3)]), Ok(())); // the one that returns why
+    let long = std::panic::catch_unwind(|| [([7; MAX_KEY + 1], 1)].into_iter().collect::<Hot>());
+    let said = long.unwrap_err().downcast::<String>().unwrap();
+    assert_eq!(*said, Error::KeyTooLong.to_string());
+}
+
+#[test]
+fn an_insertion_becomes_an_error() {
+    fn put(handle: &Handle, key: &[u8]) -> Result<(), Error> {
+        handle.try_insert(key, 1)?;
+        Ok(())
+    }
+    let handle = Hot::with_capacity(10, 8, 1).unwrap().handle().unwrap();
+    assert_eq!((put(&handle, b"a"), put(&handle, b"a")), (Ok(()), Err(Error::Occupied)));
+    assert_eq!(put(&handle, &[1; MAX_KEY + 1]), Err(Error::KeyTooLong));
+    assert_eq!(Error::Occupied.to_string(), "the key exists");
+}
+
+#[test]
 fn a_full_index_says_so_and_goes_on_when_a_key_is_gone() {
     let stock = Stock {
         nodes: 100,
