@@ -1,6 +1,6 @@
 //! Keys from values: bytes that have the order of numbers, texts, and tuples of them.
 
-/// A value that a key is made from: a number, a text, bytes, or a tuple of such. Numbers of the machine's size have no place in keys.
+/// A value that a key is made from: a number, a `char`, a text, bytes; or a tuple, an array or an `Option` of such.
 pub trait ToKey {
     /// Adds the value's bytes to the key.
     fn write(&self, key: &mut Vec<u8>);
@@ -15,6 +15,10 @@ pub trait FromKey: Sized {
 /// A key from values, whose bytes have the order of the values: by the first one of a tuple, then by the next, and so on. Integers, `bool`
 /// and floats take their size; text and bytes take two more bytes, and one for each 0 byte. The key of the first values is a prefix of each
 /// key that begins with them. The same values have the same bytes in each language: `bindings/keys.txt` says which.
+///
+/// Some values have bytes in Rust alone. `usize` and `isize` are as `u64` and `i64`, `u128` and `i128` take 16 bytes, and a `char` is as its number
+/// in a `u32`. An array is as the tuple of its items: so the bytes of a `[u8; 3]` are its own three. `None` is a byte 0, which comes first, and
+/// `Some` a byte 1 before the value.
 ///
 /// ```
 /// use hot::{key_of, values_of};
@@ -67,7 +71,20 @@ macro_rules! integers {
     )* };
 }
 
-integers!(u8 as u8 u16 as u16 u32 as u32 u64 as u64 i8 as u8 i16 as u16 i32 as u32 i64 as u64);
+integers!(u8 as u8 u16 as u16 u32 as u32 u64 as u64 u128 as u128 usize as u64);
+integers!(i8 as u8 i16 as u16 i32 as u32 i64 as u64 i128 as u128 isize as u64);
+
+impl ToKey for char {
+    fn write(&self, key: &mut Vec<u8>) {
+        u32::from(*self).write(key);
+    }
+}
+
+impl FromKey for char {
+    fn read(key: &mut &[u8]) -> Option<Self> {
+        char::from_u32(FromKey::read(key)?)
+    }
+}
 
 /// Floats that aren't negative have the other sign bit, and negative ones have all bits turned. All zeros are one, and so is each NaN, which
 /// comes last.
@@ -166,6 +183,35 @@ impl ToKey for String {
 impl FromKey for String {
     fn read(key: &mut &[u8]) -> Option<Self> {
         String::from_utf8(FromKey::read(key)?).ok()
+    }
+}
+
+impl<T: ToKey> ToKey for Option<T> {
+    fn write(&self, key: &mut Vec<u8>) {
+        self.is_some().write(key);
+        if let Some(value) = self {
+            value.write(key);
+        }
+    }
+}
+
+impl<T: FromKey> FromKey for Option<T> {
+    fn read(key: &mut &[u8]) -> Option<Self> {
+        let is_some = bool::read(key)?;
+        Some(if is_some { Some(T::read(key)?) } else { None })
+    }
+}
+
+impl<T: ToKey, const N: usize> ToKey for [T; N] {
+    fn write(&self, key: &mut Vec<u8>) {
+        self.iter().for_each(|item| item.write(key));
+    }
+}
+
+impl<T: FromKey, const N: usize> FromKey for [T; N] {
+    fn read(key: &mut &[u8]) -> Option<Self> {
+        let items: Option<Vec<T>> = (0..N).map(|_| T::read(key)).collect();
+        items?.try_into().ok()
     }
 }
 

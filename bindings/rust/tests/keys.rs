@@ -1,5 +1,6 @@
 //! Keys from values: the examples that all languages share, and what no key is.
-use hot::{key_of, values_of, FromKey, ToKey};
+use hot::{key_of, values_of, FromKey, Hot, ToKey};
+use std::collections::BTreeMap;
 use std::fmt::Debug;
 use std::fs;
 use std::str::FromStr;
@@ -87,4 +88,83 @@ fn what_is_no_key() {
     // -0.0, and a NaN with other bits.
     assert_eq!(values_of::<f32>([0x7f, 0xff, 0xff, 0xff]), None);
     assert_eq!(values_of::<f32>([0xff, 0xc0, 0, 1]), None);
+}
+
+/// Whether the keys of values have the order of the values, and are read again, but not where a byte is missing or one too many.
+fn is_ordered<T: ToKey + FromKey + Ord + Clone + Debug>(values: impl IntoIterator<Item = T>) {
+    let model: BTreeMap<T, u64> = values.into_iter().zip(0..).collect();
+    let index: Hot = model
+        .iter()
+        .rev()
+        .map(|(value, number)| (key_of(value), *number))
+        .collect();
+    let handle = index.handle().unwrap();
+    for (mut key, _) in &handle {
+        assert!(values_of::<T>(&key[..key.len() - 1]).is_none(), "{key:?}");
+        key.push(0);
+        assert!(values_of::<T>(&key).is_none(), "{key:?}");
+    }
+    let read: Vec<_> = handle
+        .iter()
+        .map(|(key, number)| (values_of::<T>(key).unwrap(), number))
+        .collect();
+    assert_eq!(read, model.into_iter().collect::<Vec<_>>());
+}
+
+/// All pairs of values.
+fn pairs<T: Clone>(values: &[T]) -> impl Iterator<Item = (T, T)> + '_ {
+    values
+        .iter()
+        .flat_map(move |one| values.iter().map(move |other| (one.clone(), other.clone())))
+}
+
+#[test]
+fn values_of_rust_alone_have_their_order() {
+    let numbers: Vec<u128> = (0..128)
+        .flat_map(|bit| [1 << bit, (1 << bit) - 1, !(1 << bit)])
+        .collect();
+    is_ordered(numbers.iter().copied());
+    is_ordered(numbers.iter().map(|number| *number as i128));
+    is_ordered(numbers.iter().map(|number| *number as usize));
+    is_ordered(numbers.iter().map(|number| *number as isize));
+    is_ordered(
+        numbers
+            .iter()
+            .filter_map(|number| char::from_u32(*number as u32 & 0x1f_ffff)),
+    );
+    let texts = [
+        "",
+        "\0",
+        "\0\0",
+        "\0\x01",
+        "\x01",
+        "a",
+        "a\0",
+        "a\0b",
+        "ab",
+        "b",
+        "\u{7f}",
+        "é",
+        "\u{10ffff}",
+    ]
+    .map(String::from);
+    let maybe: Vec<_> = texts.iter().cloned().map(Some).chain([None]).collect();
+    is_ordered(maybe.iter().cloned());
+    is_ordered(maybe.iter().cloned().map(Some).chain([None]));
+    is_ordered(pairs(&texts).map(|(one, other)| [one, other]));
+    is_ordered(pairs(&maybe));
+    is_ordered(pairs(&maybe).map(|(one, other)| [one, other]));
+    is_ordered(pairs(&[-300i16, -1, 0, 1, 256]).map(|(one, other)| [Some(one), None, Some(other)]));
+    is_ordered(pairs(&[0u8, 1, 255]).map(|(one, other)| ([one, other, one], Some('é'))));
+    is_ordered([None, Some(false), Some(true)]);
+    assert_eq!(
+        (key_of([1u8, 0, 2]), key_of(None::<u8>), key_of(Some(7u8))),
+        (vec![1, 0, 2], vec![0], vec![1, 7])
+    );
+    assert_eq!((key_of('é'), key_of(3usize)), (key_of(0xe9u32), key_of(3u64)));
+    assert_eq!(
+        (values_of::<char>(key_of(0xd800u32)), values_of::<Option<bool>>([2, 0])),
+        (None, None)
+    );
+    assert_eq!(values_of::<[u8; 0]>([]), Some([]));
 }
