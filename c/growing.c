@@ -475,11 +475,9 @@ static hot_status plan_allowed(grower *of, const lack *lacks, uint64_t eighths, 
 
 /* Begins the load of a job, anew if it had begun. HOT_DONE; or HOT_FULL_NODES, HOT_FULL_LEAVES, HOT_NO_MEMORY. */
 static hot_status begin_job_load(grower *of, job *it) {
-    uint64_t keys[SIZES];
     hot_status status = plan_allowed(of, &it->lacks, it->eighths, &it->to->stock);
     it->from_length = 0;
-    count_keys(of, keys);
-    return status == HOT_DONE ? begin_load(&it->to->stock, handles_of(of), keys, &it->begun, &it->to->holds) : status;
+    return status == HOT_DONE ? begin_load(&it->to->stock, handles_of(of), &it->begun, &it->to->holds) : status;
 }
 
 /* Begins a growth. HOT_DONE; or HOT_FULL_NODES, HOT_FULL_LEAVES, HOT_NO_MEMORY, and then there is none. */

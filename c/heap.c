@@ -1,31 +1,22 @@
-/* The memory of the proved calls, in the place of the kit's heap. It comes from malloc, but for what is large when an index or a handle is
- * made: that is pages of its own, which the system only gives once something is written there.
+/* The memory of the proved calls, in the place of the kit's heap. It comes from malloc, but for a table that is large: that has pages of its own,
+ * which the system only gives once something is written there.
  *
- * A table is made of two blocks of its size: first the zeros, of which a word or two of the first page are then set, and then the table,
- * to which they are copied word by word. While either is written, all pages of it but the first are one chunk of memory, again and again,
- * which holds nothing but 0. When the zeros are freed the table gets pages to which nothing was written, which are 0 as well. So the making
- * of a table takes two chunks, and an index what it holds.
+ * The kit makes a table of two blocks of its size. It fills the first with 0, and sets a word or two of it, or a load fills it. Then it copies all
+ * words to the second, and frees the first. Here both blocks are the same pages. They are 0 from the beginning, and what is to be copied stands
+ * there already: so neither is done, a table is made at once, however large it is, and a load fills the table itself. c/object and tools/weaken
+ * let the proved calls fill by heap_set, and copy by heap_copy.
  *
- * A load fills the first of the two blocks, which gets such pages before that. They are copied to the table, too, but it then takes them over
- * as they are, all but the first and those that were only read. So a load takes no more memory than the index that it makes.
- *
- * So it relies on three things. A table is made of two blocks of its size and no more. The second becomes what the first is; and that is 0
- * behind the first page, if no load has filled it. The first is freed before the second is used, moved or freed. It looks whether they are so.
- * If not, the table may not be used, as if memory were refused.
- *
- * What else is large begins as 0, too: once it is made, each page of it in which there is nothing but 0 is given back, and reads as 0
- * again.
+ * This relies on how a table is made. Nothing is written to the first block before it is filled. The second becomes what the first is by one copy
+ * of all words. The first is freed before the second is used in another way. heap_end looks whether there were two blocks, one such copy, and
+ * one block that was freed. If not, the table may not be used, as if memory were refused.
  *
  * The short lists of a handle come from malloc, where nothing is written before they are used. Its long ones are rarely used at all, and stand
  * in addresses that a table has for those of all its handles: no block there has a word of malloc's before it, so that an unused one takes no
  * memory. They are freed with the table.
  *
- * A large table asks for huge pages, but not where the records of a kind begin, or those of it that a handle has of its own: there a few keys
- * would take whole ones. Pieces of these parts get huge pages once they have filled, which heap_fill looks for.
- *
- * While the system looks after pages, page faults of all other threads may wait for it. So it is asked for a huge page's size at a time.
- *
- * Where the system refuses any of this, a block comes from malloc, and takes all of its memory.
+ * A table has small pages at first, since a few keys would take whole huge ones. Each handle claims records of a kind first in a small part, which
+ * stands beside those of the others, and then in a range of its own, from its beginning on. Pieces of these get huge pages once they have filled,
+ * which heap_fill looks for, and after two of a range the rest of it: so it takes one at most that it doesn't fill.
  *
  * While hot.c lends a room, blocks come from there, as far as they fit: so a call asks for no memory. */
 #define _GNU_SOURCE
@@ -35,291 +26,96 @@
 #include <string.h>
 #include <sys/mman.h>
 
-/* Blocks of so many bytes have pages of their own, while something is made. A smaller table is a block as any other; a large one asks for
- * huge pages, but for so many bytes where the records of a kind begin, and where a handle's own do. */
-enum { PAGE = 4096, HUGE_PAGE = 2 << 20, LEAST_BLOCK = 64 << 10, LEAST_TABLE = 1 << 20, LEAST_HUGE_TABLE = 16 << 20, SMALL_PART = 8 << 20 };
+/* A table of so many bytes has pages of its own. */
+enum { PAGE = 4096, HUGE_PAGE = 2 << 20, LEAST_TABLE = 1 << 20 };
 
 /* A long list has at least so many bytes. */
 enum { LEAST_LIST = 16 << 10 };
 
-/* So many pages of a piece may be missing where it counts as filled; a record has so many bytes at most; and one call of heap_fill looks at so
- * many pieces. */
-enum { MOST_MISSING = HUGE_PAGE / PAGE / 8, LONGEST_RECORD = 464, MOST_LOOKS = 16 };
+/* A record has so many bytes at most. One call of heap_fill looks at so many ranges. Of a piece that counts as filled so many pages were looked at,
+ * and so many bytes may be missing. After so many pieces all of a range asks for huge pages. */
+enum { LONGEST_RECORD = 464, MOST_LOOKS = 16, LOOKS_AT_A_PIECE = 8, MOST_MISSING = HUGE_PAGE / 8, MOST_ASKED = 2 };
 
-/* A chunk has at least so many bytes, and stands at most so often in a block: the system limits how many pieces of memory a process maps. */
-enum { LEAST_CHUNK = 1 << 20, MOST_CHUNKS = 512 };
-
-/* Advice of Linux 5.14 and later: pages are there before they are read one by one. Else each is found when it is touched. */
-#ifndef MADV_POPULATE_READ
-#define MADV_POPULATE_READ 22
-#endif
-
-/* Advice of Linux 6.1 and later: a huge page takes the place of pages at once. Else the system does that when it comes by. */
+/* Advice of Linux 6.1 and later: a huge page takes the place of small ones at once. Else the system does that when it comes by. */
 #ifndef MADV_COLLAPSE
 #define MADV_COLLAPSE 25
 #endif
 
 /* Where a block begins in its pages: 8 bytes behind a multiple of 16. A long list begins 4 bytes behind one. All that malloc gives begins at
  * one, if it is asked for so many bytes. */
-enum { IN_PAGES = 56, IN_LISTS = 4, LEAST_OF_MALLOC = 16 };
+enum { IN_PAGES = 6456, IN_LISTS = 4, LEAST_OF_MALLOC = 16 };
 
-/* What stands where the pages of a block begin. */
-typedef struct pages {
-    char *begin; /* of all that was mapped, with what comes before and behind these pages */
-    size_t length;
-    size_t size;  /* of these pages, in bytes */
-    size_t bytes; /* that the block was asked for */
-} pages;
+/* What stands where the pages of a table begin. */
+struct heap_pages {
+    heap_table of;
+    size_t size;                                         /* of the pages, in bytes */
+    int given, left;                                     /* how often they were given out as a block, and how many of these were not freed */
+    int is_set, is_copied;                               /* whether a block was filled with 0, and copied, as a whole */
+    size_t next;                                         /* the range that heap_fill looks at next */
+    uint8_t asked[HEAP_KINDS * (HEAP_MOST_HANDLES + 1)]; /* for how many pieces each range has asked for huge pages */
+};
+
+typedef char fits_before_a_block[sizeof(heap_pages) <= IN_PAGES ? 1 : -1];
 
 /* What this thread makes. */
 static __thread struct {
     int is_on;
-    size_t left;   /* the size of the table that is still to be made, or 0 */
-    size_t asked;  /* bytes, without those of the table and of long lists in their addresses */
+    size_t asked; /* bytes, without those of the table and of long lists in their addresses */
     heap_lists *lists;
-    heap_table of; /* the table */
-    pages *made;   /* it, once it has pages of its own */
-    pages *zeros;  /* of which the table is made; what a load has filled, if that goes on */
-    pages *copied; /* the table, while the zeros are there */
-    pages *last;   /* the last other block, in which pages of 0 are to be given back */
-    int is_filled; /* the zeros have their pages, and are no zeros any more */
-    int is_broken; /* the table may not be used: it has no pages of its own, since memory was refused, or was made in another way */
+    heap_table of;     /* the table */
+    heap_pages *table; /* its pages, once there are some */
 } making;
 
-static char *block_in(pages *of) {
+static char *block_in(heap_pages *of) {
     return (char *)of + IN_PAGES;
 }
 
-/* The pages of a block, or NULL if it came from malloc. */
-static pages *pages_of(void *block) {
-    return (uintptr_t)block % 16 == IN_PAGES % 16 ? (pages *)((char *)block - IN_PAGES) : NULL;
+/* The pages of a block, or NULL if it has none of its own. */
+static heap_pages *pages_of(void *block) {
+    return (uintptr_t)block % 16 == IN_PAGES % 16 ? (heap_pages *)((char *)block - IN_PAGES) : NULL;
 }
 
-/* How many bytes, of those that are left from here on, the system is asked to look after next. */
-static size_t next_part(const char *from, size_t left) {
-    size_t part = HUGE_PAGE - (uintptr_t)from % HUGE_PAGE;
-    return part < left ? part : left;
-}
-
-static void unmap_part(char *from, size_t left) {
-    size_t part;
-    for (; left > 0; from += part, left -= part) {
-        part = next_part(from, left);
-        munmap(from, part);
-    }
-}
-
-/* What is advised tells of memory, or gives it back: it may be refused. */
-static void advise(char *from, size_t left, int advice) {
-    size_t part;
-    for (; left > 0; from += part, left -= part) {
-        part = next_part(from, left);
-        madvise(from, part, advice);
-    }
-}
-
-static void unmap(pages *old) {
-    unmap_part(old->begin, old->length);
-}
-
-/* Maps pages for a block of so many bytes, which are 0. They begin at a multiple of `step`. Or NULL, as where there is not so much memory in
- * the machine. */
-static pages *map_pages(size_t bytes, size_t step) {
-    size_t size = (IN_PAGES + bytes + PAGE - 1) / PAGE * PAGE, length = size + step - PAGE;
-    pages *made;
-    char *begin = bytes > SIZE_MAX / 2 ? MAP_FAILED : mmap(NULL, length, PROT_READ | PROT_WRITE, MAP_PRIVATE | MAP_ANONYMOUS, -1, 0);
-    if (begin == MAP_FAILED)
+/* Maps pages for the table, which are 0, and none of which becomes a huge one unasked. Or NULL, as where there is not so much memory in the
+ * machine. */
+static heap_pages *map_table(const heap_table *of) {
+    size_t size = (IN_PAGES + of->bytes + PAGE - 1) / PAGE * PAGE;
+    heap_pages *made = mmap(NULL, size, PROT_READ | PROT_WRITE, MAP_PRIVATE | MAP_ANONYMOUS, -1, 0);
+    if (made == MAP_FAILED)
         return NULL;
-    made = (pages *)(((uintptr_t)begin + step - 1) / step * step);
-    made->begin = begin;
-    made->length = length;
+    madvise(made, size, MADV_NOHUGEPAGE);
+    made->of = *of;
+    made->of.from[HEAP_KINDS] = size - IN_PAGES;
     made->size = size;
-    made->bytes = bytes;
     return made;
 }
 
-static int is_zero(const char *page) {
-    const uint64_t *word = (const uint64_t *)page, *end = word + PAGE / sizeof *word;
-    while (word < end && *word == 0)
-        word++;
-    return word == end;
+/* One of the two blocks of which the table is made, or NULL. */
+static void *table_block(void) {
+    if (making.table == NULL)
+        making.table = map_table(&making.of);
+    if (making.table == NULL)
+        return NULL;
+    making.table->given++;
+    making.table->left++;
+    return block_in(making.table);
 }
 
-/* Gives back those pages of the last block in which there is nothing but 0. This thread has made the block, and no other knows it yet. */
-static void give_zeros_back(void) {
-    char *page = (char *)making.last, *first = NULL, *end;
-    if (making.last == NULL)
-        return;
-    end = page + making.last->size;
-    while ((page += PAGE) <= end)
-        if (page < end && is_zero(page)) {
-            first = first != NULL ? first : page;
-        } else if (first != NULL) {
-            advise(first, (size_t)(page - first), MADV_DONTNEED);
-            first = NULL;
-        }
-    making.last = NULL;
+/* What the proved calls do by memset. The first block of a table is 0 already. */
+void *heap_set(void *to, int what, size_t size) {
+    heap_pages *table = size < LEAST_TABLE / 2 || what != 0 ? NULL : making.table;
+    if (table == NULL || to != block_in(table) || size > table->of.bytes || table->given > 1 || table->is_set)
+        return memset(to, what, size);
+    table->is_set = 1;
+    return to;
 }
 
-/* The size of the chunk that stands for so many bytes of pages. */
-static size_t chunk_size(size_t rest) {
-    size_t size = (rest / MOST_CHUNKS + PAGE) / PAGE * PAGE;
-    return size < LEAST_CHUNK ? LEAST_CHUNK : size;
-}
-
-/* Lets one chunk stand for all these pages but the first. Returns whether it could; some may be it if not. */
-static int stand_in(pages *for_these) {
-    size_t rest = for_these->size - PAGE, size = chunk_size(rest), at, part;
-    void *chunk, *put = NULL;
-    chunk = mmap(NULL, size, PROT_READ | PROT_WRITE, MAP_SHARED | MAP_ANONYMOUS | MAP_NORESERVE, -1, 0);
-    if (chunk == MAP_FAILED)
-        return 0;
-    for (at = 0; at < rest && put != MAP_FAILED; at += part) {
-        part = rest - at < size ? rest - at : size;
-        put = mremap(chunk, 0, part, MREMAP_MAYMOVE | MREMAP_FIXED, (char *)for_these + PAGE + at);
-    }
-    munmap(chunk, size);
-    if (put == MAP_FAILED)
-        return 0;
-    advise((char *)for_these + PAGE, rest, MADV_POPULATE_READ);
-    return 1;
-}
-
-/* Whether the chunk that stands for the pages of a block holds nothing but 0. */
-static int is_chunk_zero(const pages *block) {
-    size_t rest = block->size - PAGE, size = chunk_size(rest), at = 0;
-    while (at < rest && at < size && is_zero((const char *)block + PAGE + at))
-        at += PAGE;
-    return at == rest || at == size;
-}
-
-/* Whether a table has become what the zeros are, or what a load has filled. Of that only the first page tells. */
-static int is_copy(pages *table, pages *of) {
-    return memcmp(block_in(table), block_in(of), PAGE - IN_PAGES) == 0 && (making.is_filled || is_chunk_zero(table));
-}
-
-/* Whether a piece that begins so many bytes behind the first record of a kind has some that a handle claims early: there few keys would take a
- * whole huge page. */
-static int is_early(const heap_table *of, int kind, size_t at) {
-    size_t own = of->own[kind];
-    if (at < SMALL_PART || at < of->first[kind])
-        return 1;
-    at = own == 0 ? at : (at - of->first[kind]) % own;
-    return own > 0 && (at < SMALL_PART || own - at < HUGE_PAGE);
-}
-
-/* Whether a piece of the table that is made takes small pages until it has filled: one with early records that a load doesn't fill, or where a kind
- * begins. */
-static int is_small(size_t piece) {
-    const heap_table *of = &making.of;
-    size_t begin = piece * HUGE_PAGE, end = begin + HUGE_PAGE, at;
-    int kind = HEAP_KINDS;
-    while (kind > 0 && of->from[kind - 1] + IN_PAGES >= end)
-        kind--;
-    if (kind == 0 || of->from[kind - 1] + IN_PAGES >= begin)
-        return 1;
-    at = begin - IN_PAGES - of->from[kind - 1];
-    return at + HUGE_PAGE > of->filled[kind - 1] && is_early(of, kind - 1, at);
-}
-
-/* Asks for huge pages for all other pieces of the table, if it is large. */
-static void ask_for_huge_pages(pages *table) {
-    size_t piece, from, upto;
-    for (piece = 0; making.of.bytes >= LEAST_HUGE_TABLE && piece * HUGE_PAGE < table->size; piece++) {
-        from = piece * HUGE_PAGE;
-        while (piece * HUGE_PAGE < table->size && !is_small(piece))
-            piece++;
-        upto = piece * HUGE_PAGE < table->size ? piece * HUGE_PAGE : table->size;
-        if (from < upto)
-            madvise((char *)table + from, upto - from, MADV_HUGEPAGE);
-    }
-}
-
-/* Puts fresh pages in the place of all of a block but the first. Returns whether it could. */
-static int renew(pages *block) {
-    enum { PRIVATE = MAP_PRIVATE | MAP_ANONYMOUS | MAP_NORESERVE | MAP_FIXED };
-    char *from = (char *)block + PAGE;
-    size_t left = block->size - PAGE, part;
-    for (; left > 0; from += part, left -= part) {
-        part = next_part(from, left);
-        if (mmap(from, part, PROT_READ | PROT_WRITE, PRIVATE, -1, 0) == MAP_FAILED)
-            return 0;
-    }
-    ask_for_huge_pages(block);
-    return 1;
-}
-
-/* The first of the two blocks that a table is made of, or the second. Or NULL: then this one comes from malloc, and so does the second. */
-static pages *map_table(size_t bytes) {
-    pages *made = map_pages(bytes, HUGE_PAGE);
-    if (made != NULL && !stand_in(made)) {
-        unmap(made);
-        made = NULL;
-    }
-    if (made == NULL || making.zeros != NULL)
-        making.left = 0;
-    if (making.zeros == NULL)
-        making.zeros = made;
-    else
-        making.copied = made;
-    return made;
-}
-
-/* Moves pages to a table, as far as the system lets it, and returns how many bytes they have. Those for which huge pages were asked, and those
- * for which they were not, are moved apart: so old systems want it. */
-static size_t move_pages(pages *table, char *from, size_t rest) {
-    char *to = (char *)table + PAGE;
-    size_t moved, part;
-    for (moved = 0; moved < rest; moved += part) {
-        part = next_part(to + moved, rest - moved);
-        if (mremap(from + moved, part, part, MREMAP_MAYMOVE | MREMAP_FIXED, to + moved) == MAP_FAILED)
-            break;
-    }
-    return moved;
-}
-
-/* Gives a table its pages, which then hold what it holds: those of what was filled, which is as large, or fresh ones. Returns how many bytes were
- * moved. Where the system refuses that, which may have taken the table's own pages away, what was filled is copied. If it has refused a part,
- * the table is no use. */
-static size_t give_pages(pages *table, char *from, size_t rest) {
-    size_t moved = making.is_filled ? move_pages(table, from, rest) : 0;
-    if (moved == 0) {
-        making.is_broken |= !renew(table);
-        if (making.is_filled && !making.is_broken)
-            memcpy((char *)table + PAGE, from, rest);
-    } else {
-        making.is_broken |= moved < rest;
-    }
-    return moved;
-}
-
-/* Frees the zeros, or what was filled. If they were copied to a table, that gets pages of its own. */
-static void free_zeros(void) {
-    pages *table = making.copied, left = *making.zeros;
-    char *from = (char *)making.zeros + PAGE, *end = left.begin + left.length;
-    int is_so = (making.is_filled || is_chunk_zero(making.zeros)) && (table == NULL || is_copy(table, making.zeros));
-    size_t moved = table != NULL ? give_pages(table, from, left.size - PAGE) : 0;
-    making.is_broken |= !is_so;
-    making.made = table;
-    making.zeros = making.copied = NULL;
-    unmap_part(left.begin, (size_t)(from - left.begin));
-    if (from + moved < end)
-        unmap_part(from + moved, (size_t)(end - from) - moved);
-    if (moved > 0) {
-        give_zeros_back();
-        making.last = table;
-    }
-}
-
-/* A block with pages of its own, or NULL. */
-static void *map_block(size_t bytes) {
-    pages *made;
-    give_zeros_back();
-    if (bytes == making.left)
-        made = map_table(bytes);
-    else
-        making.last = made = map_pages(bytes, PAGE);
-    return made == NULL ? NULL : block_in(made);
+/* The copy of all words of which a table is made. */
+void heap_copy(uint64_t *to, const uint64_t *from, size_t count) {
+    heap_pages *table = making.table;
+    if (to != from)
+        memcpy(to, from, count * sizeof *to);
+    else if (table != NULL && (char *)to == block_in(table) && count * sizeof *to == table->of.bytes)
+        table->is_copied = 1;
 }
 
 /* A long list with its addresses, or NULL. */
@@ -401,34 +197,24 @@ static size_t for_malloc(size_t size) {
     return size < LEAST_OF_MALLOC ? LEAST_OF_MALLOC : size;
 }
 
-static void *block(size_t size, size_t align) {
-    if (making.is_on && size >= LEAST_BLOCK && align <= 8)
-        return map_block(size);
-    if (making.is_on && size >= LEAST_LIST && align <= IN_LISTS)
-        return listed_block(size);
-    return lent_block(size);
-}
-
 tried rattle_alloc(size_t size, size_t align) {
     void *at;
+    if (making.is_on && size >= LEAST_TABLE && size == making.of.bytes && (making.table == NULL || making.table->given < 2))
+        return told(table_block());
     making.asked += size == making.of.bytes ? 0 : size;
-    at = block(size, align);
+    at = making.is_on && size >= LEAST_LIST && align <= IN_LISTS ? listed_block(size) : lent_block(size);
     return told(at != NULL ? at : malloc(for_malloc(size)));
 }
 
 void rattle_dealloc(void *at) {
-    pages *old = pages_of(at);
+    heap_pages *old = pages_of(at);
     if (is_lent(at) || is_listed(at))
         return;
     if (old == NULL) {
         free(at);
-    } else if (old == making.zeros) {
-        free_zeros();
-    } else {
-        making.is_broken |= old == making.copied;
-        making.copied = old == making.copied ? NULL : making.copied;
-        making.last = old == making.last ? NULL : making.last;
-        unmap(old);
+    } else if (--old->left == 0) {
+        making.table = old == making.table ? NULL : making.table;
+        munmap(old, old->size);
     }
 }
 
@@ -449,157 +235,161 @@ void heap_begin(const heap_table *table, heap_lists *lists) {
     static const heap_table none;
     making.is_on = 1;
     making.of = table == NULL ? none : *table;
-    making.left = making.of.bytes < LEAST_TABLE ? 0 : making.of.bytes;
     making.asked = 0;
-    making.made = making.zeros = making.copied = NULL;
+    making.table = NULL;
     making.lists = lists;
-    making.is_filled = making.is_broken = 0;
 }
 
+/* The table's pages stay in `making` until heap_take_pages takes them. */
 int heap_end(void) {
-    give_zeros_back();
+    const heap_pages *table = making.table;
     making.is_on = 0;
     making.lists = NULL;
-    making.left = 0;
-    return !making.is_broken && making.zeros == NULL;
+    return making.of.bytes < LEAST_TABLE || (table != NULL && table->given == 2 && table->left == 1 && table->is_copied);
 }
 
-int heap_pause(void **words) {
-    pages *filled = making.zeros;
-    *words = filled;
-    making.zeros = NULL;
-    making.is_broken |= filled != NULL && (making.copied != NULL || !is_chunk_zero(filled) || !renew(filled));
-    return heap_end();
-}
-
-void heap_go_on(const heap_table *table, void *words, heap_lists *lists) {
-    pages *filled = words;
-    heap_begin(table, lists);
-    making.left = filled == NULL ? 0 : making.left;
-    making.zeros = filled;
-    making.is_filled = 1;
-    if (filled != NULL)
-        advise((char *)filled + PAGE, filled->size - PAGE, MADV_POPULATE_READ);
+heap_pages *heap_take_pages(void) {
+    heap_pages *table = making.table;
+    making.table = NULL;
+    return table;
 }
 
 size_t heap_asked(void) {
     return making.asked;
 }
 
-/* How many of so many pages are there, of which mincore has written a byte each: eight at a time. */
-static size_t count_pages(const unsigned char *there, size_t pages) {
-    static const uint64_t ones = 0x0101010101010101u;
-    size_t page, held = 0;
-    uint64_t eight;
-    for (page = 0; page + sizeof eight <= pages; page += sizeof eight) {
-        memcpy(&eight, there + page, sizeof eight);
-        held += (eight & ones) * ones >> 56;
-    }
-    for (; page < pages; page++)
-        held += there[page] & 1;
-    return held;
+/* The beginning of the page in which a place of the table stands. */
+static char *page_at(const heap_pages *table, size_t place) {
+    return (char *)table + (IN_PAGES + place) / PAGE * PAGE;
 }
 
-/* How many bytes take memory of those from a page on; all, if the system doesn't tell. */
-static size_t held_of(char *begin, size_t bytes) {
-    unsigned char there[PAGE];
-    size_t pages = (bytes + PAGE - 1) / PAGE, held = 0, from, part;
-    for (from = 0; from < pages; from += part) {
-        part = pages - from < sizeof there ? pages - from : sizeof there;
-        if (mincore(begin + from * PAGE, part * PAGE, there) != 0)
-            return bytes;
-        held += count_pages(there, part);
-    }
-    return held * PAGE;
+/* A table has a range for each kind and handle, of the records that the handle has of its own, and one before them for each kind, of those that all
+ * claim first. Those that are left belong to the last handle's. So the ranges of a table stand one behind the other. */
+static size_t ranges(const heap_pages *table) {
+    return HEAP_KINDS * (table->of.handles + 1);
 }
 
-static int has_bit(const uint8_t *bits, size_t piece) {
-    return __atomic_load_n(&bits[piece / 8], __ATOMIC_RELAXED) >> piece % 8 & 1;
+/* Where the range of this number begins, or the last one ends. */
+static size_t begin_of(const heap_table *of, size_t range) {
+    size_t kind = range / (of->handles + 1), handle = range % (of->handles + 1);
+    return of->from[kind] + (handle == 0 ? 0 : of->first[kind] + (handle - 1) * of->own[kind]);
 }
 
-/* Pages stay, so what was full is not looked at again. */
-size_t heap_held(const heap_pieces *pieces, size_t bytes) {
-    size_t all = IN_PAGES + bytes, at, part, piece, its, held = 0;
-    if (pieces->full == NULL)
-        return held_of(pieces->table, all);
-    for (at = 0; at < all; at += part) {
-        part = next_part(pieces->table + at, all - at);
-        piece = at / HUGE_PAGE;
-        its = part;
-        if (!has_bit(pieces->full, piece))
-            its = held_of(pieces->table + at, part);
-        if (its >= part)
-            __atomic_fetch_or(&pieces->full[piece / 8], (uint8_t)(1 << piece % 8), __ATOMIC_RELAXED);
-        held += its;
+/* A piece is of the size of a huge page, and begins where one may stand. This is the first that begins in a range, or behind it. */
+static char *first_piece(const heap_pages *table, size_t range) {
+    uintptr_t begin = (uintptr_t)page_at(table, begin_of(&table->of, range)), end = (uintptr_t)table + table->size;
+    begin = (begin + HUGE_PAGE - 1) / HUGE_PAGE * HUGE_PAGE;
+    end = end / HUGE_PAGE * HUGE_PAGE;
+    return (char *)(begin < end ? begin : end);
+}
+
+/* How many bytes take memory of those between two pages; all, if the system doesn't tell. From a third place on the pages fill one after the
+ * other: so behind 2 MiB without any there is none. */
+static size_t held_of(char *page, const char *end, const char *filling) {
+    unsigned char there[HUGE_PAGE / PAGE];
+    size_t held = 0, part, its, at;
+    for (; page < end; page += part) {
+        part = (size_t)(end - page) < HUGE_PAGE ? (size_t)(end - page) : HUGE_PAGE;
+        if (mincore(page, part, there) != 0)
+            return held + (size_t)(end - page);
+        for (its = at = 0; at < (part + PAGE - 1) / PAGE; at++)
+            its += there[at] & 1;
+        if (its == 0 && page >= filling)
+            break;
+        held += its * PAGE;
     }
     return held;
 }
 
-size_t heap_held_lists(const heap_lists *lists) {
-    return held_of(lists->begin, lists->size);
-}
-
-void heap_take_pieces(heap_pieces *pieces) {
-    size_t piece, size;
-    pieces->table = (char *)making.made;
-    pieces->count = (IN_PAGES + making.of.bytes) / HUGE_PAGE + 1;
-    pieces->next = 0;
-    size = pieces->count / 8 + 1;
-    pieces->marks = making.made == NULL || making.of.bytes < LEAST_HUGE_TABLE ? NULL : calloc(2, size);
-    pieces->full = pieces->marks == NULL ? NULL : pieces->marks + size;
-    for (piece = 0; pieces->marks != NULL && piece < pieces->count; piece++)
-        if ((piece + 1) * HUGE_PAGE <= making.made->size) /* behind the last whole piece stands what is not the table's */
-            pieces->marks[piece / 8] = (uint8_t)(pieces->marks[piece / 8] | is_small(piece) << piece % 8);
-}
-
-void heap_free_pieces(heap_pieces *pieces) {
-    free(pieces->marks);
-}
-
-/* Whether something stands where a page begins, as it does once its records have been in use. Other threads may write there. */
-static int is_begun(const char *page) {
+/* Whether something was written where a page begins, as it was once its records have been in use. A page that was only read is there, too, and 0.
+ * Other threads may write there. */
+static int is_used(char *page) {
     const uint64_t *word = (const uint64_t *)page, *end = word + LONGEST_RECORD / sizeof *word;
+    if (held_of(page, page + PAGE, page) == 0)
+        return 0;
     while (word < end && __atomic_load_n(word, __ATOMIC_RELAXED) == 0)
         word++;
     return word < end;
 }
 
-/* Whether nearly all pages of a piece have been written to. Those that were only read are there, too, and 0. The last one mostly comes last. */
+/* Whether nearly all pages of a piece are there, and some that were looked at have been used. The last one mostly comes last. */
 static int is_filled(char *piece) {
-    unsigned char there[HUGE_PAGE / PAGE];
-    int page = HUGE_PAGE / PAGE - 1, missing = 0;
-    if (mincore(piece + page * PAGE, PAGE, there) != 0 || (there[0] & 1) == 0 || !is_begun(piece + page * PAGE) ||
-        mincore(piece, HUGE_PAGE, there) != 0)
-        return 0;
-    for (; page >= 0 && missing <= MOST_MISSING; page--)
-        missing += (there[page] & 1) == 0 || !is_begun(piece + page * PAGE);
-    return missing <= MOST_MISSING;
+    char *end = piece + HUGE_PAGE, *page = end - PAGE;
+    while (page > piece && is_used(page))
+        page -= HUGE_PAGE / LOOKS_AT_A_PIECE;
+    return page < piece && held_of(piece, end, end) >= HUGE_PAGE - MOST_MISSING;
 }
 
-/* Gives a marked piece a huge page if it has filled. Returns whether it had. */
-static int fill(heap_pieces *of, size_t piece) {
-    char *begin = of->table + piece * HUGE_PAGE;
-    if (!is_filled(begin))
+/* Puts a huge page in the place of the next piece of a range, if that has filled. Returns whether it had. With the second one the rest of the range
+ * asks for huge pages. */
+static int look(heap_pages *table, size_t range) {
+    uint8_t *asked = &table->asked[range];
+    char *piece = first_piece(table, range) + *asked * (size_t)HUGE_PAGE, *end = first_piece(table, range + 1);
+    if (*asked == MOST_ASKED || piece >= end || !is_filled(piece))
         return 0;
-    madvise(begin, HUGE_PAGE, MADV_HUGEPAGE);
-    madvise(begin, HUGE_PAGE, MADV_COLLAPSE);
-    of->marks[piece / 8] = (uint8_t)(of->marks[piece / 8] & ~(1 << piece % 8));
+    ++*asked;
+    madvise(piece, *asked == MOST_ASKED ? (size_t)(end - piece) : HUGE_PAGE, MADV_HUGEPAGE);
+    madvise(piece, HUGE_PAGE, MADV_COLLAPSE);
     return 1;
 }
 
-void heap_fill(heap_pieces *pieces) {
-    size_t seen, looks = 0, piece;
-    for (seen = 0; pieces->marks != NULL && seen < pieces->count && looks < MOST_LOOKS; seen++) {
-        piece = pieces->next;
-        pieces->next = piece + 1 < pieces->count ? piece + 1 : 0;
-        if (has_bit(pieces->marks, piece) && (++looks, fill(pieces, piece)))
+void heap_fill(heap_pages *table) {
+    size_t seen, looks = 0, range;
+    for (seen = 0; table != NULL && seen < ranges(table) && looks < MOST_LOOKS; seen++) {
+        range = table->next;
+        table->next = range + 1 < ranges(table) ? range + 1 : 0;
+        looks += table->asked[range] < MOST_ASKED && first_piece(table, range) < first_piece(table, range + 1);
+        if (look(table, range))
             return;
     }
 }
 
-void heap_fill_all(heap_pieces *pieces) {
-    size_t piece;
-    for (piece = 0; pieces->marks != NULL && piece < pieces->count; piece++)
-        if (has_bit(pieces->marks, piece))
-            fill(pieces, piece);
+/* A load fills the records of each kind from their beginning on. */
+int heap_pause(heap_pages **words) {
+    heap_pages *filled = *words = heap_take_pages();
+    size_t kind, of_kind;
+    char *from, *end;
+    heap_end();
+    if (filled == NULL)
+        return making.of.bytes < LEAST_TABLE;
+    of_kind = filled->of.handles + 1;
+    for (kind = 0; kind < HEAP_KINDS; kind++) {
+        from = first_piece(filled, kind * of_kind) + MOST_ASKED * HUGE_PAGE;
+        end = first_piece(filled, (kind + 1) * of_kind);
+        if (from < end)
+            madvise(from, (size_t)(end - from), MADV_HUGEPAGE);
+    }
+    return filled->given == 1 && filled->left == 1;
+}
+
+void heap_go_on(const heap_table *table, heap_pages *words, heap_lists *lists) {
+    heap_begin(table, lists);
+    making.table = words;
+}
+
+void heap_end_load(heap_pages *table) {
+    size_t range;
+    if (table == NULL)
+        return;
+    madvise(table, table->size, MADV_NOHUGEPAGE);
+    for (range = 0; range < ranges(table); range++)
+        while (look(table, range))
+            ;
+}
+
+size_t heap_held(const heap_pages *table) {
+    const heap_table *of = &table->of;
+    char *begin, *end = page_at(table, of->from[0]);
+    size_t range, kind, held = held_of((char *)table, end, end);
+    for (range = 0; range < ranges(table); range++) {
+        kind = range / (of->handles + 1);
+        begin = end;
+        end = page_at(table, begin_of(of, range + 1));
+        held += held_of(begin, end, page_at(table, of->from[kind] + of->first[kind]));
+    }
+    return held;
+}
+
+size_t heap_held_lists(const heap_lists *lists) {
+    return held_of(lists->begin, lists->begin + lists->size, lists->begin + lists->size);
 }

@@ -5,12 +5,12 @@
 #include <stddef.h>
 #include <stdint.h>
 
-/* A table that is made: how many bytes it has, or 0 if none is made; where in it the records of each kind begin, in this order, and the last ones
- * end; how many bytes those have of a kind that all handles claim first, which stand side by side; how many those behind them that each
- * handle has of its own; and how many bytes of a kind a load is known to fill, from its beginning on. */
-enum { HEAP_KINDS = 6 };
+/* A table that is made: how many bytes it has, or 0 if none is made; for how many handles it is; where in it the records of each kind begin, in this
+ * order, and the last ones end; how many bytes those have of a kind that all handles claim first, which stand side by side; and how many those
+ * behind them that each handle has of its own. */
+enum { HEAP_KINDS = 6, HEAP_MOST_HANDLES = 1024 };
 typedef struct heap_table {
-    size_t bytes, from[HEAP_KINDS + 1], first[HEAP_KINDS], own[HEAP_KINDS], filled[HEAP_KINDS];
+    size_t bytes, handles, from[HEAP_KINDS + 1], first[HEAP_KINDS], own[HEAP_KINDS];
 } heap_table;
 
 /* Addresses for the long lists of a table's handles, of which few are ever used: there a page takes memory once something is written. So many
@@ -41,37 +41,32 @@ int heap_end(void);
 /* How many bytes were asked for between them, without those of the table and of the lists there. */
 size_t heap_asked(void);
 
-/* The pieces of a table, each of the size of a huge page, of which those marked get one once they have filled. */
-typedef struct heap_pieces {
-    char *table;
-    uint8_t *marks; /* a bit for each piece; NULL if none is marked */
-    uint8_t *full;  /* behind the marks, a bit for each piece of which all pages were seen to take memory */
-    size_t count, next;
-} heap_pieces;
+/* The pages of the table that this thread has made last, or NULL if it has none of its own. They go with the table. */
+typedef struct heap_pages heap_pages;
+heap_pages *heap_take_pages(void);
 
-/* Writes those of the table that this thread has made last. Without memory none is marked. */
-void heap_take_pieces(heap_pieces *pieces);
-void heap_free_pieces(heap_pieces *pieces);
+/* How many bytes of its pages take memory. The system may count those that were only read. */
+size_t heap_held(const heap_pages *table);
 
-/* How many bytes of the pages of a table, if it has pages of its own, take memory. The system may count those that were only read. Pieces that were
- * full when it was last called count as full. */
-size_t heap_held(const heap_pieces *pieces, size_t bytes);
+/* Puts a huge page in the place of a piece of the table that has filled, if the next few that it looks at have one, and the system has one. */
+void heap_fill(heap_pages *table);
 
-/* Puts a huge page in the place of a marked piece that has filled, if the next few that it looks at have one, and the system has one. */
-void heap_fill(heap_pieces *pieces);
+/* The same for all pieces, once a load has filled some. */
+void heap_end_load(heap_pages *table);
 
-/* The same for all pieces. */
-void heap_fill_all(heap_pieces *pieces);
-
-/* A load fills the words of a table before the table is made of them. Between heap_begin and heap_pause it gets words that are 0 but for a few
- * at their beginning, and between heap_go_on and heap_end the table is made of the filled ones. heap_pause writes what heap_go_on takes, and
- * returns whether the words may be filled: if not, memory was refused. In between this thread may make other things. */
-int heap_pause(void **words);
-void heap_go_on(const heap_table *table, void *words, heap_lists *lists);
+/* A load fills the words of a table before the table is made of them. Between heap_begin and heap_pause it gets words that are 0 but for a few at
+ * their beginning, and between heap_go_on and heap_end the table is made of the filled ones. heap_pause writes what heap_go_on takes, and returns
+ * whether the words may be filled: if not, memory was refused. In between this thread may make other things. */
+int heap_pause(heap_pages **words);
+void heap_go_on(const heap_table *table, heap_pages *words, heap_lists *lists);
 
 /* Between these two calls blocks of this thread come from a room, as far as they fit, and each of them is freed. The room begins at a
  * multiple of 16, and its size is one. */
 void heap_lend(void *room, size_t size);
 void heap_take_back(void);
+
+/* What the proved calls call in the place of memset, and of the loop that copies a table's words. */
+void *heap_set(void *to, int what, size_t size);
+void heap_copy(uint64_t *to, const uint64_t *from, size_t count);
 
 #endif

@@ -226,7 +226,7 @@ static __attribute__((cold, noinline)) hot_status look_at_pieces(hot_place *plac
     hot_index *index = place->index;
     place->looks_at = (uint32_t)place->keys + KEYS_TO_A_LOOK;
     if (__atomic_exchange_n(&index->filling, 1, __ATOMIC_ACQUIRE) == 0) {
-        heap_fill(&index->holds.pieces);
+        heap_fill(index->holds.pages);
         __atomic_store_n(&index->filling, 0, __ATOMIC_RELEASE);
     }
     return status;
@@ -546,7 +546,6 @@ static size_t bytes_beside_table(const hot_index *index, size_t opened) {
 }
 
 void hot_bytes(const hot_index *index, hot_memory *bytes) {
-    const heap_pieces *pieces = &index->holds.pieces;
     const heap_lists *lists = &index->holds.long_lists;
     uint32_t *filling = (uint32_t *)&index->filling;
     size_t place, held, opened = 1;
@@ -558,7 +557,7 @@ void hot_bytes(const hot_index *index, hot_memory *bytes) {
         opened += __atomic_load_n(&index->places[place].state, __ATOMIC_SEQ_CST) != UNOPENED;
     opened = opened < index->count ? opened : index->count;
     bytes->most = index->holds.table + lists->size + bytes_beside_table(index, index->count);
-    bytes->now = (pieces->table == NULL ? index->holds.table : heap_held(pieces, index->holds.table)) + bytes_beside_table(index, opened) +
+    bytes->now = (index->holds.pages == NULL ? index->holds.table : heap_held(index->holds.pages)) + bytes_beside_table(index, opened) +
                  heap_held_lists(lists);
     if (index->grower != NULL)
         unlock_word(filling);
@@ -640,7 +639,6 @@ hot_status hot_get_packed(hot_handle *handle, const uint8_t *bytes, const size_t
 }
 
 void free_held(holding *holds) {
-    heap_free_pieces(&holds->pieces);
     heap_unmap_lists(&holds->long_lists);
 }
 
@@ -733,6 +731,7 @@ static heap_table table_of(const hot_stock *stock, size_t handles) {
     heap_table table = none;
     if (proved_stock_bytes(stock, handles, &table.bytes) != HOT_DONE)
         return table;
+    table.handles = handles;
     table.from[HEAP_KINDS] = table.bytes;
     share_out(&table, 5, stock->long_leaves, 264, handles);
     share_out(&table, 4, stock->wide_leaves, 112, handles);
@@ -753,7 +752,7 @@ static void note_stock(holding *holds, const hot_stock *stock, size_t handles) {
 
 /* Notes what this thread has made: the table, and so many handles with their lists. */
 static void note_made(holding *holds, size_t handles) {
-    heap_take_pieces(&holds->pieces);
+    holds->pages = heap_take_pages();
     holds->lists = heap_asked() / handles;
 }
 
@@ -881,25 +880,11 @@ static hot_status take_pairs(loading *load, hot_source *next, void *context, siz
     return status;
 }
 
-/* Notes what so many keys of each size fill of a table: the nodes have 31 keys each at most. */
-static void note_filled(heap_table *table, const uint64_t *keys) {
-    static const size_t bytes[HEAP_KINDS - 1] = {32, 48, 80, 112, 264};
-    uint64_t all = 0;
-    int size;
-    for (size = 0; size < HEAP_KINDS - 1; size++) {
-        table->filled[size + 1] = (size_t)keys[size] * bytes[size];
-        all += keys[size];
-    }
-    table->filled[0] = (size_t)all / 31 * 464;
-}
-
-hot_status begin_load(const hot_stock *stock, size_t handles, const uint64_t *keys, begun_load *begun, holding *holds) {
+hot_status begin_load(const hot_stock *stock, size_t handles, begun_load *begun, holding *holds) {
     hot_status status;
     note_stock(holds, stock, handles);
     begun->handles = handles;
     begun->table = table_of(stock, handles);
-    if (keys != NULL)
-        note_filled(&begun->table, keys);
     heap_begin(&begun->table, NULL);
     status = proved_begin_load(stock, handles, &begun->load);
     if (heap_pause(&begun->words) || status != HOT_DONE)
@@ -908,14 +893,13 @@ hot_status begin_load(const hot_stock *stock, size_t handles, const uint64_t *ke
     return HOT_NO_MEMORY;
 }
 
-/* Those pieces that a load has filled get huge pages. */
 hot_status end_load(begun_load *begun, hot_handle *keeper, holding *holds) {
     hot_status status;
     heap_map_lists(&holds->long_lists, begun->handles);
     heap_go_on(&begun->table, begun->words, &holds->long_lists);
     status = end_making(proved_end_load(&begun->load, keeper), keeper, 1, holds);
     if (status == HOT_DONE)
-        heap_fill_all(&holds->pieces);
+        heap_end_load(holds->pages);
     return status;
 }
 
@@ -929,7 +913,7 @@ hot_status load_table(const hot_stock *stock, size_t handles, hot_source *next, 
                       hot_status *refused, size_t *count) {
     static const begun_load none;
     begun_load begun = none;
-    hot_status status = begin_load(stock, handles, NULL, &begun, holds);
+    hot_status status = begin_load(stock, handles, &begun, holds);
     if (status != HOT_DONE)
         return status;
     *refused = take_pairs(&begun.load, next, context, count);

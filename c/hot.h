@@ -52,16 +52,15 @@
  *
  * Memory. An index has its records from the beginning, and a handle up to 119 KB of lists from when it is first opened, so that no change asks
  * for memory. But a page of 4 KiB takes memory only once something is written there: so an index takes what its keys need, and a handle
- * some 28 KB. A page that was written stays when keys go. Tables of 16 MiB and more ask for huge pages, of 2 MiB, where the system lets
- * them: at once, but for the first 8 MiB of the records of a size, and of those that each handle claims for itself. There 2 MiB get a huge page
- * once they have been written, by an insertion that then takes some milliseconds. If memory runs out when a page is first written, the system
- * ends the program. So take a stock whose hot_stock_bytes the machine has to spare; or call mlockall once the index is made, which takes all
- * of it at once.
+ * some 28 KB. A page that was written stays when keys go. Once 2 MiB of a table have been written, they get a huge page, where the system lets
+ * them, by an insertion that then takes some milliseconds. After two of these, of the records of a size that a handle claims for itself, the next
+ * ones get huge pages when they are first written: so it takes at most one of each size that it doesn't fill. If memory runs out when a page is
+ * first written, the system ends the program. So take a stock whose hot_stock_bytes the machine has to spare; or call mlockall once the index is
+ * made, which takes all of it at once.
  *
- * Making an index isn't free: it takes a processor 0.04 to 0.08 s for each 100 MB of the table, as much address space as two tables, and in
- * memory a 125th of the table, or 2 MB, with page tables. Meanwhile the system may count both tables as resident. A table that is larger than
- * all memory with its swap is refused at once, unless the system is set to promise any amount. Where the system refuses such pages, all memory
- * comes from malloc, and an index takes all of it at once.
+ * Making an index takes some microseconds, however large its table is, and the table's size of address space. A table that is larger than all
+ * memory with its swap is refused at once, unless the system is set to promise any amount. Where the system promises no more than it has
+ * (vm.overcommit_memory is 2), it counts each table as a whole. A table below 1 MiB comes from malloc, and takes all of its memory at once.
  *
  * Each handle has memory for the pairs of its scans, too, which the next scan uses again. After a scan it goes if the keys have more than
  * 32 KiB of it, or the rest has. So a handle keeps 64 KiB of it at most between its calls.
@@ -183,7 +182,7 @@ hot_status hot_create_with(const hot_stock *stock, hot_handle *handles, size_t c
 
 /* Writes a stock for `keys` keys of at most `longest` bytes each. It has 4 leaves for 3 keys, of the smallest size with room for such a
  * key, one node for 3 keys, and to spare of both one up to 32 keys, and for more 10 and one for 16 keys, 512 at most. Take the most keys that
- * there will ever be: what isn't used takes no memory, only time when the table is made. That was enough for random keys, URLs, numbers, also
+ * there will ever be: what isn't used takes no memory. That was enough for random keys, URLs, numbers, also
  * with few bits set, and text with a rising number, also where keys came and went for long; and up to 32 keys, which stand in one node, for
  * all that were tried. If several threads change the index, take 256 keys for each at least, for eight at most. Keys that somebody chose to do
  * harm may take up to one node each: hot_stock_for_any_keys has room for them. */
@@ -221,10 +220,9 @@ typedef int hot_source(void *context, const uint8_t **key, size_t *length, uint6
 /* Makes an index as hot_open_index does, of the pairs that `next` gives it, with the `context`, until it returns 0; and writes how many there
  * are to `count`. Each key is above the one before it. The index is as if a handle had put them in one after another by hot_insert, before
  * any other call. Where a pair is refused, the load ends: the index has those before it, and `count` is the number of the refused one, from 0
- * on. A load takes no more memory than hot_open_index and the pairs do, but page tables of a 500th of the table. Below 1 MiB, and where the
- * system refuses pages, it takes two tables for a moment. It leaves node records for what it has to end: so it may be HOT_FULL_NODES where
- * insertions go on, but never while the stock has a node for each pair, which is proved, nor for the first 32 pairs, which is tested. `next` may
- * make calls with other indexes.
+ * on. A load takes no more memory than the index that it makes; below 1 MiB it takes two tables for a moment. It leaves node records for what
+ * it has to end: so it may be HOT_FULL_NODES where insertions go on, but never while the stock has a node for each pair, nor for the first 32
+ * pairs: both are proved. `next` may make calls with other indexes.
  * hot_load_packed takes pairs that lie in memory.
  * HOT_DONE; or HOT_NOT_RISING, HOT_KEY_TOO_LONG, HOT_FULL_NODES, HOT_FULL_LEAVES, if a pair was refused; or HOT_OUT_OF_RANGE, HOT_NO_MEMORY,
  * HOT_OLD_PROCESSOR, and then nothing is written. */
@@ -619,12 +617,11 @@ typedef struct hot_memory {
 } hot_memory;
 
 /* Writes what the index takes of memory. The numbers leave out two things: the system's page tables, a 500th of the table at most, and what the
- * making of a table takes beside it while the index grows, 2 MB or a 125th of the table. Else they are never too low: a page of 4 KiB counts once
- * something was written there, and may count once it was read, as hot_census reads all. What a handle may keep after a scan counts for each that
- * was opened. The call makes no steps. It asks the system which pages of the table are there, in calls for 2 MiB
- * each, but not about 2 MiB that were full when it last did: they count as taken from then on. So it takes time for what has not filled of a table,
- * a few tenths of a millisecond for 1 GB. With an index that grows it waits for other such calls, and for an insertion that asks for a huge page.
- * Any thread may make it until the index is closed. */
+ * making of a table takes beside it while the index grows. Else they are never too low: a page of 4 KiB counts once something was written there, and
+ * may count once it was read, as hot_census reads all. But what the system has swapped out may not count. What a handle may keep after a scan counts
+ * for each that was opened. The call makes no steps. It asks the system which pages are there, in calls for 2 MiB each, of what a handle claims for
+ * itself up to the first 2 MiB without any. So it takes time for what has filled: for 1 GB two milliseconds, and half a one in huge pages. With an
+ * index that grows it waits for other such calls, and for an insertion that asks for huge pages. Any thread may make it until the index is closed. */
 void hot_bytes(const hot_index *index, hot_memory *bytes);
 
 /* Closes a handle of hot_create or hot_create_with, from any thread and in any order. Closing the last one frees the index. A closed

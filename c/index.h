@@ -95,7 +95,7 @@ hot_status proved_give_up_load(loading *load);
 
 /* What a table holds of memory. */
 typedef struct holding {
-    heap_pieces pieces;
+    heap_pages *pages;
     heap_lists long_lists;
     size_t table;   /* its bytes */
     size_t lists;   /* those that a handle has from when it is first opened, without its long lists */
@@ -176,12 +176,11 @@ typedef struct begun_load {
     loading load;
     size_t handles; /* of the table */
     heap_table table;
-    void *words;
+    heap_pages *words;
 } begun_load;
 
-/* Begins a load, and writes what its table holds. Where it is known, about how many keys of each size are to be loaded stands in `keys`, else that
- * is NULL. HOT_DONE or HOT_NO_MEMORY. */
-hot_status begin_load(const hot_stock *stock, size_t handles, const uint64_t *keys, begun_load *begun, holding *holds);
+/* Begins a load, and writes what its table holds. HOT_DONE or HOT_NO_MEMORY. */
+hot_status begin_load(const hot_stock *stock, size_t handles, begun_load *begun, holding *holds);
 
 /* Makes a table of what a load has taken, opens its keeper, and writes what it holds. HOT_DONE or HOT_NO_MEMORY. */
 hot_status end_load(begun_load *begun, hot_handle *keeper, holding *holds);
