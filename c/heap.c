@@ -75,11 +75,12 @@ static heap_pages *pages_of(void *block) {
     return (uintptr_t)block % 16 == IN_PAGES % 16 ? (heap_pages *)((char *)block - IN_PAGES) : NULL;
 }
 
-/* Maps pages for the table, which are 0, and none of which becomes a huge one unasked. Or NULL, as where there is not so much memory in the
- * machine. */
+/* Maps pages for the table, which are 0, and none of which becomes a huge one unasked. Or NULL: the system refuses what is larger than all memory,
+ * if that isn't allowed. */
 static heap_pages *map_table(const heap_table *of) {
+    int flags = MAP_PRIVATE | MAP_ANONYMOUS | (of->may_exceed_memory ? MAP_NORESERVE : 0);
     size_t size = (IN_PAGES + of->bytes + PAGE - 1) / PAGE * PAGE;
-    heap_pages *made = mmap(NULL, size, PROT_READ | PROT_WRITE, MAP_PRIVATE | MAP_ANONYMOUS, -1, 0);
+    heap_pages *made = mmap(NULL, size, PROT_READ | PROT_WRITE, flags, -1, 0);
     if (made == MAP_FAILED)
         return NULL;
     madvise(made, size, MADV_NOHUGEPAGE);

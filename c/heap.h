@@ -5,12 +5,14 @@
 #include <stddef.h>
 #include <stdint.h>
 
-/* A table that is made: how many bytes it has, or 0 if none is made; for how many handles it is; where in it the records of each kind begin, in this
- * order, and the last ones end; how many bytes those have of a kind that all handles claim first, which stand side by side; and how many those
- * behind them that each handle has of its own. */
+/* A table that is made: how many bytes it has, or 0 if none is made; whether they may be more than all memory; for how many handles it is; where in
+ * it the records of each kind begin, in this order, and the last ones end; how many bytes those have of a kind that all handles claim first, which
+ * stand side by side; and how many those behind them that each handle has of its own. */
 enum { HEAP_KINDS = 6, HEAP_MOST_HANDLES = 1024 };
 typedef struct heap_table {
-    size_t bytes, handles, from[HEAP_KINDS + 1], first[HEAP_KINDS], own[HEAP_KINDS];
+    size_t bytes;
+    int may_exceed_memory;
+    size_t handles, from[HEAP_KINDS + 1], first[HEAP_KINDS], own[HEAP_KINDS];
 } heap_table;
 
 /* Addresses for the long lists of a table's handles, of which few are ever used: there a page takes memory once something is written. So many

@@ -777,9 +777,10 @@ static hot_status placed(hot_status status, holding *holds, hot_handle *handles,
     return HOT_DONE;
 }
 
-/* Begins to make an index with this stock and so many handles. */
-static void begin_making(const hot_stock *stock, size_t count, holding *holds) {
+/* Begins to make an index with this stock and so many handles, of which the table may exceed all memory or not. */
+static void begin_making(const hot_stock *stock, size_t count, int may_exceed_memory, holding *holds) {
     heap_table table = table_of(stock, count);
+    table.may_exceed_memory = may_exceed_memory;
     note_stock(holds, stock, count);
     heap_map_lists(&holds->long_lists, table.bytes > 0 ? count : 0);
     heap_begin(&table, &holds->long_lists);
@@ -820,7 +821,7 @@ hot_status hot_create(uint32_t nodes, uint32_t leaves, hot_handle *handles, size
         return HOT_OPEN;
     stock.nodes = nodes;
     stock.long_leaves = leaves;
-    begin_making(&stock, count, &holds);
+    begin_making(&stock, count, 0, &holds);
     return placed(end_making(proved_create(nodes, leaves, handles, count), handles, count, &holds), &holds, handles, count);
 }
 
@@ -831,16 +832,22 @@ hot_status hot_create_with(const hot_stock *stock, hot_handle *handles, size_t c
         return HOT_OLD_PROCESSOR;
     if (proved_stock_bytes(stock, count, &bytes) == HOT_DONE && has_growing(handles, count))
         return HOT_OPEN;
-    begin_making(stock, count, &holds);
+    begin_making(stock, count, 0, &holds);
     return placed(end_making(proved_create_with(stock, handles, count), handles, count, &holds), &holds, handles, count);
 }
 
-hot_status make_table(const hot_stock *stock, size_t handles, hot_handle *keeper, holding *holds) {
-    begin_making(stock, handles, holds);
+/* The same as make_table, of a table that may exceed all memory or not. */
+static hot_status make_any_table(const hot_stock *stock, size_t handles, int may_exceed_memory, hot_handle *keeper, holding *holds) {
+    begin_making(stock, handles, may_exceed_memory, holds);
     return end_making(proved_create_keeping(stock, handles, keeper), keeper, 1, holds);
 }
 
-hot_status hot_open_index(const hot_stock *stock, size_t handles, hot_index **index) {
+hot_status make_table(const hot_stock *stock, size_t handles, hot_handle *keeper, holding *holds) {
+    return make_any_table(stock, handles, 0, keeper, holds);
+}
+
+/* hot_open_index, of a table that may exceed all memory or not. */
+static hot_status open_index(const hot_stock *stock, size_t handles, int may_exceed_memory, hot_index **index) {
     size_t bytes;
     hot_index *made;
     hot_status status = hot_stock_bytes(stock, handles, &bytes);
@@ -849,7 +856,7 @@ hot_status hot_open_index(const hot_stock *stock, size_t handles, hot_index **in
     made = new_index(handles);
     if (made == NULL)
         return HOT_NO_MEMORY;
-    status = make_table(stock, handles, &made->keeper, &made->holds);
+    status = make_any_table(stock, handles, may_exceed_memory, &made->keeper, &made->holds);
     if (status == HOT_DONE)
         *index = made;
     else
@@ -857,12 +864,16 @@ hot_status hot_open_index(const hot_stock *stock, size_t handles, hot_index **in
     return status;
 }
 
+hot_status hot_open_index(const hot_stock *stock, size_t handles, hot_index **index) {
+    return open_index(stock, handles, 0, index);
+}
+
 hot_status hot_open_index_within(const hot_stock *stock, size_t handles, size_t most, hot_index **index) {
     size_t bytes;
     hot_status status = hot_stock_bytes(stock, handles, &bytes);
     if (status != HOT_DONE)
         return status;
-    return bytes > most ? HOT_NO_MEMORY : hot_open_index(stock, handles, index);
+    return bytes > most ? HOT_NO_MEMORY : open_index(stock, handles, 1, index);
 }
 
 /* Takes pairs into a load, until there is none or one is refused. Writes how many it took, and returns why the next one was refused, or

@@ -59,8 +59,9 @@
  * made, which takes all of it at once.
  *
  * Making an index takes some microseconds, however large its table is, and the table's size of address space. A table that is larger than all
- * memory with its swap is refused at once, unless the system is set to promise any amount. Where the system promises no more than it has
- * (vm.overcommit_memory is 2), it counts each table as a whole. A table below 1 MiB comes from malloc, and takes all of its memory at once.
+ * memory with its swap is refused at once, unless hot_open_index_within allows it or the system is set to promise any amount. Where the system
+ * promises no more than it has (vm.overcommit_memory is 2), it counts each table as a whole. A table below 1 MiB comes from malloc, and takes all
+ * of its memory at once.
  *
  * Each handle has memory for the pairs of its scans, too, which the next scan uses again. After a scan it goes if the keys have more than
  * 32 KiB of it, or the rest has. So a handle keeps 64 KiB of it at most between its calls.
@@ -209,8 +210,8 @@ hot_status hot_stock_bytes(const hot_stock *stock, size_t handles, size_t *bytes
  * HOT_DONE; or HOT_OUT_OF_RANGE, HOT_NO_MEMORY or HOT_OLD_PROCESSOR, and then nothing is written. */
 hot_status hot_open_index(const hot_stock *stock, size_t handles, hot_index **index);
 
-/* hot_open_index, if the records and pins of the index have `most` bytes or fewer: else it is HOT_NO_MEMORY at once. So a stock that comes
- * from elsewhere, as out of a damaged file, has nobody wait for a table that is too large. */
+/* hot_open_index, if the records and pins of the index have `most` bytes or fewer: else it is HOT_NO_MEMORY at once, as for a stock out of a
+ * damaged file. `most`, and so the table, may be larger than all memory: what keys need of the table is to fit. */
 hot_status hot_open_index_within(const hot_stock *stock, size_t handles, size_t most, hot_index **index);
 
 /* What a load takes its pairs from: a call writes the next one, whose key is there until the function is called again or the load returns.

@@ -950,10 +950,16 @@ template <class At, class End> struct source {
 class index {
   public:
     /// Makes an empty index with this stock of records, and room for so many handles, 1 to 1024, none of which is open. What
-    /// isn't used of it takes no memory. Throws std::invalid_argument if a number is out of range, std::bad_alloc, also at once if its records
-    /// and pins have more than `most` bytes, or std::runtime_error if the library is compiled for newer processors. Nothing is left then:
-    /// hot_open_index, hot_open_index_within.
-    explicit index(const hot_stock &stock, std::size_t handles = 64, std::size_t most = SIZE_MAX) {
+    /// isn't used of it takes no memory. Throws std::invalid_argument if a number is out of range, std::bad_alloc, also at once if it is larger
+    /// than all memory, or std::runtime_error if the library is compiled for newer processors. Nothing is left then: hot_open_index.
+    explicit index(const hot_stock &stock, std::size_t handles = 64) {
+        hot_index *made = nullptr;
+        check(hot_open_index(&stock, handles, &made));
+        at_ = std::shared_ptr<hot_index>(made, hot_close_index);
+    }
+    /// The same, if its records and pins have `most` bytes or fewer, which may be more than all memory; else it throws std::bad_alloc at once:
+    /// hot_open_index_within.
+    index(const hot_stock &stock, std::size_t handles, std::size_t most) {
         hot_index *made = nullptr;
         check(hot_open_index_within(&stock, handles, most, &made));
         at_ = std::shared_ptr<hot_index>(made, hot_close_index);

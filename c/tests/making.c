@@ -10,7 +10,7 @@ enum { BYTES = 64 << 20, WORDS = BYTES / 8, FIRST = 5, BEHIND = PAGE, MOST_WRITT
 /* What is done in another way. */
 typedef enum way { AS_MADE, FROM_ONE_BLOCK, NOT_SET, NOT_COPIED, PART_COPIED, ZEROS_KEPT, TABLE_MOVED, TABLE_FREED, THREE_BLOCKS, WAYS } way;
 
-static const heap_table table = {BYTES, 1, {0, 0, 0, 0, 0, 0, BYTES}, {0, 0, 0, 0, 0, 0}, {0, 0, 0, 0, 0, 0}};
+static const heap_table table = {BYTES, 0, 1, {0, 0, 0, 0, 0, 0, BYTES}, {0, 0, 0, 0, 0, 0}, {0, 0, 0, 0, 0, 0}};
 
 static uint64_t *table_words(void) {
     tried made = rattle_alloc(BYTES, 8);
@@ -129,7 +129,7 @@ static void test_others(void) {
 enum { OWNERS = 3, SMALL = 130 << 10, OWN = 9 << 20, LITTLE = 100000, LEFT = 100, HEAD = 600 };
 
 static heap_table shared(void) {
-    heap_table of = {0, OWNERS, {0, 0, 0, 0, 0, 0, 0}, {OWNERS * SMALL, 0, 0, 0, 0, OWNERS * SMALL}, {OWN, 0, 0, 0, 0, LITTLE}};
+    heap_table of = {0, 0, OWNERS, {0, 0, 0, 0, 0, 0, 0}, {OWNERS * SMALL, 0, 0, 0, 0, OWNERS * SMALL}, {OWN, 0, 0, 0, 0, LITTLE}};
     int kind;
     of.from[0] = HEAD;
     for (kind = 1; kind < HEAP_KINDS; kind++)

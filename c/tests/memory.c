@@ -459,13 +459,13 @@ static void test_addresses(void) {
     CHECK(setrlimit(RLIMIT_AS, &before) == 0 && in_use == 0);
 }
 
-/* Whether the system promises any amount of memory. */
-static int promises_all(void) {
+/* How the system promises memory: '0' by a guess, '1' any amount, or '2' no more than it has. */
+static int promises(void) {
     FILE *file = fopen("/proc/sys/vm/overcommit_memory", "r");
     int how = file != NULL ? fgetc(file) : '1';
     if (file != NULL)
         fclose(file);
-    return how == '1';
+    return how;
 }
 
 static size_t memory_of_machine(void) {
@@ -484,9 +484,30 @@ static void test_most(void) {
     most.nodes = UINT32_MAX;
     most.long_leaves = UINT32_MAX;
     CHECK(hot_stock_bytes(&most, 1, &bytes) == HOT_DONE);
-    if (!promises_all() && memory_of_machine() < bytes)
+    if (promises() != '1' && memory_of_machine() < bytes)
         CHECK(hot_open_index(&most, 1, &index) == HOT_NO_MEMORY && hot_create_with(&most, &handle, 1) == HOT_NO_MEMORY);
     CHECK(in_use == 0);
+}
+
+/* It is made where the caller allows it, as small as any other until keys come. */
+static void test_allowed(void) {
+    enum { KEYS = 1000000000, FEW = 1000, MOST_RESIDENT = 400000 };
+    hot_handle handle = HOT_HANDLE;
+    hot_index *index = NULL;
+    hot_stock roomy;
+    hot_memory taken;
+    size_t bytes;
+    long first = resident();
+    hot_stock_for_keys(KEYS, 8, &roomy);
+    CHECK(hot_stock_bytes(&roomy, 2, &bytes) == HOT_DONE);
+    CHECK(hot_open_index_within(&roomy, 2, bytes - 1, &index) == HOT_NO_MEMORY && index == NULL && in_use == 0);
+    if (promises() == '2')
+        return;
+    CHECK(hot_open_index_within(&roomy, 2, bytes, &index) == HOT_DONE && hot_open(index, &handle) == HOT_DONE);
+    insert_numbers(&handle, 0, FEW);
+    hot_bytes(index, &taken);
+    CHECK(resident() - first < MOST_RESIDENT + WATCHING && taken.now < MOST_RESIDENT && taken.most > bytes);
+    CHECK(hot_close(&handle) == HOT_DONE && hot_close_index(index) == HOT_DONE && in_use == 0);
 }
 
 /* After a fork, of a process with one thread, parent and child have an index each. */
@@ -825,6 +846,7 @@ int main(void) {
     test_filled();
     test_addresses();
     test_most();
+    test_allowed();
     test_fork();
     test_growing_resident();
     test_made_at_once();

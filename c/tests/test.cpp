@@ -176,6 +176,7 @@ static void test_full() {
     hot::handle handle = index.open();
     CHECK(index.stats().full == 0 && !handle.insert("a", 1).is_refused() && handle.insert("b", 2).is_refused());
     CHECK(throws<std::bad_alloc>([] { return hot::index(hot_stock{10, 1, 0, 0, 0, 0}, 1, 1000); }));
+    CHECK(!hot::index(hot_stock{10, 1, 0, 0, 0, 0}, 1, SIZE_MAX).open().get("a"));
     const hot::index moved = std::move(index);
     CHECK(moved.stats().full == 1 && moved.stats().busy == 0 && moved.stats().held_back == 0);
     CHECK(moved.bytes().now > 0 && moved.bytes().now <= moved.bytes().most);
