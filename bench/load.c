@@ -1,5 +1,5 @@
-/* Measures what it takes to make an index of sorted pairs: by hot_load, and beside that the table alone, insertions in the order of the keys,
- * and the same insertions into an adaptive radix tree, if that is built (ART, bench/peers). Each is done some times, by turns, in a process of
+/* Measures what it takes to make an index of sorted pairs: by hot_load, and beside that by insertions in the order of the keys, and by the same
+ * insertions into an adaptive radix tree, if that is built (ART, bench/peers). Each is done some times, by turns, in a process of
  * its own; the median counts, in nanoseconds of a processor for each key. A line has four cells, as bench/room.py reads them: what it is,
  * which keys, how many, and the figure. `bench/run load` builds and runs it. */
 #include "keys.h"
@@ -115,15 +115,6 @@ static double load(void)
     return took;
 }
 
-static double make_table(void)
-{
-    hot_stock stock = stock_for_all();
-    hot_index *index;
-    double begun = seconds(CLOCK_PROCESS_CPUTIME_ID);
-    must(hot_open_index(&stock, 4, &index), HOT_DONE);
-    return seconds(CLOCK_PROCESS_CPUTIME_ID) - begun;
-}
-
 static double insert(void)
 {
     hot_stock stock = stock_for_all();
@@ -166,7 +157,6 @@ typedef struct measure {
 
 static measure measures[] = {
     { "load", load, { 0 } },
-    { "table alone", make_table, { 0 } },
     { "inserts in order", insert, { 0 } },
 #ifdef ART
     { "inserts in order, ART", insert_into_art, { 0 } },

@@ -1,35 +1,30 @@
-/* Tells what memory an index takes: how many bytes are resident for each key, fresh, loaded and where keys come and go, what an open handle takes,
- * and what it takes to make a table. Each figure is of a process of its own, with stocks by hot_stock_for_keys, or by hot_stock_for_lengths for URLs. A line has four cells:
+/* Tells what memory an index takes: how many bytes are resident for each key, fresh, loaded and where keys come and go, and what an open handle
+ * takes. Each figure is of a process of its own, with stocks by hot_stock_for_keys, or by hot_stock_for_lengths for URLs. A line has four cells:
  * what it is, which keys, how many, and the figure. `bench/run room` builds and runs it; how busy the machine is changes nothing but the
- * milliseconds. */
+ * microseconds of a small index. */
 #include "keys.h"
 #include <pthread.h>
 #include <sys/prctl.h>
 #include <sys/wait.h>
 #include <unistd.h>
 
-enum { THREADS = 4, BATCH = 100000, TIMES = 10, HANDLES = 64, MEGABYTE = 1000000 };
+enum { THREADS = 4, BATCH = 100000, TIMES = 10, HANDLES = 64 };
 
-/* The bytes of this process that are resident, or most of them that ever were, by the words before them in a file of the system. */
-static double resident(const char *words)
+/* The bytes of this process that are resident. */
+static double now_resident(void)
 {
     char line[256];
     double found = 0;
     FILE *file = fopen("/proc/self/status", "r");
     while (file && fgets(line, sizeof line, file)) {
-        if (!strncmp(line, words, strlen(words))) {
-            found = 1024 * strtod(line + strlen(words), NULL);
+        if (!strncmp(line, "VmRSS:", 6)) {
+            found = 1024 * strtod(line + 6, NULL);
         }
     }
     if (file) {
         fclose(file);
     }
     return found;
-}
-
-static double now_resident(void)
-{
-    return resident("VmRSS:");
 }
 
 static void tell(const char *what, const char *keys, uint32_t count, double figure)
@@ -271,25 +266,6 @@ static void small(int kind, uint32_t keys)
     tell("a small index: microseconds", kind_names[kind], keys, 1e6 * used / MANY);
 }
 
-/* What it takes to make a table for so many keys: milliseconds of a processor for each 100 MB, and what is resident then. The most that
- * was counts the chunk as often as it is mapped. */
-static void making(int kind, uint32_t keys)
-{
-    hot_handle handle = HOT_HANDLE;
-    double before = now_resident(), begun = seconds(CLOCK_PROCESS_CPUTIME_ID), used, bytes, after, most;
-    hot_counts counts;
-    make(kind, keys, &handle);
-    used = seconds(CLOCK_PROCESS_CPUTIME_ID) - begun;
-    after = now_resident() - before;
-    most = resident("VmHWM:") - before;
-    must(hot_census(&handle, &counts), HOT_DONE);
-    bytes = (double)counts.bytes;
-    tell("making: MB of the table", kind_names[kind], keys, bytes / MEGABYTE);
-    tell("making: MB at most", kind_names[kind], keys, most / MEGABYTE);
-    tell("making: MB after", kind_names[kind], keys, after / MEGABYTE);
-    tell("making: ms for 100 MB", kind_names[kind], keys, 1e3 * used / (bytes / (100 * MEGABYTE)));
-}
-
 /* Runs a measurement in a process of its own. */
 static int apart(void (*measure)(int kind, uint32_t keys), int kind, uint32_t keys)
 {
@@ -306,19 +282,16 @@ int main(int words, char **word)
 {
     uint64_t most = words > 1 ? strtoull(word[1], NULL, 10) : 10000000, keys;
     int failed = 0;
-    if (words > 2 || most < 100000 || most > 100000000) {
-        fprintf(stderr, "usage: room [KEYS]    the most keys, 100,000 to 100,000,000\n");
+    if (words > 2 || most < 100000 || most > 10000000) {
+        fprintf(stderr, "usage: room [KEYS]    the most keys, 100,000 to 10,000,000\n");
         return 2;
     }
-    for (keys = 100000; keys <= most && keys <= 10000000; keys *= 10) {
+    for (keys = 100000; keys <= most; keys *= 10) {
         failed |= apart(fresh, RANDOM, (uint32_t)keys);
     }
     failed |= apart(fresh, PAGES, 200000) | apart(fresh, DENSE, 200000) | apart(replaced, RANDOM, 200000);
     failed |= apart(loaded, RANDOM, 1000000) | apart(loaded, PAGES, 200000);
     failed |= apart(by_threads, RANDOM, 300000) | apart(by_threads_huge, RANDOM, 300000) | apart(by_handles_huge, RANDOM, 1000000);
     failed |= apart(handles, RANDOM, 10000) | apart(small, RANDOM, 10);
-    for (keys = 1000000; keys <= most; keys *= 10) {
-        failed |= apart(making, RANDOM, (uint32_t)keys);
-    }
     return failed;
 }
