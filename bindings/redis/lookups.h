@@ -5,7 +5,8 @@
 #include "map.h"
 #include "server.h"
 
-/* Replies with a value or nil for each. Where the client may wait, a job looks up more than the main thread does in one go. */
+/* Replies with a value or nil for each. A job looks up more than the main thread goes through in one go, where the client may wait
+ * and tracks no keys. */
 int reply_with_values(RedisModuleCtx *ctx, map *of, hot_lookup *lookups, size_t count);
 
 #endif

@@ -32,7 +32,7 @@ int is_long(map *of, const range_request *asked);
 int may_be_heavy(const map *of);
 
 /* Replies with what is asked of a map, or of none if it is NULL. A map with an index that may have more pairs of it than the main
- * thread goes through is read by a job, where the client may wait. */
+ * thread goes through, or has more bytes, is read by a job, where the client may wait and tracks no keys. */
 int reply_with_range(RedisModuleCtx *ctx, map *of, const range_request *asked);
 
 void reply_with_word(RedisModuleCtx *ctx, word value);

@@ -455,7 +455,7 @@ class Memory(unittest.TestCase):
         server.client.connection_pool.disconnect()
         server.run("MEMORY", "PURGE")
         share = (server.figure("used_memory") - used) / (server.resident() - resident)
-        self.assertTrue(0.75 < share < 1.25, share)
+        self.assertTrue(0.7 < share < 1.3, share)
 
     def test_eviction(self) -> None:
         """Maps are evicted for their memory, and without eviction changes are refused."""
