@@ -1,5 +1,6 @@
 -- The words of a finished load show its tree from the root.
 use Rattle.bulk_load.proofs.Common.{◌≡◌, ◌⊎◌, inl, inr, ℕ, zero, suc, ◌+◌, ◌*◌, ◌^◌, ◌<◌, ◌≤◌, Bool, nat_lt, if◌then◌else◌, List, [], Option, Some, None, get_or, length, refl, ap, sym, subst, ◌∙◌, arith, All, set, cases_lt, le-ltb, lt-ltb, get_or-set_same, get_or-set_other, length-set, none-some, All-from_get_or, trie_if_local, some_injective, Entry, Leaf, Node, MAX_BYTES, Place, size, size_pos, EPOCH_WORD, ROOT_WORD, ANCHOR_WORD, FIRST_PIN, LINE_WORDS, Layout, Epoch, Root, Anchor, PinOf, NodeWord, LeafWord, HasEntryWord, entry_word, node_start, leaf_start, leaf_size, address, IsInTable, state_word, size_fits, Item, items, IsLocal, Tree, leaf, node, fork, subtrie, IsTrie, IsBuilt, lower_positive, Rec, a_node, a_leaf, Heap, IsShown, IsLinked, IsTop, items_of, linked_cases, Core, heap_of, fields_in, HasRecord, FitsIn, IsLoad, after, loaded_root, loaded_tree, tree_of, opening, IsPacked, node_words_of, leaf_of, word_at, tag_of, entry_of_word}
+use Rattle.record_words.specs.Layout.{uncommitted_word}
 use Rattle.bulk_load.specs.declared.builder.Builder.{Builder}
 use Rattle.bulk_load.specs.declared.tips.Tip.{Tip}
 use Rattle.bulk_load.specs.Loading.{IsOnePiece, IsPiece, IsTreeOf, MayTakePlaceOf}
@@ -111,6 +112,7 @@ module _ (layout : Layout) (old new : List ℕ) (t : Option Tree) (e : Option En
     shows = record { size = long ∙ h.blank.size; each = word_shown };
     items = ap items_of tree_is ∙ content;
     spare = subst (HasSpare layout) (sym tree_is) spare;
+    committed = λ kind. others (uncommitted_word kind) (inr (omega arith)) ∙ h.blank.committed kind;
   }
 
 -- ---- the root's entry

@@ -4,7 +4,7 @@ use Rattle.record_words.specs.declared.TheConstants.{EPOCH_WORD, ROOT_WORD, ANCH
 use Rattle.record_words.specs.declared.layout.Layout.{Layout}
 use Rattle.record_words.specs.declared.state.Tag.TheVariants.{Free, Live}
 use Rattle.record_words.specs.Entry.{entry_word}
-use Rattle.record_words.specs.Layout.{node_start, leaf_start, word_count}
+use Rattle.record_words.specs.Layout.{node_start, leaf_start, uncommitted_in, word_count}
 use Rattle.record_words.specs.State.{state_word}
 use Rattle.tries.specs.Tree.{Tree}
 use Rattle.record_words.specs.declared.records.Rec.{Rec}
@@ -44,6 +44,7 @@ pub record IsRootless (layout : Layout) (table : List ℕ) : Type 0 where
   pub root : get_or table ROOT_WORD 0 ≡ entry_word None
   pub anchor : get_or table ANCHOR_WORD 0 ≡ state_word Live
   pub pins : (pass : ℕ) → pass < layout.passes → get_or table (FIRST_PIN + LINE_WORDS * pass) 0 ≡ NO_PIN
+  pub committed : (kind : ℕ) → uncommitted_in table kind ≡ 0
 
 -- the words of the table show the tree, if there is one
 abbrev pub WordsShow : (layout : Layout) → (table : List ℕ) → (tree : Option Tree) → Type 0

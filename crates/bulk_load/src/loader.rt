@@ -28,6 +28,7 @@ impl Model for Loader {
 impl Loader {
     ghost use Rattle.std.specs.Prelude.{◌≡◌, ◌↔◌, ◌≤◌, ◌<◌, ℕ, Err, IfOk, OnErr, OnOk, get_or, length};
     ghost use Rattle.tries.specs.Content.{item};
+    ghost use Rattle.record_words.specs.Layout.{uncommitted_in};
     ghost use Rattle.record_words.specs.declared.records.Rec.TheVariants.{Node as a_node};
     ghost use Rattle.versions.specs.State.{IsLinked};
     ghost use Rattle.versions.specs.Told.{items_of};
@@ -88,12 +89,13 @@ impl Loader {
     }
 
     /// Returns the words of the table, as `HotTable::new_loaded` takes them. They show one tree, or none, whose leaves are those that were
-    /// taken. At least one node record stands in no tree. It asks for no memory, and never fails.
+    /// taken. At least one node record stands in no tree, and all records are committed. It asks for no memory, and never fails.
     pub fn finish(self) -> Vec<u64>
         ensures load { IsLoad self.layout result.items }
         ensures shows { Shows (after (opening self.layout) 0 (load_act result.items)) result.items }
         ensures items { items_of (loaded_tree self.layout result.items) ≡ self.items }
         ensures spare { (n : ℕ) × (n < self.layout.nodes) × ¬ IsLinked (loaded_tree self.layout result.items) (a_node n) }
+        ensures committed { (kind : ℕ) → uncommitted_in result.items kind ≡ 0 }
     {
         let mut builder = self.builder;
         builder.close_all();

@@ -15,7 +15,7 @@ caught_up layout stamp s t same shown (front, is, legal, others, told, makers) s
   unnoted = unnoted layout s t front is settled legal others makers;
   told = subst (λ (z : Known). BeginsWith z.front stamp) (sym is) told;
   shown = shown;
-  rest = λ i. pass_of (record { table = same.0 i; id = same.1 i; known = known i; trace = t.trace; asides = shown.asides i; touches = shown.touches i });
+  rest = λ i. pass_of (record { table = same.0 i; id = same.1 i; known = known i; trace = t.trace; asides = shown.asides i; touches = shown.touches i; bounds = shown.bounds i });
 }
   where
     known : t.known ≡ with_front t.known.front s.known

@@ -68,7 +68,7 @@ turned_true layout q p w x = record {
 }
 
 abbrev seat_at : TableId → ℕ → Known → List Event → SeatView
-seat_at id n k trace = record { table = id; id = n; known = k; trace = trace; asides = 0; touches = 0 }
+seat_at id n k trace = record { table = id; id = n; known = k; trace = trace; asides = 0; touches = 0; bounds = [] }
 
 module _ (table : TableView) (q p : ℕ) (apart : p ≢ q) where
   step_true : (w : World) (act : Act) (notes : List Note) → IsTrue table.layout q p w → Legal w.core q act → IsTrue table.layout q p (stepped q w act notes)
@@ -89,7 +89,7 @@ module _ (table : TableView) (q p : ℕ) (apart : p ≢ q) where
   one_step : (w : World) (act : Act) (notes : List Note) (trace : List Event) → IsTrue table.layout q p w → Legal w.core q act → OthersStepOn q trace w.run → IsAtomic act →
       StepsWith table untold act (λ k. notes) (seat_at table.id q w.one trace, tt) (seat_at table.id q (stepped q w act notes).one (stepped q w act notes).run, tt)
   one_step w act notes trace x legal others plain = record {
-    seat = (refl, refl, learned_pass w.core act w.one, refl);
+    seat = (refl, refl, learned_pass w.core act w.one, refl, λ kind. le_refl 0);
     event = record {
       core = w.core;
       lawful = x.lawful;

@@ -1,5 +1,5 @@
 -- Where each word of a table stands.
-use Rattle.std.specs.Prelude.{ℕ, ◌≡◌, ◌≢◌, ◌+◌, ◌-◌, ◌*◌, ◌/◌, ◌^◌, ◌<◌, min, nat_lt, nat_le, if◌then◌else◌, Option, Some, None}
+use Rattle.std.specs.Prelude.{ℕ, ◌≡◌, ◌≢◌, ◌+◌, ◌-◌, ◌*◌, ◌/◌, ◌^◌, ◌<◌, List, get_or, min, nat_lt, nat_le, if◌then◌else◌, Option, Some, None}
 use Rattle.key_bits.specs.declared.TheConstants.{MAX_BYTES}
 use Rattle.record_words.specs.declared.layout.Layout.{Layout}
 use Rattle.record_words.specs.declared.layout.LeafClass.{LeafClass}
@@ -7,7 +7,7 @@ use Rattle.record_words.specs.declared.layout.LeafClass.TheVariants.{Short, Medi
 use Rattle.record_words.specs.declared.layout.Stock.{Stock}
 use Rattle.record_words.specs.declared.layout.Location.{Location}
 use Rattle.record_words.specs.declared.layout.Location.TheVariants.{Epoch, Root, Anchor, Pin, NodeWord, LeafWord}
-use Rattle.record_words.specs.declared.TheConstants.{EPOCH_WORD, ROOT_WORD, ANCHOR_WORD, FIRST_PIN, LINE_WORDS, NODE_WORDS, LEAF_WORDS, SHORT_WORDS, MEDIUM_WORDS, LARGE_WORDS, WIDE_WORDS, FEW_KEYS, FEW_SPARE, KEYS_A_NODE, KEYS_A_SPARE, KEYS_A_SPARE_LEAF, LEAST_SPARE, MOST_SPARE}
+use Rattle.record_words.specs.declared.TheConstants.{EPOCH_WORD, ROOT_WORD, ANCHOR_WORD, FIRST_UNCOMMITTED, LEAF_CLASSES, FIRST_PIN, LINE_WORDS, NODE_WORDS, LEAF_WORDS, SHORT_WORDS, MEDIUM_WORDS, LARGE_WORDS, WIDE_WORDS, FEW_KEYS, FEW_SPARE, KEYS_A_NODE, KEYS_A_SPARE, KEYS_A_SPARE_LEAF, LEAST_SPARE, MOST_SPARE}
 use Rattle.record_words.specs.Leaf.{words_for}
 
 -- The index of the first word of a node record. Node records follow the pins, one after another.
@@ -91,6 +91,14 @@ leaf_start layout leaf = node_start layout layout.nodes + words_below layout lea
 -- how many words a table has
 abbrev pub word_count : Layout → ℕ
 word_count layout = leaf_start layout layout.leaves
+
+-- The index of the word that says how many records of a kind are uncommitted. Kinds are 0 for nodes, and 1 to 5 for leaves by their class.
+abbrev pub uncommitted_word : (kind : ℕ) → ℕ
+uncommitted_word kind = FIRST_UNCOMMITTED + min kind LEAF_CLASSES
+
+-- how many records of a kind are uncommitted, by the words of a table
+abbrev pub uncommitted_in : (words : List ℕ) → (kind : ℕ) → ℕ
+uncommitted_in words kind = get_or words (uncommitted_word kind) 0
 
 -- the index of the word of a location
 abbrev pub address : Layout → Location → ℕ

@@ -19,8 +19,8 @@ pub enum LayoutFault {
 
 /// How many passes, node records and leaf records a table has.
 ///
-/// Its words are the epoch, the root, the anchor, a pin for each pass, the node records and the leaf records. Words between
-/// these keep apart what different threads write, and have no location.
+/// Its words are the epoch, the root, six that say how many records of each kind are uncommitted, the anchor, a pin for each pass, the node
+/// records and the leaf records. Words between these keep apart what different threads write. They and the six have no location.
 #[derive(Clone, Copy)]
 pub struct Layout {
     /// 1 to `MAX_STOCK_PASSES`.

@@ -145,6 +145,10 @@ pub const EPOCH_WORD: usize = 0;
 /// The word of the root.
 pub const ROOT_WORD: usize = 1;
 
+/// The first of the words that say how many records are uncommitted, the last ones of each kind. They stand `LINE_WORDS` from the words of
+/// epoch and root, since they are often loaded and seldom written.
+pub const FIRST_UNCOMMITTED: usize = LINE_WORDS;
+
 /// The word of the anchor, more than a line's words behind the root.
 pub const ANCHOR_WORD: usize = 2 * LINE_WORDS;
 
@@ -247,6 +251,9 @@ pub const LEAF_FIELDS: usize = LEAF_WORDS - 1;
 
 /// How many classes of leaf records there are.
 pub const LEAF_CLASSES: usize = 5;
+
+/// How many kinds of records a table has: nodes, and each class of leaf records.
+pub const RECORD_KINDS: usize = 1 + LEAF_CLASSES;
 
 /// How many words a short leaf record has.
 pub const SHORT_WORDS: usize = 4;

@@ -53,7 +53,7 @@ next_begins {layout} {q} {act} {core} {trace} {next} n =
 -- and of no other
 pub traces_more : (run : List Event) (x : Event) (v : TracedView) → ¬ IsViewOf (view_of v) x.pass → HasTraces run v → HasTraces (run ++ x ∷ []) v
 traces_more run x Spent none h = tt
-traces_more run x (Dealer m) none h =
+traces_more run x (Dealer m b) none h =
     All-append (λ y. y.pass < m) run (x ∷ []) h (All-cons (λ y. y.pass < m) x [] (⊎_elim (λ low. low) (λ high. absurd (none high)) (cases_lt x.pass m)) (All-nil (λ y. y.pass < m)))
 traces_more run x (Founder k t m) none h = (
   others_more k.pass t.events run x (λ e. none (inl (sym e))) h.0,

@@ -1,7 +1,7 @@
 -- A step that its pass may make keeps the rule.
 pub mod Located
 pub mod Touched
-use Rattle.rowex_table.proofs.Common.{◌≡◌, ◌≢◌, ℕ, zero, suc, ◌+◌, ◌<◌, ◌≤◌, arith, eqb, List, [], ◌∷◌, ◌++◌, set, get_or, true, false, Option, refl, sym, ap, subst, ◌∙◌, ⊎_elim, Me, Step, Allows, at_set, set_else, eqb_tells, Note, address, word_count, Layout, Location, Act, Claim, Fill, Ready, Release, LoadRef, LoadFixed, Lock, Unlock, Publish, Mark, LoadEpoch, Advance, SetPin, ClearPin, LoadPin, LoadState, GiveBack, Load, Event, Known, Core, IsLawful, Shows, word_at, IsAtomic, Legal, after, location_of, writes, Knows, IsViewOf, IsEvent, learned, opening, keeps, stays_lawful}
+use Rattle.rowex_table.proofs.Common.{◌≡◌, ◌≢◌, ℕ, zero, suc, ◌+◌, ◌<◌, ◌≤◌, arith, le_trans, eqb, List, [], ◌∷◌, ◌++◌, set, get_or, true, false, Option, refl, sym, ap, subst, ◌∙◌, ⊎_elim, Me, Step, Allows, at_set, set_else, eqb_tells, Note, address, word_count, Layout, Location, Act, Claim, Fill, Ready, Release, LoadRef, LoadFixed, Lock, Unlock, Publish, Mark, LoadEpoch, Advance, SetPin, ClearPin, LoadPin, LoadState, GiveBack, Load, Event, Known, Core, IsLawful, Shows, word_at, IsAtomic, Legal, after, location_of, writes, Knows, IsViewOf, IsEvent, learned, opening, keeps, stays_lawful}
 use Rattle.std.proofs.Common.{Some}
 use mathlib.Core.Option.{none, some, some-injective, some-ne-none}
 use lib.ListN.{get_elem?}
@@ -18,6 +18,9 @@ use Rattle.rowex_table.specs.Runs.{StepsWith, most_touches}
 use Rattle.rowex_table.specs.Seats.{SeatView, TableView}
 use Rattle.rowex_table.specs.Traces.{IsNextStep, view_of}
 use Rattle.rowex_table.proofs.Made.ActsLeave.{as_before}
+use Rattle.record_words.specs.Layout.{uncommitted_in}
+use Rattle.rowex_table.specs.Committed.{AtMost, ClaimsCommitted, IsCommitted, record_kind, count_from}
+use Rattle.rowex_table.proofs.Committed.{bounds_fall, found_committed, uncommitted_apart, uncommitted_stays, committed_falls, taken_more, takes_committed}
 use Rattle.rowex_table.proofs.Onward.{led_more, others_none, traces_more}
 
 -- a pass keeps its number
@@ -95,15 +98,15 @@ each_set views id q v w here keeps (i, x, at, owns) = ⊎_elim
 -- A step
 
 -- what the pass's seat and the others know is true of the core after the step, and of the run with it
-pub true_after : (c : Core) (run : List Event) (k j : Known) (t : Trace) (act : Act) → IsLawful c → Knows c k → Legal c k.pass act → (notes : List Note) → j ≡ record (learned c act k) { notes = notes } →
-    let x : Event = record { pass = k.pass; act = act } in IsTrueOf (after c k.pass act) (run ++ x ∷ []) (Pass j (record { events = run ++ x ∷ []; asides = t.asides; touches = t.touches }))
-true_after c run k j t act law known legal notes is =
+pub true_after : (c : Core) (run : List Event) (k j : Known) (t : Trace) (act : Act) → IsLawful c → Knows c k → Legal c k.pass act → (notes : List Note) → j ≡ record (learned c act k) { notes = notes } → (uncommitted : ℕ → ℕ) → AtMost uncommitted (uncommitted_in t.bounds) →
+    let x : Event = record { pass = k.pass; act = act } in IsTrueOf (after c k.pass act) (run ++ x ∷ []) uncommitted (Pass j (record { events = run ++ x ∷ []; asides = t.asides; touches = t.touches; bounds = t.bounds }))
+true_after c run k j t act law known legal notes is uncommitted less =
     let x : Event = record { pass = k.pass; act = act } in
-    (subst (Knows (after c k.pass act)) (sym is) (renoted (after c k.pass act) (learned c act k) notes (learns c k act law known legal)), others_none j.pass (run ++ x ∷ []))
+    (subst (Knows (after c k.pass act)) (sym is) (renoted (after c k.pass act) (learned c act k) notes (learns c k act law known legal)), others_none j.pass (run ++ x ∷ []), less)
 
-pub still_true : (c : Core) (run : List Event) (q : ℕ) (act : Act) (v : TracedView) → IsLawful c → Legal c q act → ¬ IsViewOf (view_of v) q → IsTrueOf c run v →
-    IsTrueOf (after c q act) (run ++ record { pass = q; act = act } ∷ []) v
-still_true c run q act v law legal other h = (keeps c q act (view_of v) law legal other h.0, traces_more run (record { pass = q; act = act }) v other h.1)
+pub still_true : (c : Core) (run : List Event) (q : ℕ) (act : Act) (v : TracedView) → IsLawful c → Legal c q act → ¬ IsViewOf (view_of v) q → (new uncommitted : ℕ → ℕ) → AtMost new uncommitted → IsTrueOf c run uncommitted v →
+    IsTrueOf (after c q act) (run ++ record { pass = q; act = act } ∷ []) new v
+still_true c run q act v law legal other new uncommitted less h = (keeps c q act (view_of v) law legal other h.0, traces_more run (record { pass = q; act = act }) v other h.1, bounds_fall new uncommitted v less h.2)
 
 module _ {S : Type 0} (layout : Layout) (slots id i : ℕ) (k : Known) (t : Trace) (act : Act) (said : Known → List Note) (f tell : ℕ → ℕ) where
   -- what a step tells depends on its act alone
@@ -111,9 +114,9 @@ module _ {S : Type 0} (layout : Layout) (slots id i : ℕ) (k : Known) (t : Trac
   st = table.step 0 0 0 0 none
 
   -- the step keeps the rule, and is the event
-  pub allows : i ≡ address layout (location_of k.pass act) → ((w : ℕ) → f w ≡ writes act w) → ((w : ℕ) → found_by act (tell w) ≡ found_by act w) → IsAtomic act → MayStep layout (found_by act) k
+  pub allows : i ≡ address layout (location_of k.pass act) → ((w : ℕ) → f w ≡ writes act w) → ((w : ℕ) → found_by act (tell w) ≡ found_by act w) → IsAtomic act → MayStep layout (found_by act) k → ClaimsCommitted layout (uncommitted_in t.bounds) act
       → Allows {S = S} {V = TracedView} (Ruled layout) slots id (Pass k t, []) i f (λ n m'. did (Some layout) act said st (Pass k t, []) (tell n) m')
-  allows place new says atomic apt s r deep here low =
+  allows place new says atomic apt claims s r deep here low =
       let c : Core = r.core in
       let w : ℕ = get_or s.words i 0 in
       let at : ℕ = word_at c (location_of k.pass act) in
@@ -126,7 +129,10 @@ module _ {S : Type 0} (layout : Layout) (slots id i : ℕ) (k : Known) (t : Trac
       let plain : IsAtomic does = found_atomic act at atomic in
       let j : Known = record (learned c does k) { notes = k.notes ++ said (learned c does k) } in
       let x : Event = record { pass = k.pass; act = does } in
-      let u : Trace = record { events = r.run ++ x ∷ []; asides = t.asides; touches = t.touches } in
+      let u : Trace = record { events = r.run ++ x ∷ []; asides = t.asides; touches = t.touches; bounds = t.bounds } in
+      let stay : (kind : ℕ) → uncommitted_in (set s.words i (f w)) kind ≡ uncommitted_in s.words kind = λ kind. uncommitted_stays s.words i (f w) kind (λ e. uncommitted_apart c.layout (location_of k.pass act) kind (e ∙ there)) in
+      let less : AtMost (uncommitted_in (set s.words i (f w))) (uncommitted_in s.words) = λ kind. let e = stay kind in omega arith in
+      let bounds : AtMost (uncommitted_in (set s.words i (f w))) (uncommitted_in t.bounds) = λ kind. le_trans (less kind) ((r.knows id (Pass k t) here).2 kind) in
       let event : IsEvent layout does said k j = record { core = c; lawful = r.lawful; layout_is = r.layout_is; knows = known; legal = found; learned_is = refl } in
       let next : IsNextStep layout k.pass does c t.events u.events = record { before = r.run; led = r.led; others = (r.knows id (Pass k t) here).1; next_is = refl } in (
         Pass j u,
@@ -141,24 +147,28 @@ module _ {S : Type 0} (layout : Layout) (slots id i : ℕ) (k : Known) (t : Trac
               (writes_one c k.pass does s.words plain r.lawful found r.shows);
           run = r.run ++ x ∷ [];
           led = led_more (opening layout) r.run c k.pass does r.led found;
+          committed = λ rec taken. ⊎_elim
+              (λ old. committed_falls layout (uncommitted_in (set s.words i (f w))) (uncommitted_in s.words) rec less (r.committed rec old))
+              (λ new. takes_committed layout (uncommitted_in (set s.words i (f w))) (uncommitted_in t.bounds) does rec plain bounds (found_committed layout (uncommitted_in t.bounds) act at claims) new)
+              (taken_more layout r.run x rec taken);
           knows = λ m v e. ⊎_elim
-              (λ (h : (m ≡ id) × (Pass j u ≡ v)). subst (IsTrueOf (after c k.pass does) (r.run ++ x ∷ [])) h.1 (true_after c r.run k j t does r.lawful known found j.notes refl))
-              (λ (h : (m ≢ id) × (get_elem? s.views m ≡ some v)). still_true c r.run k.pass does v r.lawful found (λ o. h.0 (r.apart m id k.pass v (Pass k t) h.1 here o refl)) (r.knows m v h.1))
+              (λ (h : (m ≡ id) × (Pass j u ≡ v)). subst (IsTrueOf (after c k.pass does) (r.run ++ x ∷ []) (uncommitted_in (set s.words i (f w)))) h.1 (true_after c r.run k j t does r.lawful known found j.notes refl (uncommitted_in (set s.words i (f w))) bounds))
+              (λ (h : (m ≢ id) × (get_elem? s.views m ≡ some v)). still_true c r.run k.pass does v r.lawful found (λ o. h.0 (r.apart m id k.pass v (Pass k t) h.1 here o refl)) (uncommitted_in (set s.words i (f w))) (uncommitted_in s.words) less (r.knows m v h.1))
               (at_set s.views id m (Pass j u) v e);
           apart = apart_set s.views id (Pass k t) (Pass j u) here (λ q o. sym (learned_pass c does k) ∙ o) r.apart;
           each = λ q low. each_set s.views id q (Pass k t) (Pass j u) here (λ o. learned_pass c does k ∙ o) (r.each q low);
         },
-        (refl, subst (λ z. Happens (Some layout) z said (Pass k t) (Pass j u)) (ap (found_by act) (sym word) ∙ sym (says w)) (j, u, event, refl, next, refl, refl)),
+        (refl, subst (λ z. Happens (Some layout) z said (Pass k t) (Pass j u)) (ap (found_by act) (sym word) ∙ sym (says w)) (j, u, event, refl, next, refl, refl, refl)),
       )
 
   -- the same for a seat that is a pass's
   pub allows_me : (me : Me S TracedView) (key : Layout) (of : Option Layout) → key ≡ layout → of ≡ Some layout → me ≡ (Pass (known_of me.0) (trace_of me.0), []) → k ≡ known_of me.0 → t ≡ trace_of me.0 → i ≡ address layout (location_of k.pass act) → ((w : ℕ) → f w ≡ writes act w)
-      → ((w : ℕ) → found_by act (tell w) ≡ found_by act w) → IsAtomic act → MayStep layout (found_by act) k
+      → ((w : ℕ) → found_by act (tell w) ≡ found_by act w) → IsAtomic act → MayStep layout (found_by act) k → ClaimsCommitted layout (uncommitted_in t.bounds) act
       → Allows {S = S} {V = TracedView} (Ruled key) slots id me i f (λ n m'. did of act said st me (tell n) m')
-  allows_me me key of count is_of is same traced place new says atomic apt = subst (λ (x : Layout). Allows {S = S} {V = TracedView} (Ruled x) slots id me i f (λ n m'. did of act said st me (tell n) m')) (sym count)
+  allows_me me key of count is_of is same traced place new says atomic apt claims = subst (λ (x : Layout). Allows {S = S} {V = TracedView} (Ruled x) slots id me i f (λ n m'. did of act said st me (tell n) m')) (sym count)
       (subst (λ (x : Option Layout). Allows {S = S} {V = TracedView} (Ruled layout) slots id me i f (λ n m'. did x act said st me (tell n) m')) (sym is_of)
       (subst (λ (m : Me S TracedView). Allows {S = S} {V = TracedView} (Ruled layout) slots id m i f (λ n m'. did (Some layout) act said st m (tell n) m'))
-      ((λ e. (Pass (same e) (traced e), [])) ∙ sym is) (allows place new says atomic apt)))
+      ((λ e. (Pass (same e) (traced e), [])) ∙ sym is) (allows place new says atomic apt claims)))
 
 -- the word of a location of the table is one of the table's words
 pub in_words : (words : ℕ) (own layout : Layout) (location : Location) (word : ℕ) → words ≡ word_count own → own ≡ layout → IsAddressOf layout location word → word < words
@@ -168,18 +178,18 @@ in_words words own layout location word count same place = rw (count, place.0, s
 
 pub stepped_me : {S : Type 0} (layout : Layout) (act : Act) (said : Known → List Note) (of : Option Layout) → of ≡ Some layout → (me m' : Me S TracedView) → me ≡ (Pass (known_of me.0) (trace_of me.0), []) → Happens of act said me.0 m'.0 →
     (event : IsEvent layout act said (known_of me.0) (known_of m'.0)) × IsNextStep layout (known_of me.0).pass act event.core (trace_of me.0).events (trace_of m'.0).events ×
-    ((trace_of m'.0).asides ≡ (trace_of me.0).asides) × ((trace_of m'.0).touches ≡ (trace_of me.0).touches)
+    ((trace_of m'.0).asides ≡ (trace_of me.0).asides) × ((trace_of m'.0).touches ≡ (trace_of me.0).touches) × ((trace_of m'.0).bounds ≡ (trace_of me.0).bounds)
 stepped_me {S = S} layout act said of is_of me m' is h =
     let k : Known = known_of me.0 in
     let t : Trace = trace_of me.0 in
     let happens : Happens (Some layout) act said (Pass k t) m'.0 =
     subst (λ (v : TracedView). Happens (Some layout) act said v m'.0) (ap (λ (z : Me S TracedView). z.0) is) (subst (λ (o : Option Layout). Happens o act said me.0 m'.0) is_of h) in
-    subst (λ (v : TracedView). (event : IsEvent layout act said k (known_of v)) × IsNextStep layout k.pass act event.core t.events (trace_of v).events × ((trace_of v).asides ≡ t.asides) × ((trace_of v).touches ≡ t.touches)) (sym happens.3)
-    (happens.2, happens.4, happens.5, happens.6)
+    subst (λ (v : TracedView). (event : IsEvent layout act said k (known_of v)) × IsNextStep layout k.pass act event.core t.events (trace_of v).events × ((trace_of v).asides ≡ t.asides) × ((trace_of v).touches ≡ t.touches) × ((trace_of v).bounds ≡ t.bounds)) (sym happens.3)
+    (happens.2, happens.4, happens.5, happens.6, happens.7)
 
 -- the seat of a pass, as contracts see it
 abbrev pub seat_of : {S : Type 0} → TableId → ℕ → Me S TracedView → SeatView
-seat_of table id me = record { table = table; id = id; known = known_of me.0; trace = (trace_of me.0).events; asides = (trace_of me.0).asides; touches = (trace_of me.0).touches }
+seat_of table id me = record { table = table; id = id; known = known_of me.0; trace = (trace_of me.0).events; asides = (trace_of me.0).asides; touches = (trace_of me.0).touches; bounds = (trace_of me.0).bounds }
 
 -- a count that stays may rise
 untouched : (before after most : ℕ) → after ≡ before → (before ≤ after) × (after ≤ before + most)
@@ -197,7 +207,7 @@ steps_with {G = G} table becomes act said of plain is_of x y i j me m' is tables
     let e = stepped_me table.layout act said of is_of me m' is did.1 in
     let pass : (known_of m'.0).pass ≡ (known_of me.0).pass = ap (λ (z : Known). z.pass) e.0.learned_is ∙ learned_pass e.0.core act (known_of me.0) in
     subst (λ (z : SeatView). StepsWith table becomes act said (z, g) (seat_of y j m', h)) seen (record {
-      seat = (tables, ids, pass, e.2);
+      seat = (tables, ids, pass, e.2, λ kind. let s = ap (λ (z : List ℕ). uncommitted_in z kind) e.4 in omega arith);
       atomic = plain;
       event = e.0;
       next = e.1;

@@ -1,7 +1,8 @@
 -- Steps one after the other: how they follow one another, and what the gate was told.
 pub mod Linking
-use Rattle.rowex_table.proofs.Common.{◌≡◌, ℕ, ◌+◌, List, [], ◌∷◌, ◌++◌, length, refl, sym, ap, subst, ◌∙◌, arith, add-one, length-append, Note, Act, Event, Known}
+use Rattle.rowex_table.proofs.Common.{◌≡◌, ℕ, ◌+◌, List, [], ◌∷◌, ◌++◌, length, refl, sym, ap, subst, ◌∙◌, arith, le_refl, le_trans, add-one, length-append, Note, Act, Event, Known}
 use Rattle.std.proofs.lemmas.List.{append-nil}
+use Rattle.record_words.specs.Layout.{uncommitted_in}
 use Rattle.rowex_table.specs.Seats.{TableView, SeatView, MakesNoAside}
 use Rattle.rowex_table.specs.Runs.{IsTold, events_of, Steps, Runs, Ends, Does, InTurn}
 use Rattle.rowex_table.specs.Statements.{GateIsToldEachStep}
@@ -9,10 +10,10 @@ use Rattle.rowex_table.specs.Statements.{GateIsToldEachStep}
 -- One seat
 
 pub same_none : (s : SeatView) → MakesNoAside s s
-same_none s = (refl, refl, refl, refl)
+same_none s = (refl, refl, refl, refl, λ kind. le_refl (uncommitted_in s.bounds kind))
 
 pub same_more : (s t u : SeatView) → MakesNoAside s t → MakesNoAside t u → MakesNoAside s u
-same_more s t u first second = (second.0 ∙ first.0, second.1 ∙ first.1, second.2 ∙ first.2, second.3 ∙ first.3)
+same_more s t u first second = (second.0 ∙ first.0, second.1 ∙ first.1, second.2 ∙ first.2, second.3 ∙ first.3, λ kind. le_trans (second.4 kind) (first.4 kind))
 
 -- A step is counted, and no note comes with it. Where what it has taught (l) differs from what the pass knew (k) by no more than `changed`
 -- takes, so does what the pass knows then.

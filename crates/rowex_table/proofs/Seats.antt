@@ -1,16 +1,25 @@
 -- The opening, and how seats are split and joined.
 pub mod Seeing
-use Rattle.rowex_table.proofs.Common.{◌≡◌, ◌≢◌, ◌⊎◌, ℕ, zero, suc, ◌+◌, ◌<◌, ◌≤◌, List, [], ◌∷◌, ◌++◌, length, set, get_or, Bool, true, false, eqb, Option, None, refl, sym, ap, subst, ◌∙◌, arith, inl, inr, ⊎_elim, set-get_or, All-from_recursion, All-nil, All-cons, All-weaker, All, IfOk, Result, Ok, Err, State, Me, Step, Allows, Splits, Joins, first_state, at_set, at_longer, at_last, set_else, cases_lt, eqb_tells, Change, BeginsWith, OthersGoOn, Layout, Event, Known, Core, Shows, IsFact, IsStillLoaded, IsUntouched, Knows, IsViewOf, Act, IsLawful, IsLoad, Legal, after, keeps, stays_lawful, opening, opening_words, opening_is_lawful}
+use Rattle.rowex_table.proofs.Common.{◌≡◌, ◌≢◌, ◌⊎◌, ℕ, zero, suc, ◌+◌, ◌<◌, ◌≤◌, List, [], ◌∷◌, ◌++◌, length, set, get_or, Bool, true, false, eqb, Option, None, refl, sym, ap, subst, ◌∙◌, arith, inl, inr, ⊎_elim, set-get_or, All-from_recursion, All-nil, All-cons, All-weaker, All, IfOk, Result, Ok, Err, State, Me, Step, Allows, Splits, Joins, first_state, at_set, at_longer, at_last, set_else, cases_lt, eqb_tells, le_refl, Change, BeginsWith, OthersGoOn, Layout, Event, Known, Core, Shows, IsFact, IsStillLoaded, IsUntouched, Knows, IsViewOf, Act, IsLawful, IsLoad, Legal, after, keeps, stays_lawful, opening, opening_words, opening_is_lawful}
 use Rattle.std.proofs.Common.{Some}
 use mathlib.Core.Option.{none, some, some-ne-none, some-injective}
 use lib.ListN.{get_elem?}
 use Rattle.atomic_table.specs.Table as table
 use Rattle.rowex_core.specs.declared.known.View.TheVariants as seen
+use Rattle.rowex_core.specs.Events.{loaded_tree}
+use Rattle.record_words.specs.declared.records.Rec.{Rec}
+use Rattle.versions.specs.State.{IsLinked}
 use Rattle.rowex_table.specs.declared.traces.Trace.{Trace}
 use Rattle.rowex_table.specs.declared.traces.TracedView.{TracedView}
 use Rattle.rowex_table.specs.declared.traces.TracedView.TheVariants.{Spent, Dealer, Founder, Pass, Pair}
-use Rattle.rowex_table.specs.Rule.{Ruled, IsTrueOf, dealer_at, dealt_at, first_view, load_of, load_trace, loader_of, opening_of, next_dealer, dealt, paired, first_of_two, second_of_two, with_front, HasBeenShown, SeatsHaveMet, Meeting, met, IsSomeSeats}
-use Rattle.rowex_table.specs.Traces.{HasTraces, IsShownRun, OthersStepOn, untraced, view_of}
+use Rattle.rowex_table.specs.Rule.{Ruled, IsTrueOf, bounds_of, dealer_at, dealt_at, first_view, load_of, load_trace, loader_of, opening_of, next_dealer, dealt, paired, first_of_two, second_of_two, with_front, HasBeenShown, SeatsHaveMet, Meeting, met, IsSomeSeats}
+use Rattle.record_words.specs.Layout.{uncommitted_in, uncommitted_word}
+use Rattle.rowex_table.specs.Committed.{AtMost, IsCommitted, IsTaken}
+use Rattle.std.proofs.lemmas.List.{get_or-set_other, get_or-set_same, length-set}
+use Rattle.record_words.specs.Layout.{address}
+use Rattle.record_words.specs.declared.TheConstants.{FIRST_UNCOMMITTED, RECORD_KINDS}
+use Rattle.rowex_table.proofs.Committed.{uncommitted_apart, word_of_kind}
+use Rattle.rowex_table.specs.Traces.{HasTraces, IsShownRun, OthersStepOn, new_trace, view_of}
 use Rattle.rowex_table.specs.Seats.{TableView, SeatView, IsDealtSeat, IsNewSeatOf, IsNewSeat}
 use Rattle.rowex_table.proofs.Rule.{Apart, apart_set, each_set, set_at, true_after}
 use Rattle.rowex_table.proofs.Onward.{others_none}
@@ -37,26 +46,51 @@ both_ok (Err e) P Q R f p q = tt
 
 -- The opening
 
-pub opens : {S : Type 0} (layout : Layout) (words : List ℕ) → words ≡ opening_words layout → Ruled {S = S} layout (first_state words [] (Dealer 0))
-opens {S = S} layout words is = record {
+-- however many of its records are uncommitted
+pub opens_reserved : {S : Type 0} (layout : Layout) (words : List ℕ) → Shows (opening layout) words → Ruled {S = S} layout (first_state words [] (Dealer 0 words))
+opens_reserved {S = S} layout words shows = record {
   core = opening layout;
   lawful = (opening_is_lawful layout).0;
   layout_is = refl;
-  shows = subst (Shows (opening layout)) (sym is) (opening_is_lawful layout).1;
+  shows = shows;
   run = [];
   led = refl;
-  knows = λ i v e. only (λ v. IsTrueOf (opening layout) [] v) ((opening_is_lawful layout).2, All-nil (λ x. x.pass < 0)) i v e;
+  committed = λ rec taken. absurd taken;
+  knows = λ i v e. only (λ v. IsTrueOf (opening layout) [] (uncommitted_in words) v) ((opening_is_lawful layout).2, All-nil (λ x. x.pass < 0), λ kind. le_refl (uncommitted_in words kind)) i v e;
   apart = λ i j q v w a b ov ow. first i v a ∙ sym (first j w b);
-  each = λ q low. (0, Dealer 0, refl, omega arith);
+  each = λ q low. (0, Dealer 0 words, refl, omega arith);
 }
   where
-    only : (P : TracedView → Type 0) → P (Dealer 0) → (i : ℕ) (v : TracedView) → get_elem? (Dealer 0 ∷ []) i ≡ some v → P v
-    only P p zero v e = subst P (some-injective (Dealer 0) v e) p
+    only : (P : TracedView → Type 0) → P (Dealer 0 words) → (i : ℕ) (v : TracedView) → get_elem? (Dealer 0 words ∷ []) i ≡ some v → P v
+    only P p zero v e = subst P (some-injective (Dealer 0 words) v e) p
     only P p (suc i) v e = absurd (some-ne-none v (sym e))
 
-    first : (i : ℕ) (v : TracedView) → get_elem? (Dealer 0 ∷ []) i ≡ some v → i ≡ 0
+    first : (i : ℕ) (v : TracedView) → get_elem? (Dealer 0 words ∷ []) i ≡ some v → i ≡ 0
     first zero v e = refl
     first (suc i) v e = absurd (some-ne-none v (sym e))
+
+pub shows_reserved : (c : Core) (words : List ℕ) (kind n : ℕ) → Shows c words → Shows c (set words (uncommitted_word kind) n)
+shows_reserved c words kind n shows = record {
+  size = length-set words (uncommitted_word kind) n ∙ shows.size;
+  each = λ l has. get_or-set_other words (uncommitted_word kind) (address c.layout l) n 0 (λ e. uncommitted_apart c.layout l kind (sym e)) ∙ shows.each l has;
+}
+
+-- one count more
+pub reserves_more : (layout : Layout) (words counts : List ℕ) (kind : ℕ) → kind < RECORD_KINDS → Shows (opening layout) words → ((other : ℕ) → other < kind → get_or words (FIRST_UNCOMMITTED + other) 0 ≡ get_or counts other 0) →
+    Shows (opening layout) (set words (FIRST_UNCOMMITTED + kind) (get_or counts kind 0)) × ((other : ℕ) → other < kind + 1 → get_or (set words (FIRST_UNCOMMITTED + kind) (get_or counts kind 0)) (FIRST_UNCOMMITTED + other) 0 ≡ get_or counts other 0)
+reserves_more layout words counts kind low shows before =
+    let n : ℕ = get_or counts kind 0 in
+    let inside : FIRST_UNCOMMITTED + kind < length words = (let size = shows.size in omega arith) in (
+      subst (λ i. Shows (opening layout) (set words i n)) (sym (word_of_kind kind low)) (shows_reserved (opening layout) words kind n shows),
+      λ other less. ⊎_elim
+          (λ (lower : other < kind). get_or-set_other words (FIRST_UNCOMMITTED + kind) (FIRST_UNCOMMITTED + other) n 0 (λ e. omega arith) ∙ before other lower)
+          (λ (from : kind ≤ other). let is : other ≡ kind = omega arith in
+          ap (λ k. get_or (set words (FIRST_UNCOMMITTED + kind) n) (FIRST_UNCOMMITTED + k) 0) is ∙ (get_or-set_same words (FIRST_UNCOMMITTED + kind) n 0 inside ∙ sym (ap (λ k. get_or counts k 0) is)))
+          (cases_lt other kind),
+    )
+
+pub opens : {S : Type 0} (layout : Layout) (words : List ℕ) → words ≡ opening_words layout → Ruled {S = S} layout (first_state words [] (Dealer 0 words))
+opens {S = S} layout words is = opens_reserved layout words (subst (Shows (opening layout)) (sym is) (opening_is_lawful layout).1)
 
 -- what a new pass knows is true where it has made no step
 pub new_knows : (c : Core) (m : ℕ) → m < c.layout.passes → IsUntouched c m → Knows c (opening_of m)
@@ -70,7 +104,7 @@ new_knows c m low h = record {
 
 -- The opening of a loaded table: pass 0 has made the load, and all others are new
 
-module _ (layout : Layout) (words : List ℕ) (some_pass : 0 < layout.passes) (load : IsLoad layout words) (shows : Shows (after (opening layout) 0 (load_of words)) words) where
+module _ (layout : Layout) (words : List ℕ) (some_pass : 0 < layout.passes) (load : IsLoad layout words) (shows : Shows (after (opening layout) 0 (load_of words)) words) (committed : (rec : Rec) → IsLinked (loaded_tree layout words) rec → IsCommitted layout (uncommitted_in words) rec) where
   abbrev act : Act
   act = load_of words
 
@@ -83,11 +117,11 @@ module _ (layout : Layout) (words : List ℕ) (some_pass : 0 < layout.passes) (l
   abbrev lawful : IsLawful (opening layout)
   lawful = (opening_is_lawful layout).0
 
-  founder_true : IsTrueOf new_core (load_trace words).events (Founder (loader_of layout words) (load_trace words) 1)
+  founder_true : IsTrueOf new_core (load_trace words).events (uncommitted_in words) (Founder (loader_of layout words) (load_trace words) 1)
   founder_true =
-      let first = true_after (opening layout) [] (opening_of 0) (loader_of layout words) untraced act lawful (new_knows (opening layout) 0 some_pass ((opening_is_lawful layout).2 0 (omega arith))) legal (loader_of layout words).notes refl in
+      let first = true_after (opening layout) [] (opening_of 0) (loader_of layout words) (new_trace words) act lawful (new_knows (opening layout) 0 some_pass ((opening_is_lawful layout).2 0 (omega arith))) legal (loader_of layout words).notes refl (uncommitted_in words) (λ kind. le_refl (uncommitted_in words kind)) in
       let rest = keeps (opening layout) 0 act (seen.Dealer 1) lawful legal (λ low. omega arith) (λ q low. (opening_is_lawful layout).2 q (omega arith)) in
-      ((first.0, rest), (first.1, All-cons (λ x. x.pass < 1) _ [] (omega arith) (All-nil (λ x. x.pass < 1))))
+      ((first.0, rest), (first.1, All-cons (λ x. x.pass < 1) _ [] (omega arith) (All-nil (λ x. x.pass < 1))), first.2)
 
   abbrev founder : TracedView
   founder = Founder (loader_of layout words) (load_trace words) 1
@@ -100,7 +134,8 @@ module _ (layout : Layout) (words : List ℕ) (some_pass : 0 < layout.passes) (l
     shows = shows;
     run = (load_trace words).events;
     led = (legal, refl);
-    knows = λ i v e. only (λ v. IsTrueOf new_core (load_trace words).events v) founder_true i v e;
+    committed = λ rec taken. ⊎_elim (committed rec) (λ none. absurd none) taken;
+    knows = λ i v e. only (λ v. IsTrueOf new_core (load_trace words).events (uncommitted_in words) v) founder_true i v e;
     apart = λ i j q v w a b ov ow. first i v a ∙ sym (first j w b);
     each = λ q low. (0, founder, refl, owned q (cases_lt 0 q));
   }
@@ -126,7 +161,7 @@ at_end (x ∷ xs) a b zero e = inl e
 at_end (x ∷ xs) a b (suc j) e = ⊎_elim inl (λ t. inr (ap suc t.0, t.1)) (at_end xs a b j e)
 
 -- The rule is kept where the words stay, and the views of seats are true, apart and of each number.
-still_ruled : {S : Type 0} (layout : Layout) (s t : State S TracedView) (r : Ruled layout s) → t.words ≡ s.words → ((i : ℕ) (v : TracedView) → get_elem? t.views i ≡ some v → IsTrueOf r.core r.run v) → Apart t.views →
+still_ruled : {S : Type 0} (layout : Layout) (s t : State S TracedView) (r : Ruled layout s) → t.words ≡ s.words → ((i : ℕ) (v : TracedView) → get_elem? t.views i ≡ some v → IsTrueOf r.core r.run (uncommitted_in s.words) v) → Apart t.views →
     ((q : ℕ) → q < layout.passes → IsSomeSeats t.views q) → Ruled layout t
 still_ruled layout s t r same knows apart each = record {
   core = r.core;
@@ -135,14 +170,15 @@ still_ruled layout s t r same knows apart each = record {
   shows = subst (Shows r.core) (sym same) r.shows;
   run = r.run;
   led = r.led;
-  knows = knows;
+  committed = λ rec taken. subst (λ (ws : List ℕ). IsCommitted layout (uncommitted_in ws) rec) (sym same) (r.committed rec taken);
+  knows = λ i v e. subst (λ (ws : List ℕ). IsTrueOf r.core r.run (uncommitted_in ws) v) (sym same) (knows i v e);
   apart = apart;
   each = each;
 }
 
 -- The seat's view becomes another by a load, which is true and has the same numbers, and of both views `Then` holds.
 pub allows_view : {S : Type 0} (layout : Layout) (of : Option Layout) → of ≡ Some layout → (slots id i : ℕ) (me : Me S TracedView) (v : TracedView) → me ≡ (v, []) → (Then : Option Layout → TracedView → TracedView → Type 0) →
-    ((s : State S TracedView) (r : Ruled layout s) → get_elem? s.views id ≡ some v → (new : TracedView) × IsTrueOf r.core r.run new ×
+    ((s : State S TracedView) (r : Ruled layout s) → get_elem? s.views id ≡ some v → (new : TracedView) × IsTrueOf r.core r.run (uncommitted_in s.words) new ×
     ((q : ℕ) → IsViewOf (view_of new) q → IsViewOf (view_of v) q) × ((q : ℕ) → IsViewOf (view_of v) q → IsViewOf (view_of new) q) × Then (Some layout) v new) →
     Allows {S = S} {V = TracedView} (Ruled layout) slots id me i (λ n. n) (λ told m'. (m'.1 ≡ me.1) × Then of me.0 m'.0)
 allows_view {S = S} layout of is_of slots id i me v is Then becomes =
@@ -157,7 +193,7 @@ allows_view {S = S} layout of is_of slots id i me v is Then becomes =
           tt,
           still_ruled layout s _ r (set-get_or s.words i 0)
               (λ m w e. ⊎_elim
-              (λ (h : (m ≡ id) × (new ≡ w)). subst (IsTrueOf r.core r.run) h.1 is_true)
+              (λ (h : (m ≡ id) × (new ≡ w)). subst (IsTrueOf r.core r.run (uncommitted_in s.words)) h.1 is_true)
               (λ (h : (m ≢ id) × (get_elem? s.views m ≡ some w)). r.knows m w h.1)
               (at_set s.views id m new w e))
               (apart_set s.views id v new here owns r.apart)
@@ -167,10 +203,10 @@ allows_view {S = S} layout of is_of slots id i me v is Then becomes =
 
 module _ {S : Type 0} (layout : Layout) (id : ℕ) (v left right : TracedView) where
   -- each part keeps to the numbers and the knowledge of the whole, and they have no number in common
-  pub splits : ((c : Core) (run : List Event) → c.layout ≡ layout → IsTrueOf c run v → IsTrueOf c run left × IsTrueOf c run right) → ((q : ℕ) → IsViewOf (view_of left) q → IsViewOf (view_of v) q) → ((q : ℕ) → IsViewOf (view_of right) q → IsViewOf (view_of v) q) → ((q : ℕ) → IsViewOf (view_of left) q → IsViewOf (view_of right) q → ⊥) → ((q : ℕ) → IsViewOf (view_of v) q → IsViewOf (view_of left) q ⊎ IsViewOf (view_of right) q)
+  pub splits : ((c : Core) (run : List Event) (uncommitted : ℕ → ℕ) → c.layout ≡ layout → IsTrueOf c run uncommitted v → IsTrueOf c run uncommitted left × IsTrueOf c run uncommitted right) → ((q : ℕ) → IsViewOf (view_of left) q → IsViewOf (view_of v) q) → ((q : ℕ) → IsViewOf (view_of right) q → IsViewOf (view_of v) q) → ((q : ℕ) → IsViewOf (view_of left) q → IsViewOf (view_of right) q → ⊥) → ((q : ℕ) → IsViewOf (view_of v) q → IsViewOf (view_of left) q ⊎ IsViewOf (view_of right) q)
       → Splits {S = S} {V = TracedView} (Ruled layout) id v left right
   splits knowing lo ro lr vs s r here =
-      let parts = knowing r.core r.run r.layout_is (r.knows id v here) in
+      let parts = knowing r.core r.run (uncommitted_in s.words) r.layout_is (r.knows id v here) in
       let views : List TracedView = set s.views id left in
       let apart : Apart views = apart_set s.views id v left here lo r.apart in
       let alone : (i q : ℕ) (w : TracedView) → get_elem? views i ≡ some w → IsViewOf (view_of w) q → IsViewOf (view_of right) q → ⊥ = λ i q w e ow oright. ⊎_elim
@@ -179,8 +215,8 @@ module _ {S : Type 0} (layout : Layout) (id : ℕ) (v left right : TracedView) w
       (at_set s.views id i left w e) in
       still_ruled layout s _ r refl
       (λ i w e. ⊎_elim
-      (λ old. ⊎_elim (λ (t : (i ≡ id) × (left ≡ w)). subst (IsTrueOf r.core r.run) t.1 parts.0) (λ (t : (i ≢ id) × (get_elem? s.views i ≡ some w)). r.knows i w t.1) (at_set s.views id i left w old))
-      (λ (t : (i ≡ length views) × (right ≡ w)). subst (IsTrueOf r.core r.run) t.1 parts.1)
+      (λ old. ⊎_elim (λ (t : (i ≡ id) × (left ≡ w)). subst (IsTrueOf r.core r.run (uncommitted_in s.words)) t.1 parts.0) (λ (t : (i ≢ id) × (get_elem? s.views i ≡ some w)). r.knows i w t.1) (at_set s.views id i left w old))
+      (λ (t : (i ≡ length views) × (right ≡ w)). subst (IsTrueOf r.core r.run (uncommitted_in s.words)) t.1 parts.1)
       (at_end views right w i e))
       (λ i j q x y a b ox oy. ⊎_elim
       (λ (olda : get_elem? views i ≡ some x). ⊎_elim (λ (oldb : get_elem? views j ≡ some y). apart i j q x y olda oldb ox oy) (λ (t : (j ≡ length views) × (right ≡ y)). absurd (alone i q x olda ox (subst (λ z. IsViewOf (view_of z) q) (sym t.1) oy))) (at_end views right y j b))
@@ -195,22 +231,22 @@ module _ {S : Type 0} (layout : Layout) (id : ℕ) (v left right : TracedView) w
       (eqb_tells seat.0 id))
 
 -- the run of a table some of whose passes are still to be dealt: the next of them has made no step
-deals_trace : (m : ℕ) (run : List Event) → All (λ x. x.pass < m) run → HasTraces run (Dealer (m + 1)) × HasTraces run (Pass (opening_of m) untraced)
-deals_trace m run h = (All-weaker (λ x. x.pass < m) (λ x. x.pass < m + 1) (λ x low. omega (arith, low)) run h, (run, refl, All-weaker (λ x. x.pass < m) (λ x. x.pass ≢ m) (λ x low e. omega (arith, low, e)) run h))
+deals_trace : (m : ℕ) (bounds : List ℕ) (run : List Event) → All (λ x. x.pass < m) run → HasTraces run (Dealer (m + 1) bounds) × HasTraces run (Pass (opening_of m) (new_trace bounds))
+deals_trace m bounds run h = (All-weaker (λ x. x.pass < m) (λ x. x.pass < m + 1) (λ x low. omega (arith, low)) run h, (run, refl, All-weaker (λ x. x.pass < m) (λ x. x.pass ≢ m) (λ x low e. omega (arith, low, e)) run h))
 
-pub deals : {S : Type 0} (layout : Layout) (id : ℕ) (v : TracedView) (m : ℕ) → m < layout.passes → v ≡ Dealer m → Splits {S = S} {V = TracedView} (Ruled layout) id v (next_dealer v) (dealt v)
-deals {S = S} layout id v m low is = subst (λ (z : TracedView). Splits {S = S} {V = TracedView} (Ruled layout) id z (next_dealer z) (dealt z)) (sym is)
-    (splits layout id (Dealer m) (Dealer (m + 1)) (Pass (opening_of m) untraced)
-    (λ c run at k. (((λ q low. k.0 q (omega arith)), (deals_trace m run k.1).0), (new_knows c m (subst (λ (z : Layout). m < z.passes) (sym at) low) (k.0 m (omega arith)), (deals_trace m run k.1).1)))
+pub deals : {S : Type 0} (layout : Layout) (id : ℕ) (v : TracedView) (m : ℕ) (bounds : List ℕ) → m < layout.passes → v ≡ Dealer m bounds → Splits {S = S} {V = TracedView} (Ruled layout) id v (next_dealer v) (dealt v)
+deals {S = S} layout id v m bounds low is = subst (λ (z : TracedView). Splits {S = S} {V = TracedView} (Ruled layout) id z (next_dealer z) (dealt z)) (sym is)
+    (splits layout id (Dealer m bounds) (Dealer (m + 1) bounds) (Pass (opening_of m) (new_trace bounds))
+    (λ c run uncommitted at k. (((λ q low. k.0 q (omega arith)), (deals_trace m bounds run k.1).0, k.2), (new_knows c m (subst (λ (z : Layout). m < z.passes) (sym at) low) (k.0 m (omega arith)), (deals_trace m bounds run k.1).1, k.2)))
     (λ q low. omega arith)
     (λ q e. omega arith)
     (λ q low e. omega arith)
     (λ q low. ⊎_elim (λ (h : m < q). inl (omega arith)) (λ (h : q ≤ m). inr (omega arith)) (cases_lt m q)))
 
 -- the first pass, and then those that are still to be dealt
-deals_founder : {S : Type 0} (layout : Layout) (id : ℕ) (k : Known) (t : Trace) (m : ℕ) → k.pass < m → Splits {S = S} {V = TracedView} (Ruled layout) id (Founder k t m) (Dealer m) (Pass k t)
-deals_founder {S = S} layout id k t m low = splits layout id (Founder k t m) (Dealer m) (Pass k t)
-    (λ c run at h. ((h.0.1, h.1.1), (h.0.0, h.1.0)))
+deals_founder : {S : Type 0} (layout : Layout) (id : ℕ) (k : Known) (t : Trace) (m : ℕ) → k.pass < m → Splits {S = S} {V = TracedView} (Ruled layout) id (Founder k t m) (Dealer m t.bounds) (Pass k t)
+deals_founder {S = S} layout id k t m low = splits layout id (Founder k t m) (Dealer m t.bounds) (Pass k t)
+    (λ c run uncommitted at h. ((h.0.1, h.1.1, h.2), (h.0.0, h.1.0, h.2)))
     (λ q o. inr o)
     (λ q o. inl o)
     (λ q o e. omega (arith, o, e, low))
@@ -218,40 +254,47 @@ deals_founder {S = S} layout id k t m low = splits layout id (Founder k t m) (De
 
 pub deals_next : {S : Type 0} (layout : Layout) (id : ℕ) (v : TracedView) (made : Layout) (loads : Bool) (words : List ℕ) (m : ℕ) → m < layout.passes → v ≡ dealer_at (first_view made loads words) m →
     Splits {S = S} {V = TracedView} (Ruled layout) id v (next_dealer v) (dealt v)
-deals_next layout id v made false words zero low is = deals layout id v 0 low is
+deals_next layout id v made false words zero low is = deals layout id v 0 words low is
 deals_next {S = S} layout id v made true words zero low is = subst (λ (z : TracedView). Splits {S = S} {V = TracedView} (Ruled layout) id z (next_dealer z) (dealt z)) (sym is)
     (deals_founder layout id (loader_of made words) (load_trace words) 1 (omega arith))
-deals_next layout id v made loads words (suc m) low is = deals layout id v (suc m) low is
+deals_next layout id v made loads words (suc m) low is = deals layout id v (suc m) (bounds_of (first_view made loads words)) low is
 
 pub dealer_next : (layout : Layout) (loads : Bool) (words : List ℕ) (m : ℕ) → next_dealer (dealer_at (first_view layout loads words) m) ≡ dealer_at (first_view layout loads words) (m + 1)
 dealer_next layout false words zero = refl
 dealer_next layout true words zero = refl
 dealer_next layout loads words (suc m) = let e : suc (suc m) ≡ suc m + 1 = omega arith in
-    sym (ap Dealer e) ∙ ap (λ n. dealer_at (first_view layout loads words) n) e
+    sym (ap (λ n. Dealer n (bounds_of (first_view layout loads words))) e) ∙ ap (λ n. dealer_at (first_view layout loads words) n) e
 
 pub dealt_next : (first : TracedView) (m : ℕ) → dealt (dealer_at first m) ≡ dealt_at first m
 dealt_next first zero = refl
 dealt_next first (suc m) = refl
 
 -- of a new table all seats are new, and of a loaded one all but the first
-pub dealt_new : (table : TableView) (q : ℕ) (s : SeatView) → IsDealtSeat table (Dealer 0) q s → IsNewSeatOf table q s
-dealt_new table zero s h = h
-dealt_new table (suc q) s h = h
+pub dealt_new : (table : TableView) (words : List ℕ) (q : ℕ) (s : SeatView) → IsDealtSeat table (Dealer 0 words) q s → IsNewSeatOf table q s
+dealt_new table words zero s h = (h.0, h.1, h.2, h.3)
+dealt_new table words (suc q) s h = (h.0, h.1, h.2, h.3)
 
 pub dealt_other : (table : TableView) (first : TracedView) (q : ℕ) (s : SeatView) → 1 ≤ q → IsDealtSeat table first q s → IsNewSeatOf table q s
 dealt_other table first zero s low h = absurd (omega arith)
-dealt_other table first (suc q) s low h = h
+dealt_other table first (suc q) s low h = (h.0, h.1, h.2, h.3)
+
+-- each has the table's first words for its bounds
+pub dealt_bounds : (table : TableView) (layout : Layout) (loads : Bool) (words : List ℕ) (q : ℕ) (s : SeatView) → IsDealtSeat table (first_view layout loads words) q s → s.bounds ≡ words
+dealt_bounds table layout false words zero s h = h.4
+dealt_bounds table layout true words zero s h = h.4
+dealt_bounds table layout false words (suc q) s h = h.4
+dealt_bounds table layout true words (suc q) s h = h.4
 
 pub parts : {S : Type 0} (layout : Layout) (id : ℕ) (v : TracedView) (j : Known) (t : Trace) (k : Known) (u : Trace) → v ≡ Pair j t k u → j.pass ≢ k.pass →
     Splits {S = S} {V = TracedView} (Ruled layout) id v (first_of_two v) (second_of_two v)
 parts {S = S} layout id v j t k u is ne = subst (λ (z : TracedView). Splits {S = S} {V = TracedView} (Ruled layout) id z (first_of_two z) (second_of_two z)) (sym is)
-    (splits layout id (Pair j t k u) (Pass j t) (Pass k u) (λ c run at h. ((h.0.0, h.1.0), (h.0.1, h.1.1))) (λ q o. inl o) (λ q o. inr o) (λ q a b. ne (a ∙ sym b)) (λ q o. o))
+    (splits layout id (Pair j t k u) (Pass j t) (Pass k u) (λ c run uncommitted at h. ((h.0.0, h.1.0, h.2.0), (h.0.1, h.1.1, h.2.1))) (λ q o. inl o) (λ q o. inr o) (λ q a b. ne (a ∙ sym b)) (λ q o. o))
 
 -- Joining
 
 module _ {S : Type 0} (layout : Layout) (id other : ℕ) (v w both : TracedView) where
   -- the two are one seat now, which has the numbers of both; the other has none
-  pub joins_as : ((c : Core) (run : List Event) → IsTrueOf c run v → IsTrueOf c run w → ((q : ℕ) → IsViewOf (view_of v) q → IsViewOf (view_of w) q → ⊥) → IsTrueOf c run both) → ((q : ℕ) → IsViewOf (view_of both) q → IsViewOf (view_of v) q ⊎ IsViewOf (view_of w) q) → ((q : ℕ) → IsViewOf (view_of v) q ⊎ IsViewOf (view_of w) q → IsViewOf (view_of both) q)
+  pub joins_as : ((c : Core) (run : List Event) (uncommitted : ℕ → ℕ) → IsTrueOf c run uncommitted v → IsTrueOf c run uncommitted w → ((q : ℕ) → IsViewOf (view_of v) q → IsViewOf (view_of w) q → ⊥) → IsTrueOf c run uncommitted both) → ((q : ℕ) → IsViewOf (view_of both) q → IsViewOf (view_of v) q ⊎ IsViewOf (view_of w) q) → ((q : ℕ) → IsViewOf (view_of v) q ⊎ IsViewOf (view_of w) q → IsViewOf (view_of both) q)
       → Joins {S = S} {V = TracedView} (Ruled layout) id v other w both Spent
   joins_as knowing of_both to_both s r here ne there =
       let second : get_elem? s.views other ≡ some w = ⊎_elim (λ (t : (other ≡ id) × (both ≡ w)). absurd (ne t.0)) (λ (t : (other ≢ id) × (get_elem? s.views other ≡ some w)). t.1) (at_set s.views id other both w there) in
@@ -270,9 +313,9 @@ module _ {S : Type 0} (layout : Layout) (id other : ℕ) (v w both : TracedView)
       own in
       still_ruled layout s _ r refl
       (λ i x e. ⊎_elim
-      (λ (t : (i ≡ other) × (Spent ≡ x)). subst (IsTrueOf r.core r.run) t.1 (tt, tt))
+      (λ (t : (i ≡ other) × (Spent ≡ x)). subst (IsTrueOf r.core r.run (uncommitted_in s.words)) t.1 (tt, tt, tt))
       (λ (t : (i ≢ other) × (get_elem? views i ≡ some x)). ⊎_elim
-      (λ (u : (i ≡ id) × (both ≡ x)). subst (IsTrueOf r.core r.run) u.1 (knowing r.core r.run (r.knows id v here) (r.knows other w second) (λ q o p. ne (r.apart other id q w v second here p o))))
+      (λ (u : (i ≡ id) × (both ≡ x)). subst (IsTrueOf r.core r.run (uncommitted_in s.words)) u.1 (knowing r.core r.run (uncommitted_in s.words) (r.knows id v here) (r.knows other w second) (λ q o p. ne (r.apart other id q w v second here p o))))
       (λ (u : (i ≢ id) × (get_elem? s.views i ≡ some x)). r.knows i x u.1)
       (at_set s.views id i both x t.1))
       (at_set views other i Spent x e))
@@ -295,7 +338,7 @@ module _ {S : Type 0} (layout : Layout) (id other : ℕ) (v w both : TracedView)
 pub joins : {S : Type 0} (layout : Layout) (id other : ℕ) (v w : TracedView) (j : Known) (t : Trace) (k : Known) (u : Trace) → v ≡ Pass j t → w ≡ Pass k u →
     Joins {S = S} {V = TracedView} (Ruled layout) id v other w (paired v w) Spent
 joins {S = S} layout id other v w j t k u isv isw = subst (λ (z : TracedView × TracedView). Joins {S = S} {V = TracedView} (Ruled layout) id z.0 other z.1 (paired z.0 z.1) Spent) (λ i. (sym isv i, sym isw i))
-    (joins_as layout id other (Pass j t) (Pass k u) (Pair j t k u) (λ c run a b apart. ((a.0, b.0, λ e. apart k.pass e refl), (a.1, b.1))) (λ q o. o) (λ q o. o))
+    (joins_as layout id other (Pass j t) (Pass k u) (Pair j t k u) (λ c run uncommitted a b apart. ((a.0, b.0, λ e. apart k.pass e refl), (a.1, b.1), (a.2, b.2))) (λ q o. o) (λ q o. o))
 
 -- The load of a meeting
 
@@ -317,7 +360,7 @@ met_knows c k h = record {
 
 -- a trace that is shown the whole run
 abbrev pub shown : List Event → Trace → Trace
-shown run t = record { events = run; asides = suc t.asides; touches = t.touches }
+shown run t = record { events = run; asides = suc t.asides; touches = t.touches; bounds = t.bounds }
 
 pub shown_run : {S : Type 0} (layout : Layout) (s : State S TracedView) (r : Ruled layout s) (k : Known) (t : Trace) → OthersStepOn k.pass t.events r.run →
     IsShownRun layout k.pass t.events r.run r.core.changes
@@ -328,9 +371,10 @@ pub meets : {S : Type 0} (layout : Layout) (of : Option Layout) → of ≡ Some 
 meets layout of is_of slots id i me j t k u is = allows_view layout of is_of slots id i me (Pair j t k u) is Meeting (λ s r here.
     let c : Core = r.core in
     let both = (r.knows id (Pair j t k u) here).0 in
-    let traces = (r.knows id (Pair j t k u) here).1 in (
+    let traces = (r.knows id (Pair j t k u) here).1 in
+    let bounds = (r.knows id (Pair j t k u) here).2 in (
       Pair (with_front c.changes j) (shown r.run t) (with_front c.changes k) (shown r.run u),
-      ((met_knows c j both.0, met_knows c k both.1, both.2), (others_none j.pass r.run, others_none k.pass r.run)),
+      ((met_knows c j both.0, met_knows c k both.1, both.2), (others_none j.pass r.run, others_none k.pass r.run), bounds),
       (λ q o. o),
       (λ q o. o),
       (
@@ -341,8 +385,8 @@ meets layout of is_of slots id i me j t k u is = allows_view layout of is_of slo
         refl,
         (c.changes, refl, refl, r.lawful.core.told.legal, both.0.seen.front, both.1.seen.front, both.2, subst (λ (z : Layout). All (λ x. x.pass < z.passes) c.changes) r.layout_is r.lawful.makers),
         refl,
-        (shown_run layout s r j t traces.0, refl, refl),
-        (shown_run layout s r k u traces.1, refl, refl),
+        (shown_run layout s r j t traces.0, refl, refl, refl),
+        (shown_run layout s r k u traces.1, refl, refl, refl),
       ),
     ))
 

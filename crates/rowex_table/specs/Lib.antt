@@ -1,5 +1,6 @@
 -- The definitions of the crate.
 pub mod Traces
+pub mod Committed
 pub mod Rule
 pub mod Rights
 pub mod Runs

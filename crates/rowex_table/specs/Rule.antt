@@ -1,5 +1,5 @@
 -- The rule of the table, and what its steps tell.
-use Rattle.std.specs.Prelude.{◌≡◌, ◌≢◌, ℕ, zero, suc, ◌+◌, ◌<◌, Bool, true, false, List, [], ◌∷◌, All, Option, Some, None}
+use Rattle.std.specs.Prelude.{◌≡◌, ◌≢◌, ℕ, zero, suc, ◌+◌, ◌<◌, ◌≤◌, set, Bool, true, false, List, [], ◌∷◌, All, Option, Some, None}
 use mathlib.Core.Option.{some}
 use lib.ListN.{get_elem?}
 use Rattle.atomic_table.specs.Table.{State, Me, Step, opening as first_state}
@@ -9,7 +9,7 @@ use Rattle.finite_map.specs.Fronts.{BeginsWith, LegalFront, OthersGoOn}
 use Rattle.partial_keys.specs.declared.TheConstants.{MAX_ENTRIES}
 use Rattle.record_words.specs.declared.layout.Layout.{Layout}
 use Rattle.record_words.specs.declared.layout.Location.{Location}
-use Rattle.record_words.specs.Layout.{address, IsInTable}
+use Rattle.record_words.specs.Layout.{address, IsInTable, uncommitted_in, uncommitted_word}
 use Rattle.record_words.specs.declared.records.Rec.{Rec}
 use Rattle.record_words.specs.declared.records.Rec.TheVariants.{Node as a_node, Leaf as a_leaf}
 use Rattle.rowex_core.specs.declared.event.Act.{Act}
@@ -20,7 +20,7 @@ use Rattle.rowex_core.specs.declared.event.Event.{Event}
 use Rattle.rowex_core.specs.declared.known.Known.{Known}
 use Rattle.rowex_core.specs.Cores.{Core, HasRecord, IsLawful}
 use Rattle.rowex_core.specs.Words.{Shows, word_at}
-use Rattle.rowex_core.specs.Events.{Legal, loaded_tree, location_of, word_of}
+use Rattle.rowex_core.specs.Events.{Legal, exchanged, loaded_tree, location_of, word_of}
 use Rattle.versions.specs.Told.{added_notes, items_of}
 use Rattle.rowex_core.specs.Knowing.{Knows, Knowing, IsViewOf, IsEvent, learned}
 use Rattle.rowex_core.specs.Opening.{opening}
@@ -29,19 +29,21 @@ use Rattle.rowex_table.specs.declared.record_steps.RecordAt.{RecordAt}
 use Rattle.rowex_table.specs.declared.traces.Trace.{Trace}
 use Rattle.rowex_table.specs.declared.traces.TracedView.{TracedView}
 use Rattle.rowex_table.specs.declared.traces.TracedView.TheVariants.{Spent, Dealer, Founder, Pass, Pair, Witness, Follower}
-use Rattle.rowex_table.specs.Traces.{HasTraces, IsNextStep, IsShownRun, RunBeginsWith, untraced, view_of}
+use Rattle.rowex_table.specs.Committed.{IsCommitted, IsTaken, TakenAreCommitted}
+use Rattle.rowex_table.specs.Traces.{HasBounds, HasTraces, IsNextStep, IsShownRun, RunBeginsWith, new_trace, view_of}
 
 -- one of the views tells of the pass of this number, as its own or as one still to be dealt
 abbrev pub IsSomeSeats : (views : List TracedView) → (pass : ℕ) → Type 0
 IsSomeSeats views pass = (place : ℕ) × (view : TracedView) × (get_elem? views place ≡ some view) × IsViewOf (view_of view) pass
 
--- What the view says is true of the core, and each trace in it is a beginning of the run, as `HasTraces` says.
-abbrev pub IsTrueOf : (core : Core) → (run : List Event) → (view : TracedView) → Type 0
-IsTrueOf core run view = Knowing core (view_of view) × HasTraces run view
+-- What the view says is true of the core, and each trace in it is a beginning of the run, as `HasTraces` says. What it says of uncommitted
+-- records is true where so many of each kind are.
+abbrev pub IsTrueOf : (core : Core) → (run : List Event) → (uncommitted : ℕ → ℕ) → (view : TracedView) → Type 0
+IsTrueOf core run uncommitted view = Knowing core (view_of view) × HasTraces run view × HasBounds uncommitted view
 
--- The rule of a table. A run of steps (`led`) leads from a new table to a lawful core of this layout, which the words show. What each view
--- says is true of the core and of the run (`knows`). No two views tell of one pass (`apart`), and some view tells of each pass of the
--- layout (`each`).
+-- The rule of a table. A run of steps (`led`) leads from a new table to a lawful core of this layout, which the words show. Each
+-- record that the run has taken is committed (`committed`). What each view says is true of the core, of the run and of how many records are
+-- uncommitted (`knows`). No two views tell of one pass (`apart`), and some view tells of each pass of the layout (`each`).
 pub record Ruled {S : Type 0} (layout : Layout) (state : State S TracedView) : Type 0 where
   pub core : Core
   pub lawful : IsLawful core
@@ -49,7 +51,8 @@ pub record Ruled {S : Type 0} (layout : Layout) (state : State S TracedView) : T
   pub shows : Shows core state.words
   pub run : List Event
   pub led : EventsLead (opening layout) run core
-  pub knows : (place : ℕ) (view : TracedView) → get_elem? state.views place ≡ some view → IsTrueOf core run view
+  pub committed : (rec : Rec) → IsTaken layout run rec → IsCommitted layout (uncommitted_in state.words) rec
+  pub knows : (place : ℕ) (view : TracedView) → get_elem? state.views place ≡ some view → IsTrueOf core run (uncommitted_in state.words) view
   pub apart : (place other_place pass : ℕ) (view other : TracedView) → get_elem? state.views place ≡ some view →
       get_elem? state.views other_place ≡ some other → IsViewOf (view_of view) pass →
       IsViewOf (view_of other) pass → place ≡ other_place
@@ -83,15 +86,15 @@ abbrev pub loader_of : Layout → List ℕ → Known
 loader_of layout words =
     record (learned (opening layout) (load_of words) (opening_of 0)) { notes = added_notes 0 (items_of (loaded_tree layout words)) }
 
--- the trace of pass 0 of a table that was made of these words: the bulk load alone
+-- The trace of pass 0 of a table that was made of these words: the bulk load alone. The words say how many records are uncommitted.
 abbrev pub load_trace : List ℕ → Trace
-load_trace words = record { events = record { pass = 0; act = load_of words } ∷ []; asides = 0; touches = 0 }
+load_trace words = record { events = record { pass = 0; act = load_of words } ∷ []; asides = 0; touches = 0; bounds = words }
 
 -- The first view of a table. If `loads` is true, the words are those of loaded pairs, and the view is a founder's: pass 0, with the passes
 -- to come. Else the words are those of a new table, and the view is a dealer's.
 abbrev pub first_view : (layout : Layout) → (loads : Bool) → (words : List ℕ) → TracedView
 first_view layout true words = Founder (loader_of layout words) (load_trace words) 1
-first_view layout false words = Dealer 0
+first_view layout false words = Dealer 0 words
 
 -- what the pass of a view knows; for a view of another kind, what a new pass 0 knows, so that there always is something
 abbrev pub known_of : TracedView → Known
@@ -101,7 +104,7 @@ known_of _ = opening_of 0
 -- the trace of the pass of a view; for a view of another kind, an empty one
 abbrev pub trace_of : TracedView → Trace
 trace_of (Pass known trace) = trace
-trace_of _ = untraced
+trace_of _ = new_trace []
 
 -- The seat has the view of the pass of this number alone, and nothing else is kept with it.
 abbrev pub IsOfPass : {S : Type 0} → (me : Me S TracedView) → (pass : ℕ) → Type 0
@@ -169,7 +172,7 @@ abbrev pub Happens : (layout : Option Layout) → (act : Act) → (said : Known 
 Happens (Some layout) act said (Pass before trace_before) view =
     (known : Known) × (trace : Trace) × (event : IsEvent layout act said before known) × (view ≡ Pass known trace) ×
     IsNextStep layout before.pass act event.core trace_before.events trace.events × (trace.asides ≡ trace_before.asides) ×
-    (trace.touches ≡ trace_before.touches)
+    (trace.touches ≡ trace_before.touches) × (trace.bounds ≡ trace_before.bounds)
 Happens _ act said old view = Unit {0}
 
 -- A pass's step, in the form in which a shared table asks for it. The act happens, as one that finds the word `told`. What else the seat
@@ -182,7 +185,7 @@ did layout act said step old told new = (new.1 ≡ old.1) × Happens layout (fou
 
 -- the view of a pass once it has touched one word more; a view of another kind stays
 abbrev pub touched_once : TracedView → TracedView
-touched_once (Pass known trace) = Pass known (record { events = trace.events; asides = trace.asides; touches = suc trace.touches })
+touched_once (Pass known trace) = Pass known (record { events = trace.events; asides = trace.asides; touches = suc trace.touches; bounds = trace.bounds })
 touched_once view = view
 
 -- A touch of a word, in the form in which a shared table asks for it. Of the seat only the count of touches changes, and the word that was
@@ -190,17 +193,43 @@ touched_once view = view
 abbrev pub touching : {S : Type 0} → (step : Step S) → (old : Me S TracedView) → (told : ℕ) → (new : Me S TracedView) → Type 0
 touching step old told new = (new.1 ≡ old.1) × (new.0 ≡ touched_once old.0)
 
+-- Reserved and committed records
+
+-- the view once its pass has found, or left, this number of records of the kind uncommitted
+abbrev pub bounded : (kind count : ℕ) → TracedView → TracedView
+bounded kind count (Pass known trace) =
+    Pass known (record { events = trace.events; asides = trace.asides; touches = trace.touches; bounds = set trace.bounds (uncommitted_word kind) count })
+bounded kind count view = view
+
+-- It may be that `count` records of the kind are uncommitted: no more than the pass's bound, and no record that a step of its trace takes.
+-- Without a layout, or for a view of another kind than a pass's, this says nothing.
+abbrev pub MayBeUncommitted : (layout : Option Layout) → (kind count : ℕ) → TracedView → Type 0
+MayBeUncommitted (Some layout) kind count (Pass known trace) =
+    (count ≤ uncommitted_in trace.bounds kind) × TakenAreCommitted layout trace.events kind count
+MayBeUncommitted _ kind count view = Unit {0}
+
+-- A load of the word that says how many records of a kind are uncommitted, in the form in which a shared table asks for it.
+abbrev pub bounding : {S : Type 0} → (layout : Option Layout) → (kind : ℕ) →
+    (step : Step S) → (old : Me S TracedView) → (told : ℕ) → (new : Me S TracedView) → Type 0
+bounding layout kind step old told new = (new.1 ≡ old.1) × (new.0 ≡ bounded kind told old.0) × MayBeUncommitted layout kind told old.0
+
+-- An exchange of that word, `expected` for `count`, in the form in which a shared table asks for it.
+abbrev pub committing : {S : Type 0} → (layout : Option Layout) → (kind expected count : ℕ) →
+    (step : Step S) → (old : Me S TracedView) → (told : ℕ) → (new : Me S TracedView) → Type 0
+committing layout kind expected count step old told new =
+    (new.1 ≡ old.1) × (new.0 ≡ bounded kind (exchanged told expected count) old.0) × MayBeUncommitted layout kind told old.0
+
 -- Seats dealt, and two that meet
 
 -- The view of a dealer once it has dealt one more seat. A founder deals its own pass first, and is a dealer then.
 abbrev pub next_dealer : TracedView → TracedView
-next_dealer (Dealer next) = Dealer (next + 1)
-next_dealer (Founder known trace next) = Dealer next
+next_dealer (Dealer next bounds) = Dealer (next + 1) bounds
+next_dealer (Founder known trace next) = Dealer next trace.bounds
 next_dealer view = view
 
 -- The view of the seat that a dealer deals next: a new pass, or a founder's own. It is `Spent` where the view is no dealer's.
 abbrev pub dealt : TracedView → TracedView
-dealt (Dealer next) = Pass (opening_of next) untraced
+dealt (Dealer next bounds) = Pass (opening_of next) (new_trace bounds)
 dealt (Founder known trace next) = Pass known trace
 dealt _ = Spent
 
@@ -208,15 +237,21 @@ dealt _ = Spent
 abbrev pub IsRuledAtFirst : (layout : Layout) → (loads : Bool) → (words : List ℕ) → Type 0
 IsRuledAtFirst layout loads words = Ruled {S = Unit {0}} layout (first_state words [] (first_view layout loads words))
 
+-- the bounds of a dealer's or a founder's view; for a view of another kind, none
+abbrev pub bounds_of : TracedView → List ℕ
+bounds_of (Dealer next bounds) = bounds
+bounds_of (Founder known trace next) = trace.bounds
+bounds_of _ = []
+
 -- the dealer's view once the first `count` passes have been dealt, in the order of their numbers; `first` is the table's first view
 abbrev pub dealer_at : (first : TracedView) → (count : ℕ) → TracedView
 dealer_at first zero = first
-dealer_at first (suc pass) = Dealer (suc pass)
+dealer_at first (suc pass) = Dealer (suc pass) (bounds_of first)
 
 -- the view of the pass of this number right after it is dealt; `first` is the table's first view, which may have loaded the pairs as pass 0
 abbrev pub dealt_at : (first : TracedView) → (pass : ℕ) → TracedView
 dealt_at first zero = dealt first
-dealt_at first (suc pass) = Pass (opening_of (suc pass)) untraced
+dealt_at first (suc pass) = Pass (opening_of (suc pass)) (new_trace (bounds_of first))
 
 -- the views of two passes, as one view of a pair; `Spent` if one is no pass's
 abbrev pub paired : (first second : TracedView) → TracedView
@@ -249,7 +284,7 @@ SeatsHaveMet layout first_before second_before first_after second_after =
 abbrev pub HasBeenShown : (layout : Layout) → (before : Known) → (trace_before : Trace) → (after : Known) → (trace_after : Trace) → Type 0
 HasBeenShown layout before trace_before after trace_after =
     IsShownRun layout before.pass trace_before.events trace_after.events after.front × (trace_after.asides ≡ suc trace_before.asides) ×
-    (trace_after.touches ≡ trace_before.touches)
+    (trace_after.touches ≡ trace_before.touches) × (trace_after.bounds ≡ trace_before.bounds)
 
 -- `old` and `new` are the views of a pair of passes before and after they meet. Afterwards both know the same changes and the same steps,
 -- and each has been shown them (`HasBeenShown`). Without a layout, or for a view of another kind, this says nothing.
@@ -288,7 +323,7 @@ stamped view = Spent
 
 -- the view of a pass once it has made a stamp, with one aside more; a view of another kind stays
 abbrev pub stamping : TracedView → TracedView
-stamping (Pass known trace) = Pass known (record { events = trace.events; asides = suc trace.asides; touches = trace.touches })
+stamping (Pass known trace) = Pass known (record { events = trace.events; asides = suc trace.asides; touches = trace.touches; bounds = trace.bounds })
 stamping view = view
 
 -- the view of a pass and that of a stamp that it follows, as one view; `Spent` if they are of other kinds

@@ -1,12 +1,15 @@
 -- Tables and the seats of their passes, as contracts see them.
-use Rattle.std.specs.Prelude.{◌≡◌, ◌<◌, ◌≤◌, ◌+◌, ℕ, suc, List, []}
+use Rattle.std.specs.Prelude.{◌≡◌, ◌<◌, ◌≤◌, ◌+◌, ℕ, suc, List, [], get_or, set}
 use Rattle.atomic_table.specs.Seated.{TableId}
 use Rattle.finite_map.specs.declared.Change.{Change}
+use Rattle.record_words.specs.declared.TheConstants.{RECORD_KINDS}
 use Rattle.record_words.specs.declared.layout.Layout.{Layout}
 use Rattle.rowex_core.specs.declared.event.Event.{Event}
 use Rattle.rowex_core.specs.declared.known.Known.{Known}
 use Rattle.rowex_table.specs.declared.traces.TracedView.{TracedView}
 use Rattle.rowex_table.specs.Rule.{opening_of, loader_of, load_trace, dealt_at, known_of, trace_of}
+use Rattle.record_words.specs.Layout.{uncommitted_in, uncommitted_word}
+use Rattle.rowex_table.specs.Committed.{AtMost}
 use Rattle.rowex_table.specs.Traces.{IsShownRun}
 
 -- What contracts see of a table: which one it is, and its layout.
@@ -24,6 +27,7 @@ pub record SeatView : Type 0 where
   pub trace : List Event
   pub asides : ℕ
   pub touches : ℕ
+  pub bounds : List ℕ
 
 -- What contracts see of a stamp: its table, and the changes and the steps that it tells of.
 pub record StampView : Type 0 where
@@ -49,11 +53,16 @@ IsOneSeat old new = (new.table ≡ old.table) × (new.id ≡ old.id) × (new.kno
 
 -- The two views are of one seat. Between them its pass has made or followed no stamp, and met no other pass.
 abbrev pub MakesNoAside : (old new : SeatView) → Type 0
-MakesNoAside old new = (new.table ≡ old.table) × (new.id ≡ old.id) × (new.known.pass ≡ old.known.pass) × (new.asides ≡ old.asides)
+MakesNoAside old new =
+    (new.table ≡ old.table) × (new.id ≡ old.id) × (new.known.pass ≡ old.known.pass) × (new.asides ≡ old.asides) × AtMost (uncommitted_in new.bounds) (uncommitted_in old.bounds)
 
 -- the seat once its pass has touched `more` words
 abbrev pub touched : (more : ℕ) → (seat : SeatView) → SeatView
 touched more seat = record seat { touches = seat.touches + more }
+
+-- the seat once its pass has found, or left, this number of records of the kind uncommitted
+abbrev pub bounded_seat : (kind count : ℕ) → (seat : SeatView) → SeatView
+bounded_seat kind count seat = record seat { bounds = set seat.bounds (uncommitted_word kind) count }
 
 -- The pass has touched some words, at most `most`. Nothing else of its seat has changed: a touch teaches nothing.
 abbrev pub HasTouched : (most : ℕ) → (old new : SeatView) → Type 0
@@ -70,6 +79,15 @@ pub record IsShownAll (layout : Layout) (old new : SeatView) : Type 0 where
   pub run : IsShownRun layout old.known.pass old.trace new.trace new.known.front
   pub asides : new.asides ≡ suc old.asides
   pub touches : new.touches ≡ old.touches
+  pub bounds : new.bounds ≡ old.bounds
+
+-- the seat's pass knows that all records of the table are committed
+abbrev pub HasAllCommitted : SeatView → Type 0
+HasAllCommitted seat = (kind : ℕ) → uncommitted_in seat.bounds kind ≡ 0
+
+-- the seat's pass knows that no more records of each kind are uncommitted than this
+abbrev pub HasUncommitted : (uncommitted : List ℕ) → SeatView → Type 0
+HasUncommitted uncommitted seat = (kind : ℕ) → kind < RECORD_KINDS → uncommitted_in seat.bounds kind ≡ get_or uncommitted kind 0
 
 -- The seat is one of this table, with one of the table's passes. The pass is new: it knows what a new pass knows, and no step, and has made
 -- no aside.
@@ -87,9 +105,14 @@ abbrev pub IsLoaderSeat : (table : TableView) → (words : List ℕ) → (seat :
 IsLoaderSeat table words seat =
     IsSeatOf table seat × (seat.known ≡ loader_of table.layout words) × (seat.trace ≡ (load_trace words).events) × (seat.asides ≡ 0)
 
--- The seat has just been dealt with the pass of this number: what it knows, its steps and its asides are those of the dealt view. `first`
--- is the table's first view.
+-- The seat has just been dealt with the pass of this number: what it knows, its steps, its asides and its bounds are those of the dealt view.
+-- `first` is the table's first view.
 abbrev pub IsDealtSeat : (table : TableView) → (first : TracedView) → (pass : ℕ) → (seat : SeatView) → Type 0
 IsDealtSeat table first pass seat =
     IsSeatOf table seat × (seat.known ≡ known_of (dealt_at first pass)) × (seat.trace ≡ (trace_of (dealt_at first pass)).events) ×
-    (seat.asides ≡ (trace_of (dealt_at first pass)).asides)
+    (seat.asides ≡ (trace_of (dealt_at first pass)).asides) × (seat.bounds ≡ (trace_of (dealt_at first pass)).bounds)
+
+-- The pass has loaded words that say how many records are uncommitted, or exchanged some. Nothing else of its seat has changed, and no bound
+-- that it knew has risen.
+abbrev pub HasFoundBounds : (old new : SeatView) → Type 0
+HasFoundBounds old new = (bounds : List ℕ) × (new ≡ record old { bounds = bounds }) × AtMost (uncommitted_in bounds) (uncommitted_in old.bounds)

@@ -1,5 +1,5 @@
 -- The laws of the table.
-use Rattle.std.specs.Prelude.{◌≡◌, ◌≢◌, ◌⊎◌, ℕ, List, [], ◌∷◌, ◌++◌}
+use Rattle.std.specs.Prelude.{◌<◌, ◌≤◌, ◌++◌, ◌≡◌, ◌≢◌, ◌⊎◌, ℕ, List, [], ◌∷◌, ◌++◌}
 use mathlib.Core.Option.{some}
 use lib.ListN.{get_elem?}
 use Rattle.atomic_table.specs.Table.{State}
@@ -14,6 +14,9 @@ use Rattle.rowex_core.specs.Runs.{EventsLead}
 use Rattle.rowex_table.specs.declared.traces.Trace.{Trace}
 use Rattle.rowex_table.specs.declared.traces.TracedView.{TracedView}
 use Rattle.rowex_table.specs.declared.traces.TracedView.TheVariants.{Pass}
+use Rattle.record_words.specs.declared.records.Rec.{Rec}
+use Rattle.versions.specs.Core.{Free}
+use Rattle.rowex_table.specs.Committed.{IsTaken, TakenAreCommitted, count_from, record_kind}
 use Rattle.rowex_table.specs.Rule.{Ruled}
 use Rattle.rowex_table.specs.Seats.{TableView, SeatView}
 use Rattle.rowex_table.specs.Runs.{Ends, IsTold, Runs, events_of, silent}
@@ -58,3 +61,17 @@ TracesAreOfOneRun =
     (place other_place : ℕ) (known other_known : Known) (first second : Trace) →
     get_elem? state.views place ≡ some (Pass known first) → get_elem? state.views other_place ≡ some (Pass other_known second) →
     (one other : List Event) → RunBeginsWith first.events one → RunBeginsWith second.events other → RunBeginsWith other one ⊎ RunBeginsWith one other
+
+-- A record that no step of a table's run has taken is free.
+abbrev pub UntakenAreFree : Type 0
+UntakenAreFree = (layout : Layout) (run : List Event) (core : Core) (rec : Rec) → EventsLead (opening layout) run core →
+    (core.fate rec ≡ Free) ⊎ IsTaken layout run rec
+
+-- Let a pass have loaded how many records of a kind are uncommitted, when it knew the steps `trace` (`load_uncommitted`). Let a run be these
+-- steps and more, none of which takes a record. In the core to which it leads each uncommitted record of the kind is free.
+abbrev pub UncommittedAreFree : Type 0
+UncommittedAreFree =
+    (layout : Layout) (trace more : List Event) (core : Core) (kind count : ℕ) → EventsLead (opening layout) (trace ++ more) core →
+    TakenAreCommitted layout trace kind count →
+    ((rec : Rec) → IsTaken layout more rec → ⊥) →
+    (rec : Rec) → record_kind layout rec ≡ kind → count_from layout rec ≤ count → core.fate rec ≡ Free

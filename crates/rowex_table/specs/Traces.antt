@@ -13,6 +13,8 @@ use Rattle.rowex_core.specs.Knowing.{learned}
 use Rattle.rowex_core.specs.Opening.{opening}
 use Rattle.rowex_core.specs.Runs.{EventsLead}
 use Rattle.rowex_table.specs.declared.traces.Trace.{Trace}
+use Rattle.record_words.specs.Layout.{uncommitted_in}
+use Rattle.rowex_table.specs.Committed.{AtMost}
 use Rattle.rowex_table.specs.declared.traces.TracedView.{TracedView}
 use Rattle.rowex_table.specs.declared.traces.TracedView.TheVariants.{Spent, Dealer, Founder, Pass, Pair, Witness, Follower}
 
@@ -44,14 +46,14 @@ taught pass core (event ∷ events) known =
 
 -- Traces
 
--- the trace of a pass that has made no step
-abbrev pub untraced : Trace
-untraced = record { events = []; asides = 0; touches = 0 }
+-- the trace of a pass that has made no step, and knows these bounds
+abbrev pub new_trace : (bounds : List ℕ) → Trace
+new_trace bounds = record { events = []; asides = 0; touches = 0; bounds = bounds }
 
 -- the view without its traces
 abbrev pub view_of : TracedView → View
 view_of Spent = a_spent
-view_of (Dealer next) = a_dealer next
+view_of (Dealer next bounds) = a_dealer next
 view_of (Founder known trace next) = a_founder known next
 view_of (Pass known trace) = a_pass known
 view_of (Pair known trace other other_trace) = a_pair known other
@@ -62,12 +64,22 @@ view_of (Follower known trace front events) = a_follower known front
 -- any. A pass that is still to be dealt has made no step in the run.
 abbrev pub HasTraces : List Event → TracedView → Type 0
 HasTraces run Spent = Unit {0}
-HasTraces run (Dealer next) = All (λ event. event.pass < next) run
+HasTraces run (Dealer next bounds) = All (λ event. event.pass < next) run
 HasTraces run (Founder known trace next) = OthersStepOn known.pass trace.events run × All (λ event. event.pass < next) run
 HasTraces run (Pass known trace) = OthersStepOn known.pass trace.events run
 HasTraces run (Pair known trace other other_trace) = OthersStepOn known.pass trace.events run × OthersStepOn other.pass other_trace.events run
 HasTraces run (Witness front events) = RunBeginsWith run events
 HasTraces run (Follower known trace front events) = OthersStepOn known.pass trace.events run × RunBeginsWith run events
+
+-- What the view says of uncommitted records is true where so many of each kind are: no more are than its bounds say.
+abbrev pub HasBounds : (uncommitted : ℕ → ℕ) → TracedView → Type 0
+HasBounds uncommitted Spent = Unit {0}
+HasBounds uncommitted (Dealer next bounds) = AtMost uncommitted (uncommitted_in bounds)
+HasBounds uncommitted (Founder known trace next) = AtMost uncommitted (uncommitted_in trace.bounds)
+HasBounds uncommitted (Pass known trace) = AtMost uncommitted (uncommitted_in trace.bounds)
+HasBounds uncommitted (Pair known trace other other_trace) = AtMost uncommitted (uncommitted_in trace.bounds) × AtMost uncommitted (uncommitted_in other_trace.bounds)
+HasBounds uncommitted (Witness front events) = Unit {0}
+HasBounds uncommitted (Follower known trace front events) = AtMost uncommitted (uncommitted_in trace.bounds)
 
 -- The pass, which knew the steps `trace`, makes this step in this core, and knows the steps `next`. The steps `before` are the table's run,
 -- which leads from a new table to the core. They begin with `trace` and go on by steps of others. `next` is `before` with the pass's own

@@ -1,6 +1,6 @@
 //! The laws of the table. The functions do nothing: their contracts are the laws.
 
-ghost use Rattle.rowex_table.specs.Statements.{CallStepsAreInOneRun, GateIsToldEachStep, StepsAreInOneRun, TracesAreOfOneRun};
+ghost use Rattle.rowex_table.specs.Statements.{CallStepsAreInOneRun, GateIsToldEachStep, UncommittedAreFree, StepsAreInOneRun, TracesAreOfOneRun, UntakenAreFree};
 
 use rowex_core::Gate;
 
@@ -25,4 +25,15 @@ pub fn call_steps_are_in_one_run<G: Gate>()
 /// of it earlier. One of the two lists begins with the other.
 pub fn traces_are_of_one_run()
     ensures { TracesAreOfOneRun }
+{}
+
+/// A record that no step of a run has tried to claim, and no bulk load has linked, is free.
+pub fn untaken_records_are_free()
+    ensures { UntakenAreFree }
+{}
+
+/// Where a pass has loaded how many records are uncommitted, and no later step of the run takes a record, these are free. So a round or a
+/// count of the committed records alone misses none that isn't free.
+pub fn uncommitted_records_are_free()
+    ensures { UncommittedAreFree }
 {}

@@ -9,8 +9,13 @@
 //! is legal in every core that agrees with what the seat knows (`MayStep`, `MayLock`). One lemma serves loads, stores and exchanges
 //! (`allows` in `proofs/Rule`). Contracts of steps are `Steps`, of runs `Runs`; a gate hears just these (`laws::gate_is_told_each_step`).
 //! `meet_seats` joins two seats, makes one load, and parts them. A stamp is a seat that owns no number (`stamp_seat`, `follow_stamp`).
+//!
+//! Of each kind of records the first are committed (`specs/Committed`), and a run claims or loads only these. Six words say how many of the
+//! last ones aren't. They only fall, so what a pass finds stays a bound (`HasBounds`). Their loads and exchanges are no events, and may stand
+//! beside a step of any run (`step_from` in `proofs/Committed/Chains`). `claim_at` commits its record first.
 #![tactic(auto)]
 
+mod commit_steps;
 mod epoch_steps;
 mod first_words;
 pub mod laws;

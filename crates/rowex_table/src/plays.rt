@@ -1,13 +1,13 @@
 //! The rule of the table, and what its steps tell.
 
-ghost use Rattle.std.specs.Prelude.{List, [], Option as Maybe, None};
+ghost use Rattle.std.specs.Prelude.{ℕ, List, [], Option as Maybe, None};
 ghost use Rattle.finite_map.specs.declared.Note.{Note};
 ghost use Rattle.record_words.specs.declared.layout.Layout.{Layout as Laid};
 ghost use Rattle.rowex_core.specs.declared.event.Act.{Act as Deed};
 ghost use Rattle.rowex_core.specs.declared.event.Act.TheVariants.{ClearPin};
 ghost use Rattle.rowex_core.specs.declared.known.Known.{Known};
 ghost use Rattle.rowex_table.specs.declared.traces.TracedView.TheVariants.{Spent};
-ghost use Rattle.rowex_table.specs.Rule.{Ruled, did, first_view, met, next_dealer, dealt, paired, first_of_two, second_of_two, stamped, stamping, following, followed, touching};
+ghost use Rattle.rowex_table.specs.Rule.{Ruled, did, first_view, met, next_dealer, dealt, bounding, committing, paired, first_of_two, second_of_two, stamped, stamping, following, followed, touching};
 
 use crate::first_words::FirstWords;
 use crate::traces::TracedView;
@@ -41,6 +41,45 @@ impl Step for Brand {
     ghost act = { ClearPin };
 
     ghost said = { λ _. [] };
+}
+
+/// Which word of those that say how many records are uncommitted, at a table of which layout, and what an exchange of it expects and stores.
+pub(crate) trait UncommittedWord {
+    ghost layout: { Maybe Laid };
+
+    ghost kind: { ℕ };
+
+    ghost expected: { ℕ };
+
+    ghost count: { ℕ };
+}
+
+impl UncommittedWord for Brand {
+    ghost layout = { None };
+
+    ghost kind = { 0 };
+
+    ghost expected = { 0 };
+
+    ghost count = { 0 };
+}
+
+/// The load of the word that `Q` names.
+pub(crate) struct Bounding<Q> {
+    step: PhantomData<Q>,
+}
+
+impl<Q: UncommittedWord> Play<(), TracedView> for Bounding<Q> {
+    ghost then = { bounding Q.layout Q.kind };
+}
+
+/// The exchange of the word that `Q` names.
+pub(crate) struct Committing<Q> {
+    step: PhantomData<Q>,
+}
+
+impl<Q: UncommittedWord> Play<(), TracedView> for Committing<Q> {
+    ghost then = { committing Q.layout Q.kind Q.expected Q.count };
 }
 
 /// The step of a pass that `Q` names, made through its seat.

@@ -59,7 +59,8 @@ impl HotTable {
         RecordAt::find(&self.origins, rec)
     }
 
-    /// Claims `rec` if it is free; else its state stays. Returns the state word that the step found: 0 exactly if it claimed `rec`.
+    /// Claims `rec` if it is free; else its state stays. Returns the state word that the step found: 0 exactly if it claimed `rec`. `rec`
+    /// is committed before.
     pub fn claim<G: Gate>(&self, seat: &mut TableSeat, gate: &mut G, rec: Rec) -> u64
         requires own { IsSeatOf self.now seat.old }
         requires range { HasRecord self.now.layout rec }
@@ -69,7 +70,7 @@ impl HotTable {
     }
 
     /// Claims the record `at` if it is free; else its state stays. Returns the state word that the step found: 0 exactly if it claimed the
-    /// record.
+    /// record. The record is committed before.
     #[inline(always)]
     pub fn claim_at<G: Gate>(&self, seat: &mut TableSeat, gate: &mut G, at: RecordAt) -> u64
         requires own { IsSeatOf self.now seat.old }
@@ -77,6 +78,7 @@ impl HotTable {
         ensures { Steps self.now G.becomes (Claim at.rec result) (seat.old, gate.old) (seat.new, gate.new) }
     {
         let (rec, found) = (at.rec, 0);
+        self.commit(seat, rec);
         let act = Act::Claim { rec, found };
         let (expected, new) = (pack_state(Tag::Free), pack_state(Tag::Held));
         self.compare_exchange_at::<Brand, G>(seat, gate, act, at.start, Exchange { expected, new })

@@ -4,32 +4,69 @@ ghost use Rattle.std.specs.Prelude.{◌≡◌, ◌≤◌, ℕ, IfOk, Some, All, 
 ghost use mathlib.Core.Option.{some};
 ghost use lib.ListN.{get_elem?};
 ghost use Rattle.record_words.specs.Layout.{word_count};
-ghost use Rattle.rowex_core.specs.Events.{IsLoad, after};
+ghost use Rattle.record_words.specs.declared.records.Rec.{Rec};
+ghost use Rattle.versions.specs.State.{IsLinked};
+ghost use Rattle.rowex_core.specs.Events.{IsLoad, after, loaded_tree};
+ghost use Rattle.record_words.specs.Layout.{uncommitted_in};
+ghost use Rattle.rowex_table.specs.Committed.{IsCommitted};
 ghost use Rattle.rowex_core.specs.Opening.{opening};
 ghost use Rattle.rowex_core.specs.Words.{Shows};
 ghost use Rattle.rowex_table.specs.Rule.{IsRuledAtFirst, SeatsHaveMet, first_view, load_of};
-ghost use Rattle.rowex_table.specs.Seats.{SeatView, IsDealtSeat, IsLoaderSeat, IsNewSeatOf, IsNewSeat, IsSeatOf, IsShownAll};
+ghost use Rattle.rowex_table.specs.Seats.{SeatView, HasAllCommitted, HasUncommitted, IsDealtSeat, IsLoaderSeat, IsNewSeatOf, IsNewSeat, IsSeatOf, IsShownAll};
 
 use crate::first_words::FirstWords;
 use crate::plays::{Deal, Meets, Part, Step};
 use crate::table::{HotTable, TableSeat};
 use atomic_table::Table;
-use record_words::{ANCHOR_WORD, EPOCH_WORD, Layout, Origins, Tag, pack_state};
+use record_words::{
+    ANCHOR_WORD, EPOCH_WORD, FIRST_UNCOMMITTED, Layout, Origins, RECORD_KINDS, Tag, pack_state,
+};
 use std::alloc::{AllocError, Global};
 use std::marker::Brand;
 
 impl HotTable {
-    /// Makes a table of `layout` with an empty index. Returns it with the seats of its passes, all new, in the order of their numbers from
-    /// 0 on. `AllocError` if memory is refused.
+    /// Makes a table of `layout` with an empty index, and all its records committed. Returns it with the seats of its passes, all new, in the
+    /// order of their numbers from 0 on. `AllocError` if memory is refused.
     pub fn new(alloc: Global, layout: Layout) -> Result<(HotTable, Vec<TableSeat>), AllocError>
         ensures table { IfOk result (λ made. made.0.layout ≡ layout) }
         ensures count { IfOk result (λ made. length made.1.items ≡ layout.passes) }
         ensures seats { IfOk result (λ made. (q : ℕ) (s : SeatView) → get_elem? made.1.items q ≡ some s → IsNewSeatOf made.0 q s) }
         ensures each { IfOk result (λ made. All (IsNewSeat made.0) made.1.items) }
+        ensures committed { IfOk result (λ made. (q : ℕ) (s : SeatView) → get_elem? made.1.items q ≡ some s → HasAllCommitted s) }
     {
         let mut words = Vec::from_elem(alloc, 0u64, layout.words())?;
         words[EPOCH_WORD] = 1;
         words[ANCHOR_WORD] = pack_state(Tag::Live);
+        let loads = false;
+        HotTable::make_with_seats(
+            alloc,
+            &FirstWords {
+                layout,
+                loads,
+                words,
+            },
+        )
+    }
+
+    /// Makes a table of `layout` with an empty index, as `new` does. Of each kind the last records are uncommitted, as many as
+    /// `uncommitted` says: of nodes, and then of each leaf class. `AllocError` if memory is refused.
+    pub fn new_reserved(
+        alloc: Global,
+        layout: Layout,
+        uncommitted: &[u64; RECORD_KINDS],
+    ) -> Result<(HotTable, Vec<TableSeat>), AllocError>
+        ensures table { IfOk result (λ made. made.0.layout ≡ layout) }
+        ensures count { IfOk result (λ made. length made.1.items ≡ layout.passes) }
+        ensures seats { IfOk result (λ made. (q : ℕ) (s : SeatView) → get_elem? made.1.items q ≡ some s → IsNewSeatOf made.0 q s) }
+        ensures each { IfOk result (λ made. All (IsNewSeat made.0) made.1.items) }
+        ensures uncommitted { IfOk result (λ made. (q : ℕ) (s : SeatView) → get_elem? made.1.items q ≡ some s → HasUncommitted uncommitted.now s) }
+    {
+        let mut words = Vec::from_elem(alloc, 0u64, layout.words())?;
+        words[EPOCH_WORD] = 1;
+        words[ANCHOR_WORD] = pack_state(Tag::Live);
+        for kind in 0..RECORD_KINDS {
+            words[FIRST_UNCOMMITTED + kind] = uncommitted[kind];
+        }
         let loads = false;
         HotTable::make_with_seats(
             alloc,
@@ -51,10 +88,12 @@ impl HotTable {
     ) -> Result<(HotTable, Vec<TableSeat>), AllocError>
         requires load { IsLoad layout words.items }
         requires shows { Shows (after (opening layout) 0 (load_of words.items)) words.items }
+        requires committed { (rec : Rec) → IsLinked (loaded_tree layout words.items) rec → IsCommitted layout (uncommitted_in words.items) rec }
         ensures table { IfOk result (λ made. made.0.layout ≡ layout) }
         ensures count { IfOk result (λ made. length made.1.items ≡ layout.passes) }
         ensures first { IfOk result (λ made. (s : SeatView) → get_elem? made.1.items 0 ≡ some s → IsLoaderSeat made.0 words.items s) }
         ensures others { IfOk result (λ made. (q : ℕ) (s : SeatView) → 1 ≤ q → get_elem? made.1.items q ≡ some s → IsNewSeatOf made.0 q s) }
+        ensures bounds { IfOk result (λ made. (q : ℕ) (s : SeatView) → get_elem? made.1.items q ≡ some s → s.bounds ≡ words.items) }
     {
         let loads = true;
         HotTable::make_with_seats(

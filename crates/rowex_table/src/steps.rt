@@ -4,6 +4,8 @@
 ghost use Rattle.std.specs.Prelude.{◌≡◌, ℕ, Some};
 ghost use Rattle.record_words.specs.Layout.{IsInTable};
 ghost use Rattle.rowex_core.specs.Events.{IsAtomic, exchanged, location_of, writes};
+ghost use Rattle.record_words.specs.Layout.{uncommitted_in};
+ghost use Rattle.rowex_table.specs.Committed.{ClaimsCommitted};
 ghost use Rattle.rowex_table.specs.Rule.{IsAddressOf, MayStep, found_by};
 ghost use Rattle.rowex_table.specs.Runs.{StepsWith};
 ghost use Rattle.rowex_table.specs.Seats.{IsSeatOf};
@@ -43,6 +45,7 @@ impl HotTable {
         requires place { IsAddressOf self.now.layout (location_of seat.old.known.pass Q.act) address }
         requires writes { (w : ℕ) → w ≡ writes Q.act w }
         requires atomic { IsAtomic Q.act }
+        requires committed { ClaimsCommitted self.now.layout (uncommitted_in seat.old.bounds) Q.act }
         requires apt { (Q.layout ≡ Some self.now.layout) × (act ≡ Q.act) × MayStep self.now.layout (found_by Q.act) seat.old.known }
         ensures steps { StepsWith self.now G.becomes (found_by Q.act result) Q.said (seat.old, gate.old) (seat.new, gate.new) }
         ensures touches { seat.new.touches ≡ seat.old.touches }
@@ -69,6 +72,7 @@ impl HotTable {
         requires place { IsAddressOf self.now.layout (location_of seat.old.known.pass Q.act) address }
         requires writes { ((w : ℕ) → new ≡ writes Q.act w) × ((w : ℕ) → found_by Q.act w ≡ Q.act) }
         requires atomic { IsAtomic Q.act }
+        requires committed { ClaimsCommitted self.now.layout (uncommitted_in seat.old.bounds) Q.act }
         requires apt { (Q.layout ≡ Some self.now.layout) × (act ≡ Q.act) × MayStep self.now.layout (found_by Q.act) seat.old.known }
         ensures { StepsWith self.now G.becomes (found_by Q.act new) Q.said (seat.old, gate.old) (seat.new, gate.new) }
     {
@@ -93,6 +97,7 @@ impl HotTable {
         requires place { IsAddressOf self.now.layout (location_of seat.old.known.pass Q.act) address }
         requires writes { (w : ℕ) → exchanged w exchange.expected exchange.new ≡ writes Q.act w }
         requires atomic { IsAtomic Q.act }
+        requires committed { ClaimsCommitted self.now.layout (uncommitted_in seat.old.bounds) Q.act }
         requires apt { (Q.layout ≡ Some self.now.layout) × (act ≡ Q.act) × MayStep self.now.layout (found_by Q.act) seat.old.known }
         ensures { StepsWith self.now G.becomes (found_by Q.act result) Q.said (seat.old, gate.old) (seat.new, gate.new) }
     {

@@ -32,6 +32,7 @@ impl Model for TableSeat {
       trace = (trace_of s.seat.me.0).events;
       asides = (trace_of s.seat.me.0).asides;
       touches = (trace_of s.seat.me.0).touches;
+      bounds = (trace_of s.seat.me.0).bounds;
     } };
 
     ghost invariant = { λ s. IsOfPass s.seat.me s.pass };

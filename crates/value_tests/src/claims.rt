@@ -1,4 +1,5 @@
 //! Records of a table, by their numbers: a free one is claimed by one seat, filled and released, and a round gives back none that is free.
+//! Those of a reserved table are committed as they are claimed.
 
 ghost use Rattle.std.specs.Prelude.{◌≡◌, ◌<◌, true};
 ghost use Rattle.rowex_core.specs.Cores.{HasRecord};
@@ -137,4 +138,69 @@ fn a_record_has_one_seat(rt: HostRuntime) {
     fill_node(&rt, &table, &mut first);
     hand_record_over(&rt, &table, &mut first, &mut second, Rec::Leaf(0));
     claim_in_threads(&rt, &table, (first, second));
+}
+
+/// Returns a table of one seat, and its seat. Two of its eight node records are committed, and one of its eight leaf records, all long.
+fn make_reserved(rt: &impl Abort, alloc: Global) -> (HotTable, TableSeat)
+    ensures layout { (result.0.layout.nodes ≡ 8) × (result.0.layout.leaves ≡ 8) }
+    ensures own { IsSeatOf result.0 result.1 }
+{
+    let Ok(layout) = Layout::of(1, 8, 8) else {
+        panic!(rt; "no layout")
+    };
+    let Ok((table, mut seats)) = HotTable::new_reserved(alloc, layout, &[6, 0, 0, 0, 0, 7]) else {
+        panic!(rt; "no memory")
+    };
+    match seats.pop() {
+        Some(seat) => (table, seat),
+        None => panic!(rt; "no seat"),
+    }
+}
+
+/// Asserts that so many node records and long leaf records are uncommitted.
+fn expect_uncommitted(
+    rt: &impl Abort,
+    table: &HotTable,
+    seat: &mut TableSeat,
+    nodes: u64,
+    leaves: u64,
+)
+    requires own { IsSeatOf table.now seat.old }
+    ensures own { IsSeatOf table.now seat.new }
+{
+    assert!(rt; table.load_uncommitted(seat, 0) == nodes);
+    assert!(rt; table.load_uncommitted(seat, 5) == leaves);
+}
+
+/// Asserts that the seat claims `rec`, a free record of the table, and that so many node records and long leaf records are uncommitted
+/// then.
+fn claim_and_expect(
+    rt: &impl Abort,
+    table: &HotTable,
+    seat: &mut TableSeat,
+    rec: Rec,
+    nodes: u64,
+    leaves: u64,
+)
+    requires own { IsSeatOf table.now seat.old }
+    requires range { HasRecord table.now.layout rec }
+    ensures own { IsSeatOf table.now seat.new }
+{
+    assert!(rt; table.claim(seat, &mut NoGate, rec) == 0);
+    expect_uncommitted(rt, table, seat, nodes, leaves);
+}
+
+/// A claim of a committed record leaves the others of its kind as they are. One of an uncommitted record commits it, and all before it.
+/// Others are committed by their number, if as many are uncommitted as was thought.
+#[test]
+fn a_claim_commits_its_record(rt: HostRuntime) {
+    let (table, mut seat) = make_reserved(&rt, rt.alloc());
+    expect_uncommitted(&rt, &table, &mut seat, 6, 7);
+    claim_and_expect(&rt, &table, &mut seat, Rec::Node(1), 6, 7);
+    claim_and_expect(&rt, &table, &mut seat, Rec::Node(4), 3, 7);
+    claim_and_expect(&rt, &table, &mut seat, Rec::Node(3), 3, 7);
+    claim_and_expect(&rt, &table, &mut seat, Rec::Leaf(7), 3, 0);
+    assert!(&rt; table.commit_records(&mut seat, 0, 4, 1) == 3);
+    assert!(&rt; table.commit_records(&mut seat, 0, 3, 1) == 3);
+    expect_uncommitted(&rt, &table, &mut seat, 1, 0);
 }

@@ -1,5 +1,8 @@
 -- A table with one record more.
 use Rattle.bulk_load.proofs.Common.{◌≡◌, ◌≢◌, ◌⊎◌, inl, inr, ℕ, ◌+◌, ◌*◌, ◌<◌, ◌≤◌, List, get_or, true, false, nat_lt, if◌then◌else◌, Option, Some, refl, ap, sym, subst, ◌∙◌, arith, cases_Bool, cases_order, ltb-true, ext_get_or, NODE_FIELDS, LEAF_FIELDS, NODE_WORDS, EPOCH_WORD, ROOT_WORD, ANCHOR_WORD, FIRST_PIN, LINE_WORDS, Layout, node_start, leaf_start, leaf_size, leaf_before, size_fits, Tree, leaf, node, fork, some_injective, Rec, a_node, a_leaf, Heap, IsShown, Links, IsLinked, heap_of, size_of, HasRecord, FitsIn, IsPacked, node_words_of, leaf_of, fields_in}
+use Rattle.std.proofs.Math.Nat.{min-le_right}
+use Rattle.record_words.specs.declared.TheConstants.{LEAF_CLASSES}
+use Rattle.record_words.specs.Layout.{uncommitted_word}
 use Rattle.bulk_load.specs.Tables.{start_of, state_in, IsPut, IsRootless, HoldsTree}
 use Rattle.bulk_load.proofs.records.Fields.{node_field, node_fields_long, node_fields_are, leaf_field, leaf_fields_long}
 
@@ -68,6 +71,7 @@ blank_stays layout old new r p b =
       root = p.others ROOT_WORD (inl (omega (arith, h))) ∙ b.root;
       anchor = p.others ANCHOR_WORD (inl (omega (arith, h))) ∙ b.anchor;
       pins = λ q l. p.others (FIRST_PIN + LINE_WORDS * q) (inl (omega (arith, h, l))) ∙ b.pins q l;
+      committed = λ kind. p.others (uncommitted_word kind) (inl (let low = min-le_right kind LEAF_CLASSES in omega (arith, h, low))) ∙ b.committed kind;
     }
 
 -- a tree is shown by words of which its own are the same

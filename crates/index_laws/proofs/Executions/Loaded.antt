@@ -1,5 +1,6 @@
 -- A table that was loaded: the load is an event of its pass 0, and its insertions are legal calls.
-use Rattle.index_laws.proofs.Common.{◌≡◌, ◌<◌, ℕ, suc, List, [], ◌∷◌, map, refl, ap, arith, Call, Insert, Note, LegalCalls, Layout, Item, added_notes, items_of, Known, IsLoad, loaded_tree, opening, opening_is_lawful, load_of, loader_of, opening_of, IsLoaderSeat, SeatView, TableView, new_knows, others_none}
+use Rattle.index_laws.proofs.Common.{◌≡◌, ◌<◌, ℕ, suc, List, [], ◌∷◌, map, refl, ap, arith, Call, Insert, Note, LegalCalls, Layout, Item, added_notes, items_of, Known, IsLoad, loaded_tree, opening, opening_is_lawful, load_of, loader_of, opening_of, IsLoaderSeat, SeatView, TableView, new_knows, others_none, le_refl}
+use Rattle.record_words.specs.Layout.{uncommitted_in}
 use Rattle.versions.proofs.Loads.{load_is_legal}
 use Rattle.index_laws.specs.Executions.{insertion_notes, insertions}
 use Rattle.index_laws.specs.Traced.{MakesEvent}
@@ -17,12 +18,12 @@ loader_legal layout words load = load_is_legal 0 (loaded_tree layout words) (λ 
 
 -- the seat of pass 0 before the load
 abbrev pub unloaded : SeatView → SeatView
-unloaded s = record { table = s.table; id = s.id; known = opening_of 0; trace = []; asides = 0; touches = 0 }
+unloaded s = record { table = s.table; id = s.id; known = opening_of 0; trace = []; asides = 0; touches = 0; bounds = s.bounds }
 
 pub makes_load : (table : TableView) (words : List ℕ) (s : SeatView) → 0 < table.layout.passes → IsLoad table.layout words → IsLoaderSeat table words s →
     MakesEvent table (load_of words) (λ k. insertion_notes table.layout words) (unloaded s) s
 makes_load table words s some load is = record {
-  seat = (refl, refl, ap (λ (k : Known). k.pass) is.1, is.3);
+  seat = (refl, refl, ap (λ (k : Known). k.pass) is.1, is.3, λ kind. le_refl (uncommitted_in s.bounds kind));
   event = record {
     core = opening table.layout;
     lawful = (opening_is_lawful table.layout).0;

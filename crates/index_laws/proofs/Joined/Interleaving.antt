@@ -334,7 +334,7 @@ module _ (table : TableView) (run : List Event) (done : ℕ → List Happening) 
         same = λ _. (append-nil (done q), refl);
       })
       (λ (high : table.layout.passes ≤ q).
-      let s : SeatView = record { table = table.id; id = 0; known = opening_of q; trace = []; asides = 0; touches = 0 } in
+      let s : SeatView = record { table = table.id; id = 0; known = opening_of q; trace = []; asides = 0; touches = 0; bounds = [] } in
       record {
         hs = [];
         end = s;

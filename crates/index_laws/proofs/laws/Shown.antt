@@ -84,7 +84,7 @@ module _ (layout : Layout) (below : 0 < layout.passes) (table : TableId) (key : 
   happens (suc (suc (suc (suc (suc (suc t)))))) = shows 0 []
 
   abbrev before : SeatView
-  before = record { table = table; id = 0; known = opening_of 0; trace = []; asides = 0; touches = 0 }
+  before = record { table = table; id = 0; known = opening_of 0; trace = []; asides = 0; touches = 0; bounds = [] }
 
   abbrev now : SeatView
   now = record {
@@ -94,6 +94,7 @@ module _ (layout : Layout) (below : 0 < layout.passes) (table : TableId) (key : 
     trace = record { pass = 0; act = LoadEpoch 1 } ∷ record { pass = 0; act = SetPin 1 } ∷ record { pass = 0; act = LoadRef Root 0 } ∷ record { pass = 0; act = ClearPin } ∷ [];
     asides = 0;
     touches = 0;
+    bounds = [];
   }
 
   stands : StandsIn [] 0 note
@@ -135,14 +136,14 @@ module _ (layout : Layout) (below : 0 < layout.passes) (table : TableId) (key : 
 
   -- the seats at a time, where all steps so far are pass 0's
   abbrev seen : Configuration → List Event → Instant
-  seen a run = record { run = run; seat = λ q. record { table = table; id = q; known = a.known q; trace = cond (nat_eq q 0) run []; asides = 0; touches = 0 }; pending = a.pending }
+  seen a run = record { run = run; seat = λ q. record { table = table; id = q; known = a.known q; trace = cond (nat_eq q 0) run []; asides = 0; touches = 0; bounds = [] }; pending = a.pending }
 
   seat_step : (a b : Configuration) (run : List Event) (act : Act) (notes : List Note) → IsSoundConfiguration layout a → IsConfigurationStep a b 0 act notes → EventsLead (opening layout) run a.core →
       IsSeatStep made (seen a run) (seen b (run ++ event act ∷ [])) 0 act notes
   seat_step a b run act notes s x led = record {
     said = λ k. notes;
     step = record {
-      seat = (refl, refl, ap (λ (z : Known). z.pass) x.own ∙ learned_pass a.core act (a.known 0), refl);
+      seat = (refl, refl, ap (λ (z : Known). z.pass) x.own ∙ learned_pass a.core act (a.known 0), refl, λ kind. le_refl 0);
       event = record { core = a.core; lawful = s.lawful; layout_is = s.layout_is; knows = s.knows 0 below; legal = subst (λ p. Legal a.core p act) (sym (s.named 0 below)) x.legal; learned_is = x.own };
       next = record { before = run; led = led; others = others_none (a.known 0).pass run; next_is = ap (λ p. run ++ record { pass = p; act = act } ∷ []) (sym (s.named 0 below)) };
     };
@@ -150,7 +151,7 @@ module _ (layout : Layout) (below : 0 < layout.passes) (table : TableId) (key : 
     notes_are = refl;
     behind = refl;
     run = refl;
-    others = λ o ne i. record { table = table; id = o; known = x.others o ne i; trace = (ap (λ b. cond b (run ++ event act ∷ []) []) (ne_eqb o 0 ne) ∙ sym (ap (λ b. cond b run []) (ne_eqb o 0 ne))) i; asides = 0; touches = 0 };
+    others = λ o ne i. record { table = table; id = o; known = x.others o ne i; trace = (ap (λ b. cond b (run ++ event act ∷ []) []) (ne_eqb o 0 ne) ∙ sym (ap (λ b. cond b run []) (ne_eqb o 0 ne))) i; asides = 0; touches = 0; bounds = [] };
     call = x.call;
     called = x.called;
     pending = x.pending;

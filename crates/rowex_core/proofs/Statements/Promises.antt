@@ -20,7 +20,7 @@ zeros : (n i : ℕ) → ◌≡◌ {A = ℕ} (get_or (replicate n 0) i 0) 0
 zeros n i = ⊎_elim (λ (h : i < n). get_or-replicate {A = ℕ} n i 0 0 h) (λ (h : n ≤ i). get_or_past {X = ℕ} (replicate n 0) i 0 (omega (arith, length-replicate {A = ℕ} n 0))) (cases_lt i n)
 
 -- all words are 0 but those of the epoch and of the anchor
-other_zero : (layout : Layout) (i : ℕ) → i ≢ 0 → i ≢ ANCHOR_WORD → get_or (opening_words layout) i 0 ≡ 0
+pub other_zero : (layout : Layout) (i : ℕ) → i ≢ 0 → i ≢ ANCHOR_WORD → get_or (opening_words layout) i 0 ≡ 0
 other_zero layout i no_epoch no_anchor = get_or-set_other _ ANCHOR_WORD i 2 0 no_anchor ∙ (get_or-set_other _ 0 i 1 0 no_epoch ∙ zeros (word_count layout) i)
 
 opening_record : (layout : Layout) (r : Rec) (offset : ℕ) → record_word (opening layout) r offset ≡ 0

@@ -18,6 +18,9 @@ returns-clause-items c =
     let words = c.close_all.new.self.words.items in
     subst (λ (v : LoadView). items_of (loaded_tree v.layout words) ≡ v.items) c.self.view_is (c.close_all.ensures.finished (items_in c.self.inside.builder) c.self.invariant).items
 
+pub returns-clause-committed : goal.returns-clause-committed
+returns-clause-committed c = (c.close_all.ensures.finished (items_in c.self.inside.builder) c.self.invariant).committed
+
 pub returns-clause-spare : goal.returns-clause-spare
 returns-clause-spare c =
     let words = c.close_all.new.self.words.items in

@@ -1,9 +1,20 @@
 -- The passes of the seats of a table that was loaded.
-use Rattle.hot_index.proofs.Common.{◌≡◌, ◌∙◌, ℕ, List, Some, sym, subst, slice_get, pairs, LoadView, Owns, PassView}
+use Rattle.hot_index.proofs.Common.{◌≡◌, ◌∙◌, ℕ, List, Some, sym, subst, slice_get, pairs, LoadView, Layout, Owns, PassView, loaded_tree}
+use Rattle.record_words.specs.Layout.{uncommitted_in}
+use Rattle.record_words.specs.declared.records.Rec.{Rec}
+use Rattle.versions.specs.State.{IsLinked}
+use Rattle.rowex_table.specs.Committed.{IsCommitted}
+use Rattle.rowex_table.proofs.Committed.{all_committed}
 use Rattle.hot_index.specs.Loads.{IsPassOfLoad}
 use Rattle.hot_index.proofs.Passes.{passes_of}
 use Rattle.hot_index.proofs.Loads.{loaded_settled, pass_of_load, words_for_table}
 use Rattle.hot_index.proofs.loading.Load.finish.Goals as goal
+
+pub new_loaded-requires-clause-committed : goal.new_loaded-requires-clause-committed
+new_loaded-requires-clause-committed c =
+    let loader = c.self.inside.loader in let words = c.finish-words.ensures in
+    subst (λ (l : Layout). (r : Rec) → IsLinked (loaded_tree l c.finish-words.result.items) r → IsCommitted l (uncommitted_in c.finish-words.result.items) r) (sym c.self.invariant.0)
+    (λ r linked. all_committed loader.layout (uncommitted_in c.finish-words.result.items) r words.committed (words.load.records r linked).0)
 
 pub make_closed_passes-requires : goal.make_closed_passes-requires
 make_closed_passes-requires c =

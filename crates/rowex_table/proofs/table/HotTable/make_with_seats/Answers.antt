@@ -35,5 +35,5 @@ loop-number-preserved c =
       search rules,
       subst (λ (l : List SeatView). (q : ℕ) (h : SeatView) → get_elem? l q ≡ some h → IsDealtSeat made first q h) (sym c.in_ok-push.ensures.items)
           (each_longer (λ q (h : SeatView). IsDealtSeat made first q h) c.loop-number.seats.items _ c.loop-number.number c.loop-number.invariant.2 c.loop-number.invariant.3
-          (search rules, ap (λ m. known_of m.0) split.4 ∙ ap known_of right, ap (λ m. (trace_of m.0).events) split.4 ∙ ap (λ v. (trace_of v).events) right, ap (λ m. (trace_of m.0).asides) split.4 ∙ ap (λ v. (trace_of v).asides) right)),
+          (search rules, ap (λ m. known_of m.0) split.4 ∙ ap known_of right, ap (λ m. (trace_of m.0).events) split.4 ∙ ap (λ v. (trace_of v).events) right, ap (λ m. (trace_of m.0).asides) split.4 ∙ ap (λ v. (trace_of v).asides) right, ap (λ m. (trace_of m.0).bounds) split.4 ∙ ap (λ v. (trace_of v).bounds) right)),
     )
