@@ -16,9 +16,9 @@ typedef struct heap_table {
 } heap_table;
 
 /* Addresses for the long lists of a table's handles, of which few are ever used: there a page takes memory once something is written. So many
- * bytes are for a handle's: of nodes on a way, of records that a change makes and unlinks, and of those that wait. The first `used` bytes are
- * lists. */
-enum { LISTS_OF_A_HANDLE = 112 << 10 };
+ * bytes are for a handle's: of nodes on a way, of records that a change makes and unlinks, of those that wait, and of spare ones. The first `used`
+ * bytes are lists. */
+enum { LISTS_OF_A_HANDLE = 304 << 10 };
 typedef struct heap_lists {
     char *begin;
     size_t size, used;
