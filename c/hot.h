@@ -50,7 +50,7 @@
  * Each call below that makes steps gives its bound, for the worst tree that there can be. Beside its steps it may touch words, which it loads
  * and ignores: hot_get four at most for each node on the way, hot_get_many, scans and changes eleven for each entry of a node that they load.
  *
- * Memory. An index has its records from the beginning, and a handle up to 119 KB of lists from when it is first opened, so that no change asks
+ * Memory. An index has its records from the beginning, and a handle up to 310 KB of lists from when it is first opened, so that no change asks
  * for memory. But a page of 4 KiB takes memory only once something is written there: so an index takes what its keys need, and a handle
  * some 28 KB. A page that was written stays when keys go. Once 2 MiB of a table have been written, they get a huge page, where the system lets
  * them, by an insertion that then takes some milliseconds. After two of these, of the records of a size that a handle claims for itself, the next
@@ -200,7 +200,7 @@ void hot_stock_for_any_keys(uint32_t keys, size_t longest, size_t handles, hot_s
  * that is not 0 it has as many leaves as hot_stock_for_keys would give, and nodes for all keys together. */
 void hot_stock_for_lengths(const uint32_t *keys, hot_stock *stock);
 
-/* Writes how many bytes the records and pins of an index with this stock and this number of handles have. The lists of handles, up to 119 KB
+/* Writes how many bytes the records and pins of an index with this stock and this number of handles have. The lists of handles, up to 310 KB
  * each, are not counted.
  * HOT_DONE; or HOT_OUT_OF_RANGE or HOT_OLD_PROCESSOR, where hot_create_with would return that. */
 hot_status hot_stock_bytes(const hot_stock *stock, size_t handles, size_t *bytes);

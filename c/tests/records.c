@@ -453,8 +453,15 @@ static int are_small_rounds(hot_handle handles[2], uint32_t calls) {
     return others == 0;
 }
 
+/* Retires a leaf record for 24 bytes by a handle that has one in use, so that none of two is free. */
+static void retire_another(hot_handle *handle) {
+    uint64_t had;
+    CHECK(hot_try_remove(handle, bytes("of another size"), 15, &had) == HOT_REMOVED);
+    CHECK(hot_try_insert(handle, bytes("of another size"), 15, 2, &had) == HOT_INSERTED);
+}
+
 /* Small rounds are enough where as many leaves are to spare as a handle retires records between two of them. With two leaves they are
- * not. */
+ * not, until a change has found no leaf free: then they come sooner. */
 static void test_small_rounds(void) {
     uint32_t spare;
     for (spare = 2; spare <= DUE; spare += DUE - 2) {
@@ -465,11 +472,40 @@ static void test_small_rounds(void) {
         for (key = 0; key < STEADY; key++)
             CHECK(hot_try_insert(&handles[0], (uint8_t *)&key, sizeof key, key, &had) == HOT_INSERTED);
         CHECK(hot_try_insert(&handles[1], bytes("of another size"), 15, 1, &had) == HOT_INSERTED);
-        CHECK(hot_try_remove(&handles[1], bytes("of another size"), 15, &had) == HOT_REMOVED);
-        CHECK(hot_try_insert(&handles[1], bytes("of another size"), 15, 2, &had) == HOT_INSERTED);
+        retire_another(&handles[1]);
         CHECK(are_small_rounds(handles, spare == DUE ? 500000 : 2000) == (spare == DUE));
+        if (spare < DUE) {
+            retire_another(&handles[1]);
+            CHECK(are_small_rounds(handles, 20000));
+        }
         CHECK(hot_destroy(&handles[0]) == HOT_DONE && hot_destroy(&handles[1]) == HOT_DONE);
     }
+}
+
+/* One handle puts keys in, and another takes them out: what the second gives back the first finds again. */
+static void test_queue(void) {
+    enum { QUEUE = 2000, THROUGH = 60000 };
+    hot_handle handles[2] = {HOT_HANDLE, HOT_HANDLE};
+    hot_index *index = NULL;
+    hot_memory filled, last;
+    hot_stock stock;
+    uint64_t i, key;
+    hot_stock_for_keys(QUEUE + THROUGH, sizeof key, &stock);
+    CHECK(hot_open_index(&stock, 2, &index) == HOT_DONE);
+    CHECK(hot_open(index, &handles[0]) == HOT_DONE && hot_open(index, &handles[1]) == HOT_DONE);
+    for (i = 0; i < QUEUE + THROUGH; i++) {
+        if (i == QUEUE)
+            hot_bytes(index, &filled);
+        if (i >= QUEUE) {
+            key = (i - QUEUE) * UINT64_C(0x9e3779b97f4a7c15);
+            CHECK(hot_remove(&handles[1], (uint8_t *)&key, sizeof key, NULL) == HOT_REMOVED);
+        }
+        key = i * UINT64_C(0x9e3779b97f4a7c15);
+        CHECK(hot_insert(&handles[0], (uint8_t *)&key, sizeof key, i, NULL) == HOT_INSERTED);
+    }
+    hot_bytes(index, &last);
+    CHECK(last.now < 3 * filled.now);
+    CHECK(hot_close(&handles[0]) == HOT_DONE && hot_close(&handles[1]) == HOT_DONE && hot_close_index(index) == HOT_DONE);
 }
 
 /* What an index takes of memory, and one that may take no more. */
@@ -495,6 +531,7 @@ int main(void) {
     alarm(900); /* a call that never returns ends the test */
     test_census();
     test_small_rounds();
+    test_queue();
     test_full();
     test_filled();
     test_emptied();

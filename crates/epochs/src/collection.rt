@@ -12,7 +12,7 @@ ghost use Rattle.rowex_table.specs.Seats.{IsSeatOf};
 ghost use Rattle.epochs.specs.Rounds.{AdvancesEpoch, BeginsRound, FindsBound, HasBound, IsRound, IsSmallRound, IsSparedRound, VisitsFirst, GoesOnVisiting, VisitsOne, VisitsSome, VisitsTable, is_given};
 ghost use Rattle.epochs.specs.declared.limbo.Visited.TheVariants.{Free, Waits};
 
-use crate::limbo::{Limbo, MOST_VISITED, Visited};
+use crate::limbo::{Limbo, MOST_VISITED, Sweep, Visited};
 use record_words::{
     EPOCHS, LEAST_OBSOLETE, Layout, NO_PIN, Tag, read_obsolete_epoch, unpack_state,
 };
@@ -96,9 +96,10 @@ pub fn collect_if_risen<G: Gate>(
     Some(visit_records(table, seat, gate, bound))
 }
 
-/// Makes a small round: tries to raise the epoch by one, and visits the oldest records of the pass's list `limbo`. It visits at most
-/// `MOST_VISITED`, up to the first that has to wait. A retired record whose epoch is below the epoch then loaded and below each set pin is
-/// given back. As far as there is room, `limbo.given` lists the records given back. The contract says only how many records are visited.
+/// Makes a small round: tries to raise the epoch by one, and visits the oldest records of the pass's list `limbo`, up to the first that has
+/// to wait. Then it goes on with `sweep`. It visits at most `MOST_VISITED` records. A retired record whose epoch is below the epoch then
+/// loaded and below each set pin is given back. As far as there is room, `limbo.given` lists the records given back. The contract says only
+/// how many records are visited.
 ///
 /// The cost doesn't grow with the number of the table's records. The pass has no pin, before and after.
 pub fn collect_small_round<G: Gate>(
@@ -106,15 +107,19 @@ pub fn collect_small_round<G: Gate>(
     seat: &mut TableSeat,
     gate: &mut G,
     limbo: &mut Limbo,
+    sweep: &mut Sweep,
 )
     requires own { IsSeatOf table.now seat.old }
     requires free { seat.old.known.pin ≡ None }
     ensures free { seat.new.known.pin ≡ None }
     ensures round { IsSmallRound table.now G.becomes MOST_VISITED (seat.old, gate.old) (seat.new, gate.new) }
 {
+    let most = sweep.most_visits(limbo.retired());
     limbo.clear_round();
     let bound = begin_round(table, seat, gate);
-    visit_limbo(table, seat, gate, limbo, bound);
+    let visited = visit_limbo(table, seat, gate, limbo, bound);
+    let left = most.min(MOST_VISITED - visited);
+    visit_sweep(table, seat, gate, limbo, sweep, bound, left);
 }
 
 /// Tries to raise the epoch by one, and returns the bound of the round: the least of the epoch loaded after that and of the pins that are
@@ -295,20 +300,21 @@ fn count_visit(tally: Tally, seen: Visited) -> Tally
     }
 }
 
-/// Visits the oldest records of `limbo`, at most `MOST_VISITED`, up to the first that has to wait. The records before that one leave the
-/// list, whatever their visits came to. The records behind it were retired later, so they mostly wait, too. `bound` is the bound of the
-/// round. The pass's pin and round stay.
+/// Visits the oldest records of `limbo`, at most `MOST_VISITED`, up to the first that has to wait. Returns how many may have been visited.
+/// The records before the one that waits leave the list, whatever their visits came to. The records behind it were retired later, so they
+/// mostly wait, too. `bound` is the bound of the round. The pass's pin and round stay.
 fn visit_limbo<G: Gate>(
     table: &HotTable,
     seat: &mut TableSeat,
     gate: &mut G,
     limbo: &mut Limbo,
     bound: u64,
-)
+) -> usize
     requires own { IsSeatOf table.now seat.old }
     requires bound { HasBound table.now.layout.passes bound seat.old.known }
     ensures same { (seat.new.known.pin ≡ seat.old.known.pin) × (seat.new.known.round ≡ seat.old.known.round) }
-    ensures steps { VisitsSome table.now G.becomes bound MOST_VISITED (seat.old, gate.old) (seat.new, gate.new) }
+    ensures few { result ≤ MOST_VISITED }
+    ensures steps { VisitsSome table.now G.becomes bound result (seat.old, gate.old) (seat.new, gate.new) }
 {
     let count = limbo.count().min(MOST_VISITED);
     for index in 0..count {
@@ -318,10 +324,40 @@ fn visit_limbo<G: Gate>(
         let seen = visit_if_there(table, seat, gate, rec, bound);
         if !limbo.take_visit(rec, seen) {
             limbo.drop_oldest_records(index);
-            return;
+            return index + 1;
         }
     }
     limbo.drop_oldest_records(count);
+    count
+}
+
+/// Visits the next records of `sweep`, at most `most`. Those given back are listed in `limbo.given`, as far as there is room. `bound` is
+/// the bound of the round. The pass's pin and round stay.
+fn visit_sweep<G: Gate>(
+    table: &HotTable,
+    seat: &mut TableSeat,
+    gate: &mut G,
+    limbo: &mut Limbo,
+    sweep: &mut Sweep,
+    bound: u64,
+    most: usize,
+)
+    requires own { IsSeatOf table.now seat.old }
+    requires bound { HasBound table.now.layout.passes bound seat.old.known }
+    ensures same { (seat.new.known.pin ≡ seat.old.known.pin) × (seat.new.known.round ≡ seat.old.known.round) }
+    ensures steps { VisitsSome table.now G.becomes bound most (seat.old, gate.old) (seat.new, gate.new) }
+{
+    for _visit in 0..most {
+        let Some(rec) = sweep.take_next() else {
+            return;
+        };
+        if !has_record(table.layout(), rec) {
+            continue;
+        }
+        let seen = visit_record(table, seat, gate, table.locate(rec), bound);
+        sweep.count_visit(seen);
+        limbo.take_visit(rec, seen);
+    }
 }
 
 /// Visits `rec`, and returns what the visit came to. If the table has no such record, nothing is visited, and the result is `Other`.

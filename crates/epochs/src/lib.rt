@@ -25,7 +25,10 @@
 //! ([`collect_small_round`]) visits the records that the pass has retired itself. These stand in its limbo list ([`Limbo`]), oldest
 //! first. A call that changes the index begins with a small round once the pass has retired 32 records since its last one, or up
 //! to 96 if there are many passes, whose pins it loads. So each retired record is visited soon, and a full round is left for an attempt
-//! that was refused as full.
+//! that was refused as full. After such an attempt one retired record is enough for a small round, while the pass knows of few free ones.
+//!
+//! A small round also goes on with a look or a sweep ([`Sweep`]): it visits some of the records among which the pass claims. So those are
+//! found that the list had no room for, and those that other passes gave back.
 //!
 //! An attempt that was refused as full asks for a round that may be spared ([`collect_if_risen`]). In an index of several passes it begins
 //! as a full round does, and visits no record if its bound is no higher than that of the last such round of the pass. That one left no
@@ -50,5 +53,5 @@ mod limbo;
 mod pinning;
 
 pub use collection::{Collected, Given, collect_if_risen, collect_round, collect_small_round};
-pub use limbo::{Limbo, MOST_VISITED};
+pub use limbo::{Limbo, MOST_VISITED, Sweep};
 pub use pinning::{pin, unpin};

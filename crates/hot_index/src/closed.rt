@@ -14,7 +14,7 @@ use rowex_table::TableSeat;
 use std::alloc::{AllocFailed, Global};
 use std::marker::Model;
 
-/// A pass without the buffers that its calls need, so it makes none. It takes 16 bytes, where an open one takes some 119 KB.
+/// A pass without the buffers that its calls need, so it makes none. It takes 16 bytes, where an open one takes some 310 KB.
 #[derive(Drop)]
 pub struct ClosedPass {
     pub(crate) seat: TableSeat,

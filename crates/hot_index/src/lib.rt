@@ -6,7 +6,7 @@
 //! An [`Index`] is a table of words of a fixed size. [`create`] makes one with leaf records for the longest keys,
 //! [`create_with`] by a [`Stock`]: how many node records, and how many leaf records of each size. Each thread works through
 //! a pass of its own: a [`Pass`] with the index beside it, or a [`Handle`], which has both. There are as many passes as the index was
-//! made with. A call takes its pass by `&mut`, so each pass makes one call at a time. A pass has buffers of some 119 KB. One that waits
+//! made with. A call takes its pass by `&mut`, so each pass makes one call at a time. A pass has buffers of some 310 KB. One that waits
 //! for its thread needs none as a [`ClosedPass`] or [`ClosedHandle`], which [`create_closed`] makes. A [`Load`] takes sorted pairs, and
 //! makes an index that has them.
 //!

@@ -28,6 +28,7 @@ use crate::refusals::{Refusal, count_node_records, final_refusal, judge_lack, la
 use crate::scratch::Scratch;
 use epochs::{Collected, Given, collect_if_risen, collect_small_round, pin, unpin};
 use finite_map::{Call, Reply};
+use key_bits::Key;
 use rowex_core::Gate;
 use rowex_table::{HotTable, TableSeat};
 use rowex_writing::{Full, TryFault, attempt};
@@ -64,9 +65,9 @@ pub fn try_change<G: Gate>(
     try_twice(table, seat, gate, scratch, call)
 }
 
-/// Makes a small round of collection if the pass has retired enough records since its last one. The next claims begin with the records that
-/// the round gave back. Without a round it makes no step. In an index of one pass, if a node record was outside the tree, one is at the
-/// end, too.
+/// Makes a small round of collection if the pass has retired enough records since its last one, or records are scarce. The next claims
+/// begin with the records that the round gave back. Without a round it makes no step. In an index of one pass, if a node record was outside
+/// the tree, one is at the end, too.
 fn collect_due<G: Gate>(table: &HotTable, seat: &mut TableSeat, gate: &mut G, scratch: &mut Scratch)
     requires idle { IsIdle table.now seat.old }
     ensures idle { IsIdle table.now seat.new }
@@ -75,7 +76,9 @@ fn collect_due<G: Gate>(table: &HotTable, seat: &mut TableSeat, gate: &mut G, sc
 {
     let layout = table.layout();
     if scratch.limbo.is_due(layout) {
-        collect_small_round(table, seat, gate, &mut scratch.limbo);
+        let turn = scratch.turn % 2;
+        let sweep = &mut scratch.sweeps[turn];
+        collect_small_round(table, seat, gate, &mut scratch.limbo, sweep);
         scratch.reuse_given_records(layout);
     }
 }
@@ -110,16 +113,25 @@ fn try_twice<G: Gate>(
     let Some(lacks) = full_kind(first) else {
         return first;
     };
-    if collect_between(table, seat, gate, scratch, lacks, is_removal(call)) {
+    if collect_between(
+        table,
+        seat,
+        gate,
+        scratch,
+        lacks,
+        is_removal(call),
+        call.key(),
+    ) {
         return make_attempt(table, seat, gate, scratch, call);
     }
     pin_and_unpin(table, seat, gate);
     first
 }
 
-/// Makes a round of collection for a call that found no record of the kind `lacks` free. `removes` says whether the call is to remove a
-/// key. Returns whether a second attempt may find a record. With one pass the result is `true` for each removal. If it is `false`, the
-/// round gave back no record of the kind. The pass has no pin, and `scratch.build.made` stays.
+/// Makes a round of collection for a call that found no record of the kind `lacks` free, for the key `key`. From then on small rounds come
+/// sooner. `removes` says whether the call is to remove a key. Returns whether a second attempt may find a record. With one pass the result
+/// is `true` for each removal. If it is `false`, the round gave back no record of the kind. The pass has no pin, and `scratch.build.made`
+/// stays.
 ///
 /// In an index of several passes the round visits no record where it could give none back. The result is `false` then: what another pass
 /// has freed meanwhile is found by the count that follows.
@@ -130,6 +142,7 @@ fn collect_between<G: Gate>(
     scratch: &mut Scratch,
     lacks: Full,
     removes: bool,
+    key: &Key,
 ) -> bool
     requires idle { IsIdle table.now seat.old }
     ensures free { seat.new.known.pin ≡ None }
@@ -141,6 +154,7 @@ fn collect_between<G: Gate>(
     let passes = table.layout().passes;
     let collected = collect_if_risen(table, seat, gate, &mut scratch.limbo);
     scratch.reset_skips();
+    scratch.note_scarce(table.layout(), lacks, key);
     let Some(round) = collected else {
         return false;
     };

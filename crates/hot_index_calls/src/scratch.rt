@@ -3,15 +3,16 @@
 ghost use Rattle.std.specs.Prelude.{◌≡◌, ◌∷◌, [], IfOk};
 
 use bounded_vec::BoundedVec;
-use epochs::Limbo;
+use epochs::{Limbo, Sweep};
 use insert_cases::PathNode;
+use key_bits::Key;
 use record_words::{
-    LARGE_WORDS, LEAF_CLASSES, LEAF_WORDS, Layout, LeafClass, MEDIUM_WORDS, NODE_WORDS,
-    SHORT_WORDS, WIDE_WORDS,
+    LARGE_WORDS, LEAF_CLASSES, LEAF_WORDS, Layout, MEDIUM_WORDS, NODE_WORDS, SHORT_WORDS,
+    WIDE_WORDS, count_leaf_words,
 };
 use rowex_core::Rec;
 use rowex_reading::MOST_NODES;
-use rowex_writing::{Build, Hint, Stretch};
+use rowex_writing::{Build, Full, Hint, Stretch};
 use std::alloc::{AllocError, Global};
 
 /// The small part of a pass, of the records of one kind or class, has so many words at most: 128 KiB.
@@ -46,14 +47,24 @@ impl FirstFree {
     }
 }
 
+/// A look at a stretch visits so many of its records.
+const LOOKED_AT: u32 = 256;
+
+/// A stretch is swept if a look gave back more than one of so many records.
+const LOST_SHARE: u16 = 16;
+
+/// Records of a stretch are no longer scarce if a look found more than one of so many of them free.
+const PLENTY_SHARE: u32 = 8;
+
+/// A pass that has so many spare records of a kind has enough for its changes until the next small round.
+const FEW_SPARE: usize = 64;
+
 /// What a pass claims of the records of one kind or class. These are plain numbers, which promise nothing.
 ///
 /// A pass has a part of its own, so that two that claim many records don't try for the same ones. But it begins with a small part. The
 /// small parts of all passes stand side by side where the records begin: passes that claim few share pages, huge ones too.
 #[derive(Clone, Copy)]
 struct Share {
-    /// How many records there are.
-    records: u32,
     /// How many of them, the first ones, a load has taken. Claims begin behind these, and count them as claimed: where enough of them was
     /// given back, the pass claims there again.
     loaded: u32,
@@ -74,7 +85,6 @@ impl Share {
         let small = share.min(most);
         let first = number.saturating_mul(small);
         Share {
-            records,
             loaded,
             first,
             end: first.saturating_add(if share > most { small } else { u32::MAX }),
@@ -84,11 +94,11 @@ impl Share {
         }
     }
 
-    /// Returns a hint whose claims begin with the small part; `AllocError` if memory is refused.
-    fn begin_claims(&self, alloc: Global) -> Result<Hint, AllocError>
+    /// Returns a hint whose claims begin with the small part, of `records` records; `AllocError` if memory is refused.
+    fn begin_claims(&self, alloc: Global, records: u32) -> Result<Hint, AllocError>
         ensures { IfOk result (λ hint. hint.spare.items ≡ []) }
     {
-        let mut hint = Hint::begin_at(alloc, self.first, self.records)?;
+        let mut hint = Hint::begin_at(alloc, self.first, records)?;
         hint.stretch = Stretch::between(self.first, self.loaded);
         Ok(hint)
     }
@@ -121,11 +131,17 @@ pub struct Scratch {
     nodes: Share,
     /// Which leaf records of each class the pass claims, the smallest class first.
     leaves: [Share; LEAF_CLASSES],
+    /// What small rounds visit: of the stretch of a class of leaves, and of that of nodes.
+    pub(crate) sweeps: [Sweep; 2],
+    /// Which the next round serves: where it is even the first, for the class `turn / 2`, and else the second.
+    pub(crate) turn: usize,
+    /// The class of which the last full attempt found none free; `LEAF_CLASSES` if it lacked a node.
+    lacked: usize,
 }
 
 impl Scratch {
     /// Moves the records that the last attempt has unlinked into limbo, as far as that has room, and empties their list. Records for which
-    /// it had no room are found by full rounds. `build.made` stays.
+    /// it had no room are found by sweeps, and by full rounds. `build.made` stays.
     pub fn move_unlinked_to_limbo(&mut self)
         ensures gone { self.new.build.gone.items ≡ [] }
         ensures made { self.new.build.made.items ≡ self.old.build.made.items }
@@ -146,6 +162,85 @@ impl Scratch {
             keep_spare(build, layout, *rec);
         }
         self.leave_first_parts();
+        self.go_on_sweeping(layout);
+    }
+
+    /// Goes on with looks and sweeps after a small round, and tells limbo whether records are still scarce. `build.made` and `build.gone`
+    /// stay.
+    fn go_on_sweeping(&mut self, layout: Layout)
+        ensures made { self.new.build.made.items ≡ self.old.build.made.items }
+        ensures gone { self.new.build.gone.items ≡ self.old.build.gone.items }
+    {
+        let plenty = self.follow_turn(layout);
+        self.turn = next_turn(self.turn, self.sweeps[0].is_over());
+        let few = self.count_spare() < FEW_SPARE;
+        self.limbo.note_round(few, plenty);
+    }
+
+    /// Goes on with the looks and sweeps of which the round has visited some: of leaves or of nodes. Returns whether it has just found many
+    /// records free that were scarce. `build.made` and `build.gone` stay.
+    fn follow_turn(&mut self, layout: Layout) -> bool
+        ensures made { self.new.build.made.items ≡ self.old.build.made.items }
+        ensures gone { self.new.build.gone.items ≡ self.old.build.gone.items }
+    {
+        if self.turn % 2 == 0 {
+            return self.follow_leaves(layout);
+        }
+        self.follow_nodes()
+    }
+
+    /// Goes on with the look or sweep of nodes, as `follow` says. Returns whether it has just found many free, if nodes were scarce.
+    /// `build.made` and `build.gone` stay.
+    fn follow_nodes(&mut self) -> bool
+        ensures made { self.new.build.made.items ≡ self.old.build.made.items }
+        ensures gone { self.new.build.gone.items ≡ self.old.build.gone.items }
+    {
+        let plenty = follow(&mut self.sweeps[1], &mut self.build.nodes.stretch, true, 0);
+        plenty && self.lacked == LEAF_CLASSES
+    }
+
+    /// Goes on with the look or sweep of a class of leaves, as `follow` says. Returns whether it has just found many free, if those of the
+    /// class were scarce. `build.made` and `build.gone` stay.
+    fn follow_leaves(&mut self, layout: Layout) -> bool
+        ensures made { self.new.build.made.items ≡ self.old.build.made.items }
+        ensures gone { self.new.build.gone.items ≡ self.old.build.gone.items }
+    {
+        let class = self.turn / 2 % LEAF_CLASSES;
+        let from = first_of_class(layout, class);
+        let mut sweep = self.sweeps[0];
+        let plenty = follow(
+            &mut sweep,
+            &mut self.build.leaves[class].stretch,
+            false,
+            from,
+        );
+        self.sweeps[0] = sweep;
+        plenty && self.lacked == class
+    }
+
+    /// Returns how many spare numbers the pass has of the class or kind that the last full attempt lacked.
+    fn count_spare(&self) -> usize {
+        if self.lacked < LEAF_CLASSES {
+            self.build.leaves[self.lacked].spare.len()
+        } else {
+            self.build.nodes.spare.len()
+        }
+    }
+
+    /// Notes that an attempt lacked a record of the kind `lacks`, for the key `key`. Small rounds are made sooner then, for as many
+    /// rounds as the table has records: so a full round costs little beside these. `build.made` stays.
+    pub fn note_scarce(&mut self, layout: Layout, lacks: Full, key: &Key)
+        ensures made { self.new.build.made.items ≡ self.old.build.made.items }
+    {
+        self.lacked = match lacks {
+            Full::Nodes => LEAF_CLASSES,
+            Full::Leaves => {
+                let first = layout.first_leaf_with(count_leaf_words(key));
+                layout.class_of(first).index()
+            }
+        };
+        self.limbo
+            .note_scarce(layout.nodes.saturating_add(layout.leaves));
     }
 
     /// Lets the claims of each kind and class go on in the pass's own part, if they have come past its small one. `build.made` and
@@ -173,6 +268,47 @@ impl Scratch {
     }
 }
 
+/// Returns which sweep the next round serves, after that of the number `turn`. Leaves and nodes take turns, and so do the classes of leaves,
+/// once the sweep of one is over.
+fn next_turn(turn: usize, is_over: bool) -> usize {
+    let turn = turn % (2 * LEAF_CLASSES);
+    if turn % 2 == 0 {
+        turn + 1
+    } else if is_over {
+        (turn + 1) % (2 * LEAF_CLASSES)
+    } else {
+        turn - 1
+    }
+}
+
+/// Goes on with the looks and sweeps of `stretch`, once `sweep` is over. After a look its claims know how many records are free. A sweep
+/// follows if the look gave back many. Else the next look begins, if it is due. The records are nodes if `is_of_nodes` is true, else
+/// leaves, and the stretch counts them from the number `from` on. Returns whether a look has just found more than an eighth of them free.
+fn follow(sweep: &mut Sweep, stretch: &mut Stretch, is_of_nodes: bool, from: u32) -> bool {
+    if !sweep.is_over() {
+        return false;
+    }
+    let numbers = stretch.numbers();
+    let count = numbers.end.saturating_sub(numbers.start);
+    let recs = from.saturating_add(numbers.start)..from.saturating_add(numbers.end);
+    let mut plenty = false;
+    if sweep.is_look() {
+        let free = sweep.count_free_among(count);
+        stretch.note_free(free);
+        plenty = free > count / PLENTY_SHARE;
+        if sweep.has_given_share(LOST_SHARE) {
+            *sweep = Sweep::of(is_of_nodes, recs, 1);
+            return plenty;
+        }
+    }
+    *sweep = Sweep::of_none();
+    if stretch.is_look_due() {
+        stretch.begin_look();
+        *sweep = Sweep::of(is_of_nodes, recs, (count / LOOKED_AT).max(2));
+    }
+    plenty
+}
+
 /// Adds `rec` to the spare numbers of its kind and class, so that the next claim there tries `rec` first. If that list is full, `rec` isn't
 /// kept. In any case claims skip that class no more. `layout` is that of the table. `build.made` and `build.gone` stay.
 fn keep_spare(build: &mut Build, layout: Layout, rec: Rec)
@@ -182,20 +318,20 @@ fn keep_spare(build: &mut Build, layout: Layout, rec: Rec)
         Rec::Node(number) => build.nodes.give_back(number),
         Rec::Leaf(number) => {
             let place = layout.class_of(number).index();
-            let first = first_leaf_of_class(layout, number);
+            let first = first_of_class(layout, place);
             build.leaves[place].give_back(number.saturating_sub(first));
         }
     }
 }
 
-/// Returns the number of the first leaf record of the class to which the leaf record `number` belongs.
-fn first_leaf_of_class(layout: Layout, number: u32) -> u32 {
-    match layout.class_of(number) {
-        LeafClass::Short => 0,
-        LeafClass::Medium => layout.medium_from,
-        LeafClass::Large => layout.large_from,
-        LeafClass::Wide => layout.wide_from,
-        LeafClass::Long => layout.long_from,
+/// Returns the number of the first leaf record of the class with the number `place`, by size.
+fn first_of_class(layout: Layout, place: usize) -> u32 {
+    match place {
+        0 => 0,
+        1 => layout.medium_from,
+        2 => layout.large_from,
+        3 => layout.wide_from,
+        _ => layout.long_from,
     }
 }
 
@@ -236,14 +372,14 @@ fn new_build(
     Ok(Build {
         made: BoundedVec::new(alloc)?,
         gone: BoundedVec::new(alloc)?,
-        nodes: nodes.begin_claims(alloc)?,
+        nodes: nodes.begin_claims(alloc, layout.nodes)?,
         left_nodes: layout.nodes,
         leaves: [
-            leaves[0].begin_claims(alloc)?,
-            leaves[1].begin_claims(alloc)?,
-            leaves[2].begin_claims(alloc)?,
-            leaves[3].begin_claims(alloc)?,
-            leaves[4].begin_claims(alloc)?,
+            leaves[0].begin_claims(alloc, layout.medium_from)?,
+            leaves[1].begin_claims(alloc, layout.large_from.saturating_sub(layout.medium_from))?,
+            leaves[2].begin_claims(alloc, layout.wide_from.saturating_sub(layout.large_from))?,
+            leaves[3].begin_claims(alloc, layout.long_from.saturating_sub(layout.wide_from))?,
+            leaves[4].begin_claims(alloc, layout.leaves.saturating_sub(layout.long_from))?,
         ],
     })
 }
@@ -272,6 +408,9 @@ pub fn new_scratch(
         limbo: Limbo::new(alloc, layout)?,
         nodes,
         leaves,
+        sweeps: [Sweep::of_none(), Sweep::of_none()],
+        turn: 0,
+        lacked: LEAF_CLASSES,
     };
     Ok(Box::new(alloc, scratch)?)
 }

@@ -1,6 +1,6 @@
 //! Where a pass claims records: the hints that it keeps between calls, and the claims that begin with them.
 
-ghost use Rattle.std.specs.Prelude.{◌≡◌, ◌<◌, ◌≤◌, ◌++◌, ◌∷◌, [], length, ◌⊎◌, ◌+◌, ◌-◌, ◌^◌, max, min, ◌*◌, MatchOption, IfOk, List, ℕ, vec_capacity};
+ghost use Rattle.std.specs.Prelude.{◌≡◌, ◌<◌, ◌≤◌, ◌++◌, ◌∷◌, [], length, ◌⊎◌, ◌+◌, ◌-◌, ◌^◌, ◌/◌, ◌↔◌, max, min, ◌*◌, MatchOption, IfOk, IsTrue, List, ℕ, vec_capacity};
 ghost use Rattle.record_words.specs.declared.records.Rec.TheVariants.{Node as a_node};
 ghost use Rattle.rowex_table.specs.Seats.{IsSeatOf};
 ghost use Rattle.rowex_records.specs.Claims.{AllMissed, HoldsOneMore, IsAnothersTo, IsKindOf, count_of, record_of};
@@ -13,9 +13,10 @@ use rowex_core::Gate;
 use rowex_records::{RecordKind, claim_by_number, claim_next_record, claim_record};
 use rowex_table::{HotTable, TableSeat};
 use std::alloc::{AllocError, Global};
+use std::ops::Range;
 
 /// The most numbers of records of one kind that a pass keeps to begin claims with.
-const MOST_SPARE: u32 = 256;
+const MOST_SPARE: u32 = 4_096;
 
 /// Where the claims of a pass begin, of node records or of the leaf records of one class. Numbers are counted from the first of these
 /// on.
@@ -83,34 +84,41 @@ pub struct Stretch {
     /// About how many records of the stretch are free: how many the pass has given back, less those that it has claimed again. `u32::MAX`
     /// if the last claim found none free behind the stretch.
     given: u32,
+    /// How many records the pass has claimed by walks since the stretch was last looked at.
+    walked: u32,
 }
 
-/// Claims go back into the stretch once more than one of so many of its records was given back.
+/// Claims go back into the stretch once more than one of so many of its records is free.
 const SHARE: u32 = 8;
+
+/// A stretch is looked at again after so many claims by walks, and one for each `SHARE` of its records.
+const LEAST_WALKED: u32 = 1_024;
 
 impl Stretch {
     /// Returns an empty stretch, which begins at the number `first`.
     pub fn begin_at(first: u32) -> Stretch
-        ensures { (result.first ≡ first) × (result.end ≡ first) × (result.again ≡ first) × (result.given ≡ 0) }
+        ensures { (result.first ≡ first) × (result.end ≡ first) × (result.again ≡ first) × (result.given ≡ 0) × (result.walked ≡ 0) }
     {
         Stretch {
             first,
             end: first,
             again: first,
             given: 0,
+            walked: 0,
         }
     }
 
     /// Returns the stretch from the number `first` up to, but without, `end`, of which nothing was given back. It is empty if `end` isn't
     /// behind `first`.
     pub fn between(first: u32, end: u32) -> Stretch
-        ensures { (result.first ≡ first) × (result.end ≡ max first end) × (result.again ≡ first) × (result.given ≡ 0) }
+        ensures { (result.first ≡ first) × (result.end ≡ max first end) × (result.again ≡ first) × (result.given ≡ 0) × (result.walked ≡ 0) }
     {
         Stretch {
             first,
             end: first.max(end),
             again: first,
             given: 0,
+            walked: 0,
         }
     }
 
@@ -135,6 +143,37 @@ impl Stretch {
         self.given = self.given.saturating_add(1);
     }
 
+    /// Returns the numbers of the stretch.
+    pub fn numbers(&self) -> Range<u32>
+        ensures { (result.start ≡ self.now.first) × (result.end ≡ self.now.end) }
+    {
+        self.first..self.end
+    }
+
+    /// Returns whether it is time to look how many records of the stretch are free: since the last look walks have claimed more than an
+    /// eighth of their number, and 1,024.
+    pub fn is_look_due(&self) -> bool
+        ensures { IsTrue result ↔ (self.now.end - self.now.first) / SHARE + LEAST_WALKED < self.now.walked }
+    {
+        self.walked > self.end.saturating_sub(self.first) / SHARE + LEAST_WALKED
+    }
+
+    /// Notes that a look at the stretch begins. Nothing else changes.
+    pub fn begin_look(&mut self)
+        ensures walked { self.new.walked ≡ 0 }
+        ensures same { (self.new.first ≡ self.old.first) × (self.new.end ≡ self.old.end) × (self.new.again ≡ self.old.again) × (self.new.given ≡ self.old.given) }
+    {
+        self.walked = 0;
+    }
+
+    /// Notes that a look has found about `count` records of the stretch free. If more count as free already, nothing changes.
+    pub fn note_free(&mut self, count: u32)
+        ensures given { self.new.given ≡ max self.old.given count }
+        ensures same { (self.new.first ≡ self.old.first) × (self.new.end ≡ self.old.end) × (self.new.again ≡ self.old.again) × (self.new.walked ≡ self.old.walked) }
+    {
+        self.given = self.given.max(count);
+    }
+
     /// Notes that a claim which began at the number `start` has claimed the record `number`. If `number` is in the stretch, both ends of
     /// the stretch stay. If it is behind, it becomes the last one.
     ///
@@ -147,6 +186,7 @@ impl Stretch {
         ensures behind { self.old.first ≤ self.old.end → self.old.end ≤ number → number + 1 < 2 ^ 32 → self.new.end ≡ number + 1 }
     {
         let next = number.wrapping_add(1);
+        self.walked = self.walked.saturating_add(1);
         if self.first <= number && number < self.end {
             self.again = if next < self.end { next } else { self.first };
             self.given = if start < self.end {
