@@ -2,7 +2,6 @@
 use Rattle.std.specs.Prelude.{ℕ, ◌+◌, ◌*◌}
 use Rattle.finite_map.specs.declared.Call.{Call}
 use Rattle.finite_map.specs.declared.Call.TheVariants.{Add, Exchange}
-use Rattle.epochs.specs.declared.limbo.TheConstants.{MOST_VISITED}
 use Rattle.record_words.specs.declared.layout.Layout.{Layout}
 use Rattle.rowex_scanning.specs.Counts.{scan_loads}
 use Rattle.rowex_writing.specs.plan.Counts.{most_steps_of}
@@ -23,10 +22,13 @@ twice_steps (Exchange key expected value) layout = once_steps (Exchange key expe
 twice_steps (Add key delta) layout = once_steps (Add key delta) layout
 twice_steps call layout = 2 * once_steps call layout + round_steps layout
 
--- how many steps a small round makes at most: three on the epoch, one for each pin, and two for each of the `MOST_VISITED` records that it
--- may visit
+-- how many records a small round visits at most
+abbrev pub most_visited : ℕ
+most_visited = 128
+
+-- how many steps a small round makes at most: three on the epoch, one for each pin, and two for each record that it may visit
 abbrev pub small_steps : Layout → ℕ
-small_steps layout = 3 + layout.passes + 2 * MOST_VISITED
+small_steps layout = 3 + layout.passes + 2 * most_visited
 
 -- how many steps a call that doesn't wait makes at most: those of a small round before it, and of its attempts with a round between
 abbrev pub try_steps : (call : Call) (layout : Layout) → ℕ

@@ -18,14 +18,13 @@ use Rattle.rowex_reading.specs.Lookups.{search_touches}
 use Rattle.rowex_reading.specs.Reads.{IsBelowRoot, entries_in}
 use Rattle.rowex_scanning.specs.Counts.{scan_entries}
 use Rattle.epochs.specs.Rounds.{IsRound, IsSmallRound, IsSparedRound, LoadsPin, VisitEach, Visits, advance_steps, has_given}
-use Rattle.epochs.specs.declared.limbo.TheConstants.{MOST_VISITED}
 use Rattle.rowex_writing.specs.attempts.Attempts.{AreAttemptSteps}
 use Rattle.rowex_writing.specs.declared.attempts.TryFault.{TryFault}
 use Rattle.rowex_writing.specs.declared.attempts.TryFault.TheVariants.{Busy, FullNodes, FullLeaves}
 use Rattle.rowex_writing.specs.declared.plan.Full.{Full}
 use Rattle.rowex_writing.specs.declared.plan.Full.TheVariants.{Nodes, Leaves}
 use Rattle.hot_index_calls.specs.Answers.{IsNoted, IsRefusedFor, fault_of}
-use Rattle.hot_index_calls.specs.Counts.{round_steps, try_steps}
+use Rattle.hot_index_calls.specs.Counts.{most_visited, round_steps, try_steps}
 use Rattle.hot_index_calls.specs.Noting.{change_notes}
 use Rattle.hot_index_calls.specs.Passes.{PassView, pass_of}
 
@@ -174,14 +173,14 @@ pub record AreAttempts {G : Type 0} (table : TableView) (becomes : G → Event �
   pub before : List Act
   pub rest : List Act
   pub acts_are : acts ≡ before ++ rest
-  pub tidies : (before ≡ []) ⊎ AreSmallSteps table.layout MOST_VISITED before
+  pub tidies : (before ≡ []) ⊎ AreSmallSteps table.layout most_visited before
   pub tidied : SeatView × G
   pub steps : Runs table becomes before old tidied
   pub tries : AreTries table becomes call result tidied new rest
 
--- the pass makes a small round of collection, which visits at most `MOST_VISITED` records, or no step
+-- the pass makes a small round of collection, which visits at most 128 records (`most_visited`), or no step
 abbrev pub Tidies : {G : Type 0} → (table : TableView) (becomes : G → Event → G → Type 0) (old new : SeatView × G) → Type 0
-Tidies table becomes old new = (new ≡ old) ⊎ IsSmallRound table becomes MOST_VISITED old new
+Tidies table becomes old new = (new ≡ old) ⊎ IsSmallRound table becomes most_visited old new
 
 -- the pass makes a whole round of collection or, with several passes, one that is spared and visits no record
 abbrev pub Collects : {G : Type 0} → (table : TableView) (becomes : G → Event → G → Type 0) (old new : SeatView × G) → Type 0

@@ -7,7 +7,7 @@ use Rattle.record_words.specs.declared.layout.LeafClass.TheVariants.{Short, Medi
 use Rattle.record_words.specs.declared.layout.Stock.{Stock}
 use Rattle.record_words.specs.declared.layout.Location.{Location}
 use Rattle.record_words.specs.declared.layout.Location.TheVariants.{Epoch, Root, Anchor, Pin, NodeWord, LeafWord}
-use Rattle.record_words.specs.declared.TheConstants.{EPOCH_WORD, ROOT_WORD, ANCHOR_WORD, FIRST_UNCOMMITTED, LEAF_CLASSES, FIRST_PIN, LINE_WORDS, NODE_WORDS, LEAF_WORDS, SHORT_WORDS, MEDIUM_WORDS, LARGE_WORDS, WIDE_WORDS, FEW_KEYS, FEW_SPARE, KEYS_A_NODE, KEYS_A_SPARE, KEYS_A_SPARE_LEAF, LEAST_SPARE, MOST_SPARE}
+use Rattle.record_words.specs.declared.TheConstants.{EPOCH_WORD, ROOT_WORD, ANCHOR_WORD, FIRST_UNCOMMITTED, LEAF_CLASSES, FIRST_PIN, LINE_WORDS, NODE_WORDS, LEAF_WORDS, SHORT_WORDS, MEDIUM_WORDS, LARGE_WORDS, WIDE_WORDS}
 use Rattle.record_words.specs.Leaf.{words_for}
 
 -- The index of the first word of a node record. Node records follow the pins, one after another.
@@ -49,16 +49,15 @@ stock_of nodes Large leaves = record { nodes = nodes; short = 0; medium = 0; lar
 stock_of nodes Wide leaves = record { nodes = nodes; short = 0; medium = 0; large = 0; wide = leaves; long = 0 }
 stock_of nodes Long leaves = record { nodes = nodes; short = 0; medium = 0; large = 0; wide = 0; long = leaves }
 
--- How many node records, and how many leaf records, the stock for `count` keys has to spare. For few keys these are FEW_SPARE. For more
--- they are LEAST_SPARE and one for KEYS_A_SPARE keys, but no more than MOST_SPARE.
+-- How many node records, and how many leaf records, the stock for `count` keys has to spare. For up to 32 keys it is one of each. For more
+-- it is 10 and one for 16 keys, but no more than 512.
 abbrev pub spare_for : ℕ → ℕ
-spare_for count = if nat_le count FEW_KEYS then FEW_SPARE else min (LEAST_SPARE + count / KEYS_A_SPARE) MOST_SPARE
+spare_for count = if nat_le count 32 then 1 else min (10 + count / 16) 512
 
--- The stock for `count` keys of at most so many bytes. It has a node record for KEYS_A_NODE keys, a leaf record for each key, and one more
--- for KEYS_A_SPARE_LEAF keys. The spare records are added, but no more leaf records than a table may have.
+-- The stock for `count` keys of at most so many bytes. It has a node record for 3 keys, a leaf record for each key, and one more for 3 keys.
+-- The spare records are added, but no more leaf records than a table may have.
 abbrev pub stock_for : (count bytes : ℕ) → Stock
-stock_for count bytes =
-    stock_of (count / KEYS_A_NODE + spare_for count) (class_for bytes) (min (count + count / KEYS_A_SPARE_LEAF + spare_for count) (2 ^ 32 - 1))
+stock_for count bytes = stock_of (count / 3 + spare_for count) (class_for bytes) (min (count + count / 3 + spare_for count) (2 ^ 32 - 1))
 
 -- How many node records a change claims at most, if no key has more bytes than this: two for each node on the key's path, and one above.
 -- Each node of a path has a first fork at another position, of which a key has nine for each byte.

@@ -5,7 +5,6 @@ use Rattle.record_words.specs.declared.TheConstants.{HEAD_WORDS, LEAF_FIELDS}
 use Rattle.rowex_core.specs.declared.event.Event.{Event}
 use Rattle.rowex_table.specs.Seats.{SeatView, TableView}
 use Rattle.rowex_reading.specs.Reads.{Looks, Reads}
-use Rattle.rowex_scanning.specs.declared.ahead.TheConstants.{MOST_AHEAD}
 
 -- How many entries the walk of a scan loads at most: one for each node that it enters, and for each leaf that it reads, one more than the
 -- limit. Each node has two entries or more. So it enters no more nodes than it reads leaves, and two more for each node on its path.
@@ -49,4 +48,4 @@ scan_loads limit = loads_by limit (scan_entries limit)
 -- The limit that bounds the loads of a scan that took so many pairs. Beside their leaves it has looked at 16 more at most, and at no more
 -- than its own limit allows.
 abbrev pub limit_by : (limit taken : ℕ) → ℕ
-limit_by limit taken = min limit (taken + MOST_AHEAD)
+limit_by limit taken = min limit (taken + 16)
