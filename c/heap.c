@@ -322,14 +322,15 @@ static int is_filled(char *piece) {
 }
 
 /* Puts a huge page in the place of the next piece of a range, if that has filled. Returns whether it had. With the second one the rest of the range
- * asks for huge pages. */
+ * asks for huge pages, but for the last piece, with which the next range may begin. */
 static int look(heap_pages *table, size_t range) {
     uint8_t *asked = &table->asked[range];
-    char *piece = first_piece(table, range) + *asked * (size_t)HUGE_PAGE, *end = first_piece(table, range + 1);
-    if (*asked == MOST_ASKED || piece >= end || !is_filled(piece))
+    char *first = first_piece(table, range), *end = first_piece(table, range + 1), *last = end - HUGE_PAGE;
+    char *piece = *asked < MOST_ASKED ? first + *asked * (size_t)HUGE_PAGE : last;
+    if (*asked > MOST_ASKED || first >= end || piece >= end || !is_filled(piece))
         return 0;
     ++*asked;
-    madvise(piece, *asked == MOST_ASKED ? (size_t)(end - piece) : HUGE_PAGE, MADV_HUGEPAGE);
+    madvise(piece, *asked == MOST_ASKED && piece < last ? (size_t)(last - piece) : HUGE_PAGE, MADV_HUGEPAGE);
     madvise(piece, HUGE_PAGE, MADV_COLLAPSE);
     return 1;
 }
@@ -339,7 +340,7 @@ void heap_fill(heap_pages *table) {
     for (seen = 0; table != NULL && seen < ranges(table) && looks < MOST_LOOKS; seen++) {
         range = table->next;
         table->next = range + 1 < ranges(table) ? range + 1 : 0;
-        looks += table->asked[range] < MOST_ASKED && first_piece(table, range) < first_piece(table, range + 1);
+        looks += table->asked[range] <= MOST_ASKED && first_piece(table, range) < first_piece(table, range + 1);
         if (look(table, range))
             return;
     }
@@ -356,7 +357,7 @@ int heap_pause(heap_pages **words) {
     of_kind = filled->of.handles + 1;
     for (kind = 0; kind < HEAP_KINDS; kind++) {
         from = first_piece(filled, kind * of_kind) + MOST_ASKED * HUGE_PAGE;
-        end = first_piece(filled, (kind + 1) * of_kind);
+        end = first_piece(filled, (kind + 1) * of_kind) - HUGE_PAGE;
         if (from < end)
             madvise(from, (size_t)(end - from), MADV_HUGEPAGE);
     }
@@ -380,13 +381,15 @@ void heap_end_load(heap_pages *table) {
 
 size_t heap_held(const heap_pages *table) {
     const heap_table *of = &table->of;
-    char *begin, *end = page_at(table, of->from[0]);
+    char *begin, *last, *end = page_at(table, of->from[0]);
     size_t range, kind, held = held_of((char *)table, end, end);
     for (range = 0; range < ranges(table); range++) {
         kind = range / (of->handles + 1);
         begin = end;
         end = page_at(table, begin_of(of, range + 1));
-        held += held_of(begin, end, page_at(table, of->from[kind] + of->first[kind]));
+        last = end - (uintptr_t)end % HUGE_PAGE; /* where a huge page of the next range may begin */
+        last = last < begin ? begin : last;
+        held += held_of(begin, last, page_at(table, of->from[kind] + of->first[kind])) + held_of(last, end, end);
     }
     return held;
 }

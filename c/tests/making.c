@@ -124,9 +124,9 @@ static void test_others(void) {
     CHECK(!heap_end() && heap_take_pages() == NULL);
 }
 
-/* A table with two kinds of records for three handles, of which each has 130 KiB of a kind first, 9 MiB or 100,000 bytes behind them, and which leave
+/* A table with two kinds of records for three handles, of which each has 130 KiB of a kind first, 15 MiB or 100,000 bytes behind them, and which leave
  * a few bytes. */
-enum { OWNERS = 3, SMALL = 130 << 10, OWN = 9 << 20, LITTLE = 100000, LEFT = 100, HEAD = 600 };
+enum { OWNERS = 3, SMALL = 130 << 10, OWN = 15 << 20, LITTLE = 100000, LEFT = 100, HEAD = 600 };
 
 static heap_table shared(void) {
     heap_table of = {0, 0, OWNERS, {0, 0, 0, 0, 0, 0, 0}, {OWNERS * SMALL, 0, 0, 0, 0, OWNERS * SMALL}, {OWN, 0, 0, 0, 0, LITTLE}};
@@ -186,6 +186,9 @@ static void test_ranges(void) {
     }
     look_at_all(pages);
     CHECK(all_asked(pages) == MOST_ASKED && heap_held(pages) >= held);
+    /* Where the next part begins, and this one has not filled. */
+    *page_at(pages, begin_of(&pages->of, SECOND + 1)) = 1;
+    CHECK(heap_held(pages) == written(pages));
     munmap(pages, pages->size);
 }
 
