@@ -32,9 +32,9 @@ enum { PAGE = 4096, HUGE_PAGE = 2 << 20, LEAST_TABLE = 1 << 20 };
 /* A long list has at least so many bytes. */
 enum { LEAST_LIST = 16 << 10 };
 
-/* A record has so many bytes at most. One call of heap_fill looks at so many ranges. Of a piece that counts as filled so many pages were looked at,
- * and so many bytes may be missing. After so many pieces all of a range asks for huge pages. */
-enum { LONGEST_RECORD = 464, MOST_LOOKS = 16, LOOKS_AT_A_PIECE = 8, MOST_MISSING = HUGE_PAGE / 8, MOST_ASKED = 2 };
+/* A record has so many bytes at most. A call of heap_fill goes past so many ranges, and looks at so many pieces. Of one that counts as filled so many
+ * pages were looked at, and so many bytes may be missing. After so many pieces all of a range asks for huge pages. */
+enum { LONGEST_RECORD = 464, MOST_SEEN = 1024, MOST_LOOKS = 16, LOOKS_AT_A_PIECE = 8, MOST_MISSING = HUGE_PAGE / 8, MOST_ASKED = 2 };
 
 /* Advice of Linux 6.1 and later: a huge page takes the place of small ones at once. Else the system does that when it comes by. */
 #ifndef MADV_COLLAPSE
@@ -321,13 +321,15 @@ static int is_filled(char *piece) {
     return page < piece && held_of(piece, end, end) >= HUGE_PAGE - MOST_MISSING;
 }
 
-/* Puts a huge page in the place of the next piece of a range, if that has filled. Returns whether it had. With the second one the rest of the range
- * asks for huge pages, but for the last piece, with which the next range may begin. */
+/* Puts a huge page in the place of the next piece of a range, if that has filled. Returns whether it had, or -1 if there is none. With the second one
+ * the rest of the range asks for huge pages, but for the last piece, with which the next range may begin. */
 static int look(heap_pages *table, size_t range) {
     uint8_t *asked = &table->asked[range];
     char *first = first_piece(table, range), *end = first_piece(table, range + 1), *last = end - HUGE_PAGE;
     char *piece = *asked < MOST_ASKED ? first + *asked * (size_t)HUGE_PAGE : last;
-    if (*asked > MOST_ASKED || first >= end || piece >= end || !is_filled(piece))
+    if (*asked > MOST_ASKED || first >= end || piece >= end)
+        return -1;
+    if (!is_filled(piece))
         return 0;
     ++*asked;
     madvise(piece, *asked == MOST_ASKED && piece < last ? (size_t)(last - piece) : HUGE_PAGE, MADV_HUGEPAGE);
@@ -336,13 +338,12 @@ static int look(heap_pages *table, size_t range) {
 }
 
 void heap_fill(heap_pages *table) {
-    size_t seen, looks = 0, range;
-    for (seen = 0; table != NULL && seen < ranges(table) && looks < MOST_LOOKS; seen++) {
-        range = table->next;
-        table->next = range + 1 < ranges(table) ? range + 1 : 0;
-        looks += table->asked[range] <= MOST_ASKED && first_piece(table, range) < first_piece(table, range + 1);
-        if (look(table, range))
-            return;
+    size_t seen, looks = 0;
+    int found = 0;
+    for (seen = 0; table != NULL && seen < ranges(table) && seen < MOST_SEEN && looks < MOST_LOOKS && found <= 0; seen++) {
+        found = look(table, table->next);
+        looks += found == 0;
+        table->next = table->next + 1 < ranges(table) ? table->next + 1 : 0;
     }
 }
 
@@ -375,7 +376,7 @@ void heap_end_load(heap_pages *table) {
         return;
     madvise(table, table->size, MADV_NOHUGEPAGE);
     for (range = 0; range < ranges(table); range++)
-        while (look(table, range))
+        while (look(table, range) > 0)
             ;
 }
 
