@@ -1,8 +1,5 @@
-"""What tools/prove and tools/try-script share: how far a build is, the room that it needs, and the end of what it has started."""
-import ctypes
+"""What tools/prove and tools/try-script share: how far a build is, and the room that it needs."""
 import os
-import signal
-import subprocess
 import sys
 import tempfile
 import time
@@ -12,10 +9,6 @@ from contextlib import suppress
 ROOM = 40_000_000
 # After so many seconds without a word a build tells how far it is.
 SILENCE = 10
-# How many seconds a command has to end by itself that was told to.
-PATIENCE = 5
-# What prctl calls it that orphans come to this process.
-CHILD_SUBREAPER = 36
 
 
 def lack_of_room(folder: str) -> str:
@@ -67,12 +60,6 @@ class Progress:
         self.is_shown = is_terminal
 
 
-def take_orphans() -> None:
-    """Lets the processes whose parents end become children of this one, so that `end` finds all."""
-    with suppress(OSError, AttributeError):
-        ctypes.CDLL(None).prctl(CHILD_SUBREAPER, 1, 0, 0, 0)
-
-
 def processes() -> dict:
     """The parent of each process, and how many seconds of processors it has taken, with its children that have ended."""
     found = {}
@@ -92,16 +79,3 @@ def seconds_of_processors() -> float:
             break
         below = more
     return sum(found[number][1] for number in below - {os.getpid()})
-
-
-def end(process: subprocess.Popen) -> None:
-    """Tells a command to end, and ends it if it doesn't, and what is left of what it has started."""
-    process.terminate()
-    with suppress(subprocess.TimeoutExpired):
-        process.wait(PATIENCE)
-    while left := [number for number, (parent, _) in processes().items() if parent == os.getpid()]:
-        for number in left:
-            os.kill(number, signal.SIGKILL)
-        with suppress(ChildProcessError):
-            for number in left:
-                os.waitpid(number, 0)
