@@ -114,8 +114,12 @@ static int stock_for(PyObject *capacity, Py_ssize_t longest, Py_ssize_t threads,
 static int map_open(map *it, const wanted_store *wanted) {
     static const turns of_python = {end_turn, begin_turn};
     store *made = NULL;
-    if (make_store(wanted, &of_python, &made) < 0)
+    hot_status status;
+    Py_BEGIN_ALLOW_THREADS status = store_open(wanted, &of_python, &made);
+    Py_END_ALLOW_THREADS if (status != HOT_DONE) {
+        raise_status(status);
         return -1;
+    }
     it->forks = atomic_load(&forks);
     it->store = made;
     return 0;

@@ -142,9 +142,6 @@ PyObject *map_pop_range(PyObject *self, PyObject *words);
 PyObject *map_load(PyObject *self, PyObject *pairs);
 PyObject *map_load_map(PyObject *self, PyObject *other);
 
-/* Makes a map's store: -1 with an exception, which may be that of a signal's handler. making.c */
-int make_store(const wanted_store *wanted, const turns *turns, store **made);
-
 /* ---- Iterators: pairs.c ---- */
 
 extern PyType_Spec pairs_spec;

@@ -110,7 +110,7 @@ class Signals(unittest.TestCase):
         """)
 
     def test_interrupted_making(self):
-        """Of a map with much room, and of one with pairs that no Python code gives."""
+        """Of a map with pairs that no Python code gives."""
         run_apart("""
             import signal, time
             from hot import SortedMap
@@ -133,13 +133,13 @@ class Signals(unittest.TestCase):
 
             signal.signal(signal.SIGALRM, stop)
             pairs = [(number, number) for number in range(500000)]
-            for make in (
-                lambda: SortedMap(capacity=5000000),
-                lambda: SortedMap(pairs, keys=int, sorted=True),
-            ):
-                whole = seconds(make)
-                heard = min(seconds(make, whole / 10) for _ in range(3))
-                assert heard < whole / 2, (heard, whole)
+
+            def make():
+                SortedMap(pairs, keys=int, sorted=True)
+
+            whole = seconds(make)
+            heard = min(seconds(make, whole / 10) for _ in range(3))
+            assert heard < whole / 2, (heard, whole)
         """)
 
 
