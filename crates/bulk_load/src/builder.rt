@@ -108,14 +108,15 @@ impl Builder {
 
     /// Returns where the leaf of `key` belongs: the position of the fork before it, and a free record with room for it. The error is
     /// `NotRising` exactly if `key` isn't above the last one. Else it is `LeavesFull` if no leaf record with room for `key` is free. Else
-    /// it is `NodesFull` if too few node records may be left. Then the table has no more node records than pairs were taken. If it has two
-    /// or more, at least 32 pairs were taken.
+    /// it is `NodesFull` exactly if too few node records may be left, by what is planned (`HasNodesFor`). Then the table has no more node
+    /// records than pairs were taken. If it has two or more, at least 32 pairs were taken.
     pub(crate) fn find_next_leaf(&self, key: &Key) -> Result<NextLeaf, LoadFault>
         requires { (xs : List Item) × IsLoading self.now xs }
         ensures next_leaf { IfOk result (λ next_leaf. IsNextLeaf self.now key.now next_leaf.fork_position next_leaf.record_number) }
         ensures rising { (xs : List Item) → IsLoading self.now xs → (result ≡ Err LoadFault.NotRising) ↔ ¬ IsAboveLast xs key.now }
         ensures leaves { (xs : List Item) → IsLoading self.now xs → result ≡ Err LoadFault.LeavesFull →
             (n : ℕ) → n < self.now.layout.leaves → words_for (length key.now) ≤ leaf_size self.now.layout n → IsTakenLeaf xs n }
+        ensures lacks { result ≡ Err LoadFault.NodesFull → ¬ HasNodesFor self.now 1 }
         ensures nodes { (xs : List Item) → IsLoading self.now xs → result ≡ Err LoadFault.NodesFull → self.now.layout.nodes ≤ length xs }
         ensures many { (xs : List Item) → IsLoading self.now xs → result ≡ Err LoadFault.NodesFull → 2 ≤ self.now.layout.nodes → 32 ≤ length xs }
     {
