@@ -333,7 +333,8 @@ hot_status hot_get(hot_handle *handle, const uint8_t *key, size_t length, uint64
  * store it as C11's memory_order_seq_cst, which no theorem says. No ThreadSanitizer sees the library's steps: hot.hpp tells it of calls and
  * sections, and in C hot_tsan.h. Who takes a value out, or replaces it, notes a moment behind that, and frees what the value points to once
  * the moment is past. Sections hold no records of the index back, and calls inside one are as any other. A handle that never enters a section
- * costs nothing then. These calls wait for none; their loads and stores count as no steps. */
+ * costs nothing then. These calls wait for none. Their loads and stores count as no steps: each call says how many it makes, which is not
+ * proved. */
 
 /* Enters the handle's section. It makes one load and one store, and one exchange more at the first time.
  * HOT_DONE; or HOT_INSIDE if it is open already, or HOT_CLOSED. */
@@ -350,7 +351,8 @@ typedef struct hot_retirement {
     uint64_t number;
 } hot_retirement;
 
-/* Writes the moment of the call, which a program makes behind the change that took a value out. It may stand for any number of values.
+/* Writes the moment of the call, which a program makes behind the change that took a value out. It may stand for any number of values. It
+ * makes one load and one exchange.
  * HOT_DONE; or HOT_CLOSED. */
 hot_status hot_retired(hot_handle *handle, hot_retirement *moment);
 
@@ -538,8 +540,8 @@ hot_status hot_first(hot_handle *handle, const uint8_t *from, size_t length, hot
 hot_status hot_last(hot_handle *handle, const uint8_t *upto, size_t length, hot_pair *pair);
 
 /* Counts the keys from `from` to `upto`, both included, and writes their number to `count`. That is the number of the pairs that hot_scan
- * could list in its place, if it had room for all. It reads few of the keys. It makes at most 169567 steps, and 60
- * for each key that it counts.
+ * could list in its place, if it had room for all. Of keys that stand together in a node it reads the last one, and more only where the range
+ * ends among them: so it reads few, which is tested. It makes at most 169567 steps, and 60 for each key that it counts.
  * HOT_DONE; or HOT_KEY_TOO_LONG, HOT_CLOSED, and then nothing was written. */
 hot_status hot_count(hot_handle *handle, const uint8_t *from, size_t from_length, const uint8_t *upto, size_t upto_length, size_t *count);
 

@@ -189,6 +189,30 @@ fn insertions_go_past_no_loaded_record(rt: HostRuntime) {
     assert!(rt; count_insertion(&rt, &mut first, &key(&rt, &[255; 7])) < 300);
 }
 
+/// Counts all keys. Returns how many there are, and how many steps that took.
+fn count_all(rt: &impl Abort, guest: &mut Guest) -> (usize, u64) {
+    let mut counter = Counter { steps: 0 };
+    let (from, upto) = ends(rt);
+    let (index, pass) = (guest.index, &mut guest.pass);
+    let count = index.count_range_with(pass, &from, &upto, &mut counter);
+    (count, counter.steps)
+}
+
+/// A count of keys that fill their nodes makes less than two steps for each: one loads its entry. It would make four at least if it read
+/// each key, with its value and its length.
+#[test]
+fn a_count_reads_few_keys(rt: HostRuntime) {
+    let mut load = begin_load(&rt, rt.alloc(), 1, STOCK);
+    for number in 0u16..2_000 {
+        assert!(rt; load.push(&key(&rt, &number.to_be_bytes()), 1) == Ok(()));
+    }
+    let (index, mut passes) = finish_load(&rt, rt.alloc(), load);
+    let mut guest = open_last_handle(&rt, rt.alloc(), &index, &mut passes);
+    let (count, steps) = count_all(&rt, &mut guest);
+    assert!(rt; count == 2_000);
+    assert!(rt; steps < 4_000, "{steps}");
+}
+
 /// Makes the index of `load`, of one pass. Asserts that it has just the pairs of `map`, also once one key more is inserted and removed, if
 /// there is room for it.
 fn expect_pairs_of_map(rt: &(impl Abort + Wait), alloc: Global, load: Load, map: &PlainIndex) {
