@@ -2,6 +2,8 @@
 #![tactic(auto)]
 
 pub mod asked;
+#[cfg(test)]
+mod flushing;
 pub mod one;
 pub mod scripts;
 pub mod stack;
