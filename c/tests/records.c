@@ -432,6 +432,24 @@ static void test_sizes(void) {
     CHECK(hot_destroy(&handle) == HOT_DONE);
 }
 
+/* Once a handle has found all leaves full, its next keys take the smallest ones that another handle's removals have freed. */
+static void test_size_of_another(void) {
+    static const hot_stock stock = {60, 3, 1, 0, 0, 0};
+    static const char *const keys[4] = {"a", "b", "c", "d"};
+    hot_handle handles[2] = {HOT_HANDLE, HOT_HANDLE};
+    uint32_t live[5], place;
+    uint64_t had;
+    CHECK(hot_create_with(&stock, handles, 2) == HOT_DONE);
+    for (place = 0; place < 4; place++)
+        CHECK(hot_try_insert(&handles[0], bytes(keys[place]), 1, 1, &had) == HOT_INSERTED);
+    for (place = 0; place < 4; place++)
+        CHECK(place == 2 || hot_try_remove(&handles[1], bytes(keys[place]), 1, &had) == HOT_REMOVED);
+    CHECK(hot_try_insert(&handles[0], bytes("e"), 1, 1, &had) == HOT_INSERTED && hot_try_insert(&handles[0], bytes("f"), 1, 1, &had) == HOT_INSERTED);
+    count_leaves(&handles[0], live);
+    CHECK(live[0] == 3 && live[1] == 0);
+    CHECK(hot_destroy(&handles[0]) == HOT_DONE && hot_destroy(&handles[1]) == HOT_DONE);
+}
+
 /* Keys that one handle takes out and puts in again: no call is refused. Returns whether small rounds were enough. A full round would give
  * back what the other handle has retired, the one leaf for 24 bytes that is not in use; and no more leaves are kept back than make the
  * next round due. */
@@ -542,6 +560,7 @@ int main(void) {
     test_few_keys();
     test_few_of_all_kinds();
     test_sizes();
+    test_size_of_another();
     test_bytes();
     puts(failures ? "c/tests/records.c failed" : "passed: c/tests/records.c");
     return failures;
