@@ -37,7 +37,7 @@ size_t pair_bytes(size_t length) {
 
 /* The first table takes as much as 500 short fields do. */
 size_t bytes_for(size_t record_bytes) {
-    enum { BESIDE = 36 << 10, LEAST = 80 << 10 };
+    enum { BESIDE = 72 << 10, LEAST = 88 << 10 };
     return BESIDE + record_bytes > LEAST ? BESIDE + record_bytes : LEAST;
 }
 
