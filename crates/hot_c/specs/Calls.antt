@@ -19,6 +19,8 @@ use Rattle.hot_index_calls.specs.declared.census.RecordCounts.{RecordCounts}
 use Rattle.hot_index_calls.specs.Refusals.{as_tried}
 use Rattle.hot_index_calls.specs.declared.refusals.Refusal.{Refusal}
 use Rattle.hot_index.specs.Kept.{kept_stock, with_one_kept}
+use Rattle.hot_c.specs.Census.{shown_counts}
+use Rattle.hot_c.specs.declared.census.HotCounts.{HotCounts}
 use Rattle.hot_c.specs.Refusals.{TellsRefusal}
 use Rattle.hot_c.specs.Statuses.{reply_status, value_after}
 use Rattle.hot_c.specs.declared.handle.IndexHandle.{IndexHandle}
@@ -56,9 +58,10 @@ for_key key (Get own) = Get key
 for_key key (Remove own) = Remove key
 for_key key (RemoveIf own expected) = RemoveIf key expected
 
--- All records were counted, with these counts. No call was noted.
-abbrev pub HasCountedRecords : (counts : RecordCounts) (index : TableView) (old new : PassView) → Type 0
-HasCountedRecords counts index old new = IsUnnoted index.layout old new × HasCounted index untold (old, tt) (new, tt) counts
+-- All committed records were counted, and these counts are shown. No call was noted.
+abbrev pub HasCountedRecords : (shown : HotCounts) (index : TableView) (old new : PassView) → Type 0
+HasCountedRecords shown index old new =
+    IsUnnoted index.layout old new × (counts : RecordCounts) × HasCounted index untold (old, tt) (new, tt) counts × (shown ≡ shown_counts counts)
 
 -- A call for a key of `size` bytes had this outcome. The status tells its reply or its refusal.
 abbrev pub TellsOutcome : (size : ℕ) (call : Call) (status : ℕ) (outcome : Result Reply Refusal) (index : TableView) (old new : PassView) → Type 0

@@ -24,6 +24,7 @@ use Rattle.linearizability.specs.Statements.{IsLinearizable}
 use Rattle.index_laws.specs.Joined.{IsExecutionOf}
 use Rattle.index_laws.specs.Traced.{Instant, configuration_of}
 use Rattle.hot_c.specs.Calls.{Answers, FitsInKey, HasGivenBack, HasCountedRecords, StaysOpen}
+use Rattle.hot_c.specs.declared.census.HotCounts.{HotCounts}
 use Rattle.hot_c.specs.Counting.{CountsRange}
 use Rattle.hot_c.specs.Ends.{FindsFirst, FindsFirstIn, FindsLast}
 use Rattle.hot_c.specs.Following.{SeesLeader, SeesSteps}
@@ -69,7 +70,7 @@ pub record IsAt (index : TableView) (handle : HandleView) : Type 0 where
   pub own : Owns index handle.pass
   pub seat : handle.pass ≡ pass_of handle.pass.seat
 
--- The call asked nothing of the map, and noted nothing. It read a range, or made a round of collection, or counted all records.
+-- The call asked nothing of the map, and noted nothing. It read a range, or made a round of collection, or counted all committed records.
 pub record AsksNothing (index : TableView) (old new : PassView) : Type 0 where
   pub same : new.notes ≡ old.notes
   pub legal : LegalCalls new.front new.number new.notes
@@ -112,7 +113,7 @@ abbrev pub StaysQuiet : (Says : Option Opened → Option Opened → Type 0) → 
 StaysQuiet Says = (old : Opened) (new : Option Opened) → Says (Some old) new → StaysOpen AsksNothing (Some old) new
 
 -- Which calls ask nothing of the map: scans of each kind, searches for an end of a range, counts of a range, rounds of collection, and
--- counts of all records. That is said of those whose keys aren't too long.
+-- counts of all committed records. That is said of those whose keys aren't too long.
 pub record QuietCalls : Type 0 where
   pub lists : (order : Order) (from upto : List ℕ) → FitsInKey from → FitsInKey upto → (before after : Listing) (status : ℕ) →
       StaysQuiet (λ old new. ListsBy (IsListedIn order) from upto old new before after status)
@@ -129,7 +130,7 @@ pub record QuietCalls : Type 0 where
   pub counts : (from upto : List ℕ) → FitsInKey from → FitsInKey upto → (before after status : ℕ) →
       StaysQuiet (λ old new. CountsRange from upto old new before after status)
   pub round : (nodes leaves : ℕ) → StaysQuiet (StaysOpen (HasGivenBack nodes leaves))
-  pub census : (counts : RecordCounts) → StaysQuiet (StaysOpen (HasCountedRecords counts))
+  pub census : (shown : HotCounts) → StaysQuiet (StaysOpen (HasCountedRecords shown))
 
 -- One history
 

@@ -2,6 +2,7 @@
 pub mod Lending
 pub mod Statuses
 pub mod Refusals
+pub mod Census
 pub mod Pairs
 pub mod Around
 pub mod Calls

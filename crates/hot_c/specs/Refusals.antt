@@ -1,5 +1,5 @@
 -- What the status of a refused call tells.
-use Rattle.std.specs.Prelude.{◌≡◌, ◌≢◌, ℕ}
+use Rattle.std.specs.Prelude.{◌≡◌, ◌≢◌, ◌+◌, ℕ}
 use Rattle.finite_map.specs.declared.Call.{Call}
 use Rattle.rowex_writing.specs.declared.attempts.TryFault.TheVariants.{FullLeaves, FullNodes}
 use Rattle.rowex_writing.specs.declared.plan.Full.TheVariants.{Nodes, Leaves}
@@ -11,12 +11,9 @@ use Rattle.hot_index_calls.specs.declared.refusals.Refusal.{Refusal}
 use Rattle.hot_index_calls.specs.declared.refusals.Refusal.TheVariants.{Busy, HeldBack, Full}
 use Rattle.hot_c.specs.declared.status.TheConstants.{BUSY, FULL_NODES, FULL_LEAVES, KEY_TOO_LONG, HELD_BACK}
 
--- Of one kind or class the index has no record, in whatever state.
-pub record HasNoRecord (counts : StateCounts) : Type 0 where
-  pub free : counts.free ≡ 0
-  pub held : counts.held ≡ 0
-  pub live : counts.live ≡ 0
-  pub obsolete : counts.obsolete ≡ 0
+-- Of one kind or class the index has no record, in whatever state, and none that is uncommitted.
+abbrev pub HasNoRecord : (counts : StateCounts) → Type 0
+HasNoRecord counts = counts.free + counts.held + counts.live + counts.obsolete + counts.uncommitted ≡ 0
 
 -- What the status says of a call that lacks a leaf record. If the index has none with room for a key of this length, in whatever state, the
 -- key is too long. Else the leaf records are full.

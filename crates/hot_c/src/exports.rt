@@ -10,6 +10,7 @@ ghost use Rattle.hot_c.specs.Stocks.{TakesBytes, stock_in};
 ghost use Rattle.record_words.specs.Layout.{stock_for, stock_for_any};
 ghost use Rattle.record_words.specs.declared.TheConstants.{MAX_STOCK_PASSES};
 
+use crate::census::{HotCounts, show_counts};
 use crate::handle::IndexHandle;
 use crate::lookups::{Lookup, copy_keys, have_fitting_keys, write_found_values};
 use crate::opening::{
@@ -21,7 +22,7 @@ use crate::status::{
     OPEN, OUT_OF_RANGE, write_reply,
 };
 use crate::stock::HotStock;
-use hot_index::{Call, IndexFault, RecordCounts, keep_one_node};
+use hot_index::{Call, IndexFault, keep_one_node};
 use key_bits::{Key, KeyFault};
 use record_words::{Layout, MAX_STOCK_PASSES, Stock};
 use std::alloc::Global;
@@ -449,11 +450,12 @@ pub extern "C" fn hot_collect(handle: &mut IndexHandle, nodes: &mut u32, leaves:
     DONE
 }
 
-/// Writes to `counts` how many node records, and leaf records of each class, are free, held, live and obsolete, and the table's bytes.
+/// Writes to `counts` how many node records, and leaf records of each class, are free, held, live and obsolete, and the table's bytes. It
+/// counts committed records alone.
 /// Returns `DONE`. The counts are of no single moment, and the call asks nothing of the map. If the handle is closed, it returns `CLOSED`,
 /// and `counts` stays. An open handle stays open, with the passes that it keeps. `place` stays.
 #[unsafe(no_mangle)]
-pub extern "C" fn hot_census(handle: &mut IndexHandle, counts: &mut RecordCounts) -> u32
+pub extern "C" fn hot_census(handle: &mut IndexHandle, counts: &mut HotCounts) -> u32
     ensures closed { handle.old.cell.opened ≡ None → (result ≡ CLOSED) × (handle.new.cell.opened ≡ None) × (counts.new ≡ counts.old) }
     ensures counted { IsSome handle.old.cell.opened → (result ≡ DONE) × StaysOpen (HasCountedRecords counts.new) handle.old.cell.opened handle.new.cell.opened }
     ensures place { handle.new.place ≡ handle.old.place }
@@ -461,7 +463,8 @@ pub extern "C" fn hot_census(handle: &mut IndexHandle, counts: &mut RecordCounts
     if !handle.is_open() {
         return CLOSED;
     }
-    *counts = handle.cell.lend().handle.census();
+    let found = handle.cell.lend().handle.census();
+    *counts = show_counts(&found);
     DONE
 }
 

@@ -15,6 +15,7 @@
 
 mod around;
 mod cell;
+mod census;
 mod counting;
 mod ends;
 mod exports;

@@ -37,7 +37,11 @@ fn tell_lack_of_leaves(size: usize, counts: &RecordCounts) -> u32
 fn has_no_record(counts: &StateCounts) -> bool
     ensures { IsTrue result ↔ HasNoRecord counts.now }
 {
-    counts.free == 0 && counts.held == 0 && counts.live == 0 && counts.obsolete == 0
+    counts.free == 0
+        && counts.held == 0
+        && counts.live == 0
+        && counts.obsolete == 0
+        && counts.uncommitted == 0
 }
 
 /// Returns whether `counts` count no leaf record at all with room for a key of `size` bytes.

@@ -266,7 +266,7 @@ impl<I: ShowsIndex> Handle<I> {
     }
 
     /// Tries to make `call`, as `Index::try_counted` does, and returns the reply, or why the call was refused. If the try found no record
-    /// free, all records are counted, and the count tells whether one may come back. A get is never refused, an exchange or an addition
+    /// free, the records are counted, and the count tells whether one may come back. A get is never refused, an exchange or an addition
     /// only as busy, and a removal never for want of leaf records.
     pub fn try_counted(&mut self, call: &Call) -> Result<Reply, Refusal>
         ensures call { Stays (IsOutcome call.now (as_tried result)) self.old self.new }

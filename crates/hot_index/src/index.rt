@@ -182,7 +182,7 @@ impl Index {
     /// key's value. `rt` allows the call to wait.
     ///
     /// Where `try_insert` would return `Busy`, it lets other threads run and begins again, as often as need be: its steps have no bound.
-    /// Where no record is free, it counts all records, as `census` does. It begins again if by that count a record may come back. One may
+    /// Where no record is free, it counts the records, as `census` does. It begins again if by that count a record may come back. One may
     /// if one is held or obsolete, or as many are free as it needs. In an index of one pass it makes one try.
     ///
     /// It returns `Full` only if its last try found no node record free, or no leaf record with room for the key, as `try_insert` says.
@@ -280,12 +280,13 @@ impl Index {
         self.collect_with(pass, &mut NoGate)
     }
 
-    /// Counts how many node records, and leaf records of each class, are free, held, live and obsolete. Returns these counts with the
-    /// bytes of the table. So a program can see why its index is full, and what the next one needs.
+    /// Counts how many node records, and leaf records of each class, are free, held, live and obsolete, of those that are committed, and how
+    /// many are uncommitted. Returns these counts with the bytes of the table. So a program can see why its index is full, and what the next
+    /// one needs.
     ///
-    /// It takes no lock, allocates nothing, changes nothing and never blocks. It makes one atomic step for each record, the load of its
-    /// state. Others go on meanwhile, so the counts are of no single moment. The pass has seen no further change, and its completed calls
-    /// are the same.
+    /// It takes no lock, allocates nothing, changes nothing and never blocks. It makes one atomic step for each committed record, the load
+    /// of its state. Others go on meanwhile, so the counts are of no single moment. The pass has seen no further change, and its completed
+    /// calls are the same.
     pub fn census(&self, pass: &mut Pass) -> RecordCounts
         requires { Owns self.now pass.old }
         ensures own { Owns self.now pass.new }
@@ -412,7 +413,7 @@ impl Index {
         answer
     }
 
-    /// Tries to make the change `call`, as `try_change_with` does. If the try lacked a record, all records are counted after it, and by the
+    /// Tries to make the change `call`, as `try_change_with` does. If the try lacked a record, the records are counted after it, and by the
     /// count the refusal is `Full` or `HeldBack`. A removal in an index of several passes is `HeldBack` without a count, and no removal
     /// lacks a leaf record. Reports each step to `gate`. The pass's `count` changes as in `try_change_with`.
     pub(crate) fn try_and_count_with<G: Gate>(

@@ -151,16 +151,16 @@ module _ {G : Type 0} (table : TableView) (becomes : G → Event → G → Type 
   HasRoomUsed words s = (n : ℕ) → n < table.layout.leaves → words ≤ leaf_size table.layout n → IsUsedAt table.layout s (a_leaf n)
 
   -- so none of a class with so many words is free
-  class_short : (first next size words : ℕ) (tags : List Tag) (a b : SeatView × G) → IsClass table.layout first next size → next ≡ first + length tags → Runs table becomes (loads_of a_leaf first tags) a b → HasRoomUsed words a.0 → words ≤ size →
+  class_short : (first next size words : ℕ) (tags : List Tag) (a b : SeatView × G) → IsClass table.layout first next size → first + length tags ≤ next → Runs table becomes (loads_of a_leaf first tags) a b → HasRoomUsed words a.0 → words ≤ size →
       count_by is_free tags < 1
   class_short first next size words tags a b class are run used fits =
       let none = loads_few a_leaf (λ n m e. let same : n ≡ m = cc in same) first tags a b run []
       (λ n from below no. used n (let within = class.within in omega (arith, below, are, within)) (let sized = class.sized n from (omega (arith, below, are)) in omega (arith, sized, fits))) in omega (arith, none)
 
   -- A count of all finds fewer free than are needed, where what was lacked is used.
-  pub counts_short : (tags : FoundTags) (a b : SeatView × G) → OneForEach table.layout tags → Runs table becomes (loads_in table.layout tags) a b → (key : Key) → length key ≤ MAX_BYTES → (own : List Rec) (lacks : Full) →
+  pub counts_short : (uncommitted : ℕ → ℕ) (tags : FoundTags) (a b : SeatView × G) → OneForEach table.layout uncommitted tags → Runs table becomes (loads_in table.layout tags) a b → (key : Key) → length key ≤ MAX_BYTES → (own : List Rec) (lacks : Full) →
       LeavesUsed table.layout key own (Err (fault_of lacks)) a.0 → AreAllAtRest (counts_in table.layout tags) → (needs : ℕ) → needs ≡ length own + 1 → IsShortOf lacks needs (length key) (counts_in table.layout tags)
-  counts_short tags a b each run key short own lacks left rest needs is =
+  counts_short uncommitted tags a b each run key short own lacks left rest needs is =
       let l = table.layout in
       let (s5, run5, of_long) = runs_split table becomes (loads_of a_node 0 tags.nodes ++ loads_of a_leaf 0 tags.short ++ loads_of a_leaf l.medium_from tags.medium ++ loads_of a_leaf l.large_from tags.large ++ loads_of a_leaf l.wide_from tags.wide) (loads_of a_leaf l.long_from tags.long) a b run in
       let (s4, run4, of_wide) = runs_split table becomes (loads_of a_node 0 tags.nodes ++ loads_of a_leaf 0 tags.short ++ loads_of a_leaf l.medium_from tags.medium ++ loads_of a_leaf l.large_from tags.large) (loads_of a_leaf l.wide_from tags.wide) a s5 run5 in
@@ -173,10 +173,10 @@ module _ {G : Type 0} (table : TableView) (becomes : G → Event → G → Type 
           Runs table becomes (loads_of a_leaf table.layout.medium_from tags.medium) s2 s3 → Runs table becomes (loads_of a_leaf table.layout.large_from tags.large) s3 s4 → Runs table becomes (loads_of a_leaf table.layout.wide_from tags.wide) s4 s5 →
           Runs table becomes (loads_of a_leaf table.layout.long_from tags.long) s5 b → IsShortOf lacks needs (length key) (counts_in table.layout tags)
       of Nodes left s1 s2 s3 s4 s5 of_nodes of_short of_medium of_large of_wide of_long =
-          let few = loads_few a_node (λ n m e. let same : n ≡ m = cc in same) 0 tags.nodes a s1 of_nodes own (λ n from below none. left.nodes one refl n (let many = each.nodes in omega (arith, below, many)) none) in
+          let few = loads_few a_node (λ n m e. let same : n ≡ m = cc in same) 0 tags.nodes a s1 of_nodes own (λ n from below none. left.nodes one refl n (let many = each.nodes in let some = table.layout.nodes_in_range in omega (arith, below, many, some)) none) in
           record { free = omega (arith, few, is); held = rest.nodes.held; obsolete = rest.nodes.obsolete }
       of Leaves left s1 s2 s3 s4 s5 of_nodes of_short of_medium of_large of_wide of_long =
-          let l = table.layout in let words = words_for (length key) in
+          let l = table.layout in let words = words_for (length key) in let order = l.classes_in_order in
           let u : HasRoomUsed words a.0 = λ n low room. left.leaves one refl n low room in
           let u1 : HasRoomUsed words s1.0 = λ n low room. loads_used (a_leaf n) a_node 0 tags.nodes a s1 of_nodes (u n low room) in
           let u2 : HasRoomUsed words s2.0 = λ n low room. loads_used (a_leaf n) a_leaf 0 tags.short s1 s2 of_short (u1 n low room) in
@@ -185,8 +185,8 @@ module _ {G : Type 0} (table : TableView) (becomes : G → Event → G → Type 
           let u5 : HasRoomUsed words s5.0 = λ n low room. loads_used (a_leaf n) a_leaf l.wide_from tags.wide s4 s5 of_wide (u4 n low room) in
           record {
             short = λ fits. record { free = class_short 0 l.medium_from SHORT_WORDS words tags.short s1 s2 (short_class l) (omega (arith, each.short)) of_short u1 (omega (arith, fits)); held = rest.short.held; obsolete = rest.short.obsolete };
-            medium = λ fits. record { free = class_short l.medium_from l.large_from MEDIUM_WORDS words tags.medium s2 s3 (medium_class l) each.medium of_medium u2 (omega (arith, fits)); held = rest.medium.held; obsolete = rest.medium.obsolete };
-            large = λ fits. record { free = class_short l.large_from l.wide_from LARGE_WORDS words tags.large s3 s4 (large_class l) each.large of_large u3 (omega (arith, fits)); held = rest.large.held; obsolete = rest.large.obsolete };
-            wide = λ fits. record { free = class_short l.wide_from l.long_from WIDE_WORDS words tags.wide s4 s5 (wide_class l) each.wide of_wide u4 (omega (arith, fits)); held = rest.wide.held; obsolete = rest.wide.obsolete };
-            long = record { free = class_short l.long_from l.leaves LEAF_WORDS words tags.long s5 b (long_class l) each.long of_long u5 (omega (arith, short)); held = rest.long.held; obsolete = rest.long.obsolete };
+            medium = λ fits. record { free = class_short l.medium_from l.large_from MEDIUM_WORDS words tags.medium s2 s3 (medium_class l) (omega (arith, each.medium, order)) of_medium u2 (omega (arith, fits)); held = rest.medium.held; obsolete = rest.medium.obsolete };
+            large = λ fits. record { free = class_short l.large_from l.wide_from LARGE_WORDS words tags.large s3 s4 (large_class l) (omega (arith, each.large, order)) of_large u3 (omega (arith, fits)); held = rest.large.held; obsolete = rest.large.obsolete };
+            wide = λ fits. record { free = class_short l.wide_from l.long_from WIDE_WORDS words tags.wide s4 s5 (wide_class l) (omega (arith, each.wide, order)) of_wide u4 (omega (arith, fits)); held = rest.wide.held; obsolete = rest.wide.obsolete };
+            long = record { free = class_short l.long_from l.leaves LEAF_WORDS words tags.long s5 b (long_class l) (omega (arith, each.long, order)) of_long u5 (omega (arith, short)); held = rest.long.held; obsolete = rest.long.obsolete };
           }

@@ -56,18 +56,18 @@ module _ {G : Type 0} {table : TableView} {becomes : G → Event → G → Type 
     (pin : b.0.known.pin ≡ m.0.known.pin) (call : Call) (s : SeatView) (lacks : Full) (replied : HasReplied table call (Err (fault_of lacks)) s m.0) (early : s.known.steps ≤ m.0.known.steps) where
   pub counted_replied : HasReplied table call (Err (fault_of lacks)) s b.0
   counted_replied = record {
-    idle = (all.3.seat.0 ∙ replied.idle.0, counts_settled all some (pin ∙ replied.idle.1.pin) replied.idle.1);
+    idle = (all.4.seat.0 ∙ replied.idle.0, counts_settled all some (pin ∙ replied.idle.1.pin) replied.idle.1);
     noted = tt;
     refused = record {
       refused = record {
         unnoted = unnoted_then table.layout (pass_of s) (pass_of m.0) (pass_of b.0) replied.refused.refused.unnoted early (counts_unnoted all some replied.idle.1);
         full = λ full. may_take_from_before call (pass_of s) (pass_of s) (pass_of m.0) (pass_of b.0) (no_further refl)
-            (no_further (ap (λ (z : Known). z.front) all.3.rest)) (ap (λ (z : Known). z.fresh) all.3.rest) (replied.refused.refused.full full);
+            (no_further (ap (λ (z : Known). z.front) all.4.rest)) (ap (λ (z : Known). z.fresh) all.4.rest) (replied.refused.refused.full full);
       };
-      cause = cause_counted (key_of call) (pass_of s) m b all.3 lacks replied.refused.cause;
+      cause = cause_counted (key_of call) (pass_of s) m b all.4 lacks replied.refused.cause;
     };
     leafless = replied.leafless;
-    loaded = subst (λ (z : Fresh). s.known.steps ≤ z.step) (sym (ap (λ (z : Known). z.fresh) all.3.rest)) replied.loaded;
+    loaded = subst (λ (z : Fresh). s.known.steps ≤ z.step) (sym (ap (λ (z : Known). z.fresh) all.4.rest)) replied.loaded;
   }
 
 -- ---- what the count says

@@ -63,7 +63,7 @@ GetsOrMakes asked result index becomes old new =
     GetsOr asked (HasMadeGetSteps index becomes old new) (HasMadeChangeSteps index becomes asked result old new)
 
 -- A change was tried once, without waiting. If it was answered, or found another pass in its way, no step follows. If it found no record
--- free, all records were counted, and the result is what this count says. But a removal with several passes may be held back without a
+-- free, the records were counted, and the result is what this count says. But a removal with several passes may be held back without a
 -- count.
 pub record IsTriedAndCounted {G : Type 0} (asked : Call) (result : Result Reply Refusal) (index : TableView) (becomes : G → Event → G → Type 0)
     (old new : PassView × G) : Type 0 where
@@ -118,7 +118,7 @@ abbrev pub GetsOrTries : {G : Type 0} → (asked : Call) (result : Result Reply 
 GetsOrTries asked result index becomes old new = GetsOr asked (HasMadeGetSteps index becomes old new) (MakesTries asked result index becomes old new)
 
 -- The steps of a call that doesn't wait, and counts records. A get makes those of a get, and a change those of one try. If the try found no
--- record free, a count of all records follows, but for a removal with several passes.
+-- record free, a count of the records follows, but for a removal with several passes.
 abbrev pub GetsOrCounts : {G : Type 0} → (asked : Call) (result : Result Reply Refusal) (index : TableView)
     (becomes : G → Event → G → Type 0) (old new : PassView × G) → Type 0
 GetsOrCounts asked result index becomes old new =

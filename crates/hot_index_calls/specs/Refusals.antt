@@ -1,4 +1,4 @@
--- What follows a try of a change that found no record free: a count of all records says whether the refusal is final.
+-- What follows a try of a change that found no record free: a count of the committed records says whether the refusal is final.
 use Rattle.std.specs.Prelude.{◌≡◌, ◌⊎◌, ℕ, suc, ◌<◌, ◌≤◌, List, length, Result, Ok, Err}
 use Rattle.finite_map.specs.declared.Call.{Call}
 use Rattle.finite_map.specs.declared.Reply.{Reply}
@@ -23,13 +23,14 @@ use Rattle.hot_index_calls.specs.declared.census.StateCounts.{StateCounts}
 use Rattle.hot_index_calls.specs.declared.refusals.Refusal.{Refusal}
 use Rattle.hot_index_calls.specs.declared.refusals.Refusal.TheVariants.{Busy as IsBusy, HeldBack, Full as IsFull}
 
--- Of the records of one kind or class, fewer than `needs` are free, and no others may come back: none is claimed, and none is retired.
+-- Of the committed records of one kind or class, fewer than `needs` are free, and no others may come back: none is claimed, and none is
+-- retired. Uncommitted ones are counted apart.
 pub record AreShort (needs : ℕ) (counts : StateCounts) : Type 0 where
   pub free : counts.free < needs
   pub held : counts.held ≡ 0
   pub obsolete : counts.obsolete ≡ 0
 
--- Of the records of one kind or class, none is claimed, and none is retired: each is free or live.
+-- Of the committed records of one kind or class, none is claimed, and none is retired: each is free or live.
 pub record AreAtRest (counts : StateCounts) : Type 0 where
   pub held : counts.held ≡ 0
   pub obsolete : counts.obsolete ≡ 0
@@ -92,7 +93,7 @@ abbrev pub NeedsBeside : (layout : Layout) (old new : PassView) (lacks : Full) (
 NeedsBeside layout old new Nodes needs = (own : List Rec) × LacksNodes layout new.number new.failed old.steps own × (needs ≡ suc (length own))
 NeedsBeside layout old new Leaves needs = Unit {0}
 
--- After a try, from `old` to `middle`, all records were counted, and the counts decide on the refusal (`IsRefusalByCounts`). In an index of
+-- After a try, from `old` to `middle`, the records were counted, and the counts decide on the refusal (`IsRefusalByCounts`). In an index of
 -- one pass no record is claimed or retired then, and fewer are free than the try needs. These two hold while epochs are not used up
 -- (`IsEarly`).
 pub record IsCountedAfter {G : Type 0} (call : Call) (lacks : Full) (refusal : Refusal) (index : TableView) (becomes : G → Event → G → Type 0)
@@ -111,7 +112,7 @@ abbrev pub HasNodeLeft : (passes : ℕ) (call : Call) → Type 0
 HasNodeLeft passes call = (1 < passes) × IsRemoval call
 
 -- What follows a refused try, from `old` to `middle`. After a busy one nothing is counted. A removal with several passes (`HasNodeLeft`)
--- may be held back without a count, and is never full. After any other refusal all records are counted, and the counts give the refusal.
+-- may be held back without a count, and is never full. After any other refusal the records are counted, and the counts give the refusal.
 abbrev pub FollowsRefusal : {G : Type 0} → (call : Call) (index : TableView) (becomes : G → Event → G → Type 0)
     (old middle new : PassView × G) (refusal : Refusal) → Type 0
 FollowsRefusal call index becomes old middle new IsBusy = new ≡ middle

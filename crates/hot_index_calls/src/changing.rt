@@ -241,7 +241,7 @@ fn pin_and_unpin<G: Gate>(table: &HotTable, seat: &mut TableSeat, gate: &mut G)
 }
 
 /// Tries to make the change `call` by two attempts at most, with the rounds of collection of [`try_change`]. The error is `Refusal::Busy`
-/// if another pass was in the call's way. If no record was free, all records are counted, and the error is `Full` or `HeldBack` by the
+/// if another pass was in the call's way. If no record was free, the records are counted, and the error is `Full` or `HeldBack` by the
 /// counts. But a removal in an index of several passes is `HeldBack` at once, without a count, since insertions leave a node record for it.
 /// A refused call has changed nothing.
 ///

@@ -1,4 +1,4 @@
-//! Why a change is refused that found no record free: by a count of all records, made after its try was undone.
+//! Why a change is refused that found no record free: by a count of all committed records, made after its try was undone.
 
 ghost use Rattle.std.specs.Prelude.{◌≡◌, ◌↔◌, ◌∷◌, [], IfSome, IsTrue, None, length};
 ghost use Rattle.rowex_writing.specs.declared.attempts.TryFault.TheVariants.{Busy};
@@ -13,7 +13,7 @@ use record_words::{LARGE_BYTES, MEDIUM_BYTES, SHORT_BYTES, WIDE_BYTES};
 use rowex_core::Rec;
 use rowex_writing::{Full, TryFault};
 
-/// Why a change was refused that doesn't wait. Where a try finds no record free, a count of all records decides between the last two.
+/// Why a change was refused that doesn't wait. Where a try finds no record free, a count of all committed records decides between the last two.
 /// Nothing has changed then.
 #[derive(Clone, Copy)]
 pub enum Refusal {

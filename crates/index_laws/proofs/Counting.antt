@@ -1,5 +1,5 @@
 -- What a count of all records finds in a core in which no pass has a record of its own.
-use Rattle.index_laws.proofs.Common.{◌≡◌, ℕ, zero, suc, ◌+◌, ◌-◌, ◌≤◌, List, [], ◌∷◌, ◌++◌, Bool, true, false, length, Option, Some, None, refl, sym, ap, ap₂, subst, ◌∙◌, arith, add-one, count_by, range_with_len, sum_by-cons, state_word, Layout, Rec, a_node, a_leaf, Tag, FreeTag, HeldTag, Live, Locked, Obsolete, Fate, Free, Held, Ready, InTree, Unlinked, Marked, Core, IsLawful, holder_of, is_in_tree, lock_of, state_at, tag_of, Act, FoundTags, OneForEach, counts_in, is_free, is_held, is_live, is_obsolete, loads_in, loads_of}
+use Rattle.index_laws.proofs.Common.{◌≡◌, ℕ, zero, suc, ◌+◌, ◌-◌, ◌<◌, ◌≤◌, List, [], ◌∷◌, ◌++◌, Bool, true, false, length, Option, Some, None, refl, sym, ap, ap₂, subst, ◌∙◌, arith, add-one, count_by, range_with_len, sum_by-cons, state_word, Layout, Rec, a_node, a_leaf, Tag, FreeTag, HeldTag, Live, Locked, Obsolete, Fate, Free, Held, Ready, InTree, Unlinked, Marked, Core, IsLawful, holder_of, is_in_tree, lock_of, state_at, tag_of, Act, FoundTags, OneForEach, counts_in, is_free, is_held, is_live, is_obsolete, loads_in, loads_of}
 use Rattle.index_laws.specs.Rest.{CountsKeys, CountsNoneLost, NoneIsLost, is_free_fate, number_of_keys}
 use Rattle.index_laws.proofs.Rounding.{ActsLead, IsPlaced, acts_split}
 use Rattle.index_laws.proofs.Standing.{leaves_in_tree, nodes_in_tree, one_if}
@@ -101,7 +101,58 @@ none_in : (rs : List ℕ) → count_by (λ i. false) rs ≡ 0
 none_in [] = refl
 none_in (r ∷ rs) = let all = sum_by-cons (λ i. one_if false) r rs in omega (arith, all, none_in rs)
 
-module _ (c : Core) (is : Tag → Bool) (of : Rec → Bool) (agree : (r : Rec) (tag : Tag) → state_word tag ≡ state_at c r → is tag ≡ of r) where
+-- of so many numbers all are counted, or none
+abbrev many : Bool → ℕ → ℕ
+many true n = n
+many false n = 0
+
+many_none : (t : Bool) → 0 ≡ many t 0
+many_none true = refl
+many_none false = refl
+
+many_more : (t : Bool) (n : ℕ) → many t (suc n) ≡ one_if t + many t n
+many_more true n = omega arith
+many_more false n = refl
+
+same_in : (p : ℕ → Bool) (t : Bool) (a n : ℕ) → ((i : ℕ) → a ≤ i → i < a + n → p i ≡ t) → count_by p (range_with_len a n) ≡ many t n
+same_in p t a zero all = many_none t
+same_in p t a (suc n) all =
+    let one = sum_by-cons (λ i. one_if (p i)) a (range_with_len (a + 1) n) in
+    let here = ap one_if (all a (omega arith) (omega arith)) in
+    let rest = same_in p t (a + 1) n (λ i from below. all i (omega (arith, from)) (omega (arith, below))) in
+    omega (arith, one, here, rest, many_more t n)
+
+-- the records that were not counted are free
+pub record LeftFree (c : Core) (layout : Layout) (tags : FoundTags) : Type 0 where
+  pub nodes : (n : ℕ) → length tags.nodes ≤ n → n < layout.nodes → c.fate (a_node n) ≡ Free
+  pub short : (n : ℕ) → length tags.short ≤ n → n < layout.medium_from → c.fate (a_leaf n) ≡ Free
+  pub medium : (n : ℕ) → layout.medium_from + length tags.medium ≤ n → n < layout.large_from → c.fate (a_leaf n) ≡ Free
+  pub large : (n : ℕ) → layout.large_from + length tags.large ≤ n → n < layout.wide_from → c.fate (a_leaf n) ≡ Free
+  pub wide : (n : ℕ) → layout.wide_from + length tags.wide ≤ n → n < layout.long_from → c.fate (a_leaf n) ≡ Free
+  pub long : (n : ℕ) → layout.long_from + length tags.long ≤ n → n < layout.leaves → c.fate (a_leaf n) ≡ Free
+
+-- no more records were counted than there are
+pub record Fit (layout : Layout) (tags : FoundTags) : Type 0 where
+  pub nodes : length tags.nodes ≤ layout.nodes
+  pub short : length tags.short ≤ layout.medium_from
+  pub medium : length tags.medium ≤ layout.large_from - layout.medium_from
+  pub large : length tags.large ≤ layout.wide_from - layout.large_from
+  pub wide : length tags.wide ≤ layout.long_from - layout.wide_from
+  pub long : length tags.long ≤ layout.leaves - layout.long_from
+
+pub each_fits : (layout : Layout) (uncommitted : ℕ → ℕ) (tags : FoundTags) → OneForEach layout uncommitted tags → Fit layout tags
+each_fits layout uncommitted tags each = record {
+  nodes = let some = layout.nodes_in_range in omega (arith, some, each.nodes);
+  short = omega (arith, each.short);
+  medium = omega (arith, each.medium);
+  large = omega (arith, each.large);
+  wide = omega (arith, each.wide);
+  long = omega (arith, each.long);
+}
+
+-- What is counted of the states is what is counted of the records. `t` says of free records.
+module _ (c : Core) (is : Tag → Bool) (of : Rec → Bool) (agree : (r : Rec) (tag : Tag) → state_word tag ≡ state_at c r → is tag ≡ of r) (t : Bool)
+    (free : (r : Rec) → c.fate r ≡ Free → of r ≡ t) where
   found : (kind : ℕ → Rec) (n : ℕ) (tags : List Tag) → Finds c kind n tags → count_by is tags ≡ count_by (λ i. of (kind i)) (range_with_len n (length tags))
   found kind n [] finds = refl
   found kind n (tag ∷ tags) (here, rest) =
@@ -111,50 +162,66 @@ module _ (c : Core) (is : Tag → Bool) (of : Rec → Bool) (agree : (r : Rec) (
       let next = ap (λ z. count_by (λ i. of (kind i)) (range_with_len z (length tags))) (add-one n) in
       omega (arith, one, all, same, next, found kind (suc n) tags rest)
 
-  module _ (layout : Layout) (tags : FoundTags) (each : OneForEach layout tags) (has : HaveFound c layout tags) where
-    nodes_found : count_by is tags.nodes ≡ count_by (λ i. of (a_node i)) (range_with_len 0 layout.nodes)
-    nodes_found = found a_node 0 tags.nodes has.nodes ∙ ap (λ n. count_by (λ i. of (a_node i)) (range_with_len 0 n)) (sym each.nodes)
+  of_class : (kind : ℕ → Rec) (first size : ℕ) (tags : List Tag) → length tags ≤ size → Finds c kind first tags →
+      ((n : ℕ) → first + length tags ≤ n → n < first + size → c.fate (kind n) ≡ Free) →
+      count_by is tags + many t (size - length tags) ≡ count_by (λ i. of (kind i)) (range_with_len first size)
+  of_class kind first size tags fits finds left =
+      let p : ℕ → Bool = λ i. of (kind i) in
+      let rest = same_in p t (first + length tags) (size - length tags) (λ n from below. free (kind n) (left n from (omega (arith, below, fits)))) in
+      let both = join p first (length tags) (size - length tags) (first + length tags) size refl (omega (arith, fits)) in
+      let some = found kind first tags finds in
+      omega (arith, some, rest, both)
 
-    leaves_found : count_by is tags.short + count_by is tags.medium + count_by is tags.large + count_by is tags.wide + count_by is tags.long ≡
+  module _ (layout : Layout) (tags : FoundTags) (fit : Fit layout tags) (has : HaveFound c layout tags) (left : LeftFree c layout tags) where
+    nodes_found : count_by is tags.nodes + many t (layout.nodes - length tags.nodes) ≡ count_by (λ i. of (a_node i)) (range_with_len 0 layout.nodes)
+    nodes_found = of_class a_node 0 layout.nodes tags.nodes fit.nodes has.nodes (λ n from below. left.nodes n (omega (arith, from)) (omega (arith, below)))
+
+    leaves_found : count_by is tags.short + count_by is tags.medium + count_by is tags.large + count_by is tags.wide + count_by is tags.long +
+        (many t (layout.medium_from - length tags.short) + many t (layout.large_from - layout.medium_from - length tags.medium) +
+        many t (layout.wide_from - layout.large_from - length tags.large) + many t (layout.long_from - layout.wide_from - length tags.wide) +
+        many t (layout.leaves - layout.long_from - length tags.long)) ≡
         count_by (λ i. of (a_leaf i)) (range_with_len 0 layout.leaves)
     leaves_found =
         let p : ℕ → Bool = λ i. of (a_leaf i) in
-        let short = each.short in
-        let medium = each.medium in
-        let large = each.large in
-        let wide = each.wide in
-        let long = each.long in
-        let two = join p 0 (length tags.short) (length tags.medium) layout.medium_from layout.large_from (omega (arith, short))
-        (omega (arith, short, medium)) in
-        let three = join p 0 layout.large_from (length tags.large) layout.large_from layout.wide_from (omega arith) (omega (arith, large)) in
-        let four = join p 0 layout.wide_from (length tags.wide) layout.wide_from layout.long_from (omega arith) (omega (arith, wide)) in
-        let five = join p 0 layout.long_from (length tags.long) layout.long_from layout.leaves (omega arith) (omega (arith, long)) in
-        omega (
-          arith,
-          two,
-          three,
-          four,
-          five,
-          found a_leaf 0 tags.short has.short,
-          found a_leaf layout.medium_from tags.medium has.medium,
-          found a_leaf layout.large_from tags.large has.large,
-          found a_leaf layout.wide_from tags.wide has.wide,
-          found a_leaf layout.long_from tags.long has.long,
-        )
+        let l = layout in
+        let (one, two, three, four) = l.classes_in_order in
+        add_up _ _ _ _ _ _ _ _ _ _ _ _ _ _ _ _ _ _ _
+        (of_class a_leaf 0 l.medium_from tags.short fit.short has.short (λ n from below. left.short n (omega (arith, from)) (omega (arith, below))))
+        (of_class a_leaf l.medium_from (l.large_from - l.medium_from) tags.medium fit.medium has.medium (λ n from below. left.medium n from (omega (arith, below, one))))
+        (of_class a_leaf l.large_from (l.wide_from - l.large_from) tags.large fit.large has.large (λ n from below. left.large n from (omega (arith, below, two))))
+        (of_class a_leaf l.wide_from (l.long_from - l.wide_from) tags.wide fit.wide has.wide (λ n from below. left.wide n from (omega (arith, below, three))))
+        (of_class a_leaf l.long_from (l.leaves - l.long_from) tags.long fit.long has.long (λ n from below. left.long n from (omega (arith, below, four))))
+        (join p 0 l.medium_from (l.large_from - l.medium_from) l.medium_from l.large_from (omega arith) (omega (arith, one)))
+        (join p 0 l.large_from (l.wide_from - l.large_from) l.large_from l.wide_from (omega arith) (omega (arith, two)))
+        (join p 0 l.wide_from (l.long_from - l.wide_from) l.wide_from l.long_from (omega arith) (omega (arith, three)))
+        (join p 0 l.long_from (l.leaves - l.long_from) l.long_from l.leaves (omega arith) (omega (arith, four)))
+      where
+        add_up : (s m g w o us um ug uw uo s' m' g' w' o' two three four all : ℕ) → s + us ≡ s' → m + um ≡ m' → g + ug ≡ g' → w + uw ≡ w' → o + uo ≡ o' → s' + m' ≡ two →
+            two + g' ≡ three → three + w' ≡ four → four + o' ≡ all → s + m + g + w + o + (us + um + ug + uw + uo) ≡ all
+        add_up s m g w o us um ug uw uo s' m' g' w' o' two three four all a b c d e f h i j = omega (arith, a, b, c, d, e, f, h, i, j)
 
-module _ (c : Core) (law : IsLawful c) (unowned : (r : Rec) → holder_of (c.fate r) ≡ None) (tags : FoundTags) (each : OneForEach c.layout tags)
-    (has : HaveFound c c.layout tags) where
+bare : (n m : ℕ) → n + (0 + 0 + 0 + 0 + 0) ≡ m → n ≡ m
+bare n m is = omega (arith, is)
+
+bare_one : (n m : ℕ) → n + 0 ≡ m → n ≡ m
+bare_one n m is = omega (arith, is)
+
+module _ (c : Core) (law : IsLawful c) (unowned : (r : Rec) → holder_of (c.fate r) ≡ None) (tags : FoundTags) (fit : Fit c.layout tags)
+    (has : HaveFound c c.layout tags) (left : LeftFree c c.layout tags) where
   said : (r : Rec) (tag : Tag) → state_word tag ≡ state_at c r → Says (c.fate r) tag
   said r tag e = says (lock_of c r) (c.fate r) tag (unowned r) e
 
   pub counts_keys : CountsKeys (number_of_keys c) (counts_in c.layout tags)
   counts_keys = record {
-    leaves = leaves_found c is_live (λ r. is_in_tree (c.fate r)) (λ r tag e. (said r tag e).1) c.layout tags each has ∙ leaves_in_tree c law;
-    nodes = subst (λ n. n ≤ number_of_keys c - 1) (sym (nodes_found c is_live (λ r. is_in_tree (c.fate r))
-        (λ r tag e. (said r tag e).1) c.layout tags each has))
+    leaves = bare _ _ (leaves_found c is_live (λ r. is_in_tree (c.fate r)) (λ r tag e. (said r tag e).1) false (λ r is. ap is_in_tree is) c.layout tags fit has left) ∙
+        leaves_in_tree c law;
+    nodes = subst (λ n. n ≤ number_of_keys c - 1)
+        (sym (bare_one _ _ (nodes_found c is_live (λ r. is_in_tree (c.fate r)) (λ r tag e. (said r tag e).1) false (λ r is. ap is_in_tree is) c.layout tags fit has left)))
         (nodes_in_tree c law);
-    leaves_held = leaves_found c is_held (λ r. false) (λ r tag e. (said r tag e).2) c.layout tags each has ∙ none_in (range_with_len 0 c.layout.leaves);
-    nodes_held = nodes_found c is_held (λ r. false) (λ r tag e. (said r tag e).2) c.layout tags each has ∙ none_in (range_with_len 0 c.layout.nodes);
+    leaves_held = bare _ _ (leaves_found c is_held (λ r. false) (λ r tag e. (said r tag e).2) false (λ r is. refl) c.layout tags fit has left) ∙
+        none_in (range_with_len 0 c.layout.leaves);
+    nodes_held = bare_one _ _ (nodes_found c is_held (λ r. false) (λ r tag e. (said r tag e).2) false (λ r is. refl) c.layout tags fit has left) ∙
+        none_in (range_with_len 0 c.layout.nodes);
   }
 
   pub counts_none_lost : ((r : Rec) → IsPlaced (c.fate r)) → NoneIsLost c → CountsNoneLost c.layout (number_of_keys c) (counts_in c.layout tags)
@@ -163,12 +230,15 @@ module _ (c : Core) (law : IsLawful c) (unowned : (r : Rec) → holder_of (c.fat
       unretired (c.fate r) (placed r) in
       record {
         live = counts_keys;
-        leaves_retired = leaves_found c is_obsolete (λ r. false) still c.layout tags each has ∙ none_in (range_with_len 0 c.layout.leaves);
-        nodes_retired = nodes_found c is_obsolete (λ r. false) still c.layout tags each has ∙ none_in (range_with_len 0 c.layout.nodes);
-        leaves = ap (λ n. n + number_of_keys c) (leaves_found c is_free (λ r. is_free_fate (c.fate r)) (λ r tag e. (said r tag e).0) c.layout tags each has) ∙
+        leaves_retired = bare _ _ (leaves_found c is_obsolete (λ r. false) still false (λ r is. refl) c.layout tags fit has left) ∙
+            none_in (range_with_len 0 c.layout.leaves);
+        nodes_retired = bare_one _ _ (nodes_found c is_obsolete (λ r. false) still false (λ r is. refl) c.layout tags fit has left) ∙
+            none_in (range_with_len 0 c.layout.nodes);
+        leaves =
+            ap (λ n. n + number_of_keys c) (leaves_found c is_free (λ r. is_free_fate (c.fate r)) (λ r tag e. (said r tag e).0) true (λ r is. ap is_free_fate is) c.layout tags fit has left) ∙
             none.leaves;
-        nodes = subst (λ n. c.layout.nodes ≤ n + (number_of_keys c - 1)) (sym (nodes_found c is_free (λ r. is_free_fate (c.fate r))
-            (λ r tag e. (said r tag e).0) c.layout tags each has)) none.nodes;
+        nodes = subst (λ n. c.layout.nodes ≤ n + (number_of_keys c - 1))
+            (sym (nodes_found c is_free (λ r. is_free_fate (c.fate r)) (λ r tag e. (said r tag e).0) true (λ r is. ap is_free_fate is) c.layout tags fit has left)) none.nodes;
       }
     where
       unretired : (f : Fate) → IsPlaced f → is_retired f ≡ false

@@ -11,4 +11,5 @@ pub mod Standing
 pub mod Rounding
 pub mod Losing
 pub mod Counting
+pub mod LeftOut
 pub mod Resting

@@ -1,5 +1,5 @@
 -- An index whose passes are idle: from the traces of its passes to the core, and the laws of a round and of a count made there.
-use Rattle.index_laws.proofs.Common.{rules, ◌≡◌, ◌≢◌, inl, inr, ⊎_elim, ℕ, ◌+◌, ◌<◌, List, [], ◌∷◌, ◌++◌, if◌then◌else◌, nat_eq, Option, Some, None, length, refl, sym, ap, subst, ◌∙◌, arith, le_refl, append_assoc, append-nil, All, cases_eq, eq-eqb, ne_eqb, append_cancel_left, All-cons, All-head, All-nil, All-tail, All-weaker, Change, Note, map_of, state_word, EPOCHS, Layout, Rec, a_node, a_leaf, Tag, Fate, Free, Held, Ready, InTree, Unlinked, Marked, IsOneOf, Round, Act, LoadEpoch, LoadState, Event, Known, Core, HasRecord, IsLawful, holder_of, Legal, after, Knows, opening, EventsLead, opening_is_lawful, runs_stay_lawful, InTurn, Runs, StepsWith, silent, opening_of, IsNewSeatOf, SeatView, TableView, IsTableRun, OthersStepOn, own_acts, lead_rest, own_acts-append, own_acts-others, steps_are_in_one_run, others_none, others_on, runs_same, run_timely, IsRound, Visits, FoundTags, HasCounted, OneForEach, counts_in, loads_in, loads_of, IsSettled, PassView, HasCollected, Happening, Configuration, runs_stay_sound}
+use Rattle.index_laws.proofs.Common.{rules, ◌≡◌, ◌≢◌, inl, inr, ⊎_elim, ℕ, ◌+◌, ◌<◌, List, [], ◌∷◌, ◌++◌, if◌then◌else◌, nat_eq, Option, Some, None, length, refl, sym, ap, subst, ◌∙◌, arith, le_refl, append_assoc, append-nil, All, cases_eq, eq-eqb, ne_eqb, append_cancel_left, All-cons, All-head, All-nil, All-tail, All-weaker, Change, Note, map_of, EPOCHS, Layout, Rec, a_node, a_leaf, Fate, Free, Held, Ready, InTree, Unlinked, Marked, IsOneOf, Round, Act, LoadEpoch, Event, Known, Core, HasRecord, IsLawful, holder_of, Legal, after, Knows, opening, EventsLead, opening_is_lawful, runs_stay_lawful, InTurn, Runs, StepsWith, silent, opening_of, IsNewSeatOf, SeatView, TableView, IsTableRun, OthersStepOn, own_acts, lead_rest, own_acts-append, own_acts-others, steps_are_in_one_run, others_none, others_on, runs_same, run_timely, IsRound, Visits, FoundTags, HasCounted, OneForEach, counts_in, loads_in, IsSettled, PassView, HasCollected, Happening, Configuration, runs_stay_sound}
 use Rattle.versions.specs.declared.Pin.{Pin}
 use Rattle.rowex_core.specs.declared.known.Holding.TheVariants.{Held as HeldBy, Ready as ReadyBy, Unlinked as UnlinkedBy}
 use Rattle.rowex_core.proofs.Sharing.Owning.{knows_all, pin_is, round_is}
@@ -9,9 +9,12 @@ use Rattle.hot_index_calls.specs.declared.census.RecordCounts.{RecordCounts}
 use Rattle.hot_index_calls.proofs.Rooms.{round_acts, step_here}
 use Rattle.hot_index.proofs.Unhindered.{no_lock}
 use Rattle.index_laws.specs.Joined.{HasGoneThrough, new}
-use Rattle.index_laws.specs.Rest.{AreAllIdle, CountsKeys, CountsNoneLost, GoesOnAlone, HasNoneAtWork, IdlePassesLeaveAlone, NoRecordIsLost, OnePassLosesNone, StepsAlone, number_of_keys, with_seat}
+use Rattle.index_laws.specs.Rest.{AreAllIdle, AreUncommittedFree, CountsKeys, CountsNoneLost, GoesOnAlone, HasNoneAtWork, IdlePassesLeaveAlone, LeadsTo, NoRecordIsLost, OnePassLosesNone, StepsAlone, number_of_keys, with_seat}
 use Rattle.index_laws.specs.Traced.{core_led_to, configuration_of}
-use Rattle.index_laws.proofs.Counting.{HaveFound, count_finds, counts_keys, counts_none_lost}
+use Rattle.record_words.specs.Layout.{uncommitted_in}
+use Rattle.hot_index_calls.specs.Census.{FindsUncommitted}
+use Rattle.index_laws.proofs.LeftOut.{free_behind, left_free, uncommitted_free}
+use Rattle.index_laws.proofs.Counting.{Fit, HaveFound, LeftFree, count_finds, counts_keys, counts_none_lost, each_fits}
 use Rattle.index_laws.proofs.Joined.Interleaving.{named_by}
 use Rattle.index_laws.proofs.Joined.{one_run_is_an_execution}
 use Rattle.index_laws.proofs.Losing.{none_is_lost}
@@ -234,12 +237,24 @@ module _ {G : Type 0} (table : TableView) (becomes : G → Event → G → Type 
     counts_found : (tags : FoundTags) → Runs table becomes (loads_in table.layout tags) a b → HaveFound c table.layout tags × (d ≡ c)
     counts_found tags runs = count_finds a.0.known.pass table.layout tags c d (alone_lead (loads_in table.layout tags) a b run runs behind alone c d there led)
 
+    -- what a count leaves out is free
+    counts_left : (tags : FoundTags) (found : FindsUncommitted table becomes (loads_in table.layout tags) a b) → OneForEach table.layout (uncommitted_in found.middle.0.bounds) tags → LeftFree d table.layout tags
+    counts_left tags found each = left_free table.layout (uncommitted_in found.middle.0.bounds) tags each d (free_behind table becomes a b run behind alone d led tags found)
+
+    calls_free : (tags : FoundTags) (found : FindsUncommitted table becomes (loads_in table.layout tags) a b) → OneForEach table.layout (uncommitted_in found.middle.0.bounds) tags → (counts : RecordCounts) →
+        counts ≡ counts_in table.layout tags → AreUncommittedFree table.layout counts d
+    calls_free tags found each counts are = subst (λ z. AreUncommittedFree table.layout z d) (sym are)
+        (uncommitted_free table.layout (uncommitted_in found.middle.0.bounds) tags each d (free_behind table becomes a b run behind alone d led tags found))
+
 -- what it finds of the keys
 module _ (layout : Layout) (c d : Core) (same : d ≡ c) (law : IsLawful c) (lay : c.layout ≡ layout) (unowned : (r : Rec) →
     holder_of (c.fate r) ≡ None) (tags : FoundTags)
-    (each : OneForEach layout tags) (found : HaveFound c layout tags) (counts : RecordCounts) (are : counts ≡ counts_in layout tags) where
-  each_there : OneForEach c.layout tags
-  each_there = subst (λ l. OneForEach l tags) (sym lay) each
+    (fit : Fit layout tags) (found : HaveFound c layout tags) (left : LeftFree d layout tags) (counts : RecordCounts) (are : counts ≡ counts_in layout tags) where
+  fit_there : Fit c.layout tags
+  fit_there = subst (λ l. Fit l tags) (sym lay) fit
+
+  left_there : LeftFree c c.layout tags
+  left_there = subst (λ l. LeftFree c l tags) (sym lay) (subst (λ z. LeftFree z layout tags) same left)
 
   found_there : HaveFound c c.layout tags
   found_there = subst (λ l. HaveFound c l tags) (sym lay) found
@@ -249,13 +264,13 @@ module _ (layout : Layout) (c d : Core) (same : d ≡ c) (law : IsLawful c) (lay
 
   keys_counted : CountsKeys (number_of_keys d) counts
   keys_counted = subst (λ z. CountsKeys (number_of_keys z) counts) (sym same)
-      (subst (CountsKeys (number_of_keys c)) (sym are_there) (counts_keys c law unowned tags each_there found_there))
+      (subst (CountsKeys (number_of_keys c)) (sym are_there) (counts_keys c law unowned tags fit_there found_there left_there))
 
   none_lost_counted : ((r : Rec) → IsPlaced (c.fate r)) → CountsNoneLost layout (number_of_keys d) counts
   none_lost_counted placed = subst (λ z. CountsNoneLost layout (number_of_keys z) counts) (sym same)
       (subst (λ l. CountsNoneLost l (number_of_keys c) counts) lay
       (subst (CountsNoneLost c.layout (number_of_keys c)) (sym are_there)
-      (counts_none_lost c law unowned tags each_there found_there placed (none_is_lost c law (λ r has. placed r)))))
+      (counts_none_lost c law unowned tags fit_there found_there left_there placed (none_is_lost c law (λ r has. placed r)))))
 
 placed_unowned : (f : Fate) → IsPlaced f → holder_of f ≡ None
 placed_unowned Free ok = refl
@@ -298,8 +313,12 @@ module _ {G : Type 0} (becomes : G → Event → G → Type 0) where
         let there = core_led index run on in
         let (found, same) = counts_found index becomes (a.0.seat, a.1) (b.0.seat, b.1) run
         (behind_it index run on) on.alone c d there led counted.tags counted.steps in
+        let left = counts_left index becomes (a.0.seat, a.1) (b.0.seat, b.1) run (behind_it index run on) on.alone c d there led counted.tags counted.found counted.each in
         keys_counted index.layout c d same (runs_stay_lawful index.layout run c there) (lead_layout (opening index.layout) run c there)
-        (λ r. (idle_there index run on).unowned r) counted.tags counted.each found counts counted.counts_are);
+        (λ r. (idle_there index run on).unowned r) counted.tags (each_fits index.layout _ counted.tags counted.each) found left counts counted.counts_are);
+    uncommitted = λ index run a b counts on counted d led.
+        calls_free index becomes (a.0.seat, a.1) (b.0.seat, b.1) run (behind_it index run on) on.alone (core index run on) d (core_led index run on) led counted.tags counted.found counted.each counts
+        counted.counts_are;
     both = λ index run a m b nodes leaves counts on early collected alone counted d led.
         (let start = opening index.layout in
         let trace = m.0.seat.trace in
@@ -307,8 +326,9 @@ module _ {G : Type 0} (becomes : G → Event → G → Type 0) where
         let placed = round_places_all index run a m nodes leaves on early collected c there in
         let (found, same) = counts_found index becomes (m.0.seat, m.1) (b.0.seat, b.1) trace
         (others_none m.0.seat.known.pass trace) alone c d there led counted.tags counted.steps in
+        let left = counts_left index becomes (m.0.seat, m.1) (b.0.seat, b.1) trace (others_none m.0.seat.known.pass trace) alone c d there led counted.tags counted.found counted.each in
         none_lost_counted index.layout c d same (runs_stay_lawful index.layout trace c there) (lead_layout start trace c there)
-        (λ r. placed_unowned (c.fate r) (placed r)) counted.tags counted.each found counts counted.counts_are placed);
+        (λ r. placed_unowned (c.fate r) (placed r)) counted.tags (each_fits index.layout _ counted.tags counted.each) found left counts counted.counts_are placed);
   }
 
 -- ---- an index of one pass
@@ -383,24 +403,10 @@ module _ {G : Type 0} (table : TableView) (becomes : G → Event → G → Type 
         round_all_placed table becomes a b a.0.trace (others_none a.0.known.pass a.0.trace) alone c d there led r
         (one_idle (LoadEpoch r.epoch) _ a b steps settled) early
 
-  -- a count, in a table with a record
-  some_load : (tags : List Tag) → 0 < length tags → (act : Act) × (rest : List Act) × (loads_of a_node 0 tags ≡ act ∷ rest)
-  some_load [] some = absurd (omega (arith, some))
-  some_load (tag ∷ tags) some = (LoadState (a_node 0) (state_word tag), loads_of a_node 1 tags, refl)
-
-  module _ (a b : SeatView × G) (tags : FoundTags) (each : OneForEach table.layout tags) (some : 0 < table.layout.nodes)
-      (runs : Runs table becomes (loads_in table.layout tags) a b) where
-    abbrev load : (act : Act) × (rest : List Act) × (loads_of a_node 0 tags.nodes ≡ act ∷ rest)
-    load = some_load tags.nodes (let many = each.nodes in omega (arith, some, many))
-
-    abbrev behind_nodes : List Act → List Act
-    behind_nodes first =
-        let l = table.layout in
-        ((((first ++ loads_of a_leaf 0 tags.short) ++ loads_of a_leaf l.medium_from tags.medium) ++ loads_of a_leaf l.large_from tags.large) ++
-        loads_of a_leaf l.wide_from tags.wide) ++ loads_of a_leaf l.long_from tags.long
-
-    first_known : Runs table becomes (load.0 ∷ behind_nodes load.1) a b
-    first_known = subst (λ l. Runs table becomes (behind_nodes l) a b) load.2 runs
+-- the steps of a count, from its first on
+first_known : {G : Type 0} (table : TableView) (becomes : G → Event → G → Type 0) (a b : SeatView × G) (tags : FoundTags) (found : FindsUncommitted table becomes (loads_in table.layout tags) a b) →
+    Runs table becomes (loads_in table.layout tags) a b → Runs table becomes (found.first ∷ found.others) a b
+first_known table becomes a b tags found runs = subst (λ l. Runs table becomes l a b) found.acts_are runs
 
 module _ {G : Type 0} (becomes : G → Event → G → Type 0) where
   count_one : (index : TableView) (a b : PassView × G) (counts : RecordCounts) → index.layout.passes ≡ 1 → IsSettled a.0.seat.known → 0 < index.layout.nodes →
@@ -409,21 +415,35 @@ module _ {G : Type 0} (becomes : G → Event → G → Type 0) where
       let s : SeatView × G = (a.0.seat, a.1) in
       let e : SeatView × G = (b.0.seat, b.1) in
       let start = opening index.layout in
-      let x = load index becomes one s e counted.tags counted.each some counted.steps in
-      let runs = first_known index becomes one s e counted.tags counted.each some counted.steps in
-      let c = from index becomes one x.0 _ s e runs in
-      let there = from_led index becomes one x.0 _ s e runs in
-      let mine = first_pass index becomes one x.0 _ s e runs in
+      let first = counted.found.first in
+      let runs = first_known index becomes s e counted.tags counted.found counted.steps in
+      let c = from index becomes one first _ s e runs in
+      let there = from_led index becomes one first _ s e runs in
+      let mine = first_pass index becomes one first _ s e runs in
       let (d, led) = (steps_are_in_one_run becomes index (loads_in index.layout counted.tags) s e counted.steps).run (inl (c, there)) in
       let alone = one_alone index becomes one (loads_in index.layout counted.tags) s e counted.steps mine c d there led in
       let none = others_none a.0.seat.known.pass a.0.seat.trace in
       let (found, same) = counts_found index becomes s e a.0.seat.trace none alone c d there led counted.tags counted.steps in
+      let left = subst (λ z. LeftFree z index.layout counted.tags) same (counts_left index becomes s e a.0.seat.trace none alone c d there led counted.tags counted.found counted.each) in
       let keys : number_of_keys c ≡ length (map_of b.0.front) =
-      sym (keys_at_first index becomes one x.0 _ s e runs) ∙ ap (λ (l : List Change). length (map_of l)) (sym (counted.front ∙
+      sym (keys_at_first index becomes one first _ s e runs) ∙ ap (λ (l : List Change). length (map_of l)) (sym (counted.front ∙
       ap (λ (z : PassView). z.front) counted.begins)) in
       subst (λ n. CountsKeys n counts) keys
       (keys_counted index.layout c c refl (runs_stay_lawful index.layout a.0.seat.trace c there) (lead_layout start a.0.seat.trace c there)
-      (λ r. (one_idle index becomes one x.0 _ s e runs settled).unowned r) counted.tags counted.each found counts counted.counts_are)
+      (λ r. (one_idle index becomes one first _ s e runs settled).unowned r) counted.tags (each_fits index.layout _ counted.tags counted.each) found left counts counted.counts_are)
+
+  calls_free_one : (index : TableView) (a b : PassView × G) (counts : RecordCounts) → index.layout.passes ≡ 1 → HasCounted index becomes a b counts →
+      LeadsTo index b.0.seat.trace (AreUncommittedFree index.layout counts)
+  calls_free_one index a b counts one counted d led =
+      let s : SeatView × G = (a.0.seat, a.1) in
+      let e : SeatView × G = (b.0.seat, b.1) in
+      let first = counted.found.first in
+      let runs = first_known index becomes s e counted.tags counted.found counted.steps in
+      let c = from index becomes one first _ s e runs in
+      let there = from_led index becomes one first _ s e runs in
+      let mine = first_pass index becomes one first _ s e runs in
+      let alone = one_alone index becomes one (loads_in index.layout counted.tags) s e counted.steps mine c d there led in
+      calls_free index becomes s e a.0.seat.trace (others_none a.0.seat.known.pass a.0.seat.trace) alone c d there led counted.tags counted.found counted.each counts counted.counts_are
 
   both_one : (index : TableView) (a m b : PassView × G) (nodes leaves : ℕ) (counts : RecordCounts) → index.layout.passes ≡ 1 → IsSettled a.0.seat.known →
       length a.0.seat.trace + 2 < EPOCHS → HasCollected index becomes a m nodes leaves → HasCounted index becomes m b counts →
@@ -446,12 +466,14 @@ module _ {G : Type 0} (becomes : G → Event → G → Type 0) where
       let (d, led) = (steps_are_in_one_run becomes index (loads_in index.layout counted.tags) t e counted.steps).run (inl (c, there)) in
       let alone = one_alone index becomes one (loads_in index.layout counted.tags) t e counted.steps (omega (arith, low, here)) c d there led in
       let (found, same) = counts_found index becomes t e trace (others_none m.0.seat.known.pass trace) alone c d there led counted.tags counted.steps in
+      let left = subst (λ z. LeftFree z index.layout counted.tags) same
+      (counts_left index becomes t e trace (others_none m.0.seat.known.pass trace) alone c d there led counted.tags counted.found counted.each) in
       let keys : number_of_keys c ≡ length (map_of b.0.front) =
       ap (λ (l : List Change). length (map_of l)) (front_is c m.0.seat.known law knows here ∙ sym (counted.front ∙
       ap (λ (z : PassView). z.front) counted.begins)) in
       subst (λ n. CountsNoneLost index.layout n counts) keys
       (none_lost_counted index.layout c c refl law (lead_layout start trace c there) (λ x. placed_unowned (c.fate x)
-      (placed x)) counted.tags counted.each found counts
+      (placed x)) counted.tags (each_fits index.layout _ counted.tags counted.each) found left counts
       counted.counts_are placed)
 
   pub one_pass_loses_none : OnePassLosesNone becomes
@@ -460,5 +482,6 @@ module _ {G : Type 0} (becomes : G → Event → G → Type 0) where
         none_is_lost d (runs_stay_lawful index.layout b.0.seat.trace d led)
         (λ r has. round_places_one index becomes one (a.0.seat, a.1) (b.0.seat, b.1) collected.round settled early d led r);
     count = count_one;
+    uncommitted = calls_free_one;
     both = both_one;
   }

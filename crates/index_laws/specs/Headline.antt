@@ -40,7 +40,7 @@ use Rattle.versions.specs.declared.Pin.{Pin}
 use Rattle.record_words.specs.declared.records.Rec.TheVariants.{Leaf as a_leaf}
 use Rattle.hot_index_calls.specs.Answers.{HaveMet, IsCause, IsListedBy, IsNoted, IsRefusedFor, IsScannedBy, MayRefuse, range_from}
 use Rattle.hot_index_calls.specs.declared.census.RecordCounts.{RecordCounts}
-use Rattle.hot_index_calls.specs.Census.{HasCounted}
+use Rattle.hot_index_calls.specs.Census.{HasCounted, all_uncommitted}
 use Rattle.hot_index_calls.specs.Counts.{round_steps, try_steps}
 use Rattle.hot_index_calls.specs.Many.{HasMadeGetManySteps}
 use Rattle.hot_index_calls.specs.Passes.{PassView, pass_of}
@@ -135,7 +135,7 @@ FaultsByCall =
     (fault ≢ Busy → (expected value : ℕ) → call ≢ Exchange key expected value) × (fault ≢ Busy → (delta : ℕ) → call ≢ Add key delta)
 
 -- Bounds on the atomic steps of each call that waits for no other pass: gets, tries of changes, scans, rounds of collection, and counts of
--- all records. A key's path has at most `9 * MAX_BYTES` nodes, since each node has a fork at a further bit of the key. At each node a
+-- all committed records. A key's path has at most `9 * MAX_BYTES` nodes, since each node has a fork at a further bit of the key. At each node a
 -- search makes at most 26 steps.
 pub record BoundedSteps : Type 0 where
   pub get : (index : TableView) (old new : PassView) → HasMadeGetSteps index untold (old, tt) (new, tt) →
@@ -150,7 +150,7 @@ pub record BoundedSteps : Type 0 where
   pub collect : (index : TableView) (nodes leaves : ℕ) (old new : PassView) → HasCollected index untold (old, tt) (new, tt) nodes leaves →
       new.steps ≤ old.steps + round_steps index.layout
   pub count : (index : TableView) (counts : RecordCounts) (old new : PassView) → HasCounted index untold (old, tt) (new, tt) counts →
-      new.steps ≤ old.steps + (index.layout.nodes + index.layout.leaves)
+      new.steps + all_uncommitted counts ≤ old.steps + (index.layout.nodes + index.layout.leaves)
 
 -- Bounds on the words that a call touches beside its steps. A get touches at most four for each node on its key's path, of which there are
 -- at most 2,160. A call of many gets touches at most eleven for each such node. A scan touches at most eleven words for each entry that it

@@ -1,5 +1,5 @@
 -- An index whose passes are idle. Which records are free after a round of collection, which stand in the tree, and what a count finds.
-use Rattle.std.specs.Prelude.{◌≡◌, ◌⊎◌, ℕ, ◌+◌, ◌-◌, ◌<◌, ◌≤◌, All, List, [], ◌++◌, length, Bool, true, false, if◌then◌else◌, nat_eq, None, count_by}
+use Rattle.std.specs.Prelude.{◌≡◌, ◌⊎◌, ℕ, ◌+◌, ◌-◌, ◌<◌, ◌≤◌, All, List, [], ◌++◌, length, Bool, true, false, if◌then◌else◌, nat_eq, nat_lt, None, count_by}
 use Rattle.std.specs.List.{range_with_len}
 use Rattle.finite_map.specs.Fronts.{map_of}
 use Rattle.record_words.specs.declared.TheConstants.{EPOCHS}
@@ -12,10 +12,11 @@ use Rattle.rowex_core.specs.declared.event.Event.{Event}
 use Rattle.rowex_core.specs.Cores.{Core, HasRecord, holder_of}
 use Rattle.rowex_core.specs.Opening.{opening}
 use Rattle.rowex_core.specs.Runs.{EventsLead}
-use Rattle.rowex_table.specs.Seats.{IsNewSeatOf, SeatView, TableView}
+use Rattle.rowex_table.specs.Committed.{count_from}
+use Rattle.rowex_table.specs.Seats.{HasAllCommitted, IsNewSeatOf, SeatView, TableView}
 use Rattle.rowex_table.specs.Traces.{IsTableRun}
 use Rattle.hot_index_calls.specs.Alone.{RunsAlone}
-use Rattle.hot_index_calls.specs.Census.{HasCounted}
+use Rattle.hot_index_calls.specs.Census.{HasCounted, all_uncommitted}
 use Rattle.hot_index_calls.specs.Passes.{IsSettled, PassView}
 use Rattle.hot_index_calls.specs.Traces.{HasCollected}
 use Rattle.hot_index_calls.specs.declared.census.RecordCounts.{RecordCounts}
@@ -77,14 +78,40 @@ pub record CountsKeys (keys : ℕ) (counts : RecordCounts) : Type 0 where
   pub leaves_held : of_leaves (λ states. states.held) counts ≡ 0
   pub nodes_held : counts.nodes.held ≡ 0
 
--- By the counts, the live records are those that the keys need (`CountsKeys`), and none is retired. All leaf records are free but one for
--- each key. The node records that aren't free are fewer than the keys, and none if there is no key.
+-- By the counts, the live records are those that the keys need (`CountsKeys`), and none is retired. All leaf records are free or uncommitted
+-- but one for each key. The node records that are neither are fewer than the keys, and none if there is no key.
 pub record CountsNoneLost (layout : Layout) (keys : ℕ) (counts : RecordCounts) : Type 0 where
   pub live : CountsKeys keys counts
   pub leaves_retired : of_leaves (λ states. states.obsolete) counts ≡ 0
   pub nodes_retired : counts.nodes.obsolete ≡ 0
-  pub leaves : of_leaves (λ states. states.free) counts + keys ≡ layout.leaves
-  pub nodes : layout.nodes ≤ counts.nodes.free + (keys - 1)
+  pub leaves : of_leaves (λ states. states.free) counts + of_leaves (λ states. states.uncommitted) counts + keys ≡ layout.leaves
+  pub nodes : layout.nodes ≤ counts.nodes.free + counts.nodes.uncommitted + (keys - 1)
+
+-- how many records these are, in whatever state or uncommitted
+abbrev pub all_of : StateCounts → ℕ
+all_of states = states.free + states.held + states.live + states.obsolete + states.uncommitted
+
+-- By the counts, each node record, and each leaf record of each class, is in one state, or uncommitted.
+pub record CountsEach (layout : Layout) (counts : RecordCounts) : Type 0 where
+  pub nodes : all_of counts.nodes ≡ layout.nodes
+  pub short : all_of counts.short ≡ layout.medium_from
+  pub medium : layout.medium_from + all_of counts.medium ≡ layout.large_from
+  pub large : layout.large_from + all_of counts.large ≡ layout.wide_from
+  pub wide : layout.wide_from + all_of counts.wide ≡ layout.long_from
+  pub long : layout.long_from + all_of counts.long ≡ layout.leaves
+
+-- by the counts, how many records of this one's kind are uncommitted
+abbrev pub uncommitted_like : (layout : Layout) (counts : RecordCounts) (rec : Rec) → ℕ
+uncommitted_like layout counts (a_node number) = counts.nodes.uncommitted
+uncommitted_like layout counts (a_leaf number) =
+    if nat_lt number layout.medium_from then counts.short.uncommitted else (if nat_lt number layout.large_from then counts.medium.uncommitted else
+    (if nat_lt number layout.wide_from then counts.large.uncommitted else (if nat_lt number layout.long_from then counts.wide.uncommitted else
+    counts.long.uncommitted)))
+
+-- Each record that the counts call uncommitted is free in the core. These are the last of each kind.
+abbrev pub AreUncommittedFree : (layout : Layout) (counts : RecordCounts) (core : Core) → Type 0
+AreUncommittedFree layout counts core =
+    (rec : Rec) → HasRecord layout rec → count_from layout rec ≤ uncommitted_like layout counts rec → core.fate rec ≡ Free
 
 -- The laws
 
@@ -129,7 +156,11 @@ pub record NoRecordIsLost {G : Type 0} (becomes : G → Event → G → Type 0) 
   -- a count finds as many live records as the keys need
   pub count : (index : TableView) (run : List Event) (old new : PassView × G) (counts : RecordCounts) → GoesOnAlone index run old.0.seat new.0.seat →
       HasCounted index becomes old new counts → LeadsTo index new.0.seat.trace (λ core. CountsKeys (number_of_keys core) counts)
-  -- a count after a round finds that all other records are free
+  -- what it calls uncommitted is free
+  pub uncommitted : (index : TableView) (run : List Event) (old new : PassView × G) (counts : RecordCounts) →
+      GoesOnAlone index run old.0.seat new.0.seat → HasCounted index becomes old new counts →
+      LeadsTo index new.0.seat.trace (AreUncommittedFree index.layout counts)
+  -- a count after a round finds that all other records are free or uncommitted
   pub both : (index : TableView) (run : List Event) (old middle new : PassView × G) (nodes leaves : ℕ) (counts : RecordCounts) →
       GoesOnAlone index run old.0.seat middle.0.seat → length run + 2 < EPOCHS → HasCollected index becomes old middle nodes leaves →
       StepsAlone middle.0.seat.known.pass middle.0.seat.trace new.0.seat.trace → HasCounted index becomes middle new counts →
@@ -144,8 +175,19 @@ pub record OnePassLosesNone {G : Type 0} (becomes : G → Event → G → Type 0
   -- a count finds as many live records as the keys need
   pub count : (index : TableView) (old new : PassView × G) (counts : RecordCounts) → index.layout.passes ≡ 1 → IsSettled old.0.seat.known →
       0 < index.layout.nodes → HasCounted index becomes old new counts → CountsKeys (length (map_of new.0.front)) counts
-  -- a count after a round finds that all other records are free
+  -- what it calls uncommitted is free
+  pub uncommitted : (index : TableView) (old new : PassView × G) (counts : RecordCounts) → index.layout.passes ≡ 1 →
+      HasCounted index becomes old new counts → LeadsTo index new.0.seat.trace (AreUncommittedFree index.layout counts)
+  -- a count after a round finds that all other records are free or uncommitted
   pub both : (index : TableView) (old middle new : PassView × G) (nodes leaves : ℕ) (counts : RecordCounts) → index.layout.passes ≡ 1 →
       IsSettled old.0.seat.known → length old.0.seat.trace + 2 < EPOCHS → HasCollected index becomes old middle nodes leaves →
       HasCounted index becomes middle new counts →
       CountsNoneLost index.layout (length (map_of new.0.front)) counts
+
+-- A count leaves no record out. Each is counted once, in one state or as uncommitted. If the pass knew that all records are committed, none
+-- is uncommitted.
+pub record CountLeavesNoneOut {G : Type 0} (becomes : G → Event → G → Type 0) : Type 0 where
+  pub each : (index : TableView) (old new : PassView × G) (counts : RecordCounts) → HasCounted index becomes old new counts →
+      CountsEach index.layout counts
+  pub all_committed : (index : TableView) (old new : PassView × G) (counts : RecordCounts) → HasAllCommitted old.0.seat →
+      HasCounted index becomes old new counts → all_uncommitted counts ≡ 0

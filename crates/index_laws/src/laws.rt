@@ -1,7 +1,7 @@
 //! Laws of the index over whole runs. The functions do nothing: their contracts are the laws.
 ghost use Rattle.index_laws.specs.Headline.{Headline};
 ghost use Rattle.index_laws.specs.Joined.{AnInsertIsFound, HandlesAreLinearizable, LoadedHaveEnded, OneRunIsAnExecution, SeeingIsDone, ShownHaveEnded, SilentStepsEnd, StepsNeedNoGate, TwoThatMeetHaveEnded};
-ghost use Rattle.index_laws.specs.Rest.{IdlePassesLeaveAlone, NoRecordIsLost, OnePassLosesNone};
+ghost use Rattle.index_laws.specs.Rest.{CountLeavesNoneOut, IdlePassesLeaveAlone, NoRecordIsLost, OnePassLosesNone};
 ghost use Rattle.index_laws.specs.Statements.{AGetReturns, Responses};
 ghost use Rattle.index_laws.specs.Steps.{StepsAreMoments, StepsFollow};
 ghost use Rattle.index_laws.specs.Traced.{AGetIsTraced, CallsMakeNoAsides, EndedBeforeLoaded, EndedOrLoadedBefore, EndedOrShownBefore, LoadsAreMoments, LoadsSeeAll, MetAreOfOneRun, TracedAreExecutions};
@@ -154,7 +154,7 @@ pub fn calls_neither_stamp_nor_follow_nor_meet()
 
 /// Let no call of an index be running, and let fewer than 2^60 - 2 steps have been made. A `collect` that runs alone then leaves each
 /// record free or in the tree. All leaf records are free but one for each key. The node records that aren't free are fewer than the keys,
-/// and none if there is no key. A `census` behind the round counts just these.
+/// and none if there is no key. A `census` after the round counts just these. What a census calls uncommitted is free.
 pub fn no_record_is_lost<G: Gate>()
     ensures { NoRecordIsLost G.becomes }
 {}
@@ -163,4 +163,9 @@ pub fn no_record_is_lost<G: Gate>()
 /// the steps made is the same.
 pub fn one_pass_loses_no_record<G: Gate>()
     ensures { OnePassLosesNone G.becomes }
+{}
+
+/// A `census` counts each record once, in one state or as uncommitted. In a table whose records are all committed none is uncommitted.
+pub fn a_census_leaves_no_record_out<G: Gate>()
+    ensures { CountLeavesNoneOut G.becomes }
 {}

@@ -6,6 +6,7 @@ ghost use Rattle.rowex_core.specs.Cores.{HasRecord};
 ghost use Rattle.rowex_table.specs.Rights.{IsClaimed};
 ghost use Rattle.rowex_table.specs.Seats.{IsSeatOf};
 
+use hot_index_calls::count_records;
 use record_words::Layout;
 use rowex_core::{NoGate, Rec};
 use rowex_table::{HotTable, TableSeat};
@@ -191,7 +192,7 @@ fn claim_and_expect(
 }
 
 /// A claim of a committed record leaves the others of its kind as they are. One of an uncommitted record commits it, and all before it.
-/// Others are committed by their number, if as many are uncommitted as was thought.
+/// Others are committed by their number, if as many are uncommitted as was thought. A count of the records tells which are.
 #[test]
 fn a_claim_commits_its_record(rt: HostRuntime) {
     let (table, mut seat) = make_reserved(&rt, rt.alloc());
@@ -203,4 +204,9 @@ fn a_claim_commits_its_record(rt: HostRuntime) {
     assert!(&rt; table.commit_records(&mut seat, 0, 4, 1) == 3);
     assert!(&rt; table.commit_records(&mut seat, 0, 3, 1) == 3);
     expect_uncommitted(&rt, &table, &mut seat, 1, 0);
+    let counts = count_records(&table, &mut seat, &mut NoGate);
+    let nodes = counts.nodes;
+    assert!(&rt; nodes.held == 3 && nodes.free == 4 && nodes.uncommitted == 1);
+    let leaves = counts.long;
+    assert!(&rt; leaves.held == 1 && leaves.free == 7 && leaves.uncommitted == 0);
 }

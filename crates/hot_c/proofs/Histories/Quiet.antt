@@ -84,5 +84,5 @@ quiet_calls = record {
   counts = λ from upto low high before after status o new says. let h = says.made refl low high in
       so (λ index k j x. record { same = x.ok.listed.notes; legal = x.ok.listed.legal; made = inl (_, x.read) }) h.1;
   round = λ nodes leaves o new says. so (λ index k j x. record { same = x.0.notes; legal = x.0.legal; made = inr (inl (nodes, leaves, x.1)) }) says;
-  census = λ counts o new says. so (λ index k j x. record { same = x.0.notes; legal = x.0.legal; made = inr (inr (counts, x.1)) }) says;
+  census = λ shown o new says. so (λ index k j x. record { same = x.0.notes; legal = x.0.legal; made = inr (inr (x.1, x.2)) }) says;
 }

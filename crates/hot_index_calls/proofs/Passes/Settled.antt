@@ -1,5 +1,5 @@
 -- In a table with one pass a refused call has seen no change, so it has made none, and no record is retired after it. A count finds that.
-use Rattle.hot_index_calls.proofs.Common.{◌≡◌, ℕ, suc, ◌+◌, ◌<◌, ◌≤◌, List, [], ◌∷◌, ◌++◌, Bool, true, false, if◌then◌else◌, Option, Some, None, Result, Ok, Err, length, refl, sym, ap, subst, ◌∙◌, arith, length-append, All, IfErr, count_by, false≢true, All-cons, All-nil, Call, Change, Note, Reply, LegalCalls, changes_of, own_changes, state_word, Layout, Rec, a_node, a_leaf, Tag, FreeTag, HeldTag, Live, Locked, Obsolete, Fate, Free, Held, Ready, InTree, Unlinked, Marked, IsOneOf, Act, ClearPin, Load, LoadState, Publish, Event, HeldBy, ReadyBy, Known, knows_all, Core, HasRecord, IsLawful, holder_of, next_change, IsEvent, Knows, fate_of, lock_of, tag_of, Runs, Steps, StepsWith, silent, SeatView, TableView, act_leaves, act_front, runs_split, one_of, TryFault, Busy, FullNodes, FullLeaves, LeavesTree}
+use Rattle.hot_index_calls.proofs.Common.{◌≡◌, ℕ, suc, ◌+◌, ◌-◌, ◌<◌, ◌≤◌, List, [], ◌∷◌, ◌++◌, Bool, true, false, if◌then◌else◌, Option, Some, None, Result, Ok, Err, length, refl, sym, ap, subst, ◌∙◌, arith, length-append, All, IfErr, count_by, false≢true, All-cons, All-nil, Call, Change, Note, Reply, LegalCalls, changes_of, own_changes, state_word, Layout, Rec, a_node, a_leaf, Tag, FreeTag, HeldTag, Live, Locked, Obsolete, Fate, Free, Held, Ready, InTree, Unlinked, Marked, IsOneOf, Act, ClearPin, Load, LoadState, Publish, Event, HeldBy, ReadyBy, Known, knows_all, Core, HasRecord, IsLawful, holder_of, next_change, IsEvent, Knows, fate_of, lock_of, tag_of, Runs, Steps, StepsWith, silent, SeatView, TableView, act_leaves, act_front, runs_split, one_of, TryFault, Busy, FullNodes, FullLeaves, LeavesTree}
 use Rattle.finite_map.proofs.Calls.Alone.{own_changes-all}
 use Rattle.rowex_core.specs.declared.event.Spot.{Spot}
 use Rattle.rowex_core.specs.declared.known.Holding.{Holding}
@@ -136,16 +136,16 @@ module _ {G : Type 0} (table : TableView) (becomes : G → Event → G → Type 
   }
 
   -- loads of some records find none claimed, and none retired
-  loads_rest : (kind : ℕ → Rec) (first : ℕ) (tags : List Tag) (a b : SeatView × G) → Runs table becomes (loads_of kind first tags) a b → IsAtRest a.0 → AreAtRest (counts_of tags) × IsAtRest b.0
-  loads_rest kind first [] a b run rest = (record { held = refl; obsolete = refl }, subst (λ (z : SeatView × G). IsAtRest z.0) (sym run) rest)
-  loads_rest kind first (tag ∷ tags) a b (m, step, more) rest =
+  loads_rest : (kind : ℕ → Rec) (first : ℕ) (left : ℕ) (tags : List Tag) (a b : SeatView × G) → Runs table becomes (loads_of kind first tags) a b → IsAtRest a.0 → AreAtRest (counts_of left tags) × IsAtRest b.0
+  loads_rest kind first left [] a b run rest = (record { held = refl; obsolete = refl }, subst (λ (z : SeatView × G). IsAtRest z.0) (sym run) rest)
+  loads_rest kind first left (tag ∷ tags) a b (m, step, more) rest =
       let c = step.event.core in
       let r = kind first in
       let lone = step_here table becomes one (LoadState r (state_word tag)) a m step in
       let still = rest.none r (subst (λ (l : Layout). HasRecord l r) step.event.layout_is step.event.legal.1.0) c lone in
       let nobody = nobodys c a.0.known r step.event.lawful step.event.knows (ap (λ (l : Layout). l.passes) step.event.layout_is ∙ one) rest.own still in
       let (held, obsolete) = tag_at_rest tag (lock_of c r) (c.fate r) still nobody step.event.legal.1.1 in
-      let (others, after) = loads_rest kind (suc first) tags m b more (load_rests r (state_word tag) a m step rest) in
+      let (others, after) = loads_rest kind (suc first) left tags m b more (load_rests r (state_word tag) a m step rest) in
       (record { held = none_first is_held tag tags held others.held; obsolete = none_first is_obsolete tag tags obsolete others.obsolete }, after)
 
   -- so a count of all finds none
@@ -157,10 +157,10 @@ module _ {G : Type 0} (table : TableView) (becomes : G → Event → G → Type 
       let (s3, run3, of_large) = runs_split table becomes (loads_of a_node 0 tags.nodes ++ loads_of a_leaf 0 tags.short ++ loads_of a_leaf l.medium_from tags.medium) (loads_of a_leaf l.large_from tags.large) a s4 run4 in
       let (s2, run2, of_medium) = runs_split table becomes (loads_of a_node 0 tags.nodes ++ loads_of a_leaf 0 tags.short) (loads_of a_leaf l.medium_from tags.medium) a s3 run3 in
       let (s1, of_nodes, of_short) = runs_split table becomes (loads_of a_node 0 tags.nodes) (loads_of a_leaf 0 tags.short) a s2 run2 in
-      let (nodes, r1) = loads_rest a_node 0 tags.nodes a s1 of_nodes (record { own = own; none = none }) in
-      let (short, r2) = loads_rest a_leaf 0 tags.short s1 s2 of_short r1 in
-      let (medium, r3) = loads_rest a_leaf l.medium_from tags.medium s2 s3 of_medium r2 in
-      let (large, r4) = loads_rest a_leaf l.large_from tags.large s3 s4 of_large r3 in
-      let (wide, r5) = loads_rest a_leaf l.wide_from tags.wide s4 s5 of_wide r4 in
-      let (long, r6) = loads_rest a_leaf l.long_from tags.long s5 b of_long r5 in
+      let (nodes, r1) = loads_rest a_node 0 (l.nodes - length tags.nodes) tags.nodes a s1 of_nodes (record { own = own; none = none }) in
+      let (short, r2) = loads_rest a_leaf 0 (l.medium_from - length tags.short) tags.short s1 s2 of_short r1 in
+      let (medium, r3) = loads_rest a_leaf l.medium_from (l.large_from - l.medium_from - length tags.medium) tags.medium s2 s3 of_medium r2 in
+      let (large, r4) = loads_rest a_leaf l.large_from (l.wide_from - l.large_from - length tags.large) tags.large s3 s4 of_large r3 in
+      let (wide, r5) = loads_rest a_leaf l.wide_from (l.long_from - l.wide_from - length tags.wide) tags.wide s4 s5 of_wide r4 in
+      let (long, r6) = loads_rest a_leaf l.long_from (l.leaves - l.long_from - length tags.long) tags.long s5 b of_long r5 in
       record { nodes = nodes; short = short; medium = medium; large = large; wide = wide; long = long }

@@ -1,10 +1,10 @@
 -- One record more.
-use Rattle.hot_index_calls.proofs.Common.{rules, arith, a_leaf}
+use Rattle.hot_index_calls.proofs.Common.{rules, arith, ◌-◌, [], a_leaf}
 use Rattle.hot_index_calls.proofs.Counted.{counts_few, counts_more, counts_none, found_tag}
 use Rattle.hot_index_calls.proofs.census.count_leaves.Goals as goal
 
 pub loop-number-init : goal.loop-number-init
-loop-number-init g c = record { pin = search rules; steps = counts_none c.zero_counts-counts.ensures }
+loop-number-init g c = record { pin = search rules; steps = counts_none [] _ c.zero_counts-counts.ensures }
 
 pub loop-number-preserved : goal.loop-number-preserved
 loop-number-preserved g c = record {

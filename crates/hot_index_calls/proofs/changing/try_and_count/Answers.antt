@@ -80,11 +80,11 @@ pub returns-else-has_node_left-clause-stepped : goal.returns-else-has_node_left-
 returns-else-has_node_left-clause-stepped g c =
     let (acts, are, ends) = c.in-Err.ensures.asked.ended in
     stepped_on acts (loads_in c.args.table.now.layout c.count_records-counts.ensures.steps.0) ClearPin (c.args.seat.now, c.args.gate.now) (c.try_change.new.seat, c.try_change.new.gate) (c.count_records-counts.new.seat, c.count_records-counts.new.gate) ends
-    c.count_records-counts.ensures.steps.3.steps
+    c.count_records-counts.ensures.steps.4.steps
 
 pub returns-else-has_node_left-clause-later : goal.returns-else-has_node_left-clause-later
 returns-else-has_node_left-clause-later g c =
-    let n : c.count_records-counts.new.seat.known.steps ≡ c.try_change.new.seat.known.steps + length (loads_in c.args.table.now.layout c.count_records-counts.ensures.steps.0) = ap (λ (z : Known). z.steps) c.count_records-counts.ensures.steps.3.rest in
+    let n : c.count_records-counts.new.seat.known.steps ≡ c.try_change.new.seat.known.steps + length (loads_in c.args.table.now.layout c.count_records-counts.ensures.steps.0) = ap (λ (z : Known). z.steps) c.count_records-counts.ensures.steps.4.rest in
     omega (arith, n, c.in-Err.ensures.asked.later)
 
 pub returns-else-has_node_left-clause-tried : goal.returns-else-has_node_left-clause-tried
@@ -102,13 +102,13 @@ returns-else-has_node_left-clause-tried g c =
     let steps = c.count_records-counts.ensures.steps in
     let full = ap (λ (f : TryFault). is_full (Err f)) c.in-Some.ensures.some ∙ lacked_full c.in-Some.lacks in
     let rest : table.layout.passes ≡ 1 → IsEarly c.count_records-counts.new.seat → AreAllAtRest c.count_records-counts.result × IsShortOf c.in-Some.lacks c.saturating_add-needs.result (length (key_of call)) c.count_records-counts.result = λ one early.
-    let longer = runs_longer table g.G.Gate.becomes (loads_in table.layout steps.0) (c.try_change.new.seat, c.try_change.new.gate) (c.count_records-counts.new.seat, c.count_records-counts.new.gate) steps.3.steps in
-    let all = counts_rest table g.G.Gate.becomes one steps.0 (c.try_change.new.seat, c.try_change.new.gate) (c.count_records-counts.new.seat, c.count_records-counts.new.gate) steps.3.steps asked.replied.idle.1.own (c.in-Err.ensures.none one full (omega (arith, early, longer))) in
+    let longer = runs_longer table g.G.Gate.becomes (loads_in table.layout steps.0) (c.try_change.new.seat, c.try_change.new.gate) (c.count_records-counts.new.seat, c.count_records-counts.new.gate) steps.4.steps in
+    let all = counts_rest table g.G.Gate.becomes one steps.0 (c.try_change.new.seat, c.try_change.new.gate) (c.count_records-counts.new.seat, c.count_records-counts.new.gate) steps.4.steps asked.replied.idle.1.own (c.in-Err.ensures.none one full (omega (arith, early, longer))) in
     let key : length (key_of call) ≤ MAX_BYTES = subst (λ (k : List ℕ). length k ≤ MAX_BYTES) c.key.ensures c.as_bytes-size.ensures.key.short in
     let used = subst (λ (f : TryFault). LeavesUsed table.layout (key_of call) (nodes_among c.try_change.new.scratch.build.made.items) (Err f) c.try_change.new.seat) c.in-Some.ensures.some c.in-Err.ensures.used in
-    subst (λ z. AreAllAtRest z × IsShortOf c.in-Some.lacks c.saturating_add-needs.result (length (key_of call)) z) (sym steps.2) (
+    subst (λ z. AreAllAtRest z × IsShortOf c.in-Some.lacks c.saturating_add-needs.result (length (key_of call)) z) (sym steps.3) (
       all,
-      counts_short table g.G.Gate.becomes one steps.0 (c.try_change.new.seat, c.try_change.new.gate) (c.count_records-counts.new.seat, c.count_records-counts.new.gate) steps.1 steps.3.steps (key_of call) key (nodes_among c.try_change.new.scratch.build.made.items) c.in-Some.lacks used all c.saturating_add-needs.result needs,
+      counts_short table g.G.Gate.becomes one _ steps.0 (c.try_change.new.seat, c.try_change.new.gate) (c.count_records-counts.new.seat, c.count_records-counts.new.gate) steps.2 steps.4.steps (key_of call) key (nodes_among c.try_change.new.scratch.build.made.items) c.in-Some.lacks used all c.saturating_add-needs.result needs,
     ) in
     let other = λ (left : HasNodeLeft table.layout.passes call). false≢true (sym c.if-has_node_left.false ∙ c.has_node_left.ensures.1 (subst (λ (l : Layout). HasNodeLeft l.passes call) (sym c.layout-passes.ensures) left)) in
     record {
@@ -121,11 +121,11 @@ returns-else-has_node_left-clause-tried g c =
 
 pub returns-else-has_node_left-clause-spares : goal.returns-else-has_node_left-clause-spares
 returns-else-has_node_left-clause-spares g c = λ was.
-    counts_spare c.args.table.now g.G.Gate.becomes c.count_records-counts.ensures.steps.0 (c.try_change.new.seat, c.try_change.new.gate) (c.count_records-counts.new.seat, c.count_records-counts.new.gate) c.count_records-counts.ensures.steps.3.steps (c.in-Err.ensures.spares was)
+    counts_spare c.args.table.now g.G.Gate.becomes c.count_records-counts.ensures.steps.0 (c.try_change.new.seat, c.try_change.new.gate) (c.count_records-counts.new.seat, c.count_records-counts.new.gate) c.count_records-counts.ensures.steps.4.steps (c.in-Err.ensures.spares was)
 
 pub returns-else-has_node_left-clause-room : goal.returns-else-has_node_left-clause-room
 returns-else-has_node_left-clause-room g c = λ removal one was early is.
-    let longer = runs_longer c.args.table.now g.G.Gate.becomes (loads_in c.args.table.now.layout c.count_records-counts.ensures.steps.0) (c.try_change.new.seat, c.try_change.new.gate) (c.count_records-counts.new.seat, c.count_records-counts.new.gate) c.count_records-counts.ensures.steps.3.steps in
+    let longer = runs_longer c.args.table.now g.G.Gate.becomes (loads_in c.args.table.now.layout c.count_records-counts.ensures.steps.0) (c.try_change.new.seat, c.try_change.new.gate) (c.count_records-counts.new.seat, c.count_records-counts.new.gate) c.count_records-counts.ensures.steps.4.steps in
     let judged = judged_fault _ _ _ _ _ c.judge_lack.result c.judge_lack.ensures in
     let same : fault_in c.judge_lack.result ≡ FullNodes = cc in
     c.in-Err.ensures.room removal one was (omega (arith, early, longer)) (ap Err (c.in-Some.ensures.some ∙ (sym judged ∙ same)))
