@@ -74,15 +74,15 @@ turned_to n from q low below = go (nat_lt q from) refl
 
 -- a record of the kind that has the number, and where it begins
 pub has_index : (kind : RecordKind) (layout : Layout) (i : ℕ) → i < count_of kind layout → HasIndex kind i
-has_index Node layout i low = tt
+has_index (Node end) layout i low = tt
 has_index (Leaf first end) layout i low = omega arith
 
 pub has_record : (kind : RecordKind) (layout : Layout) (i : ℕ) → IsKindOf kind layout → i < count_of kind layout → HasRecord layout (record_of kind i)
-has_record Node layout i is low = low
+has_record (Node end) layout i is low = omega arith
 has_record (Leaf first end) layout i is low = omega arith
 
 pub starts_at : (kind : RecordKind) (layout : Layout) (i : ℕ) → IsKindOf kind layout → i < count_of kind layout → IsStartOf layout (record_of kind i) (first_word kind layout i)
-starts_at Node layout i is low = (low, omega arith)
+starts_at (Node end) layout i is low = (omega arith, omega arith)
 starts_at (Leaf first end) layout i is low = (omega arith, omega arith)
 
 -- and those behind it, where each begins

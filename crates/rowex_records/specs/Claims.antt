@@ -16,6 +16,8 @@ use Rattle.rowex_core.specs.declared.known.Known.{Known}
 use Rattle.rowex_core.specs.declared.known.Owned.{Owned}
 use Rattle.rowex_core.specs.Cores.{word_count_of}
 use Rattle.rowex_core.specs.Events.{word_of}
+use Rattle.rowex_table.specs.Committed.{IsCommitted}
+use Rattle.record_words.specs.Layout.{uncommitted_in}
 use Rattle.rowex_table.specs.Made.{nodes_of}
 use Rattle.rowex_table.specs.Runs.{Does, InTurn, Steps}
 use Rattle.rowex_table.specs.Seats.{TableView, SeatView}
@@ -24,22 +26,26 @@ use Rattle.rowex_records.specs.declared.claiming.RecordKind.TheVariants.{Node, L
 
 -- the record of the kind that has this index, counted from 0; those of a kind of leaf records begin at number `first`
 abbrev pub record_of : RecordKind → (index : ℕ) → Rec
-record_of Node = a_node
+record_of (Node end) = a_node
 record_of (Leaf first end) = λ index. a_leaf (first + index)
 
--- how many records of the kind the table has; none of leaves if `end` isn't above `first`
+-- how many records the kind has; none of leaves if `end` isn't above `first`
 abbrev pub count_of : RecordKind → Layout → ℕ
-count_of Node layout = layout.nodes
+count_of (Node end) layout = end
 count_of (Leaf first end) layout = end - first
 
 -- the table has all records of this kind
 abbrev pub IsKindOf : RecordKind → Layout → Type 0
-IsKindOf Node layout = Unit {0}
+IsKindOf (Node end) layout = end ≤ layout.nodes
 IsKindOf (Leaf first end) layout = end ≤ layout.leaves
 
--- The kind has a record of this index. Of nodes nothing is asked, since their kind has all numbers that the table has.
+-- each record of the kind is committed where no more are uncommitted than these bounds say
+abbrev pub AreCommitted : Layout → (bounds : List ℕ) → RecordKind → Type 0
+AreCommitted layout bounds kind = (index : ℕ) → index < count_of kind layout → IsCommitted layout (uncommitted_in bounds) (record_of kind index)
+
+-- The kind has a record of this index. Of nodes nothing is asked, since their kind begins with number 0.
 abbrev pub HasIndex : RecordKind → (index : ℕ) → Type 0
-HasIndex Node index = Unit {0}
+HasIndex (Node end) index = Unit {0}
 HasIndex (Leaf first end) index = first + index < end
 
 -- What the pass knew before, but with its own records and its failed steps as they are now. A claim changes nothing else.

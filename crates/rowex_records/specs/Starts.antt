@@ -7,7 +7,7 @@ use Rattle.rowex_records.specs.declared.claiming.RecordKind.TheVariants.{Node, L
 
 -- the number of the table's word at which the record of the kind that has this index begins
 abbrev pub first_word : (kind : RecordKind) → (layout : Layout) → (index : ℕ) → ℕ
-first_word Node layout index = node_start layout index
+first_word (Node end) layout index = node_start layout index
 first_word (Leaf first end) layout index = leaf_start layout (first + index)
 
 -- The `count` records of the kind from `number` on, and the place behind them, begin `size` words apart. So a walk over them finds each

@@ -3,9 +3,11 @@
 ghost use Rattle.std.specs.Prelude.{◌≡◌, ◌<◌, ◌≤◌, ◌+◌, ◌-◌, min, true, false, IfNone, IfSome, MatchOption, All};
 ghost use Rattle.rowex_core.specs.Cores.{HasRecord};
 ghost use Rattle.rowex_table.specs.Rights.{IsClaimed};
+ghost use Rattle.record_words.specs.Layout.{uncommitted_in};
+ghost use Rattle.rowex_table.specs.Committed.{AtMost, IsCommitted};
 ghost use Rattle.rowex_table.specs.Rule.{IsStartOf};
 ghost use Rattle.rowex_table.specs.Seats.{IsSeatOf};
-ghost use Rattle.rowex_records.specs.Claims.{AllMissed, IsAnothersTo, Claims, ClaimsOne, FindsFree, FindsNone, GoesOnBehind, MissesNumber, MissesOne, TriesSome, HasIndex, IsKindOf, GoesOnTrying, begin_of, count_of, record_of};
+ghost use Rattle.rowex_records.specs.Claims.{AllMissed, AreCommitted, IsAnothersTo, Claims, ClaimsOne, FindsFree, FindsNone, GoesOnBehind, MissesNumber, MissesOne, TriesSome, HasIndex, IsKindOf, GoesOnTrying, begin_of, count_of, record_of};
 ghost use Rattle.rowex_records.specs.Starts.{IsSpan, first_word};
 ghost use Rattle.rowex_records.specs.Records.{GivesUp, GivesUpAll, HoldsJust};
 
@@ -16,8 +18,8 @@ use rowex_table::{HotTable, RecordAt, TableSeat};
 /// The records among which a claim looks, numbered from 0 on.
 #[derive(Clone, Copy)]
 pub enum RecordKind {
-    /// All node records of the table.
-    Node,
+    /// The node records below `end`, which the table must have.
+    Node { end: u32 },
     /// The leaf records from `first` on and below `end`, which the table must have; none if `end` isn't above `first`.
     Leaf { first: u32, end: u32 },
 }
@@ -46,7 +48,7 @@ impl RecordKind {
         ensures { result ≡ record_of self number }
     {
         match self {
-            RecordKind::Node => Rec::Node(number),
+            RecordKind::Node { .. } => Rec::Node(number),
             RecordKind::Leaf { first, .. } => Rec::Leaf(first + number),
         }
     }
@@ -58,7 +60,7 @@ impl RecordKind {
         ensures { result ≡ first_word self layout.now number }
     {
         match self {
-            RecordKind::Node => layout.node(number),
+            RecordKind::Node { .. } => layout.node(number),
             RecordKind::Leaf { first, .. } => layout.leaf(first + number),
         }
     }
@@ -73,9 +75,9 @@ impl RecordKind {
         ensures span { IsSpan self layout.now number result.count result.size }
     {
         match self {
-            RecordKind::Node => Span {
+            RecordKind::Node { end } => Span {
                 number,
-                count: layout.nodes - number,
+                count: end - number,
                 size: NODE_WORDS,
             },
             RecordKind::Leaf { first, end } => Span {
@@ -91,7 +93,7 @@ impl RecordKind {
         ensures { result ≡ count_of self layout }
     {
         match self {
-            RecordKind::Node => layout.nodes,
+            RecordKind::Node { end } => end,
             RecordKind::Leaf { first, end } => end.saturating_sub(first),
         }
     }
@@ -112,6 +114,7 @@ pub fn claim_record<G: Gate>(
 ) -> Option<u32>
     requires own { IsSeatOf table.now seat.old }
     requires kind { IsKindOf kind table.now.layout }
+    requires committed { AreCommitted table.now.layout seat.old.bounds kind }
     ensures claims { MatchOption result
         (let n = count_of kind table.now.layout in
         FindsNone table.now G.becomes (record_of kind) n (begin_of n from) n (seat.old, gate.old) (seat.new, gate.new))
@@ -141,6 +144,7 @@ pub fn claim_next_record<G: Gate>(
 ) -> Option<u32>
     requires own { IsSeatOf table.now seat.old }
     requires kind { IsKindOf kind table.now.layout }
+    requires committed { AreCommitted table.now.layout seat.old.bounds kind }
     ensures claims { MatchOption result
         (let n = count_of kind table.now.layout in let m = min n left.old in (left.new + m ≡ left.old) ×
         FindsNone table.now G.becomes (record_of kind) n (begin_of n from) m (seat.old, gate.old) (seat.new, gate.new))
@@ -167,6 +171,7 @@ fn claim_and_count_tries<G: Gate>(
 ) -> (Option<u32>, u32)
     requires own { IsSeatOf table.now seat.old }
     requires kind { IsKindOf kind table.now.layout }
+    requires committed { AreCommitted table.now.layout seat.old.bounds kind }
     requires few { turn.most ≤ count_of kind table.now.layout }
     ensures few { result.1 ≤ turn.most }
     ensures tries { TriesSome table.now G.becomes kind (begin_of (count_of kind table.now.layout) turn.from) turn.most result (seat.old, gate.old) (seat.new, gate.new) }
@@ -195,6 +200,7 @@ fn claim_record_behind<G: Gate>(
 ) -> (Option<u32>, u32)
     requires own { IsSeatOf table.now seat.old }
     requires kind { IsKindOf kind table.now.layout }
+    requires committed { AreCommitted table.now.layout seat.old.bounds kind }
     requires low { turn.from < count_of kind table.now.layout }
     requires some { 1 ≤ turn.most }
     requires few { turn.most ≤ count_of kind table.now.layout }
@@ -229,9 +235,11 @@ fn claim_record_in_span<G: Gate>(
 ) -> Option<u32>
     requires own { IsSeatOf table.now seat.old }
     requires kind { IsKindOf kind table.now.layout }
+    requires committed { AreCommitted table.now.layout seat.old.bounds kind }
     requires few { span.number + span.count ≤ count_of kind table.now.layout }
     requires span { IsSpan kind table.now.layout span.number span.count span.size }
     ensures own { IsSeatOf table.now seat.new }
+    ensures bounds { AtMost (uncommitted_in seat.new.bounds) (uncommitted_in seat.old.bounds) }
     ensures low { IfSome result (λ index. index < span.count) }
     ensures tries { GoesOnTrying table.now G.becomes kind span.number span.count result (seat.old, gate.old) (seat.new, gate.new) }
 {
@@ -259,6 +267,7 @@ pub fn claim_by_number<G: Gate>(
 ) -> bool
     requires own { IsSeatOf table.now seat.old }
     requires kind { IsKindOf kind table.now.layout }
+    requires committed { AreCommitted table.now.layout seat.old.bounds kind }
     ensures missed { result ≡ false →
         MissesNumber table.now G.becomes (record_of kind) (count_of kind table.now.layout) number (seat.old, gate.old) (seat.new, gate.new) }
     ensures claimed { result ≡ true → (number < count_of kind table.now.layout) ×
@@ -282,6 +291,7 @@ fn try_claim_record<G: Gate>(
 ) -> bool
     requires own { IsSeatOf table.now seat.old }
     requires start { IsStartOf table.now.layout at.rec at.start }
+    requires committed { IsCommitted table.now.layout (uncommitted_in seat.old.bounds) at.rec }
     ensures missed { result ≡ false → MissesOne table.now G.becomes at.rec (seat.old, gate.old) (seat.new, gate.new) }
     ensures claimed { result ≡ true → ClaimsOne table.now G.becomes at.rec (seat.old, gate.old) (seat.new, gate.new) }
 {

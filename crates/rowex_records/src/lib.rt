@@ -2,10 +2,10 @@
 //!
 //! # What carries the proof
 //!
-//! A claim tries records of a kind from a given number upwards and then from 0, each at most once. It exchanges only what it saw free
-//! (`MissesOne`, `ClaimsOne`). If it ends with none, each record has a failed step of this call, which says whose it was (`FindsNone`,
-//! `HasMissed`, `IsAnothers`). A full result rests on that (`AllMissed`). `fill_leaf`, `fill_node` say which words the pass holds then
-//! (`SetsSome`, `SetsWord`).
+//! A claim tries records of a kind from a given number upwards and then from 0, each at most once. All are committed (`AreCommitted`). It
+//! exchanges only what it saw free (`MissesOne`, `ClaimsOne`). If it ends with none, each record has a failed step of this call, which says
+//! whose it was (`FindsNone`, `HasMissed`, `IsAnothers`). A full result rests on that (`AllMissed`). `fill_leaf`, `fill_node` say which words
+//! the pass holds then (`SetsSome`, `SetsWord`).
 #![tactic(auto)]
 
 mod claiming;

@@ -66,6 +66,27 @@ impl HotTable {
         }
     }
 
+    /// Returns how many records of its kind are committed from `rec` on, itself counted. One load finds that. If `rec` wasn't committed, it
+    /// is from then on, and the result is 1.
+    #[inline(always)]
+    pub fn count_committed_from(&self, seat: &mut TableSeat, rec: Rec) -> u32
+        requires own { IsSeatOf self.now seat.old }
+        requires range { HasRecord self.now.layout rec }
+        ensures bounds { HasFoundBounds seat.old seat.new }
+        ensures some { 0 < result }
+        ensures committed { uncommitted_in seat.new.bounds (record_kind self.now.layout rec) + result ≤ count_from self.now.layout rec }
+        ensures rest { count_from self.now.layout rec ≤ result + uncommitted_in seat.old.bounds (record_kind self.now.layout rec) }
+    {
+        let kind = number_of_kind(&self.origins.layout, rec);
+        let rest = count_after(&self.origins.layout, rec);
+        let found = self.load_uncommitted(seat, kind);
+        if found <= rest as u64 {
+            return rest - found as u32 + 1;
+        }
+        self.commit_up_to(seat, rec, kind, found);
+        1
+    }
+
     /// Lets `rec`, which is of the kind, be committed with all before it. `found` is no less than the pass's bound.
     fn commit_up_to(&self, seat: &mut TableSeat, rec: Rec, kind: u8, found: u64)
         requires own { IsSeatOf self.now seat.old }

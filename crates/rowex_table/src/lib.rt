@@ -12,7 +12,7 @@
 //!
 //! Of each kind of records the first are committed (`specs/Committed`), and a run claims or loads only these. Six words say how many of the
 //! last ones aren't. They only fall, so what a pass finds stays a bound (`HasBounds`). Their loads and exchanges are no events, and may stand
-//! beside a step of any run (`step_from` in `proofs/Committed/Chains`). `claim_at` commits its record first.
+//! beside a step of any run (`step_from` in `proofs/Committed/Chains`). `claim_at` takes committed records alone.
 #![tactic(auto)]
 
 mod commit_steps;

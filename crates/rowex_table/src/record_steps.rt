@@ -1,9 +1,11 @@
 //! Steps on the words of a record. The pass of `seat` makes each, and `gate` is told of it.
 
 ghost use Rattle.std.specs.Prelude.{◌≡◌, ◌<◌, ◌+◌};
+ghost use Rattle.record_words.specs.Layout.{uncommitted_in};
 ghost use Rattle.rowex_core.specs.declared.event.Act.TheVariants.{Claim, Fill, Ready, Release, LoadFixed, Mark, LoadState, GiveBack};
 ghost use Rattle.rowex_core.specs.Cores.{HasRecord, HasWord};
 ghost use Rattle.rowex_core.specs.Events.{IsOffset, IsFixedOffset};
+ghost use Rattle.rowex_table.specs.Committed.{IsCommitted};
 ghost use Rattle.rowex_table.specs.Rule.{IsStartOf, MayStep, record_number};
 ghost use Rattle.rowex_table.specs.Runs.{Steps};
 ghost use Rattle.rowex_table.specs.Seats.{IsSeatOf, touched};
@@ -66,19 +68,20 @@ impl HotTable {
         requires range { HasRecord self.now.layout rec }
         ensures { Steps self.now G.becomes (Claim rec result) (seat.old, gate.old) (seat.new, gate.new) }
     {
+        self.commit(seat, rec);
         self.claim_at(seat, gate, self.locate(rec))
     }
 
-    /// Claims the record `at` if it is free; else its state stays. Returns the state word that the step found: 0 exactly if it claimed the
-    /// record. The record is committed before.
+    /// Claims the record `at`, which is committed, if it is free; else its state stays. Returns the state word that the step found: 0
+    /// exactly if it claimed the record.
     #[inline(always)]
     pub fn claim_at<G: Gate>(&self, seat: &mut TableSeat, gate: &mut G, at: RecordAt) -> u64
         requires own { IsSeatOf self.now seat.old }
         requires start { IsStartOf self.now.layout at.rec at.start }
+        requires committed { IsCommitted self.now.layout (uncommitted_in seat.old.bounds) at.rec }
         ensures { Steps self.now G.becomes (Claim at.rec result) (seat.old, gate.old) (seat.new, gate.new) }
     {
         let (rec, found) = (at.rec, 0);
-        self.commit(seat, rec);
         let act = Act::Claim { rec, found };
         let (expected, new) = (pack_state(Tag::Free), pack_state(Tag::Held));
         self.compare_exchange_at::<Brand, G>(seat, gate, act, at.start, Exchange { expected, new })

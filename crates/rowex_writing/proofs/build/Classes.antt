@@ -1,8 +1,15 @@
 -- Claims of leaf records of one class after the other.
 use Rattle.rowex_writing.proofs.Common.{◌≡◌, Option, ℕ, ◌+◌, ◌-◌, ◌<◌, ◌≤◌, List, [], map, length, ⊎_elim, sym, subst, arith, le_trans, cases_lt, leaf_size, words_for, Layout, Rec, a_leaf, Key, Event, Failed, Known, Owned, nodes_of, TableView, SeatView, AllMissed, AllMissedFrom, HasMissedSince, IsAnothers, IsAnothersBut, IsAnothersTo, record_of, anothers_among, missed_so}
+use Rattle.std.proofs.Common.{ap, refl, ◌∙◌}
+use Rattle.std.proofs.lemmas.Bool.{le-ltb, lt-ltb}
+use Rattle.std.specs.Prelude.{nat_lt}
+use Rattle.record_words.specs.declared.TheConstants.{LARGE_WORDS, LEAF_WORDS, MEDIUM_WORDS, SHORT_WORDS, WIDE_WORDS}
+use Rattle.record_words.specs.Layout.{uncommitted_in}
+use Rattle.rowex_table.specs.Committed.{IsCommitted, count_from, record_kind}
+use Rattle.rowex_records.specs.Claims.{AreCommitted}
 use Rattle.rowex_records.specs.declared.claiming.RecordKind.TheVariants.{Leaf}
 use Rattle.rowex_writing.specs.build.Changes.{LacksLeaves}
-use Rattle.rowex_writing.specs.build.Classes.{AllMissedBetween}
+use Rattle.rowex_writing.specs.build.Classes.{AllMissedBetween, AreOfOneClass}
 use Rattle.rowex_writing.specs.locks.Going.{WorksOn}
 use Rattle.rowex_writing.proofs.build.Changes.{missed_there}
 use Rattle.rowex_writing.proofs.locks.Runs.{goes_run}
@@ -29,6 +36,67 @@ module _ {G : Type 0} (table : TableView) (becomes : G → Event → G → Type 
       (cases_lt q first))
       (λ (above : from ≤ q). missed_there table becomes Whose (a_leaf q) since a b (goes_run table becomes a b goes) (later q above low))
       (cases_lt q from)
+
+-- how large the records before the end of a class are at most, and those from there on at least
+upto_short : (layout : Layout) (p : ℕ) → p < layout.medium_from → leaf_size layout p ≤ SHORT_WORDS
+upto_short layout p low = let is = lt-ltb p layout.medium_from low in rw is (omega arith)
+
+upto_medium : (layout : Layout) (p : ℕ) → p < layout.large_from → leaf_size layout p ≤ MEDIUM_WORDS
+upto_medium layout p low = grind arith
+
+upto_large : (layout : Layout) (p : ℕ) → p < layout.wide_from → leaf_size layout p ≤ LARGE_WORDS
+upto_large layout p low = grind arith
+
+upto_wide : (layout : Layout) (p : ℕ) → p < layout.long_from → leaf_size layout p ≤ WIDE_WORDS
+upto_wide layout p low = grind arith
+
+from_medium : (layout : Layout) (q : ℕ) → layout.medium_from ≤ q → MEDIUM_WORDS ≤ leaf_size layout q
+from_medium layout q high = grind arith
+
+from_large : (layout : Layout) (q : ℕ) → layout.large_from ≤ q → LARGE_WORDS ≤ leaf_size layout q
+from_large layout q high = at layout.classes_in_order.0
+  where
+    at : layout.medium_from ≤ layout.large_from → LARGE_WORDS ≤ leaf_size layout q
+    at first = grind arith
+
+from_wide : (layout : Layout) (q : ℕ) → layout.wide_from ≤ q → WIDE_WORDS ≤ leaf_size layout q
+from_wide layout q high = at layout.classes_in_order.0 layout.classes_in_order.1
+  where
+    at : layout.medium_from ≤ layout.large_from → layout.large_from ≤ layout.wide_from → WIDE_WORDS ≤ leaf_size layout q
+    at first second = grind arith
+
+from_long : (layout : Layout) (q : ℕ) → layout.long_from ≤ q → LEAF_WORDS ≤ leaf_size layout q
+from_long layout q high = at layout.classes_in_order.0 layout.classes_in_order.1 layout.classes_in_order.2
+  where
+    at : layout.medium_from ≤ layout.large_from → layout.large_from ≤ layout.wide_from → layout.wide_from ≤ layout.long_from → LEAF_WORDS ≤ leaf_size layout q
+    at first second third = grind arith
+
+-- so two as large as each other stand on one side of such an end
+one_side : (layout : Layout) (p q end most : ℕ) → p ≤ q → leaf_size layout p ≡ leaf_size layout q → (p < end → leaf_size layout p ≤ most) → (end ≤ q → most < leaf_size layout q) → nat_lt p end ≡ nat_lt q end
+one_side layout p q end most before same small large = ⊎_elim
+    (λ (low : q < end). lt-ltb p end (omega arith) ∙ sym (lt-ltb q end low))
+    (λ (high : end ≤ q). let more = large high in le-ltb p end (⊎_elim (λ (low : p < end). absurd (let less = small low in omega (arith, less, more, same))) (λ (past : end ≤ p). past) (cases_lt p end)) ∙ sym (le-ltb q end high))
+    (cases_lt q end)
+
+left_after : (end p q : ℕ) → p ≤ q → end - q ≤ end - p
+left_after end p q before = omega arith
+
+-- and the later one has no more of its kind behind it
+of_one_class : (layout : Layout) (p q : ℕ) → leaf_size layout p ≡ leaf_size layout q → p ≤ q →
+    (record_kind layout (a_leaf p) ≡ record_kind layout (a_leaf q)) × (count_from layout (a_leaf q) ≤ count_from layout (a_leaf p))
+of_one_class layout p q same before =
+    let short : nat_lt p layout.medium_from ≡ nat_lt q layout.medium_from = one_side layout p q layout.medium_from SHORT_WORDS before same (upto_short layout p) (λ high. let large = from_medium layout q high in omega (arith, large)) in
+    let medium : nat_lt p layout.large_from ≡ nat_lt q layout.large_from = one_side layout p q layout.large_from MEDIUM_WORDS before same (upto_medium layout p) (λ high. let large = from_large layout q high in omega (arith, large)) in
+    let large : nat_lt p layout.wide_from ≡ nat_lt q layout.wide_from = one_side layout p q layout.wide_from LARGE_WORDS before same (upto_large layout p) (λ high. let large = from_wide layout q high in omega (arith, large)) in
+    let wide : nat_lt p layout.long_from ≡ nat_lt q layout.long_from = one_side layout p q layout.long_from WIDE_WORDS before same (upto_wide layout p) (λ high. let large = from_long layout q high in omega (arith, large)) in
+    rw (short, medium, large, wide) (refl, left_after _ p q before)
+
+-- so where the last is committed, all are
+pub class_committed : (layout : Layout) (bounds : List ℕ) (first end : ℕ) → first < end → AreOfOneClass layout first end → IsCommitted layout (uncommitted_in bounds) (a_leaf (end - 1)) → AreCommitted layout bounds (Leaf first end)
+class_committed layout bounds first end some same committed index low =
+    let (kind, fewer) = of_one_class layout (first + index) (end - 1) (same (first + index) (omega arith) (omega arith) ∙ sym (same (end - 1) (omega arith) (omega arith))) (omega arith) in
+    let bound : uncommitted_in bounds (record_kind layout (a_leaf (first + index))) ≡ uncommitted_in bounds (record_kind layout (a_leaf (end - 1))) = ap (uncommitted_in bounds) kind in
+    omega (arith, bound, fewer, committed)
 
 -- where the pass had no record, none of them was its own
 pub lacks_leaves : (layout : Layout) (key : Key) (k j : Known) (failed : List Failed) (since : ℕ) → j.pass ≡ k.pass → k.own ≡ [] → AllMissedFrom (IsAnothersTo layout k) layout (words_for (length key)) failed since →

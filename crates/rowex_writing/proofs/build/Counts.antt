@@ -1,5 +1,5 @@
 -- How long parts of a list are, how many steps claims make, and how many node records are made.
-use Rattle.rowex_writing.proofs.Common.{◌≡◌, inl, inr, ℕ, zero, suc, ◌+◌, ◌*◌, ◌≤◌, List, [], ◌∷◌, ◌++◌, length, Err, Ok, Result, refl, ap, arith, All, Contains, All-cons, All-head, All-nil, All-tail, Rec, a_node, a_leaf, Layout, AreApart, IsOneOf, Item, Claim, LoadState, Event, Made, TableView, SeatView, Claims, FindsFree, FindsNone, runs_count}
+use Rattle.rowex_writing.proofs.Common.{◌≡◌, inl, inr, ℕ, zero, suc, ◌+◌, ◌*◌, ◌≤◌, List, [], ◌∷◌, ◌++◌, length, Err, Ok, Result, refl, ap, arith, All, Contains, All-cons, All-head, All-nil, All-tail, Rec, a_node, a_leaf, Layout, AreApart, IsOneOf, Item, Act, Claim, LoadState, InTurn, Misses, ClaimsOne, wrapped, length-append, ◌<◌, Event, Made, TableView, SeatView, Claims, FindsFree, FindsNone, runs_count}
 use Rattle.rowex_writing.specs.build.Building.{HasLeafMade, IsBuilding}
 use Rattle.rowex_writing.specs.plan.Counts.{deed_steps, leaf_steps, all_levels_steps}
 use Rattle.rowex_writing.specs.build.Walks.{nodes_among}
@@ -9,7 +9,28 @@ use Rattle.rowex_writing.specs.build.Walks.{nodes_among}
 pub made_one : {table : TableView} {a : SeatView} {made : List Rec} {m : Made} → IsBuilding table a made (m ∷ []) → length made ≡ 1
 made_one b = ap length b.listed
 
+-- a try takes a step, and so do some in turn
+miss_some : (rec : Rec) (acts : List Act) → Misses rec acts → 1 ≤ length acts
+miss_some rec acts (word, low, inl is) = let one = ap length is in omega (arith, one)
+miss_some rec acts (word, low, inr is) = let two = ap length is in omega (arith, two)
+
+turns_some : (turn : ℕ → Rec) (m : ℕ) (acts : List Act) → 0 < m → InTurn (λ i. Misses (turn i)) m acts → 1 ≤ length acts
+turns_some turn zero acts some in_turn = absurd (omega arith)
+turns_some turn (suc m) acts some (before, last, first, misses, is) =
+    let both = ap length is in let sum = length-append before last in let more = miss_some (turn m) last misses in omega (arith, both, sum, more)
+
 module _ {G : Type 0} (table : TableView) (becomes : G → Event → G → Type 0) where
+  pub none_rises : (kind : ℕ → Rec) (n from m : ℕ) (a b : SeatView × G) → FindsNone table becomes kind n from m a b → 0 < m → a.0.known.steps < b.0.known.steps
+  none_rises kind n from m a b f some =
+      let z = runs_count table becomes f.tries a b f.does.steps in let more = turns_some (λ i. kind (wrapped n from i)) m f.tries some f.in_turn in omega (arith, z, more)
+
+  pub one_rises : (rec : Rec) (a b : SeatView × G) → ClaimsOne table becomes rec a b → a.0.known.steps < b.0.known.steps
+  one_rises rec a b one = let z = runs_count table becomes (LoadState rec 0 ∷ Claim rec 0 ∷ []) a b one.does.steps in omega (arith, z)
+
+  pub claims_rises : (kind : ℕ → Rec) (n from number : ℕ) (a b : SeatView × G) → Claims table becomes kind n from number a b → a.0.known.steps < b.0.known.steps
+  claims_rises kind n from number a b c =
+      let z = runs_count table becomes c.none.tries a c.before c.none.does.steps in let more = one_rises (kind number) c.before b c.one in omega (arith, z, more)
+
   pub none_count : (kind : ℕ → Rec) (n from m : ℕ) (a b : SeatView × G) → FindsNone table becomes kind n from m a b → b.0.known.steps ≤ a.0.known.steps + 2 * m
   none_count kind n from m a b f = let z = runs_count table becomes f.tries a b f.does.steps in omega (arith, z, f.few)
 

@@ -1,6 +1,7 @@
 -- In a table with one pass: steps of a change leave a spare node record, and what is free, and a walk finds what is free.
 use Rattle.rowex_writing.proofs.Common.{◌≡◌, ◌≢◌, ℕ, zero, suc, ◌<◌, ◌≤◌, List, [], ◌∷◌, ◌++◌, Option, Some, inl, inr, ⊎_elim, refl, sym, ap, subst, ◌∙◌, arith, map, ◌-◌, drop, get_or, length, Result, Ok, Err, All, Contains, slice_get, slice_range, cases_lt, All-cons, All-weaker, slice_get-get_or, PathNode, Layout, Fate, Free, InTree, Unlinked, Marked, IsOneOf, Rec, a_node, a_leaf, all_of, map_of, of_left, of_map, Act, Claim, LoadRef, LoadState, Publish, Load, Event, Spot, Root, Target, HeldBy, ReadyBy, Owned, Core, HasRecord, after, claimed, IsUnlinked, OwnsJust, lock_of, tag_of, state_word, Made, held_as, recs_of, InTurn, Runs, Steps, silent, SeatView, TableView, KeepsRecall, led_more, IsBelowRoot, Looks, Reads, FindsFree, FindsNone, Misses, begin_of, wrapped, begins_low, turned_to, look_free, one_of, runs_free, runs_out, runs_spare, step_back}
 use Rattle.std.specs.Prelude.{IfOk}
+use Rattle.rowex_table.specs.Seats.{HasFoundBounds}
 use Rattle.versions.specs.Core.{Held, Ready}
 use Rattle.rowex_core.specs.Opening.{opening}
 use Rattle.rowex_core.specs.Runs.{EventsLead}
@@ -21,6 +22,11 @@ use Rattle.rowex_writing.specs.declared.plan.Span.{Span}
 use Rattle.rowex_writing.proofs.locks.Checks.{drop_has, take_has}
 use Rattle.rowex_writing.proofs.build.Changes.{reversed_has}
 use Rattle.rowex_writing.proofs.locks.Runs.{plain_recalls, quiet_recalls}
+
+-- what is free is so, whatever the pass has found uncommitted
+pub found_room : (layout : Layout) (s t : SeatView) → HasFoundBounds s t → HasRoom layout s → HasRoom layout t
+found_room layout s t found (one, (number, low, free)) =
+    (one, (number, low, λ core lone. free core (record { passes = lone.passes; led = subst (λ l. EventsLead (opening layout) l core) (ap (λ (z : SeatView). z.trace) found.1) lone.led })))
 
 -- ---- kinds of steps
 recalls_unpublished : (act : Act) → KeepsRecall act → LeavesTree act

@@ -82,9 +82,9 @@ walk_begins layout k build all left same = record {
     begins false e = rw e layout.nodes_in_range.0
 
 -- it goes on being one, where failed steps and records come to those that there are
-pub walk_stays : (layout : Layout) (since : ℕ) (k j : Known) (made more : List Rec) (next left : ℕ) → j.pass ≡ k.pass → j.locks ≡ k.locks → k.steps ≤ j.steps → ((x : Failed) → Contains k.failed x → Contains j.failed x) → ((r : Rec) → Contains made r → Contains more r)
-    → IsClaimWalk layout since k made next left → IsClaimWalk layout since j more next left
-walk_stays layout since k j made more next left same locks later failed kept w = record {
+pub walk_stays : {end : ℕ} (layout : Layout) (since : ℕ) (k j : Known) (made more : List Rec) (next left : ℕ) → j.pass ≡ k.pass → j.locks ≡ k.locks → k.steps ≤ j.steps → ((x : Failed) → Contains k.failed x → Contains j.failed x) → ((r : Rec) → Contains made r → Contains more r)
+    → IsClaimWalk layout end since k made next left → IsClaimWalk layout end since j more next left
+walk_stays {end} layout since k j made more next left same locks later failed kept w = record {
   early = let early = w.early in omega arith;
   begin = w.begin;
   low = w.low;
@@ -92,15 +92,15 @@ walk_stays layout since k j made more next left same locks later failed kept w =
   count = w.count;
   next_is = w.next_is;
   each = λ i low. elim (w.each i low) [
-    | inl missed ↦ inl (missed_as layout k j made more j.failed (a_node (wrapped layout.nodes w.begin i)) since same locks (kept (a_node (wrapped layout.nodes w.begin i)))
-        (missed_more (IsAnothersBut layout k made) k.failed j.failed (a_node (wrapped layout.nodes w.begin i)) since failed missed))
+    | inl missed ↦ inl (missed_as layout k j made more j.failed (a_node (wrapped end w.begin i)) since same locks (kept (a_node (wrapped end w.begin i)))
+        (missed_more (IsAnothersBut layout k made) k.failed j.failed (a_node (wrapped end w.begin i)) since failed missed))
     | inr has ↦ inr (kept _ has)
   ];
 }
 
 -- where all have been tried, each was found not free, if those that are made were
 pub walk_ends : (layout : Layout) (since : ℕ) (k : Known) (made : List Rec) (next left : ℕ) → left ≡ 0 → ((r : Rec) → Contains made r → HasMissedSince (IsAnothersBut layout k made) k.failed r since) →
-    All (λ r. HasMissedSince (IsOwnOf k.pass) k.failed r since) made → AreApart made → IsClaimWalk layout since k made next left → HasMissedEach layout since k made
+    All (λ r. HasMissedSince (IsOwnOf k.pass) k.failed r since) made → AreApart made → IsClaimWalk layout layout.nodes since k made next left → HasMissedEach layout since k made
 walk_ends layout since k made next left none looked own apart w = record { missed = each; own = own; apart = apart }
   where
     each : AllMissed (IsAnothersBut layout k made) a_node layout.nodes k.failed since
@@ -117,14 +117,14 @@ own_as k j failed made more since later pass same early all =
     (subst (λ (l : List Rec). All (λ r. HasMissedSince (IsOwnOf k.pass) failed r since) l) same (λ i d low. missed_earlier (IsOwnOf k.pass) failed (get_or made i d) since later early (all i d low)))
 
 module _ {G : Type 0} (table : TableView) (becomes : G → Event → G → Type 0) where
-  pub walk_on : (since : ℕ) (a b : SeatView × G) (made more : List Rec) (next left : ℕ) → WorksOn table becomes a b → ((r : Rec) → Contains made r → Contains more r)
-      → IsClaimWalk table.layout since a.0.known made next left → IsClaimWalk table.layout since b.0.known more next left
+  pub walk_on : {end : ℕ} (since : ℕ) (a b : SeatView × G) (made more : List Rec) (next left : ℕ) → WorksOn table becomes a b → ((r : Rec) → Contains made r → Contains more r)
+      → IsClaimWalk table.layout end since a.0.known made next left → IsClaimWalk table.layout end since b.0.known more next left
   walk_on since a b made more next left goes kept w =
       walk_stays table.layout since a.0.known b.0.known made more next left goes.stays.0.pass goes.stays.1 (steps_rise table becomes goes.acts a b goes.steps) (λ x has. run_failed table becomes goes.acts a b goes.steps x has) kept w
 
   -- after tries that found none free
-  module _ (since m : ℕ) (a b : SeatView × G) (made : List Rec) (next left : ℕ) (alone : HasNoOther a.0.known made) (w : IsClaimWalk table.layout since a.0.known made next left) (within : m ≤ left)
-      (none : FindsNone table becomes a_node table.layout.nodes (begin_of table.layout.nodes next) m a b) where
+  module _ {end : ℕ} (since m : ℕ) (a b : SeatView × G) (made : List Rec) (next left : ℕ) (alone : HasNoOther a.0.known made) (w : IsClaimWalk table.layout end since a.0.known made next left) (within : m ≤ left)
+      (none : FindsNone table becomes a_node end (begin_of end next) m a b) where
     abbrev Whose : Rec → Option ℕ → Type 0
     Whose = IsAnothersBut table.layout b.0.known made
 
@@ -134,16 +134,16 @@ module _ {G : Type 0} (table : TableView) (becomes : G → Event → G → Type 
     locks : b.0.known.locks ≡ a.0.known.locks
     locks = ap (λ (z : Known). z.locks) none.does.rest
 
-    pub each_tried : (i : ℕ) → i < w.tried + m → HasMissedSince (IsAnothersBut table.layout b.0.known made) b.0.known.failed (a_node (wrapped table.layout.nodes w.begin i)) since ⊎ Contains made (a_node (wrapped table.layout.nodes w.begin i))
+    pub each_tried : (i : ℕ) → i < w.tried + m → HasMissedSince (IsAnothersBut table.layout b.0.known made) b.0.known.failed (a_node (wrapped end w.begin i)) since ⊎ Contains made (a_node (wrapped end w.begin i))
     each_tried i low = go (nat_lt i w.tried) refl
       where
-        count : w.tried + left ≡ table.layout.nodes
+        count : w.tried + left ≡ end
         count = w.count
 
-        go : (t : Bool) → nat_lt i w.tried ≡ t → HasMissedSince Whose b.0.known.failed (a_node (wrapped table.layout.nodes w.begin i)) since ⊎ Contains made (a_node (wrapped table.layout.nodes w.begin i))
+        go : (t : Bool) → nat_lt i w.tried ≡ t → HasMissedSince Whose b.0.known.failed (a_node (wrapped end w.begin i)) since ⊎ Contains made (a_node (wrapped end w.begin i))
         go true e = elim (w.each i (ltb-true i w.tried e)) [
-          | inl missed ↦ inl (subst (λ l. HasMissedSince Whose l (a_node (wrapped table.layout.nodes w.begin i)) since) (sym none.failed) (beyond none.missed a.0.known.failed (a_node (wrapped table.layout.nodes w.begin i)) since
-              (missed_as table.layout a.0.known b.0.known made made a.0.known.failed (a_node (wrapped table.layout.nodes w.begin i)) since same locks (λ h. h) missed)))
+          | inl missed ↦ inl (subst (λ l. HasMissedSince Whose l (a_node (wrapped end w.begin i)) since) (sym none.failed) (beyond none.missed a.0.known.failed (a_node (wrapped end w.begin i)) since
+              (missed_as table.layout a.0.known b.0.known made made a.0.known.failed (a_node (wrapped end w.begin i)) since same locks (λ h. h) missed)))
           | inr has ↦ inr has
         ]
           where
@@ -153,18 +153,18 @@ module _ {G : Type 0} (table : TableView) (becomes : G → Event → G → Type 
         go false e =
             let past = ltb-false i w.tried e in
             let early = w.early in
-            let at : wrapped table.layout.nodes (begin_of table.layout.nodes next) (i - w.tried) ≡ wrapped table.layout.nodes w.begin i =
-            ap (λ z. wrapped table.layout.nodes z (i - w.tried)) (w.next_is (omega arith)) ∙
-            (wrapped_on table.layout.nodes w.begin w.tried (i - w.tried) w.low (omega arith) (omega arith) ∙ ap (wrapped table.layout.nodes w.begin) (let same : w.tried + (i - w.tried) ≡ i = omega arith in same)) in
-            let r : Rec = a_node (wrapped table.layout.nodes w.begin i) in
+            let at : wrapped end (begin_of end next) (i - w.tried) ≡ wrapped end w.begin i =
+            ap (λ z. wrapped end z (i - w.tried)) (w.next_is (omega arith)) ∙
+            (wrapped_on end w.begin w.tried (i - w.tried) w.low (omega arith) (omega arith) ∙ ap (wrapped end w.begin) (let same : w.tried + (i - w.tried) ≡ i = omega arith in same)) in
+            let r : Rec = a_node (wrapped end w.begin i) in
             inl (subst (λ l. HasMissedSince Whose l r since) (sym none.failed) (missed_among Whose none.missed a.0.known.failed r since (missed_earlier Whose none.missed r since a.0.known.steps early
             (missed_as table.layout a.0.known b.0.known (records_had a.0.known) made none.missed r a.0.known.steps same locks (alone r)
             (subst (λ z. HasMissedSince (IsAnothersTo table.layout a.0.known) none.missed (a_node z) a.0.known.steps) at (none.each (i - w.tried) (omega arith)))))))
 
   -- none of those that were left is free
-  pub walk_out : (since left less : ℕ) (a b : SeatView × G) (made : List Rec) (next m : ℕ) → HasNoOther a.0.known made → WorksOn table becomes a b → m ≡ left → less ≡ 0 → FindsNone table becomes a_node table.layout.nodes (begin_of table.layout.nodes next) m a b
-      → IsClaimWalk table.layout since a.0.known made next left → IsClaimWalk table.layout since b.0.known made next less
-  walk_out since left less a b made next m alone goes all out none w = record {
+  pub walk_out : {end : ℕ} (since left less : ℕ) (a b : SeatView × G) (made : List Rec) (next m : ℕ) → HasNoOther a.0.known made → WorksOn table becomes a b → m ≡ left → less ≡ 0 → FindsNone table becomes a_node end (begin_of end next) m a b
+      → IsClaimWalk table.layout end since a.0.known made next left → IsClaimWalk table.layout end since b.0.known made next less
+  walk_out {end} since left less a b made next m alone goes all out none w = record {
     early = let rise = steps_rise table becomes goes.acts a b goes.steps in let early = w.early in omega arith;
     begin = w.begin;
     low = w.low;
@@ -175,44 +175,44 @@ module _ {G : Type 0} (table : TableView) (becomes : G → Event → G → Type 
   }
 
   -- one of them is claimed
-  pub walk_claims : (since left less number : ℕ) (a b : SeatView × G) (made : List Rec) (next : ℕ) → HasNoOther a.0.known made → WorksOn table becomes a b → (claims : Claims table becomes a_node table.layout.nodes (begin_of table.layout.nodes next) number a b) → less + claims.tried + 1 ≡ left
-      → IsClaimWalk table.layout since a.0.known made next left → IsClaimWalk table.layout since b.0.known (made ++ a_node number ∷ []) (number + 1) less
-  walk_claims since left less number a b made next alone goes claims spent w = record {
+  pub walk_claims : {end : ℕ} (since left less number : ℕ) (a b : SeatView × G) (made : List Rec) (next : ℕ) → HasNoOther a.0.known made → WorksOn table becomes a b → (claims : Claims table becomes a_node end (begin_of end next) number a b) → less + claims.tried + 1 ≡ left
+      → IsClaimWalk table.layout end since a.0.known made next left → IsClaimWalk table.layout end since b.0.known (made ++ a_node number ∷ []) (number + 1) less
+  walk_claims {end} since left less number a b made next alone goes claims spent w = record {
     early = let rise = steps_rise table becomes goes.acts a b goes.steps in let early = w.early in omega arith;
     begin = w.begin;
     low = w.low;
     tried = w.tried + claims.tried + 1;
     count = let count = w.count in omega arith;
-    next_is = λ more. next_on table.layout.nodes w.begin (w.tried + claims.tried) number w.low inside here;
+    next_is = λ more. next_on end w.begin (w.tried + claims.tried) number w.low inside here;
     each = each;
   }
     where
-      count : w.tried + left ≡ table.layout.nodes
+      count : w.tried + left ≡ end
       count = w.count
 
-      inside : w.tried + claims.tried < table.layout.nodes
+      inside : w.tried + claims.tried < end
       inside = omega arith
 
-      here : number ≡ wrapped table.layout.nodes w.begin (w.tried + claims.tried)
-      here = claims.number_is ∙ (ap (λ z. wrapped table.layout.nodes z claims.tried) (w.next_is (omega arith)) ∙ wrapped_on table.layout.nodes w.begin w.tried claims.tried w.low (omega arith) (omega arith))
+      here : number ≡ wrapped end w.begin (w.tried + claims.tried)
+      here = claims.number_is ∙ (ap (λ z. wrapped end z claims.tried) (w.next_is (omega arith)) ∙ wrapped_on end w.begin w.tried claims.tried w.low (omega arith) (omega arith))
 
       Whose : Rec → Option ℕ → Type 0
       Whose = IsAnothersBut table.layout b.0.known (made ++ a_node number ∷ [])
 
-      each : (i : ℕ) → i < w.tried + claims.tried + 1 → HasMissedSince Whose b.0.known.failed (a_node (wrapped table.layout.nodes w.begin i)) since ⊎ Contains (made ++ a_node number ∷ []) (a_node (wrapped table.layout.nodes w.begin i))
+      each : (i : ℕ) → i < w.tried + claims.tried + 1 → HasMissedSince Whose b.0.known.failed (a_node (wrapped end w.begin i)) since ⊎ Contains (made ++ a_node number ∷ []) (a_node (wrapped end w.begin i))
       each i low = go (nat_lt i (w.tried + claims.tried)) refl
         where
-          go : (t : Bool) → nat_lt i (w.tried + claims.tried) ≡ t → HasMissedSince Whose b.0.known.failed (a_node (wrapped table.layout.nodes w.begin i)) since ⊎ Contains (made ++ a_node number ∷ []) (a_node (wrapped table.layout.nodes w.begin i))
+          go : (t : Bool) → nat_lt i (w.tried + claims.tried) ≡ t → HasMissedSince Whose b.0.known.failed (a_node (wrapped end w.begin i)) since ⊎ Contains (made ++ a_node number ∷ []) (a_node (wrapped end w.begin i))
           go true e = elim (each_tried since claims.tried a claims.before made next left alone w (omega arith) claims.none i (ltb-true i (w.tried + claims.tried) e)) [
-            | inl missed ↦ inl (subst (λ l. HasMissedSince Whose l (a_node (wrapped table.layout.nodes w.begin i)) since) (sym claims.one.failed)
-                (missed_as table.layout claims.before.0.known b.0.known made (made ++ a_node number ∷ []) claims.before.0.known.failed (a_node (wrapped table.layout.nodes w.begin i)) since
-                (ap (λ (z : Known). z.pass) claims.one.does.rest) (ap (λ (z : Known). z.locks) claims.one.does.rest) (Contains-append_left made (a_node number ∷ []) (a_node (wrapped table.layout.nodes w.begin i))) missed))
-            | inr has ↦ inr (Contains-append_left made (a_node number ∷ []) (a_node (wrapped table.layout.nodes w.begin i)) has)
+            | inl missed ↦ inl (subst (λ l. HasMissedSince Whose l (a_node (wrapped end w.begin i)) since) (sym claims.one.failed)
+                (missed_as table.layout claims.before.0.known b.0.known made (made ++ a_node number ∷ []) claims.before.0.known.failed (a_node (wrapped end w.begin i)) since
+                (ap (λ (z : Known). z.pass) claims.one.does.rest) (ap (λ (z : Known). z.locks) claims.one.does.rest) (Contains-append_left made (a_node number ∷ []) (a_node (wrapped end w.begin i))) missed))
+            | inr has ↦ inr (Contains-append_left made (a_node number ∷ []) (a_node (wrapped end w.begin i)) has)
           ]
           go false e =
               let past = ltb-false i (w.tried + claims.tried) e in
               let same : w.tried + claims.tried ≡ i = omega arith in
-              inr (subst (λ z. Contains (made ++ a_node number ∷ []) (a_node z)) (here ∙ ap (wrapped table.layout.nodes w.begin) same) (Contains-push made (a_node number)))
+              inr (subst (λ z. Contains (made ++ a_node number ∷ []) (a_node z)) (here ∙ ap (wrapped end w.begin) same) (Contains-push made (a_node number)))
 
 -- ---- the records that are made
 pub look_record : (table : TableView) (a : SeatView) (made : List Rec) (news : List Made) → IsBuilding table a made news → (index : ℕ) (d : Rec) → index < length made → HasRecord table.layout (get_or made index d)

@@ -3,6 +3,14 @@ use Rattle.rowex_writing.proofs.Common.{◌≡◌, ℕ, ◌+◌, ◌-◌, ◌^�
 use Rattle.record_words.proofs.HeadParts.{past_kind, told}
 use Rattle.record_words.proofs.Unused.{zero_in}
 use Rattle.record_words.proofs.Written.{no_entry_word}
+use Rattle.record_words.specs.Layout.{uncommitted_in}
+use Rattle.rowex_table.specs.Runs.{Runs}
+use Rattle.rowex_table.specs.Seats.{HasFoundBounds}
+use Rattle.rowex_table.proofs.Committed.{committed_falls}
+use Rattle.rowex_table.proofs.Committed.Chains.{bounds_then_runs}
+use Rattle.rowex_records.specs.Claims.{AreCommitted, record_of}
+use Rattle.rowex_records.specs.declared.claiming.RecordKind.{RecordKind}
+use Rattle.publish_laws.specs.Loops.{StaysLocked}
 use Rattle.rowex_writing.specs.locks.Going.{WorksOn, WorksOnKeepingRecords, HasLocked, IsNodeOf, IsStepUnderLocks}
 use Rattle.rowex_writing.specs.locks.Loads.{AreRead, AreThose}
 use Rattle.rowex_writing.proofs.locks.Loads.{head_word}
@@ -19,6 +27,24 @@ module _ {G : Type 0} (table : TableView) (becomes : G → Event → G → Type 
     steps = runs_append table becomes first.acts second.acts a m b first.steps second.steps;
     stays = stays_on a.0.known m.0.known b.0.known first.stays second.stays;
   }
+
+  -- what was found uncommitted before a step stands before it, unseen
+  pub goes_found : (s t : SeatView) (gate : G) (b : SeatView × G) → HasFoundBounds s t → WorksOn table becomes (t, gate) b → t.known.steps < b.0.known.steps → WorksOn table becomes (s, gate) b
+  goes_found s t gate b found goes some = record {
+    acts = goes.acts;
+    plain = goes.plain;
+    steps = from goes.acts goes.steps;
+    stays = subst (λ (z : SeatView). StaysLocked z.known b.0.known) found.1 goes.stays;
+  }
+    where
+      from : (acts : List Act) → Runs table becomes acts (t, gate) b → Runs table becomes acts (s, gate) b
+      from [] run = absurd (let same = ap (λ (z : SeatView × G). z.0.known.steps) run in omega (arith, same, some))
+      from (act ∷ acts) run = bounds_then_runs table becomes act acts s t gate b found run
+
+  -- what is committed stays so
+  pub goes_committed : (kind : RecordKind) (a b : SeatView × G) → WorksOn table becomes a b → AreCommitted table.layout a.0.bounds kind → AreCommitted table.layout b.0.bounds kind
+  goes_committed kind a b goes committed = λ index low.
+      committed_falls table.layout (uncommitted_in b.0.bounds) (uncommitted_in a.0.bounds) (record_of kind index) (runs_same table becomes goes.acts a b goes.steps).4 (committed index low)
 
   -- the seat is one of the table still
   pub seat_of : (a b : SeatView × G) → WorksOn table becomes a b → IsSeatOf table a.0 → IsSeatOf table b.0

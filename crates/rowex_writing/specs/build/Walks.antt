@@ -15,23 +15,24 @@ use Rattle.rowex_writing.specs.declared.build.kept.Build.{Build}
 abbrev pub HasNoOther : (known : Known) → (made : List Rec) → Type 0
 HasNoOther known made = (rec : Rec) → Contains (records_had known) rec → Contains made rec
 
--- Since step `since` the pass has tried some node records, each once, from number `begin` on, with 0 after the last. It may try the `left`
--- others, from `next` on. Each that it has tried was found not free, and another pass's or nobody's, or is one that it has made.
-pub record IsClaimWalk (layout : Layout) (since : ℕ) (known : Known) (made : List Rec) (next left : ℕ) : Type 0 where
+-- Since step `since` the pass has tried some of the node records below `end`, each once, from number `begin` on, with 0 after the last. It
+-- may try the `left` others, from `next` on. Each that it has tried was found not free, and another pass's or nobody's, or is one that it
+-- has made.
+pub record IsClaimWalk (layout : Layout) (end since : ℕ) (known : Known) (made : List Rec) (next left : ℕ) : Type 0 where
   pub early : since ≤ known.steps
   pub begin : ℕ
-  pub low : begin < layout.nodes
+  pub low : begin < end
   pub tried : ℕ
-  pub count : tried + left ≡ layout.nodes
-  pub next_is : 0 < left → begin_of layout.nodes next ≡ wrapped layout.nodes begin tried
+  pub count : tried + left ≡ end
+  pub next_is : 0 < left → begin_of end next ≡ wrapped end begin tried
   pub each : (i : ℕ) → i < tried →
-      HasMissedSince (IsAnothersBut layout known made) known.failed (a_node (wrapped layout.nodes begin i)) since ⊎
-      Contains made (a_node (wrapped layout.nodes begin i))
+      HasMissedSince (IsAnothersBut layout known made) known.failed (a_node (wrapped end begin i)) since ⊎
+      Contains made (a_node (wrapped end begin i))
 
 -- the pass is on the walk of its change's claims (`IsClaimWalk`): it began at step `since`, has made `build.made`, and goes on as the build
 -- says
 abbrev pub HasWalked : (layout : Layout) → (since : ℕ) → (known : Known) → (build : Build) → Type 0
-HasWalked layout since known build = IsClaimWalk layout since known build.made.items build.nodes.next build.left_nodes
+HasWalked layout since known build = IsClaimWalk layout layout.nodes since known build.made.items build.nodes.next build.left_nodes
 
 -- How many steps a walk adds at its end. If no record was free, each record made is looked at once more, so that a failed step tells of
 -- every record; else none.

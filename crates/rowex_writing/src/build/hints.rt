@@ -1,15 +1,16 @@
 //! Where a pass claims records: the hints that it keeps between calls, and the claims that begin with them.
 
-ghost use Rattle.std.specs.Prelude.{◌≡◌, ◌<◌, ◌≤◌, ◌++◌, ◌∷◌, [], length, ◌⊎◌, ◌+◌, ◌-◌, ◌^◌, ◌/◌, ◌↔◌, max, min, ◌*◌, MatchOption, IfOk, IsTrue, List, ℕ, vec_capacity};
+ghost use Rattle.std.specs.Prelude.{◌≡◌, ◌<◌, ◌≤◌, ◌++◌, ◌∷◌, [], length, ◌⊎◌, ◌+◌, ◌-◌, ◌^◌, ◌/◌, ◌↔◌, max, min, ◌*◌, MatchOption, IfOk, IsSome, IsTrue, List, ℕ, vec_capacity};
 ghost use Rattle.record_words.specs.declared.records.Rec.TheVariants.{Node as a_node};
 ghost use Rattle.rowex_table.specs.Seats.{IsSeatOf};
-ghost use Rattle.rowex_records.specs.Claims.{AllMissed, HoldsOneMore, IsAnothersTo, IsKindOf, count_of, record_of};
+ghost use Rattle.rowex_records.specs.Claims.{AllMissed, AreCommitted, HoldsOneMore, IsAnothersTo, IsKindOf, count_of, record_of};
+ghost use Rattle.rowex_records.specs.declared.claiming.RecordKind.TheVariants.{Node};
 ghost use Rattle.rowex_writing.specs.build.Spare.{FindsOne};
 ghost use Rattle.rowex_writing.specs.locks.Going.{WorksOn};
 ghost use Rattle.record_words.specs.declared.records.Rec.{Rec as Record};
 ghost use Rattle.rowex_writing.specs.build.Walks.{HasNoOther, IsClaimWalk};
 
-use rowex_core::Gate;
+use rowex_core::{Gate, Rec};
 use rowex_records::{RecordKind, claim_by_number, claim_next_record, claim_record};
 use rowex_table::{HotTable, TableSeat};
 use std::alloc::{AllocError, Global};
@@ -207,6 +208,7 @@ impl Stretch {
 }
 
 /// Claims a record of `kind` and returns its number, counted from the first of the kind on. The pass then has it beside its other records.
+/// All records of the kind are committed.
 /// `None` if each record of the kind was found not free: then the pass has just its records of before. For each one a failed step of this
 /// call tells who may own it: nobody, another pass, or this pass if it did before (`IsAnothersTo`).
 ///
@@ -223,11 +225,13 @@ pub(crate) fn claim_by_hint<G: Gate>(
 ) -> Option<u32>
     requires own { IsSeatOf table.now seat.old }
     requires kind { IsKindOf kind table.now.layout }
+    requires committed { AreCommitted table.now.layout seat.old.bounds kind }
     ensures goes { WorksOn table.now G.becomes (seat.old, gate.old) (seat.new, gate.new) }
     ensures claims { MatchOption result
         ((seat.new.known.own ≡ seat.old.known.own) ×
         AllMissed (IsAnothersTo table.now.layout seat.old.known) (record_of kind) (count_of kind table.now.layout) seat.new.known.failed seat.old.known.steps)
         (λ number. (number < count_of kind table.now.layout) × HoldsOneMore (record_of kind number) seat.old.known seat.new.known) }
+    ensures some { 0 < count_of kind table.now.layout → seat.old.known.steps < seat.new.known.steps }
     ensures few { seat.new.known.steps ≤ seat.old.known.steps + 2 * count_of kind table.now.layout + 2 }
 {
     if let Some(number) = claim_spare_record(table, seat, gate, kind, &mut hint.spare) {
@@ -251,9 +255,11 @@ fn claim_spare_record<G: Gate>(
 ) -> Option<u32>
     requires own { IsSeatOf table.now seat.old }
     requires kind { IsKindOf kind table.now.layout }
+    requires committed { AreCommitted table.now.layout seat.old.bounds kind }
     ensures goes { WorksOn table.now G.becomes (seat.old, gate.old) (seat.new, gate.new) }
     ensures claims { MatchOption result (seat.new.known.own ≡ seat.old.known.own)
         (λ number. (number < count_of kind table.now.layout) × HoldsOneMore (record_of kind number) seat.old.known seat.new.known) }
+    ensures some { IsSome result → seat.old.known.steps < seat.new.known.steps }
     ensures few { seat.new.known.steps ≤ seat.old.known.steps + 2 }
 {
     let number = spare.pop()?;
@@ -263,11 +269,12 @@ fn claim_spare_record<G: Gate>(
     None
 }
 
-/// Claims the next free node record on the walk of a change's claims, and returns its number. `None` if none of those left was free.
+/// Claims the next free node record on the walk of a change's claims, and returns its number. `None` if none of those left was free. All
+/// node records are committed before the first is tried.
 ///
 /// The last spare number of `hint` is tried first, and is no longer spare. Then at most `left` records are tried, each once, from
 /// `hint.next` on. Each try takes at most two steps. `left` becomes less by the number of these tries without the spare one. If one of
-/// these claims a record, `hint.next` is the number behind it.
+/// these claims a record, `hint.next` is the number behind it. If none is left, nothing is tried.
 ///
 /// In a table with one pass that has no record of its own, a walk that may still try each record finds one if one is free.
 pub(crate) fn claim_node_on_walk<G: Gate>(
@@ -282,16 +289,49 @@ pub(crate) fn claim_node_on_walk<G: Gate>(
     ensures claims { MatchOption result (seat.new.known.own ≡ seat.old.known.own)
         (λ number. (number < table.now.layout.nodes) × HoldsOneMore (a_node number) seat.old.known seat.new.known) }
     ensures walk { (since : ℕ) (made : List Record) → HasNoOther seat.old.known made →
-        IsClaimWalk table.now.layout since seat.old.known made hint.old.next left.old → MatchOption result
-        ((left.new ≡ 0) × IsClaimWalk table.now.layout since seat.new.known made hint.new.next left.new)
-        (λ number. IsClaimWalk table.now.layout since seat.new.known (made ++ a_node number ∷ []) hint.new.next left.new) }
+        IsClaimWalk table.now.layout table.now.layout.nodes since seat.old.known made hint.old.next left.old → MatchOption result
+        ((left.new ≡ 0) × IsClaimWalk table.now.layout table.now.layout.nodes since seat.new.known made hint.new.next left.new)
+        (λ number. IsClaimWalk table.now.layout table.now.layout.nodes since seat.new.known (made ++ a_node number ∷ []) hint.new.next left.new) }
     ensures few { seat.new.known.steps + 2 * left.new ≤ seat.old.known.steps + 2 * left.old + 2 }
     ensures finds { FindsOne table.now.layout left.old seat.old result }
 {
-    if let Some(number) = claim_spare_record(table, seat, gate, RecordKind::Node, &mut hint.spare) {
+    if *left == 0 {
+        return None;
+    }
+    let nodes = table.layout().nodes;
+    table.commit(seat, Rec::Node(nodes - 1));
+    claim_committed_node(table, seat, gate, hint, left, nodes)
+}
+
+/// Claims the next free node record on a walk over those below `end`, as [`claim_node_on_walk`] does. These are committed, and the table has
+/// them.
+fn claim_committed_node<G: Gate>(
+    table: &HotTable,
+    seat: &mut TableSeat,
+    gate: &mut G,
+    hint: &mut Hint,
+    left: &mut u32,
+    end: u32,
+) -> Option<u32>
+    requires own { IsSeatOf table.now seat.old }
+    requires range { end ≤ table.now.layout.nodes }
+    requires committed { AreCommitted table.now.layout seat.old.bounds (Node end) }
+    ensures goes { WorksOn table.now G.becomes (seat.old, gate.old) (seat.new, gate.new) }
+    ensures claims { MatchOption result (seat.new.known.own ≡ seat.old.known.own)
+        (λ number. (number < table.now.layout.nodes) × HoldsOneMore (a_node number) seat.old.known seat.new.known) }
+    ensures walk { (since : ℕ) (made : List Record) → HasNoOther seat.old.known made →
+        IsClaimWalk table.now.layout end since seat.old.known made hint.old.next left.old → MatchOption result
+        ((left.new ≡ 0) × IsClaimWalk table.now.layout end since seat.new.known made hint.new.next left.new)
+        (λ number. IsClaimWalk table.now.layout end since seat.new.known (made ++ a_node number ∷ []) hint.new.next left.new) }
+    ensures few { seat.new.known.steps + 2 * left.new ≤ seat.old.known.steps + 2 * left.old + 2 }
+    ensures finds { end ≡ table.now.layout.nodes → FindsOne table.now.layout left.old seat.old result }
+    ensures some { 0 < end → 0 < left.old → seat.old.known.steps < seat.new.known.steps }
+{
+    let kind = RecordKind::Node { end };
+    if let Some(number) = claim_spare_record(table, seat, gate, kind, &mut hint.spare) {
         return Some(number);
     }
-    let number = claim_next_record(table, seat, gate, RecordKind::Node, hint.next, left)?;
+    let number = claim_next_record(table, seat, gate, kind, hint.next, left)?;
     hint.stretch.advance_past_claim(hint.next, number);
     hint.next = number + 1;
     Some(number)

@@ -13,8 +13,9 @@ ghost use Rattle.tries.specs.Content.{item};
 ghost use Rattle.record_words.specs.Layout.{leaf_size};
 ghost use Rattle.record_words.specs.declared.TheConstants.{LEAF_WORDS};
 ghost use Rattle.record_words.specs.declared.records.Rec.TheVariants.{Leaf as a_leaf};
-ghost use Rattle.rowex_records.specs.Claims.{AllMissedFrom, HoldsOneMore, IsAnothersTo};
-ghost use Rattle.rowex_writing.specs.build.Classes.{AllMissedBetween};
+ghost use Rattle.rowex_records.specs.Claims.{AllMissed, AllMissedFrom, HoldsOneMore, IsAnothersTo, record_of};
+ghost use Rattle.rowex_records.specs.declared.claiming.RecordKind.TheVariants.{Leaf as LeafKind};
+ghost use Rattle.rowex_writing.specs.build.Classes.{AllMissedBetween, AreOfOneClass};
 
 use crate::build::hints::{Hint, claim_by_hint};
 use crate::build::kept::Build;
@@ -135,12 +136,38 @@ fn claim_leaf_between<G: Gate>(
     while first < numbers.end {
         let end = layout.class_end(first).min(numbers.end);
         let hint = &mut classes[layout.class_of(first).index()];
-        let kind = RecordKind::Leaf { first, end };
-        if let Some(number) = claim_by_hint(table, seat, gate, kind, hint) {
+        if let Some(number) = claim_leaf_of_class(table, seat, gate, first..end, hint) {
             return Some(first + number);
         }
         hint.skips = end - first;
         first = end;
     }
     None
+}
+
+/// Claims a leaf record with one of `numbers`, which are all of one class, and returns its number, counted from the first of them on. `None`
+/// if none was free: then failed steps of this call tell of each who may own it. All are committed before the first is tried. Claims begin
+/// by `hint`, and each try takes at most two steps. Inline, as its caller is.
+#[inline(always)]
+fn claim_leaf_of_class<G: Gate>(
+    table: &HotTable,
+    seat: &mut TableSeat,
+    gate: &mut G,
+    numbers: Range<u32>,
+    hint: &mut Hint,
+) -> Option<u32>
+    requires own { IsSeatOf table.now seat.old }
+    requires range { (numbers.start < numbers.end) × (numbers.end ≤ table.now.layout.leaves) }
+    requires class { AreOfOneClass table.now.layout numbers.start numbers.end }
+    ensures goes { WorksOn table.now G.becomes (seat.old, gate.old) (seat.new, gate.new) }
+    ensures claims { MatchOption result
+        ((seat.new.known.own ≡ seat.old.known.own) ×
+        AllMissed (IsAnothersTo table.now.layout seat.old.known) (record_of (LeafKind numbers.start numbers.end)) (numbers.end - numbers.start)
+        seat.new.known.failed seat.old.known.steps)
+        (λ number. (number < numbers.end - numbers.start) × HoldsOneMore (a_leaf (numbers.start + number)) seat.old.known seat.new.known) }
+    ensures few { seat.new.known.steps ≤ seat.old.known.steps + 2 * (numbers.end - numbers.start) + 2 }
+{
+    let (first, end) = (numbers.start, numbers.end);
+    table.commit(seat, Rec::Leaf(end - 1));
+    claim_by_hint(table, seat, gate, RecordKind::Leaf { first, end }, hint)
 }

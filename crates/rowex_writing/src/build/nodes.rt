@@ -181,7 +181,7 @@ pub(crate) fn claim_node<G: Gate>(
     ensures made { build.new.made.items ≡ build.old.made.items }
     ensures walk { (since : ℕ) → HasWalked table.now.layout since seat.old.known build.old → MatchOption result
         (HasMissedEach table.now.layout since seat.new.known build.new.made.items)
-        (λ number. IsClaimWalk table.now.layout since seat.new.known (build.old.made.items ++ a_node number ∷ [])
+        (λ number. IsClaimWalk table.now.layout table.now.layout.nodes since seat.new.known (build.old.made.items ++ a_node number ∷ [])
         build.new.nodes.next build.new.left_nodes) }
     ensures few { seat.new.known.steps + 2 * build.new.left_nodes ≤ seat.old.known.steps + 2 * build.old.left_nodes + 2 + looks_for build.new result }
     ensures finds { FindsOne table.now.layout build.old.left_nodes seat.old result }
@@ -218,7 +218,15 @@ pub(crate) fn leaves_free_node<G: Gate>(
         return true;
     }
     let (next, left) = (build.nodes.next, build.left_nodes);
-    if let Some(number) = find_free_record(table, seat, gate, RecordKind::Node, next, left) {
+    let end = table.layout().nodes;
+    if let Some(number) = find_free_record(
+        table,
+        seat,
+        gate,
+        RecordKind::Node { end },
+        next,
+        left,
+    ) {
         build.nodes.next = number;
         return true;
     }

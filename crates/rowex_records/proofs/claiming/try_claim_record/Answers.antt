@@ -1,5 +1,7 @@
 -- Found not free by the load, or by the claim, or claimed.
 use Rattle.rowex_records.proofs.Common.{arith, ◌≡◌, ◌∙◌, subst, eqb-true, eqb-false, LoadState, Steps}
+use Rattle.record_words.specs.Layout.{uncommitted_in}
+use Rattle.rowex_table.proofs.Committed.{committed_falls}
 use Rattle.rowex_records.proofs.Claims.{missed_by_load, missed_by_claim, claimed_free}
 use Rattle.rowex_records.proofs.claiming.try_claim_record.Goals as goal
 
@@ -22,3 +24,6 @@ returns-clause-claimed g c = λ taken.
     let free : c.load_state_at.result ≡ 0 = omega (arith, c.if-load_state_at-pack_state.false, c.pack_state.ensures) in
     claimed_free c.args.table.now g.G.Gate.becomes c.args.at.rec c.claim_at.result _ _ _ (eqb-true c.claim_at.result c.pack_state-2.result taken ∙ c.pack_state-2.ensures)
     (subst (λ w. Steps c.args.table.now g.G.Gate.becomes (LoadState c.args.at.rec w) (c.args.seat.now, c.args.gate.now) (c.load_state_at.new.seat, c.load_state_at.new.gate)) free c.load_state_at.ensures) c.claim_at.ensures
+
+pub claim_at-requires-clause-committed : goal.claim_at-requires-clause-committed
+claim_at-requires-clause-committed g c = committed_falls c.args.table.now.layout (uncommitted_in c.load_state_at.new.seat.bounds) (uncommitted_in c.args.seat.now.bounds) c.args.at.rec c.load_state_at.ensures.seat.4 c.requires.committed

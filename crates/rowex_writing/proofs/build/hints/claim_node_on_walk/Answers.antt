@@ -1,66 +1,39 @@
--- The spare record was not free, or there was none; then one of all records is claimed, or none was free.
-use Rattle.rowex_writing.proofs.build.Spare.{goes_room, walk_finds}
-use Rattle.rowex_writing.proofs.Common.{◌∙◌, arith, Contains-append_left, a_node, claims_holds, more_since}
-use Rattle.rowex_writing.proofs.build.Counts.{claims_count, none_count}
-use Rattle.rowex_writing.proofs.locks.Going.{goes_more, seat_of}
-use Rattle.rowex_writing.proofs.build.Building.{none_on, claim_on}
-use Rattle.rowex_writing.proofs.build.Walks.{alone_still, walk_on, walk_out, walk_claims}
+-- Nothing is left to try, or all records are committed and then tried.
+use Rattle.rowex_writing.proofs.Common.{arith, ap, rules, ◌∙◌, Layout, SeatView}
+use Rattle.rowex_writing.proofs.build.Spare.{found_room}
+use Rattle.rowex_writing.proofs.locks.Going.{goes_found, goes_none}
 use Rattle.rowex_writing.proofs.build.hints.claim_node_on_walk.Goals as goal
 
-pub returns-in-Some-clause-walk : goal.returns-in-Some-clause-walk
-returns-in-Some-clause-walk g c = λ since made alone w.
-    walk_on c.args.table.now g.G.Gate.becomes since (c.args.seat.now, c.args.gate.now) (c.claim_spare_record.new.seat, c.claim_spare_record.new.gate) made _ _ _
-    c.claim_spare_record.ensures.goes (λ r has. Contains-append_left made _ r has) w
+pub returns-then-left-eq0-clause-goes : goal.returns-then-left-eq0-clause-goes
+returns-then-left-eq0-clause-goes g c = goes_none c.args.table.now g.G.Gate.becomes (c.args.seat.now, c.args.gate.now)
 
-pub claim_next_record-requires-clause-own : goal.claim_next_record-requires-clause-own
-claim_next_record-requires-clause-own g c = seat_of c.args.table.now g.G.Gate.becomes (c.args.seat.now, c.args.gate.now) (c.claim_spare_record.new.seat, c.claim_spare_record.new.gate) c.claim_spare_record.ensures.goes c.requires.own
+pub returns-then-left-eq0-clause-walk : goal.returns-then-left-eq0-clause-walk
+returns-then-left-eq0-clause-walk g c = λ since made alone w. (c.if-left-eq0.true, w)
 
-pub returns-in_err-number-clause-goes : goal.returns-in_err-number-clause-goes
-returns-in_err-number-clause-goes g c =
-    goes_more c.args.table.now g.G.Gate.becomes _ _ _ c.claim_spare_record.ensures.goes (none_on c.args.table.now g.G.Gate.becomes a_node _ _ _ _ _ c.in_err-number.ensures.claims.1)
+pub returns-then-left-eq0-clause-finds : goal.returns-then-left-eq0-clause-finds
+returns-then-left-eq0-clause-finds g c = λ whole none room is. let some = c.args.table.now.layout.nodes_in_range.0 in let left = c.if-left-eq0.true in omega (arith, whole, some, left)
 
-pub returns-in_err-number-clause-walk : goal.returns-in_err-number-clause-walk
-returns-in_err-number-clause-walk g c = λ since made alone w. rw c.from_residual.ensures
-    (let count = w.count in let less = c.in_err-number.ensures.claims.0 in (
-      omega arith,
-      walk_out c.args.table.now g.G.Gate.becomes since c.args.left.now c.claim_next_record.new.left (c.claim_spare_record.new.seat, c.claim_spare_record.new.gate) (c.claim_next_record.new.seat, c.claim_next_record.new.gate) made
-          c.args.hint.now.next _ (alone_still c.args.seat.now.known c.claim_spare_record.new.seat.known made c.in_default.ensures.claims alone)
-          (none_on c.args.table.now g.G.Gate.becomes a_node _ _ _ _ _ c.in_err-number.ensures.claims.1) (omega arith) (omega arith) c.in_err-number.ensures.claims.1
-          (walk_on c.args.table.now g.G.Gate.becomes since (c.args.seat.now, c.args.gate.now) (c.claim_spare_record.new.seat, c.claim_spare_record.new.gate) made made c.args.hint.now.next c.args.left.now
-          c.claim_spare_record.ensures.goes (λ r has. has) w),
-    ))
+pub claim_committed_node-requires-clause-own : goal.claim_committed_node-requires-clause-own
+claim_committed_node-requires-clause-own g c = ap (λ (z : SeatView). z.table) c.commit.ensures.bounds.1 ∙ c.requires.own
 
-pub returns-in_err-number-clause-few : goal.returns-in_err-number-clause-few
-returns-in_err-number-clause-few g c =
-    let few = none_count c.args.table.now g.G.Gate.becomes _ _ _ _ (c.claim_spare_record.new.seat, c.claim_spare_record.new.gate) (c.claim_next_record.new.seat, c.claim_next_record.new.gate) c.in_err-number.ensures.claims.1 in
-    omega (arith, few, c.in_err-number.ensures.claims.0, c.claim_spare_record.ensures.few)
+pub claim_committed_node-requires-clause-committed : goal.claim_committed_node-requires-clause-committed
+claim_committed_node-requires-clause-committed g c = λ index low. let last = c.commit.ensures.committed in let all = ap (λ (z : Layout). z.nodes) c.layout-nodes.ensures in omega (arith, last, all, low)
 
 pub returns-clause-goes : goal.returns-clause-goes
 returns-clause-goes g c =
-    goes_more c.args.table.now g.G.Gate.becomes _ _ _ c.claim_spare_record.ensures.goes (claim_on c.args.table.now g.G.Gate.becomes a_node _ _ _ _ _ c.in_ok-number.ensures.claims.0)
+    goes_found c.args.table.now g.G.Gate.becomes c.args.seat.now c.commit.new.seat c.args.gate.now (c.claim_committed_node.new.seat, c.claim_committed_node.new.gate) c.commit.ensures.bounds c.claim_committed_node.ensures.goes
+    (c.claim_committed_node.ensures.some (let some = c.args.table.now.layout.nodes_in_range.0 in let all = ap (λ (z : Layout). z.nodes) c.layout-nodes.ensures in omega (arith, some, all)) (let some = c.if-left-eq0.false in omega (arith, some)))
 
 pub returns-clause-claims : goal.returns-clause-claims
-returns-clause-claims g c = (
-  c.in_ok-number.ensures.held.0,
-  more_since (a_node c.in_ok-number.number) c.args.seat.now.known c.claim_spare_record.new.seat.known c.claim_next_record.new.seat.known c.in_default.ensures.claims
-      (claims_holds c.args.table.now g.G.Gate.becomes a_node _ _ c.in_ok-number.number (c.claim_spare_record.new.seat, c.claim_spare_record.new.gate) (c.claim_next_record.new.seat, c.claim_next_record.new.gate) c.in_ok-number.ensures.claims.0),
-)
+returns-clause-claims g c = rw (ap (λ (z : SeatView). z.known) c.commit.ensures.bounds.1) at c.claim_committed_node.ensures.claims
 
 pub returns-clause-walk : goal.returns-clause-walk
-returns-clause-walk g c = λ since made alone w.
-    walk_claims c.args.table.now g.G.Gate.becomes since c.args.left.now c.claim_next_record.new.left c.in_ok-number.number (c.claim_spare_record.new.seat, c.claim_spare_record.new.gate)
-    (c.claim_next_record.new.seat, c.claim_next_record.new.gate) made c.args.hint.now.next (alone_still c.args.seat.now.known c.claim_spare_record.new.seat.known made c.in_default.ensures.claims alone)
-    (claim_on c.args.table.now g.G.Gate.becomes a_node _ _ _ _ _ c.in_ok-number.ensures.claims.0) c.in_ok-number.ensures.claims.0 c.in_ok-number.ensures.claims.1
-    (walk_on c.args.table.now g.G.Gate.becomes since (c.args.seat.now, c.args.gate.now) (c.claim_spare_record.new.seat, c.claim_spare_record.new.gate) made made c.args.hint.now.next c.args.left.now
-    c.claim_spare_record.ensures.goes (λ r has. has) w)
+returns-clause-walk g c = rw (ap (λ (z : Layout). z.nodes) c.layout-nodes.ensures, ap (λ (z : SeatView). z.known) c.commit.ensures.bounds.1) at c.claim_committed_node.ensures.walk
 
 pub returns-clause-few : goal.returns-clause-few
-returns-clause-few g c =
-    let claims = c.in_ok-number.ensures.claims.0 in
-    let few = claims_count c.args.table.now g.G.Gate.becomes a_node _ _ c.in_ok-number.number (c.claim_spare_record.new.seat, c.claim_spare_record.new.gate) (c.claim_next_record.new.seat, c.claim_next_record.new.gate) claims in
-    omega (arith, few, c.in_ok-number.ensures.claims.1, c.claim_spare_record.ensures.few)
+returns-clause-few g c = let same = ap (λ (z : SeatView). z.known.steps) c.commit.ensures.bounds.1 in omega (arith, same, c.claim_committed_node.ensures.few)
 
-pub returns-in_err-number-clause-finds : goal.returns-in_err-number-clause-finds
-returns-in_err-number-clause-finds g c = λ whole none room is.
-    walk_finds c.args.table.now g.G.Gate.becomes c.args.hint.now.next _ (c.claim_spare_record.new.seat, c.claim_spare_record.new.gate) (c.claim_next_record.new.seat, c.claim_next_record.new.gate) (omega (arith, whole))
-    (goes_room c.args.table.now g.G.Gate.becomes (c.args.seat.now, c.args.gate.now) (c.claim_spare_record.new.seat, c.claim_spare_record.new.gate) c.claim_spare_record.ensures.goes (c.in_default.ensures.claims ∙ none) room) c.in_err-number.ensures.claims.1
+pub returns-clause-finds : goal.returns-clause-finds
+returns-clause-finds g c = λ whole none room.
+    c.claim_committed_node.ensures.finds (ap (λ (z : Layout). z.nodes) c.layout-nodes.ensures) whole (ap (λ (z : SeatView). z.known.own) c.commit.ensures.bounds.1 ∙ none)
+    (found_room c.args.table.now.layout c.args.seat.now c.commit.new.seat c.commit.ensures.bounds room)

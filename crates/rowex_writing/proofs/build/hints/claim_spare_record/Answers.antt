@@ -2,6 +2,7 @@
 use Rattle.rowex_writing.proofs.Common.{arith, count_of, record_of}
 use Rattle.rowex_writing.proofs.locks.Going.{goes_none}
 use Rattle.rowex_writing.proofs.build.Building.{number_on, one_on, one_steps}
+use Rattle.rowex_writing.proofs.build.Counts.{one_rises}
 use Rattle.rowex_writing.proofs.build.hints.claim_spare_record.Goals as goal
 
 pub returns-then-claim_by_number-clause-goes : goal.returns-then-claim_by_number-clause-goes
@@ -20,3 +21,7 @@ pub returns-then-claim_by_number-clause-few : goal.returns-then-claim_by_number-
 returns-then-claim_by_number-clause-few g c =
     let (low, one) = c.claim_by_number.ensures.claimed c.if-claim_by_number.true in
     omega (arith, one_steps c.args.table.now g.G.Gate.becomes (record_of c.args.kind c.in_ok-number.number) (c.args.seat.now, c.args.gate.now) (c.claim_by_number.new.seat, c.claim_by_number.new.gate) one)
+
+pub returns-then-claim_by_number-clause-some : goal.returns-then-claim_by_number-clause-some
+returns-then-claim_by_number-clause-some g c = λ some.
+    one_rises c.args.table.now g.G.Gate.becomes (record_of c.args.kind c.in_ok-number.number) (c.args.seat.now, c.args.gate.now) (c.claim_by_number.new.seat, c.claim_by_number.new.gate) (c.claim_by_number.ensures.claimed c.if-claim_by_number.true).1

@@ -5,26 +5,26 @@ use Rattle.rowex_writing.proofs.locks.Going.{goes_more, goes_none, seat_of}
 use Rattle.rowex_writing.proofs.build.Building.{steps_rise}
 use Rattle.rowex_writing.proofs.build.leaves.claim_leaf_between.Goals as goal
 
-pub claim_by_hint-requires-clause-own : goal.claim_by_hint-requires-clause-own
-claim_by_hint-requires-clause-own g c = seat_of c.args.table.now g.G.Gate.becomes (c.args.seat.now, c.args.gate.now) (c.loop-first.seat, c.loop-first.gate) c.loop-first.invariant.goes c.requires.own
+pub claim_leaf_of_class-requires-clause-own : goal.claim_leaf_of_class-requires-clause-own
+claim_leaf_of_class-requires-clause-own g c = seat_of c.args.table.now g.G.Gate.becomes (c.args.seat.now, c.args.gate.now) (c.loop-first.seat, c.loop-first.gate) c.loop-first.invariant.goes c.requires.own
 
 pub returns-in-Some-clause-goes : goal.returns-in-Some-clause-goes
-returns-in-Some-clause-goes g c = goes_more c.args.table.now g.G.Gate.becomes _ _ _ c.loop-first.invariant.goes c.claim_by_hint.ensures.goes
+returns-in-Some-clause-goes g c = goes_more c.args.table.now g.G.Gate.becomes _ _ _ c.loop-first.invariant.goes c.claim_leaf_of_class.ensures.goes
 
 pub loop-first-preserved : goal.loop-first-preserved
 loop-first-preserved g c =
     let table = c.args.table.now in
     let i = c.loop-first.invariant in
-    let goes = c.claim_by_hint.ensures.goes in
-    let rises = steps_rise table g.G.Gate.becomes goes.acts (c.loop-first.seat, c.loop-first.gate) (c.claim_by_hint.new.seat, c.claim_by_hint.new.gate) goes.steps in
+    let goes = c.claim_leaf_of_class.ensures.goes in
+    let rises = steps_rise table g.G.Gate.becomes goes.acts (c.loop-first.seat, c.loop-first.gate) (c.claim_leaf_of_class.new.seat, c.claim_leaf_of_class.new.gate) goes.steps in
     record {
       within = (omega (arith, i.within.0, c.class_end.ensures.upto.0, c.loop-first-test.true, c.min-end.ensures), omega (arith, c.min-end.ensures));
       goes = goes_more table g.G.Gate.becomes _ _ _ i.goes goes;
       own = c.in_default.ensures.claims.0 ∙ i.own;
-      missed = missed_more table g.G.Gate.becomes (IsAnothersTo table.layout c.args.seat.now.known) c.args.numbers.start c.loop-first.first c.min-end.result c.args.seat.now.known.steps (c.loop-first.seat, c.loop-first.gate) (c.claim_by_hint.new.seat, c.claim_by_hint.new.gate)
-          i.later goes i.missed (λ q low. missed_before table.layout c.args.seat.now.known c.loop-first.seat.known c.claim_by_hint.new.seat.known.failed (a_leaf (c.loop-first.first + q)) c.loop-first.seat.known.steps
+      missed = missed_more table g.G.Gate.becomes (IsAnothersTo table.layout c.args.seat.now.known) c.args.numbers.start c.loop-first.first c.min-end.result c.args.seat.now.known.steps (c.loop-first.seat, c.loop-first.gate) (c.claim_leaf_of_class.new.seat, c.claim_leaf_of_class.new.gate)
+          i.later goes i.missed (λ q low. missed_before table.layout c.args.seat.now.known c.loop-first.seat.known c.claim_leaf_of_class.new.seat.known.failed (a_leaf (c.loop-first.first + q)) c.loop-first.seat.known.steps
           i.goes.stays.0.pass i.own i.goes.stays.1 (c.in_default.ensures.claims.1 q low));
-      count = omega (arith, i.within.0, i.count, c.claim_by_hint.ensures.few, c.class_end.ensures.upto.0, c.loop-first-test.true, c.min-end.ensures);
+      count = omega (arith, i.within.0, i.count, c.claim_leaf_of_class.ensures.few, c.class_end.ensures.upto.0, c.loop-first-test.true, c.min-end.ensures);
       later = omega (arith, rises, i.later);
     }
 
@@ -43,8 +43,14 @@ returns-in-Some-clause-claims g c =
     let (less, holds) = c.in-Some.ensures.claims in (
       omega (arith, c.loop-first.invariant.within.0),
       omega (arith, less, c.min-end.ensures),
-      more_since (a_leaf (c.loop-first.first + c.in-Some.number)) c.args.seat.now.known c.loop-first.seat.known c.claim_by_hint.new.seat.known c.loop-first.invariant.own holds,
+      more_since (a_leaf (c.loop-first.first + c.in-Some.number)) c.args.seat.now.known c.loop-first.seat.known c.claim_leaf_of_class.new.seat.known c.loop-first.invariant.own holds,
     )
 
 pub returns-clause-claims : goal.returns-clause-claims
 returns-clause-claims g c = (c.loop-first.invariant.own, λ q low high. c.loop-first.invariant.missed q low (omega (arith, high, c.loop-first-test.false)))
+
+pub claim_leaf_of_class-requires-clause-range : goal.claim_leaf_of_class-requires-clause-range
+claim_leaf_of_class-requires-clause-range g c = (omega (arith, c.class_end.ensures.upto.0, c.loop-first-test.true, c.min-end.ensures), omega (arith, c.requires.range.1, c.min-end.ensures))
+
+pub claim_leaf_of_class-requires-clause-class : goal.claim_leaf_of_class-requires-clause-class
+claim_leaf_of_class-requires-clause-class g c = λ q low below. rw c.layout-layout.ensures at (c.class_end.ensures.same q low (omega (arith, below, c.min-end.ensures)))

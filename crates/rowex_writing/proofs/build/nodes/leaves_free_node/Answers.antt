@@ -1,6 +1,6 @@
 -- The last spare one, the walk, and those that are made.
 use Rattle.rowex_writing.proofs.build.Spare.{free_found}
-use Rattle.rowex_writing.proofs.Common.{ℕ, Option, ap, refl, sym, subst, ◌∙◌, arith, length, Record, a_node, HasMissedSince, IsAnothersBut, missed_earlier}
+use Rattle.rowex_writing.proofs.Common.{ℕ, Layout, Option, ap, refl, sym, subst, ◌∙◌, arith, length, Record, a_node, HasMissedSince, IsAnothersBut, missed_earlier}
 use Rattle.std.proofs.Common.{Contains}
 use Rattle.rowex_writing.specs.build.Building.{IsBuilding}
 use Rattle.rowex_writing.proofs.build.Counts.{free_count, none_count}
@@ -21,25 +21,25 @@ load_states-requires g c =
     let (news, b) = c.requires.building in
     let table = c.args.table.now in
     let goes = goes_more table g.G.Gate.becomes (c.args.seat.now, c.args.gate.now) (c.is_last_free.new.seat, c.is_last_free.new.gate) (c.find_free_record.new.seat, c.find_free_record.new.gate) c.is_last_free.ensures.goes
-    (none_on table g.G.Gate.becomes a_node _ _ _ _ _ c.in_default.ensures.finds) in
+    (none_on table g.G.Gate.becomes a_node _ _ _ _ _ (rw (ap (λ (z : Layout). z.nodes) c.layout-end.ensures) at c.in_default.ensures.finds)) in
     record {
       building = (
         news,
         subst (λ z. IsBuilding table c.find_free_record.new.seat z news) (sym c.as_slice-2.ensures.value)
-            (building_on table g.G.Gate.becomes (c.args.seat.now, c.args.gate.now) (c.find_free_record.new.seat, c.find_free_record.new.gate) c.args.build.now.made.items news goes (c.in_default.ensures.finds.own ∙ c.is_last_free.ensures.own) b),
+            (building_on table g.G.Gate.becomes (c.args.seat.now, c.args.gate.now) (c.find_free_record.new.seat, c.find_free_record.new.gate) c.args.build.now.made.items news goes ((rw (ap (λ (z : Layout). z.nodes) c.layout-end.ensures) at c.in_default.ensures.finds).own ∙ c.is_last_free.ensures.own) b),
       );
     }
 
 pub returns-in-Some : goal.returns-in-Some
 returns-in-Some g c =
     let table = c.args.table.now in
-    let few = free_count table g.G.Gate.becomes a_node _ _ _ _ (c.is_last_free.new.seat, c.is_last_free.new.gate) (c.find_free_record.new.seat, c.find_free_record.new.gate) c.in-Some.ensures.finds in
+    let few = free_count table g.G.Gate.becomes a_node _ _ _ _ (c.is_last_free.new.seat, c.is_last_free.new.gate) (c.find_free_record.new.seat, c.find_free_record.new.gate) (rw (ap (λ (z : Layout). z.nodes) c.layout-end.ensures) at c.in-Some.ensures.finds) in
     record {
       goes = goes_more table g.G.Gate.becomes (c.args.seat.now, c.args.gate.now) (c.is_last_free.new.seat, c.is_last_free.new.gate) (c.find_free_record.new.seat, c.find_free_record.new.gate) c.is_last_free.ensures.goes
-          (free_on table g.G.Gate.becomes a_node _ _ _ _ _ _ c.in-Some.ensures.finds);
-      own = free_own table g.G.Gate.becomes a_node _ _ _ _ (c.is_last_free.new.seat, c.is_last_free.new.gate) (c.find_free_record.new.seat, c.find_free_record.new.gate) c.in-Some.ensures.finds ∙ c.is_last_free.ensures.own;
+          (free_on table g.G.Gate.becomes a_node _ _ _ _ _ _ (rw (ap (λ (z : Layout). z.nodes) c.layout-end.ensures) at c.in-Some.ensures.finds));
+      own = free_own table g.G.Gate.becomes a_node _ _ _ _ (c.is_last_free.new.seat, c.is_last_free.new.gate) (c.find_free_record.new.seat, c.find_free_record.new.gate) (rw (ap (λ (z : Layout). z.nodes) c.layout-end.ensures) at c.in-Some.ensures.finds) ∙ c.is_last_free.ensures.own;
       made = refl;
-      free = λ is. free_found table g.G.Gate.becomes _ _ _ (c.is_last_free.new.seat, c.is_last_free.new.gate) (c.find_free_record.new.seat, c.find_free_record.new.gate) c.in-Some.ensures.finds;
+      free = λ is. free_found table g.G.Gate.becomes _ _ _ (c.is_last_free.new.seat, c.is_last_free.new.gate) (c.find_free_record.new.seat, c.find_free_record.new.gate) (rw (ap (λ (z : Layout). z.nodes) c.layout-end.ensures) at c.in-Some.ensures.finds);
       walk = λ is. absurd (cc);
       few = omega (arith, few, c.is_last_free.ensures.few);
     }
@@ -49,7 +49,7 @@ returns g c =
     let table = c.args.table.now in
     let (news, b) = c.requires.building in
     let made = c.args.build.now.made.items in
-    let none = c.in_default.ensures.finds in
+    let none = (rw (ap (λ (z : Layout). z.nodes) c.layout-end.ensures) at c.in_default.ensures.finds) in
     let left = c.args.build.now.left_nodes in
     let next = c.args.build.now.nodes.next in
     let tried = goes_more table g.G.Gate.becomes (c.args.seat.now, c.args.gate.now) (c.is_last_free.new.seat, c.is_last_free.new.gate) (c.find_free_record.new.seat, c.find_free_record.new.gate) c.is_last_free.ensures.goes

@@ -48,7 +48,7 @@ returns-clause-makes g c =
       more = omega (arith, ap length c.push.ensures.items, ap length c.claim_node.ensures.made, length-append items (a_node c.in_ok-number.number ∷ []));
       nodes = omega (arith, ap (λ made. length (nodes_among made)) c.push.ensures.items, ap (λ made. length (nodes_among made)) c.claim_node.ensures.made, nodes_pushed items c.in_ok-number.number);
       walk = λ since w.
-          subst (λ z. IsClaimWalk c.args.table.now.layout since c.fill_node.new.seat.known z c.claim_node.new.build.nodes.next c.claim_node.new.build.left_nodes) (sym made)
+          subst (λ z. IsClaimWalk c.args.table.now.layout c.args.table.now.layout.nodes since c.fill_node.new.seat.known z c.claim_node.new.build.nodes.next c.claim_node.new.build.left_nodes) (sym made)
           (walk_on c.args.table.now g.G.Gate.becomes since (c.claim_node.new.seat, c.claim_node.new.gate) (c.fill_node.new.seat, c.fill_node.new.gate) (c.args.build.now.made.items ++ a_node c.in_ok-number.number ∷ [])
           (c.args.build.now.made.items ++ a_node c.in_ok-number.number ∷ []) c.claim_node.new.build.nodes.next c.claim_node.new.build.left_nodes filled (λ r h. h) (c.in_ok-number.ensures.walk since w));
       few = omega (arith, c.in_ok-number.ensures.few, c.fill_node.ensures.steps);
