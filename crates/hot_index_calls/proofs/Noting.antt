@@ -192,6 +192,11 @@ pub All-part : {A : Type 0} (P : A → Type 0) (xs ys : List A) → All P (xs ++
 All-part P [] ys h = All-nil P
 All-part P (x ∷ xs) ys h = All-cons P x xs (All-head P x (xs ++ ys) h) (All-part P xs ys (All-tail P x (xs ++ ys) h))
 
+-- and of each of the second
+pub All-behind : {A : Type 0} (P : A → Type 0) (xs ys : List A) → All P (xs ++ ys) → All P ys
+All-behind P [] ys h = h
+All-behind P (x ∷ xs) ys h = All-behind P xs ys (All-tail P x (xs ++ ys) h)
+
 -- changes that a lawful core goes on from were made by passes of its index
 pub by_passes : (c : Core) (k : Known) → IsLawful c → Recalls c k → AreByPasses c.layout k.front
 by_passes c k lawful recalls = All-part (λ x. x.pass < c.layout.passes) k.front recalls.front.0 (subst (AreByPasses c.layout) recalls.front.1 lawful.makers)

@@ -7,6 +7,7 @@ use Rattle.rowex_core.specs.declared.known.FailedAct.{FailedAct}
 use Rattle.rowex_core.specs.declared.known.FailedAct.TheVariants.{Claim as a_claim, Lock as a_lock, LoadState as a_load}
 use Rattle.hot_index_calls.specs.Lacking.{IsUsed, IsUsedAt}
 use Rattle.hot_index_calls.specs.Traces.{CollectsNone, HasEnded, IsAttempt}
+use Rattle.hot_index_calls.proofs.Noting.{All-behind}
 
 -- ---- one step
 -- the step doesn't give this record back
@@ -98,48 +99,55 @@ same_record (a_leaf n) (a_node m) e = absurd cc
 same_record (a_leaf n) (a_leaf m) e = let same : n ≡ m = cc in ap a_leaf same
 
 -- a record of this fate isn't free
-abbrev IsTaken : Fate → Type 0
+abbrev pub IsTaken : Fate → Type 0
 IsTaken Free = ⊥
 IsTaken f = Unit {0}
 
-module _ {G : Type 0} (table : TableView) (becomes : G → Event → G → Type 0) (Whose : Rec → Option ℕ → Type 0) (r : Rec) (none : (p : ℕ) → p < table.layout.passes → Whose r (Some p) → ⊥) where
-  -- a record that isn't free, and no pass's that has it
-  of_fate : (c : Core) (s : Rec) (f : Fate) → IsLawful c → c.layout ≡ table.layout → c.fate s ≡ f → IsTaken f → Whose r (holder_of f) → IsUsed f
-  of_fate c s Free lawful lay is taken whose = absurd taken
-  of_fate c s (Held p) lawful lay is taken whose = absurd (none p (subst (λ (l : Layout). p < l.passes) lay (lawful.records.holders s p (ap holder_of is))) whose)
-  of_fate c s (Ready p) lawful lay is taken whose = absurd (none p (subst (λ (l : Layout). p < l.passes) lay (lawful.records.holders s p (ap holder_of is))) whose)
-  of_fate c s (InTree since) lawful lay is taken whose = tt
-  of_fate c s (Unlinked since last p) lawful lay is taken whose = tt
-  of_fate c s (Marked since last epoch) lawful lay is taken whose = tt
+-- in this core the record isn't free, and `Whose` holds of the pass that has it, or of none
+abbrev pub IsTakenIn : (Rec → Option ℕ → Type 0) → Rec → Core → Type 0
+IsTakenIn Whose r c = IsTaken (c.fate r) × Whose r (holder_of (c.fate r))
 
-  -- A step fails, which finds the record used where it finds it not free; or what has failed stays.
+-- so it is used, where `Whose` holds of no pass
+taken_used : (Whose : Rec → Option ℕ → Type 0) (r : Rec) (c : Core) → IsLawful c → ((p : ℕ) → p < c.layout.passes → Whose r (Some p) → ⊥) → IsTakenIn Whose r c → IsUsed (c.fate r)
+taken_used Whose r c lawful none taken = of (c.fate r) refl taken
+  where
+    of : (f : Fate) → c.fate r ≡ f → IsTaken f × Whose r (holder_of f) → IsUsed f
+    of Free is taken = absurd taken.0
+    of (Held p) is taken = absurd (none p (lawful.records.holders r p (ap holder_of is)) taken.1)
+    of (Ready p) is taken = absurd (none p (lawful.records.holders r p (ap holder_of is)) taken.1)
+    of (InTree since) is taken = tt
+    of (Unlinked since last p) is taken = tt
+    of (Marked since last epoch) is taken = tt
+
+module _ {G : Type 0} (table : TableView) (becomes : G → Event → G → Type 0) (Whose : Rec → Option ℕ → Type 0) (r : Rec) where
+  -- A step fails, which tells whose the record is where it finds it not free; or what has failed stays.
   record Fails (c : Core) (k j : Known) : Type 0 where
     failed : Failed
     failed_is : j.failed ≡ failed ∷ k.failed
     now : failed.step ≡ k.steps
-    tells : TellsState (Whose r) failed.act → failed.location ≡ word_of r 0 → IsUsed (c.fate r)
+    tells : TellsState (Whose r) failed.act → failed.location ≡ word_of r 0 → IsTakenIn Whose r c
 
   abbrev MayFail : Core → Known → Known → Type 0
   MayFail c k j = (j.failed ≡ k.failed) ⊎ Fails c k j
 
   -- so a step that finds record s, of this fate, not free
-  finds : (c : Core) (k j : Known) (s : Rec) (f : Fate) (act : FailedAct) (word : ℕ) → IsLawful c → c.layout ≡ table.layout → c.fate s ≡ f → IsTaken f → (TellsState (Whose r) act → Whose r (holder_of f)) →
+  finds : (c : Core) (k j : Known) (s : Rec) (f : Fate) (act : FailedAct) (word : ℕ) → c.fate s ≡ f → IsTaken f → (TellsState (Whose r) act → Whose r (holder_of f)) →
       j.failed ≡ record { act = act; location = word_of s 0; word = word; step = k.steps } ∷ k.failed → MayFail c k j
-  finds c k j s f act word lawful lay is taken whose failed = inr (record {
+  finds c k j s f act word is taken whose failed = inr (record {
     failed = record { act = act; location = word_of s 0; word = word; step = k.steps };
     failed_is = failed;
     now = refl;
-    tells = λ told at. subst (λ z. IsUsed (c.fate z)) (same_record s r at) (subst IsUsed (sym is) (of_fate c s f lawful lay is taken (whose told)));
+    tells = λ told at. subst (λ (z : Fate). IsTaken z × Whose r (holder_of z)) (sym is ∙ ap c.fate (same_record s r at)) (taken, whose told);
   })
 
   module _ (a m : SeatView × G) where
-    claims : (s : Rec) (found : ℕ) (c : Core) → IsLawful c → c.layout ≡ table.layout → (f : Fate) → c.fate s ≡ f → m.0.known.failed ≡ (claim_learned c s found f a.0.known).failed → MayFail c a.0.known m.0.known
-    claims s found c lawful lay Free is failed = inl failed
-    claims s found c lawful lay (Held p) is failed = finds c a.0.known m.0.known s (Held p) (a_claim (Some p)) found lawful lay is tt (λ w. w) failed
-    claims s found c lawful lay (Ready p) is failed = finds c a.0.known m.0.known s (Ready p) (a_claim (Some p)) found lawful lay is tt (λ w. w) failed
-    claims s found c lawful lay (InTree since) is failed = finds c a.0.known m.0.known s (InTree since) (a_claim None) found lawful lay is tt (λ w. w) failed
-    claims s found c lawful lay (Unlinked since last p) is failed = finds c a.0.known m.0.known s (Unlinked since last p) (a_claim (Some p)) found lawful lay is tt (λ w. w) failed
-    claims s found c lawful lay (Marked since last epoch) is failed = finds c a.0.known m.0.known s (Marked since last epoch) (a_claim None) found lawful lay is tt (λ w. w) failed
+    claims : (s : Rec) (found : ℕ) (c : Core) (f : Fate) → c.fate s ≡ f → m.0.known.failed ≡ (claim_learned c s found f a.0.known).failed → MayFail c a.0.known m.0.known
+    claims s found c Free is failed = inl failed
+    claims s found c (Held p) is failed = finds c a.0.known m.0.known s (Held p) (a_claim (Some p)) found is tt (λ w. w) failed
+    claims s found c (Ready p) is failed = finds c a.0.known m.0.known s (Ready p) (a_claim (Some p)) found is tt (λ w. w) failed
+    claims s found c (InTree since) is failed = finds c a.0.known m.0.known s (InTree since) (a_claim None) found is tt (λ w. w) failed
+    claims s found c (Unlinked since last p) is failed = finds c a.0.known m.0.known s (Unlinked since last p) (a_claim (Some p)) found is tt (λ w. w) failed
+    claims s found c (Marked since last epoch) is failed = finds c a.0.known m.0.known s (Marked since last epoch) (a_claim None) found is tt (λ w. w) failed
 
     taken_at : (c : Core) (s : Rec) (w : ℕ) (f : Fate) → w ≡ state_word (tag_of (lock_of c s) f) → nat_eq w (state_word FreeTag) ≡ false → IsTaken f
     taken_at c s w Free is other = absurd (false≢true (sym other ∙ eq-eqb w (state_word FreeTag) is))
@@ -149,10 +157,10 @@ module _ {G : Type 0} (table : TableView) (becomes : G → Event → G → Type 
     taken_at c s w (Unlinked since last p) is other = tt
     taken_at c s w (Marked since last epoch) is other = tt
 
-    looks : (s : Rec) (w : ℕ) (c : Core) → IsLawful c → c.layout ≡ table.layout → w ≡ state_at c s → (t : Bool) → nat_eq w (state_word FreeTag) ≡ t →
+    looks : (s : Rec) (w : ℕ) (c : Core) → w ≡ state_at c s → (t : Bool) → nat_eq w (state_word FreeTag) ≡ t →
         m.0.known.failed ≡ (if t then a.0.known else failed_with a.0.known (a_load (holder_of (c.fate s))) (state_of s) w).failed → MayFail c a.0.known m.0.known
-    looks s w c lawful lay word true e failed = inl failed
-    looks s w c lawful lay word false e failed = finds c a.0.known m.0.known s (c.fate s) (a_load (holder_of (c.fate s))) w lawful lay refl (taken_at c s w (c.fate s) word e) (λ told. told) failed
+    looks s w c word true e failed = inl failed
+    looks s w c word false e failed = finds c a.0.known m.0.known s (c.fate s) (a_load (holder_of (c.fate s))) w refl (taken_at c s w (c.fate s) word e) (λ told. told) failed
 
     locks_anchor : (c : Core) (found : ℕ) (o : Option ℕ) → m.0.known.failed ≡ (anchor_learned c found o a.0.known).failed → MayFail c a.0.known m.0.known
     locks_anchor c found None failed = inl failed
@@ -173,8 +181,8 @@ module _ {G : Type 0} (table : TableView) (becomes : G → Event → G → Type 
     fails act step = go act step.event (act_leaves table.layout a.0.known m.0.known act step.event).failed
       where
         go : (act : Act) (e : IsEvent table.layout act silent a.0.known m.0.known) → (LeavesFailed act → m.0.known.failed ≡ a.0.known.failed) → MayFail e.core a.0.known m.0.known
-        go (Claim s found) e leaves = claims s found e.core e.lawful e.layout_is (e.core.fate s) refl (ap (λ (z : Known). z.failed) e.learned_is)
-        go (LoadState s w) e leaves = looks s w e.core e.lawful e.layout_is e.legal.1.1 (nat_eq w (state_word FreeTag)) refl (ap (λ (z : Known). z.failed) e.learned_is)
+        go (Claim s found) e leaves = claims s found e.core (e.core.fate s) refl (ap (λ (z : Known). z.failed) e.learned_is)
+        go (LoadState s w) e leaves = looks s w e.core e.legal.1.1 (nat_eq w (state_word FreeTag)) refl (ap (λ (z : Known). z.failed) e.learned_is)
         go (Lock Anchor found) e leaves = locks_anchor e.core found e.core.anchor (ap (λ (z : Known). z.failed) e.learned_is)
         go (Lock (NodeTarget n) found) e leaves = locks_node e.core n found (nat_eq found (state_word Live)) (ap (λ (z : Known). z.failed) e.learned_is)
         go _ e leaves = inl (leaves tt)
@@ -201,21 +209,48 @@ module _ {G : Type 0} (table : TableView) (becomes : G → Event → G → Type 
   abbrev missed_by : FailedAct → (word step : ℕ) → Failed
   missed_by act word step = record { act = act; location = word_of r 0; word = word; step = step }
 
-  -- the step at which the record was found not free found it used
+  -- the step at which the record was found not free found it so in its core
   step_missed : (act : Act) (a m : SeatView × G) (step : Steps table becomes act a m) (miss : FailedAct) (word i : ℕ) → TellsState (Whose r) miss → a.0.known.steps ≤ i →
-      Contains m.0.known.failed (record { act = miss; location = word_of r 0; word = word; step = i }) → IsUsed (step.event.core.fate r)
+      Contains m.0.known.failed (missed_by miss word i) → IsTakenIn Whose r step.event.core
   step_missed act a m step miss word i told late has = of (fails a m act step)
     where
       never : Contains a.0.known.failed (missed_by miss word i) → ⊥
       never there = let early : i < a.0.known.steps = All-contains (λ (f : Failed). f.step < a.0.known.steps) a.0.known.failed (missed_by miss word i) step.event.knows.counted.failed there in omega (arith, early, late)
 
-      front : (x : Failed) → (TellsState (Whose r) x.act → x.location ≡ word_of r 0 → IsUsed (step.event.core.fate r)) → Contains (x ∷ a.0.known.failed) (missed_by miss word i) → IsUsed (step.event.core.fate r)
+      front : (x : Failed) → (TellsState (Whose r) x.act → x.location ≡ word_of r 0 → IsTakenIn Whose r step.event.core) → Contains (x ∷ a.0.known.failed) (missed_by miss word i) → IsTakenIn Whose r step.event.core
       front x tells (zero, low, is) = tells (subst (TellsState (Whose r)) (ap (λ (z : Failed). z.act) (sym is)) told) (ap (λ (z : Failed). z.location) is)
       front x tells (suc i, low, is) = absurd (never (i, omega arith, is))
 
-      of : MayFail step.event.core a.0.known m.0.known → IsUsed (step.event.core.fate r)
+      of : MayFail step.event.core a.0.known m.0.known → IsTakenIn Whose r step.event.core
       of (inl same) = absurd (never (subst (λ l. Contains l (missed_by miss word i)) same has))
       of (inr new) = front new.failed new.tells (subst (λ l. Contains l (missed_by miss word i)) new.failed_is has)
+
+  -- One of these steps found the record not free.
+  pub record HasMissedIn (acts : List Act) (a b : SeatView × G) : Type 0 where
+    pub before : List Act
+    pub act : Act
+    pub rest : List Act
+    pub acts_are : acts ≡ before ++ act ∷ rest
+    pub middle : SeatView × G
+    pub next : SeatView × G
+    pub first : Runs table becomes before a middle
+    pub step : Steps table becomes act middle next
+    pub last : Runs table becomes rest next b
+    pub taken : IsTakenIn Whose r step.event.core
+
+  -- a failed step that is no earlier is one of them
+  pub runs_missed : (acts : List Act) (a b : SeatView × G) → Runs table becomes acts a b → All (λ (f : Failed). f.step < b.0.known.steps) b.0.known.failed → HasMissedSince Whose b.0.known.failed r a.0.known.steps → HasMissedIn acts a b
+  runs_missed [] a b run early (i, late, (miss, word, told, some, has)) =
+      let low : i < b.0.known.steps = All-contains (λ (f : Failed). f.step < b.0.known.steps) b.0.known.failed (missed_by miss word i) early has in
+      let same = ap (λ (z : SeatView × G). z.0.known.steps) run in absurd (omega (arith, low, same, late))
+  runs_missed (act ∷ acts) a b (m, step, rest) early (i, late, (miss, word, told, some, has)) = ⊎_elim
+      (λ (now : i < m.0.known.steps).
+      let there = runs_before acts m b rest (missed_by miss word i) now has in
+      record { before = []; act = act; rest = acts; acts_are = refl; middle = a; next = m; first = refl; step = step; last = rest; taken = step_missed act a m step miss word i told late there })
+      (λ (later : m.0.known.steps ≤ i).
+      let more = runs_missed acts m b rest early (i, later, (miss, word, told, some, has)) in
+      record { before = act ∷ more.before; act = more.act; rest = more.rest; acts_are = ap (λ l. act ∷ l) more.acts_are; middle = more.middle; next = more.next; first = (m, step, more.first); step = more.step; last = more.last; taken = more.taken })
+      (cases_lt i m.0.known.steps)
 
 -- ---- runs
 -- the steps of an attempt give nothing back
@@ -248,27 +283,17 @@ module _ {G : Type 0} (table : TableView) (becomes : G → Event → G → Type 
   pub attempt_used : {said : Known → List Note} (a b : SeatView × G) → HasEnded table becomes (IsAttempt table.layout) said a b → IsUsedAt table.layout a.0 r → IsUsedAt table.layout b.0 r
   attempt_used {said = said} a b (acts, are, (m, run, last)) was = then_used ClearPin said m b last tt (runs_used acts a m (attempt_spares table.layout r acts are) run was)
 
-  module _ (Whose : Rec → Option ℕ → Type 0) (none : (p : ℕ) → p < table.layout.passes → Whose r (Some p) → ⊥) where
-    -- what steps have found not free is used after them
-    runs_missed : (acts : List Act) (a b : SeatView × G) → All (SparesRecord r) acts → Runs table becomes acts a b → All (λ (f : Failed). f.step < b.0.known.steps) b.0.known.failed → (miss : FailedAct) (word i : ℕ) → TellsState (Whose r) miss →
-        a.0.known.steps ≤ i → Contains b.0.known.failed (record { act = miss; location = word_of r 0; word = word; step = i }) → IsUsedAt table.layout b.0 r
-    runs_missed [] a b spares run early miss word i told late has =
-        let low : i < b.0.known.steps = All-contains (λ (f : Failed). f.step < b.0.known.steps) b.0.known.failed (record { act = miss; location = word_of r 0; word = word; step = i }) early has in
-        let same = ap (λ (z : SeatView × G). z.0.known.steps) run in absurd (omega (arith, low, same, late))
-    runs_missed (act ∷ acts) a b spares (m, step, rest) early miss word i told late has = ⊎_elim
-        (λ (now : i < m.0.known.steps).
-        let there = runs_before table becomes Whose r none acts m b rest (record { act = miss; location = word_of r 0; word = word; step = i }) now has in
-        runs_used acts m b (All-tail (SparesRecord r) act acts spares) rest
-        (step_used act silent a m step (All-head (SparesRecord r) act acts spares) (step_missed table becomes Whose r none act a m step miss word i told late there)))
-        (λ (later : m.0.known.steps ≤ i). runs_missed acts m b (All-tail (SparesRecord r) act acts spares) rest early miss word i told later has)
-        (cases_lt i m.0.known.steps)
-
-    -- so what an attempt has found not free, and not its pass's
-    pub attempt_missed : {said : Known → List Note} (a b : SeatView × G) → HasEnded table becomes (IsAttempt table.layout) said a b → HasMissedSince Whose b.0.known.failed r a.0.known.steps → IsUsedAt table.layout b.0 r
-    attempt_missed {said = said} a b (acts, are, (m, run, last)) (i, late, (miss, word, told, some, has)) =
-        let same : b.0.known.failed ≡ m.0.known.failed = ap (λ (z : Known). z.failed) last.event.learned_is in
-        then_used ClearPin said m b last tt
-        (runs_missed acts a m (attempt_spares table.layout r acts are) run last.event.knows.counted.failed miss word i told late (subst (λ l. Contains l (record { act = miss; location = word_of r 0; word = word; step = i })) same has))
+  -- so what an attempt has found not free, and not its pass's
+  pub attempt_missed : (Whose : Rec → Option ℕ → Type 0) → ((p : ℕ) → p < table.layout.passes → Whose r (Some p) → ⊥) → {said : Known → List Note} (a b : SeatView × G) → HasEnded table becomes (IsAttempt table.layout) said a b →
+      HasMissedSince Whose b.0.known.failed r a.0.known.steps → IsUsedAt table.layout b.0 r
+  attempt_missed Whose none {said = said} a b (acts, are, (m, run, last)) missed =
+      let same : b.0.known.failed ≡ m.0.known.failed = ap (λ (z : Known). z.failed) last.event.learned_is in
+      let at = runs_missed table becomes Whose r acts a m run last.event.knows.counted.failed (subst (λ l. HasMissedSince Whose l r a.0.known.steps) same missed) in
+      let spares = All-behind (SparesRecord r) at.before (at.act ∷ at.rest) (subst (All (SparesRecord r)) at.acts_are (attempt_spares table.layout r acts are)) in
+      let event = at.step.event in
+      let used = taken_used Whose r event.core event.lawful (subst (λ (l : Layout). (p : ℕ) → p < l.passes → Whose r (Some p) → ⊥) (sym event.layout_is) none) at.taken in
+      then_used ClearPin said m b last tt
+      (runs_used at.rest at.next m (All-tail (SparesRecord r) at.act at.rest spares) at.last (step_used at.act silent at.middle at.next at.step (All-head (SparesRecord r) at.act at.rest spares) used))
 
 -- ---- rounds that give none back
 advance_spares : (i : Rec) (epoch found : ℕ) → All (SparesRecord i) (advance_steps epoch found)

@@ -1,6 +1,8 @@
 -- In a table with one pass a refused call has seen no change, so it has made none, and no record is retired after it. A count finds that.
-use Rattle.hot_index_calls.proofs.Common.{◌≡◌, ℕ, suc, ◌+◌, ◌-◌, ◌<◌, ◌≤◌, List, [], ◌∷◌, ◌++◌, Bool, true, false, if◌then◌else◌, Option, Some, None, Result, Ok, Err, length, refl, sym, ap, subst, ◌∙◌, arith, length-append, All, IfErr, count_by, false≢true, All-cons, All-nil, Call, Change, Note, Reply, LegalCalls, changes_of, own_changes, state_word, Layout, Rec, a_node, a_leaf, Tag, FreeTag, HeldTag, Live, Locked, Obsolete, Fate, Free, Held, Ready, InTree, Unlinked, Marked, IsOneOf, Act, ClearPin, Load, LoadState, Publish, Event, HeldBy, ReadyBy, Known, knows_all, Core, HasRecord, IsLawful, holder_of, next_change, IsEvent, Knows, fate_of, lock_of, tag_of, Runs, Steps, StepsWith, silent, SeatView, TableView, act_leaves, act_front, runs_split, one_of, TryFault, Busy, FullNodes, FullLeaves, LeavesTree}
+use Rattle.hot_index_calls.proofs.Common.{◌≡◌, ℕ, suc, ◌+◌, ◌-◌, ◌<◌, ◌≤◌, List, [], ◌∷◌, ◌++◌, Bool, true, false, if◌then◌else◌, Option, Some, None, Result, Ok, Err, length, refl, sym, ap, subst, ◌∙◌, arith, length-append, All, IfErr, count_by, false≢true, All-cons, All-nil, Call, Change, Note, Reply, LegalCalls, changes_of, own_changes, state_word, Layout, Rec, a_node, a_leaf, Tag, FreeTag, HeldTag, Live, Locked, Obsolete, Fate, Free, Held, Ready, InTree, Unlinked, Marked, IsOneOf, Act, ClearPin, Load, LoadState, Publish, Event, HeldBy, ReadyBy, Known, knows_all, Core, HasRecord, IsLawful, holder_of, next_change, IsEvent, Knows, fate_of, lock_of, tag_of, Runs, Steps, StepsWith, silent, SeatView, TableView, act_leaves, act_front, runs_split, one_of, TryFault, Busy, FullNodes, FullLeaves, LeavesTree, eq-eqb, nat_eq, Ends}
 use Rattle.finite_map.proofs.Calls.Alone.{own_changes-all}
+use Rattle.std.proofs.lemmas.List.Elements.{filter-append}
+use Rattle.rowex_core.proofs.Frames.{next_change_pass}
 use Rattle.rowex_core.specs.declared.event.Spot.{Spot}
 use Rattle.rowex_core.specs.declared.known.Holding.{Holding}
 use Rattle.hot_index_calls.specs.Answers.{IsRefusedFor, IsUnnoted}
@@ -18,14 +20,18 @@ use Rattle.hot_index_calls.proofs.Rooms.{runs_still, step_here, step_still}
 all_own : (layout : Layout) (q : ℕ) (front : List Change) → layout.passes ≡ 1 → q < layout.passes → AreByPasses layout front → own_changes q front ≡ front
 all_own layout q front one mine by = own_changes-all q front (λ i d low. (let its = by i d low in omega (arith, its, one, mine)))
 
--- so a call that adds no note has seen no change
+-- a call that adds no note has made no change
+pub own_same : (layout : Layout) (k j : PassView) → LegalCalls k.front k.number k.notes → IsUnnoted layout k j → own_changes k.number j.front ≡ own_changes k.number k.front
+own_same layout k j legal unnoted =
+    ap (λ q. own_changes q j.front) (sym unnoted.number) ∙ unnoted.legal.own ∙ ap (changes_of j.number) unnoted.notes ∙ ap (λ q. changes_of q k.notes) unnoted.number ∙ sym legal.own
+
+-- so with one pass it has seen none
 pub none_seen : (layout : Layout) (k j : PassView) → layout.passes ≡ 1 → j.number < layout.passes → LegalCalls k.front k.number k.notes → IsUnnoted layout k j → j.front ≡ k.front
 none_seen layout k j one mine legal unnoted =
-    let own : own_changes j.number j.front ≡ own_changes k.number k.front =
-    unnoted.legal.own ∙ ap (changes_of j.number) unnoted.notes ∙ ap (λ q. changes_of q k.notes) unnoted.number ∙ sym legal.own in
+    let low : k.number < layout.passes = subst (λ q. q < layout.passes) unnoted.number mine in
     let (more, grown) = unnoted.front in
     let by : AreByPasses layout k.front = All-part (λ (x : Change). x.pass < layout.passes) k.front more (subst (AreByPasses layout) grown unnoted.makers) in
-    sym (all_own layout j.number j.front one mine unnoted.makers) ∙ own ∙ all_own layout k.number k.front one (subst (λ q. q < layout.passes) unnoted.number mine) by
+    sym (all_own layout k.number j.front one low unnoted.makers) ∙ own_same layout k j legal unnoted ∙ all_own layout k.number k.front one low by
 
 -- a call that was refused as full adds no note
 pub full_unnoted : (layout : Layout) (call : Call) (k j : PassView) (r : Result Reply TryFault) → is_full r ≡ true → IfErr r (IsRefusedFor layout call k j) → IsUnnoted layout k j
@@ -34,52 +40,62 @@ full_unnoted layout call k j (Err Busy) full h = absurd (false≢true full)
 full_unnoted layout call k j (Err FullNodes) full h = h.refused.unnoted
 full_unnoted layout call k j (Err FullLeaves) full h = h.refused.unnoted
 
--- ---- steps that leave the front as it was
--- a publish adds a change
-published_longer : (layout : Layout) (k j : Known) (spot : Spot) (w : ℕ) (said : Known → List Note) → IsEvent layout (Publish spot w) said k j → length k.front < length j.front
-published_longer layout k j spot w said e =
+-- ---- steps that make no change
+-- how many changes of a front are the pass's
+abbrev pub own_in : ℕ → List Change → ℕ
+own_in q front = length (own_changes q front)
+
+own_more : (q : ℕ) (xs ys : List Change) → own_in q (xs ++ ys) ≡ own_in q xs + own_in q ys
+own_more q xs ys = ap (λ (l : List Change). length l) (filter-append (λ (x : Change). nat_eq x.pass q) xs ys) ∙ length-append (own_changes q xs) (own_changes q ys)
+
+-- a publish adds one
+published_more : (layout : Layout) (k j : Known) (spot : Spot) (w : ℕ) (said : Known → List Note) → IsEvent layout (Publish spot w) said k j → own_in k.pass k.front < own_in k.pass j.front
+published_more layout k j spot w said e =
+    let q = k.pass in
     let f = e.knows.seen.front in
-    let x = next_change e.core k.pass spot w in
-    let now : length j.front ≡ length (e.core.changes ++ x ∷ []) = ap (λ (z : Known). length z.front) e.learned_is in
-    let was : length e.core.changes ≡ length (k.front ++ f.0) = ap (λ (z : List Change). length z) f.1 in
-    omega (arith, now, was, length-append e.core.changes (x ∷ []), length-append k.front f.0)
+    let x = next_change e.core q spot w in
+    let now : own_in q j.front ≡ own_in q (e.core.changes ++ x ∷ []) = ap (λ (z : Known). own_in q z.front) e.learned_is in
+    let was : own_in q e.core.changes ≡ own_in q (k.front ++ f.0) = ap (own_in q) f.1 in
+    let one : own_in q (x ∷ []) ≡ 1 = ap (λ (t : Bool). length (if t then x ∷ [] else [])) (eq-eqb x.pass q (next_change_pass e.core q spot w)) in
+    omega (arith, now, was, one, own_more q e.core.changes (x ∷ []), own_more q k.front f.0)
 
 module _ {G : Type 0} (table : TableView) (becomes : G → Event → G → Type 0) where
-  step_grows : (act : Act) (a b : SeatView × G) → StepsWith table becomes act silent a b → length a.0.known.front ≤ length b.0.known.front
-  step_grows act a b step = longer b.0.known.front a.0.known.front (act_front table.layout a.0.known b.0.known act step.event)
+  step_grows : (q : ℕ) (act : Act) (a b : SeatView × G) → StepsWith table becomes act silent a b → own_in q a.0.known.front ≤ own_in q b.0.known.front
+  step_grows q act a b step =
+      let (more, is) = act_front table.layout a.0.known b.0.known act step.event in
+      let now : own_in q b.0.known.front ≡ own_in q (a.0.known.front ++ more) = ap (own_in q) is in omega (arith, now, own_more q a.0.known.front more)
 
-  runs_grow : (acts : List Act) (a b : SeatView × G) → Runs table becomes acts a b → length a.0.known.front ≤ length b.0.known.front
-  runs_grow [] a b run = let same = ap (λ (z : SeatView × G). length z.0.known.front) run in omega (arith, same)
-  runs_grow (act ∷ acts) a b (m, step, rest) = let first = step_grows act a m step in let later = runs_grow acts m b rest in omega (arith, first, later)
+  runs_grow : (q : ℕ) (acts : List Act) (a b : SeatView × G) → Runs table becomes acts a b → own_in q a.0.known.front ≤ own_in q b.0.known.front
+  runs_grow q [] a b run = let same = ap (λ (z : SeatView × G). own_in q z.0.known.front) run in omega (arith, same)
+  runs_grow q (act ∷ acts) a b (m, step, rest) = let first = step_grows q act a m step in let later = runs_grow q acts m b rest in omega (arith, first, later)
 
-  is_plain : (act : Act) (a b : SeatView × G) → StepsWith table becomes act silent a b → length b.0.known.front ≤ length a.0.known.front → LeavesTree act
-  is_plain (Publish spot w) a b step few = absurd (let more = published_longer table.layout a.0.known b.0.known spot w silent step.event in omega (arith, few, more))
+  is_plain : (act : Act) (a b : SeatView × G) → StepsWith table becomes act silent a b → own_in a.0.known.pass b.0.known.front ≤ own_in a.0.known.pass a.0.known.front → LeavesTree act
+  is_plain (Publish spot w) a b step few = absurd (let more = published_more table.layout a.0.known b.0.known spot w silent step.event in omega (arith, few, more))
   is_plain (Load words) a b step few = absurd step.atomic
   is_plain _ a b step few = tt
 
-  are_plain : (acts : List Act) (a b : SeatView × G) → Runs table becomes acts a b → length b.0.known.front ≤ length a.0.known.front → All LeavesTree acts
+  -- steps after which the pass has made no more changes than before publish nothing
+  pub are_plain : (acts : List Act) (a b : SeatView × G) → Runs table becomes acts a b → own_in a.0.known.pass b.0.known.front ≤ own_in a.0.known.pass a.0.known.front → All LeavesTree acts
   are_plain [] a b run few = All-nil LeavesTree
   are_plain (act ∷ acts) a b (m, step, rest) few =
-      let first = step_grows act a m step in
-      let later = runs_grow acts m b rest in
-      All-cons LeavesTree act acts (is_plain act a m step (omega (arith, few, later))) (are_plain acts m b rest (omega (arith, few, first)))
+      let q = a.0.known.pass in
+      let first = step_grows q act a m step in
+      let later = runs_grow q acts m b rest in
+      let less : own_in q b.0.known.front ≤ own_in q m.0.known.front = omega (arith, few, first) in
+      All-cons LeavesTree act acts (is_plain act a m step (omega (arith, few, later))) (are_plain acts m b rest (subst (λ p. own_in p b.0.known.front ≤ own_in p m.0.known.front) (sym step.seat.2) less))
 
-  -- an attempt that has seen no change retires nothing
-  ended_still : {Are : List Act → Type 0} {said : Known → List Note} (a b : SeatView × G) → HasEnded table becomes Are said a b → b.0.known.front ≡ a.0.known.front → HasNoneRetired table.layout a.0 → HasNoneRetired table.layout b.0
-  ended_still {said = said} a b (acts, are, (m, run, last)) seen none x has =
+  -- so do those of a refused call
+  pub refused_plain : {said : Known → List Note} (acts : List Act) (a b : SeatView × G) → LegalCalls a.0.known.front a.0.known.pass a.0.known.notes → Ends table becomes acts ClearPin said a b → IsUnnoted table.layout (pass_of a.0) (pass_of b.0) → All LeavesTree acts
+  refused_plain acts a b legal (m, run, last) unnoted =
       let cleared : b.0.known.front ≡ m.0.known.front = ap (λ (z : Known). z.front) last.event.learned_is in
-      let few = ap (λ (z : List Change). length z) (sym cleared ∙ seen) in
-      step_still table becomes x ClearPin said m b tt last (runs_still table becomes x acts a m (are_plain acts a m run (omega (arith, few))) run (none x has))
+      let few = ap (λ (z : List Change). length z) (ap (own_changes a.0.known.pass) (sym cleared) ∙ own_same table.layout (pass_of a.0) (pass_of b.0) legal unnoted) in
+      are_plain acts a m run (omega (arith, few))
 
   -- so none is retired after a refused one, if none was before it
-  pub refused_still : {Are : List Act → Type 0} {said : Known → List Note} (a b : SeatView × G) → table.layout.passes ≡ 1 → IsSettled a.0.known → HasEnded table becomes Are said a b → IsUnnoted table.layout (pass_of a.0) (pass_of b.0) →
+  pub refused_still : {Are : List Act → Type 0} {said : Known → List Note} (a b : SeatView × G) → IsSettled a.0.known → HasEnded table becomes Are said a b → IsUnnoted table.layout (pass_of a.0) (pass_of b.0) →
       HasNoneRetired table.layout a.0 → HasNoneRetired table.layout b.0
-  refused_still a b one settled ended unnoted none =
-      let (acts, are, ends) = ended in
-      let (m, run, last) = ends in
-      let mine : b.0.known.pass < table.layout.passes =
-      (let low = last.event.knows.pass in let lay = ap (λ (l : Layout). l.passes) last.event.layout_is in let same = ap (λ (z : Known). z.pass) last.event.learned_is in omega (arith, low, lay, same)) in
-      ended_still a b ended (none_seen table.layout (pass_of a.0) (pass_of b.0) one mine settled.legal unnoted) none
+  refused_still {said = said} a b settled (acts, are, (m, run, last)) unnoted none x has =
+      step_still table becomes x ClearPin said m b tt last (runs_still table becomes x acts a m (refused_plain acts a b settled.legal (m, run, last) unnoted) run (none x has))
 
 -- ---- a count
 none_first : (is : Tag → Bool) (tag : Tag) (tags : List Tag) → is tag ≡ false → count_by is tags ≡ 0 → count_by is (tag ∷ tags) ≡ 0

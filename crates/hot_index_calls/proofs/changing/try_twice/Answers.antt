@@ -73,7 +73,7 @@ returns-then-collect_between g c =
       none = λ one full early.
           let longer = runs_longer c.args.table.now g.G.Gate.becomes (round.first ∷ round.rest) (c.make_attempt-first.new.seat, c.make_attempt-first.new.gate) (c.collect_between.new.seat, c.collect_between.new.gate) round.does.steps in
           let idle = c.make_attempt-first.ensures.asked.replied.idle in
-          refused_still c.args.table.now g.G.Gate.becomes (c.collect_between.new.seat, c.collect_between.new.gate) (c.make_attempt.new.seat, c.make_attempt.new.gate) one (does_idle round.does c.collect_between.ensures.free idle).1 again.ended (full_unnoted c.args.table.now.layout c.args.call.now (pass_of c.collect_between.new.seat) (pass_of c.make_attempt.new.seat) c.make_attempt.result full again.replied.refused)
+          refused_still c.args.table.now g.G.Gate.becomes (c.collect_between.new.seat, c.collect_between.new.gate) (c.make_attempt.new.seat, c.make_attempt.new.gate) (does_idle round.does c.collect_between.ensures.free idle).1 again.ended (full_unnoted c.args.table.now.layout c.args.call.now (pass_of c.collect_between.new.seat) (pass_of c.make_attempt.new.seat) c.make_attempt.result full again.replied.refused)
           (collecting_still c.args.table.now g.G.Gate.becomes (c.make_attempt-first.new.seat, c.make_attempt-first.new.gate) (c.collect_between.new.seat, c.collect_between.new.gate) c.collect_between.ensures.collects one idle.1.pin idle.1.own (omega (arith, early, longer, c.make_attempt.ensures.longer)));
     }
 
@@ -130,6 +130,6 @@ returns g c =
           let longer = runs_longer c.args.table.now g.G.Gate.becomes (round.first ∷ round.rest) (c.make_attempt-first.new.seat, c.make_attempt-first.new.gate) (c.collect_between.new.seat, c.collect_between.new.gate) round.does.steps in
           let later = ended_longer c.args.table.now g.G.Gate.becomes (c.collect_between.new.seat, c.collect_between.new.gate) (c.pin_and_unpin.new.seat, c.pin_and_unpin.new.gate) again.ended in
           let idle = c.make_attempt-first.ensures.asked.replied.idle in
-          refused_still c.args.table.now g.G.Gate.becomes (c.collect_between.new.seat, c.collect_between.new.gate) (c.pin_and_unpin.new.seat, c.pin_and_unpin.new.gate) one (does_idle round.does c.collect_between.ensures.free idle).1 again.ended again.unnoted
+          refused_still c.args.table.now g.G.Gate.becomes (c.collect_between.new.seat, c.collect_between.new.gate) (c.pin_and_unpin.new.seat, c.pin_and_unpin.new.gate) (does_idle round.does c.collect_between.ensures.free idle).1 again.ended again.unnoted
           (collecting_still c.args.table.now g.G.Gate.becomes (c.make_attempt-first.new.seat, c.make_attempt-first.new.gate) (c.collect_between.new.seat, c.collect_between.new.gate) c.collect_between.ensures.collects one idle.1.pin idle.1.own (omega (arith, early, longer, later)));
     }
