@@ -8,3 +8,4 @@ pub mod Handles
 pub mod Statements
 pub mod Loads
 pub mod Unhindered
+pub mod Enough

@@ -1,6 +1,11 @@
 -- A call that is alone is not hindered: what no other pass had when it began, none has while it runs.
-use Rattle.hot_index.proofs.Common.{◌≡◌, ◌≢◌, ◌⊎◌, inl, inr, ⊎_elim, ℕ, ◌+◌, ◌<◌, ◌≤◌, List, [], ◌∷◌, ◌++◌, length, get_or, Bool, true, false, ◌&&◌, nat_eq, if◌then◌else◌, Option, Some, None, Result, Ok, Err, IsOk, refl, sym, ap, subst, ◌∙◌, arith, append-nil, append_assoc, length-append, All, ne_eqb, append_cancel_left, All-head, All-nil, All-tail, get_or_from_slice_get, slice_get_within, Call, Change, Added, Reply, BeginsWith, key_of, Key, Layout, Rec, a_node, IsLockable, ClearPin, Event, Known, Core, IsLawful, holder_of, IsFact, IsStillLoaded, Knows, opening, AreOthers, EventsLead, knows_all, SeatView, TableView, lead_layout, front_on, Full, TryFault, Busy, FullLeaves, FullNodes, NoChangeFrom, no_change_from_later, runs_begin, IsCause, MayTake, fault_of, AreTriesRefused, HasCause, IsResultOfLast, IsOutcome, IsTried, IsTriedAndCounted, MakesTries, loads_in, change_notes, FollowsTry, IsCountedAfter, as_tried, Refusal, IsNewPass, PassView, All-part, full_fault}
+use Rattle.hot_index.proofs.Common.{◌≡◌, ◌≢◌, ◌⊎◌, inl, inr, ⊎_elim, ℕ, ◌+◌, ◌<◌, ◌≤◌, List, [], ◌∷◌, ◌++◌, length, get_or, Bool, true, false, ◌&&◌, nat_eq, if◌then◌else◌, Option, Some, None, Result, Ok, Err, IsOk, refl, sym, ap, subst, ◌∙◌, arith, append-nil, append_assoc, length-append, All, ne_eqb, append_cancel_left, All-head, All-nil, All-tail, get_or_from_slice_get, slice_get_within, Call, Change, Added, Reply, BeginsWith, key_of, Key, Layout, Rec, a_node, IsLockable, ClearPin, Event, Known, Core, IsLawful, holder_of, IsFact, IsStillLoaded, Knows, after, opening, AreOthers, EventsLead, knows_all, SeatView, TableView, lead_layout, front_on, Full, TryFault, Busy, FullLeaves, FullNodes, NoChangeFrom, no_change_from_later, runs_begin, IsCause, MayTake, fault_of, AreTriesRefused, HasCause, IsResultOfLast, IsOutcome, IsTried, IsTriedAndCounted, MakesTries, loads_in, change_notes, FollowsTry, IsCountedAfter, as_tried, Refusal, IsNewPass, PassView, All-part, full_fault}
 use Rattle.std.specs.Prelude.{Contains}
+use Rattle.std.specs.Result.{IsErr}
+use Rattle.std.proofs.lemmas.List.Elements.{All-cons}
+use Rattle.rowex_core.specs.Events.{Legal}
+use Rattle.rowex_core.specs.declared.event.Act.{Act}
+use Rattle.rowex_core.proofs.Cores.{stays_lawful}
 use Rattle.versions.specs.Core.{Fate, Free, Held, Ready, InTree, Unlinked, Marked}
 use Rattle.rowex_core.specs.declared.known.Holding.TheVariants.{Held as HeldRecord, Ready as ReadyRecord, Unlinked as UnlinkedRecord}
 use Rattle.rowex_core.specs.declared.known.View.TheVariants.{Pass as a_pass}
@@ -18,7 +23,7 @@ use Rattle.hot_index.specs.Alone.{AloneCallsEnd, TakesNone}
 
 -- ---- a pass that has nothing
 -- what it knows, if it has seen all changes
-abbrev known_bare : Core → ℕ → Known
+abbrev pub known_bare : Core → ℕ → Known
 known_bare c p = record {
   pass = p;
   front = c.changes;
@@ -66,7 +71,7 @@ knows_bare c p low none = record {
   values = All-nil (IsStillLoaded p c);
 }
 
-none_there : {X : Type 0} (xs : List X) (x : X) → xs ≡ [] → Contains xs x → ⊥
+pub none_there : {X : Type 0} (xs : List X) (x : X) → xs ≡ [] → Contains xs x → ⊥
 none_there xs x none (i, low, is) = let size = ap length none in absurd (omega (arith, low, size))
 
 -- a pass that knows of no record and no lock of its own has no lock
@@ -89,8 +94,32 @@ own_others : (c : Core) (p q : ℕ) (xs : List Event) → p ≢ q → All (λ x.
 own_others c p q [] another own = tt
 own_others c p q (x ∷ xs) another own = ((λ same. another (same ∙ All-head (λ y. y.pass ≡ q) x xs own)), own_others c p q xs another (All-tail (λ y. y.pass ≡ q) x xs own))
 
-still_bare : (c : Core) (p q : ℕ) (xs : List Event) (d : Core) → IsLawful c → p < c.layout.passes → HoldsNone c p → p ≢ q → All (λ x. x.pass ≡ q) xs → EventsLead c xs d → Knows d (known_bare c p)
+pub still_bare : (c : Core) (p q : ℕ) (xs : List Event) (d : Core) → IsLawful c → p < c.layout.passes → HoldsNone c p → p ≢ q → All (λ x. x.pass ≡ q) xs → EventsLead c xs d → Knows d (known_bare c p)
 still_bare c p q xs d law low none another own lead = runs_keep c xs d (a_pass (known_bare c p)) law lead (own_others c p q xs another own) (knows_bare c p low none)
+
+-- so it has nothing after one
+pub still_none : (c : Core) (p q : ℕ) (act : Act) → IsLawful c → Legal c q act → p < c.layout.passes → p ≢ q → HoldsNone c p → HoldsNone (after c q act) p
+still_none c p q act law legal low another none = record { locks = no_lock d (known_bare c p) (stays_lawful c q act law legal) knows refl refl refl; own = λ r. unheld r (d.fate r) refl }
+  where
+    d : Core
+    d = after c q act
+
+    x : Event
+    x = record { pass = q; act = act }
+
+    knows : Knows d (known_bare c p)
+    knows = still_bare c p q (x ∷ []) d law low none another (All-cons (λ (y : Event). y.pass ≡ q) x [] refl (All-nil (λ (y : Event). y.pass ≡ q))) (legal, refl)
+
+    unheld : (r : Rec) (f : Fate) → d.fate r ≡ f → holder_of (d.fate r) ≢ Some p
+    unheld r f is held = of f is (sym (ap holder_of is) ∙ held)
+      where
+        of : (f : Fate) → d.fate r ≡ f → holder_of f ≡ Some p → ⊥
+        of Free is held = absurd cc
+        of (Held o) is held = let same : o ≡ p = cc in none_there [] _ refl ((knows_all d (known_bare c p) knows).all_own r HeldRecord (is ∙ ap Held same))
+        of (Ready o) is held = let same : o ≡ p = cc in none_there [] _ refl ((knows_all d (known_bare c p) knows).all_own r ReadyRecord (is ∙ ap Ready same))
+        of (InTree since) is held = absurd cc
+        of (Unlinked since last o) is held = let same : o ≡ p = cc in none_there [] _ refl ((knows_all d (known_bare c p) knows).all_own r (UnlinkedRecord since last) (is ∙ ap (Unlinked since last) same))
+        of (Marked since last epoch) is held = absurd cc
 
 -- they add no change of another pass
 none_made : (c : Core) (p : ℕ) (d : Core) (m : ℕ) → Knows d (known_bare c p) → length c.changes ≤ m → HasMadeSince d m p → ⊥
@@ -158,7 +187,7 @@ module _ (layout : Layout) (q : ℕ) (s t : SeatView) (alone : RunsAlone layout 
   unhindered : ⊥
   unhindered = not_met (from_begin layout q s h.at t alone h.before h.first h.own h.behind h.within since)
 
-never_busy : (layout : Layout) (key : Key) (k j : PassView) → RunsAlone layout j.number k.seat j.seat → IsCause layout key k j Busy → ⊥
+pub never_busy : (layout : Layout) (key : Key) (k j : PassView) → RunsAlone layout j.number k.seat j.seat → IsCause layout key k j Busy → ⊥
 never_busy layout key k j alone conflict = unhindered layout j.number k.seat j.seat alone conflict.hindered
 
 replies : (index : TableView) (call : Call) (result : Result Reply TryFault) (k j : PassView) → IsOutcome call result index k j → HasCause call result index k j → RunsAlone index.layout j.number k.seat j.seat → ¬ (MayTake call k j) → IsOk result
@@ -168,25 +197,27 @@ replies index call (Err FullNodes) k j outcome cause alone never = absurd (never
 replies index call (Err FullLeaves) k j outcome cause alone never = absurd (never (outcome.full tt))
 
 -- ---- a call that waits
--- its first part is alone, too
+-- its first part is alone, too, and begins in the same core
 alone_before : (layout : Layout) (q : ℕ) (s m t : SeatView) (early : List Event) (x : Event) → x.pass ≡ q → RunBeginsWith early s.trace → RunBeginsWith m.trace (early ++ x ∷ []) → RunBeginsWith t.trace m.trace →
-    RunsAlone layout q s t → RunsAlone layout q s m
+    (alone : RunsAlone layout q s t) → (first : RunsAlone layout q s m) × (first.core ≡ alone.core)
 alone_before layout q s m t early x own behind_it within more alone =
-    let grown = from_begin layout q s m t alone early x own behind_it within more in
-    record {
-      before = alone.before;
-      others = alone.others;
-      core = alone.core;
-      led = alone.led;
-      none = alone.none;
-      own = grown.0;
-      until = grown.1;
-      each = behind alone.before alone.own m.trace t.trace q alone.until alone.each grown more;
-    }
+    let grown = from_begin layout q s m t alone early x own behind_it within more in (
+      record {
+        before = alone.before;
+        others = alone.others;
+        core = alone.core;
+        led = alone.led;
+        none = alone.none;
+        own = grown.0;
+        until = grown.1;
+        each = behind alone.before alone.own m.trace t.trace q alone.until alone.each grown more;
+      },
+      refl,
+    )
 
 module _ {G : Type 0} (index : TableView) (becomes : G → Event → G → Type 0) where
   -- the pass knows of more steps and of more changes
-  abbrev GoneOn : PassView × G → PassView × G → Type 0
+  abbrev pub GoneOn : PassView × G → PassView × G → Type 0
   GoneOn a b = RunBeginsWith b.0.seat.trace a.0.seat.trace × BeginsWith b.0.front a.0.front
 
   on_same : (a b : PassView × G) → b ≡ a → GoneOn a b
@@ -225,44 +256,48 @@ module _ {G : Type 0} (index : TableView) (becomes : G → Event → G → Type 
   refused_on call [] a b same = on_same a b same
   refused_on call (refusal ∷ refusals) a b (m, first, passing, rest) = on_more a m b (counted_on call (Err refusal) a m first) (refused_on call refusals m b rest)
 
-  -- a try of the call is not refused
-  module _ (call : Call) (a m b : PassView × G) (alone : RunsAlone index.layout a.0.number a.0.seat b.0.seat) (none : TakesNone call a.0 b.0) (more : GoneOn m b) where
-    not_full : (full : Full) → IsTried call (Err (fault_of full)) index becomes a m → ⊥
-    not_full full tried = none m.0 more.1 (tried.call.full (full_fault full))
+  -- a try of a call that is alone is alone, too
+  pub try_alone : (call : Call) (r : Result Reply TryFault) (a m b : PassView × G) (alone : RunsAlone index.layout a.0.number a.0.seat b.0.seat) → GoneOn m b → IsTried call r index becomes a m →
+      (first : RunsAlone index.layout a.0.number a.0.seat m.0.seat) × (first.core ≡ alone.core)
+  try_alone call r a m b alone more tried =
+      let made = tried.made in
+      let (x, run, last) = made.steps in
+      let number : a.0.number ≡ a.0.seat.known.pass = ap (λ (z : PassView). z.number) made.begins in
+      let pass : x.0.known.pass ≡ a.0.number = (runs_same index becomes made.acts (a.0.seat, a.1) x run).2 ∙ sym number in
+      alone_before index.layout a.0.number a.0.seat m.0.seat b.0.seat last.next.before (record { pass = x.0.known.pass; act = ClearPin }) pass
+      (begins_on a.0.seat.trace x.0.trace last.next.before (runs_begin index becomes made.acts (a.0.seat, a.1) x run) (others_begin x.0.known.pass x.0.trace last.next.before last.next.others))
+      ([], last.next.next_is ∙ sym (append-nil (last.next.before ++ record { pass = x.0.known.pass; act = ClearPin } ∷ []))) more.0 alone
 
-    not_busy : IsTried call (Err Busy) index becomes a m → ⊥
-    not_busy tried =
-        let made = tried.made in
-        let (x, run, last) = made.steps in
-        let number : a.0.number ≡ a.0.seat.known.pass = ap (λ (z : PassView). z.number) made.begins in
-        let pass : x.0.known.pass ≡ a.0.number = (runs_same index becomes made.acts (a.0.seat, a.1) x run).2 ∙ sym number in
-        let part = alone_before index.layout a.0.number a.0.seat m.0.seat b.0.seat last.next.before (record { pass = x.0.known.pass; act = ClearPin }) pass
-        (begins_on a.0.seat.trace x.0.trace last.next.before (runs_begin index becomes made.acts (a.0.seat, a.1) x run) (others_begin x.0.known.pass x.0.trace last.next.before last.next.others))
-        ([], last.next.next_is ∙ sym (append-nil (last.next.before ++ record { pass = x.0.known.pass; act = ClearPin } ∷ []))) more.0 alone in
-        never_busy index.layout (key_of call) a.0 m.0 (subst (λ q. RunsAlone index.layout q a.0.seat m.0.seat) (sym tried.call.unnoted.number) part) tried.cause
+  -- where no try of it is refused, it makes one
+  module _ (call : Call) (a b : PassView × G) (never : (r : Result Reply TryFault) (m : PassView × G) → IsErr r → GoneOn m b → IsTried call r index becomes a m → ⊥) where
+    not_refused : (refusal : Refusal) (m : PassView × G) → GoneOn m b → IsTriedAndCounted call (Err refusal) index becomes a m → ⊥
+    not_refused refusal m more h = never (as_tried (Err refusal)) h.mid refl (on_more h.mid m b (told_on call (Err refusal) a h.mid m h.told) more) h.tried
 
-  not_refused : (call : Call) (refusal : Refusal) (a m b : PassView × G) → RunsAlone index.layout a.0.number a.0.seat b.0.seat → TakesNone call a.0 b.0 → GoneOn m b → IsTriedAndCounted call (Err refusal) index becomes a m → ⊥
-  not_refused call IsBusy a m b alone none more h = not_busy call a h.mid b alone none (on_more h.mid m b (told_on call (Err IsBusy) a h.mid m h.told) more) h.tried
-  not_refused call (HeldBack lacks) a m b alone none more h = not_full call a h.mid b alone none (on_more h.mid m b (told_on call (Err (HeldBack lacks)) a h.mid m h.told) more) lacks h.tried
-  not_refused call (IsFull lacks counts) a m b alone none more h = not_full call a h.mid b alone none (on_more h.mid m b (told_on call (Err (IsFull lacks counts)) a h.mid m h.told) more) lacks h.tried
+    pub once_unless : (result : Result Reply Full) (tries : MakesTries call result index becomes a b) → (tries.refusals ≡ []) × IsOk result
+    once_unless result tries = of tries.refusals refl tries.refused
+      where
+        last_made : (r : Result Reply Full) (o : Result Reply Refusal) → IsResultOfLast r o → IsTriedAndCounted call o index becomes a b → IsOk r
+        last_made (Ok reply) o is h = refl
+        last_made (Err full) o (counts, is) h = absurd (not_refused (IsFull full counts) b (on_same b b refl) (subst (λ (z : Result Reply Refusal). IsTriedAndCounted call z index becomes a b) is h))
 
-  once : (call : Call) (result : Result Reply Full) (a b : PassView × G) (tries : MakesTries call result index becomes a b) → RunsAlone index.layout a.0.number a.0.seat b.0.seat → TakesNone call a.0 b.0 → (tries.refusals ≡ []) × IsOk result
-  once call result a b tries alone none = of tries.refusals refl tries.refused
-    where
-      last_made : (r : Result Reply Full) (o : Result Reply Refusal) → IsResultOfLast r o → IsTriedAndCounted call o index becomes a b → IsOk r
-      last_made (Ok reply) o is h = refl
-      last_made (Err full) o (counts, is) h = absurd (not_refused call (IsFull full counts) a b b alone none (on_same b b refl) (subst (λ (z : Result Reply Refusal). IsTriedAndCounted call z index becomes a b) is h))
+        of : (refusals : List Refusal) → tries.refusals ≡ refusals → AreTriesRefused call tries.refusals index becomes a tries.last → (tries.refusals ≡ []) × IsOk result
+        of [] is refused = (
+          is,
+          last_made result tries.outcome tries.is_last
+              (subst (λ (z : PassView × G). IsTriedAndCounted call tries.outcome index becomes z b) (subst (λ l. AreTriesRefused call l index becomes a tries.last) is refused) tries.tried),
+        )
+        of (refusal ∷ refusals) is refused =
+            let (m, first, passing, rest) = subst (λ l. AreTriesRefused call l index becomes a tries.last) is refused in
+            absurd (not_refused refusal m
+            (on_more m tries.last b (refused_on call refusals m tries.last rest) (counted_on call tries.outcome tries.last b tries.tried)) first)
 
-      of : (refusals : List Refusal) → tries.refusals ≡ refusals → AreTriesRefused call tries.refusals index becomes a tries.last → (tries.refusals ≡ []) × IsOk result
-      of [] is refused = (
-        is,
-        last_made result tries.outcome tries.is_last
-            (subst (λ (z : PassView × G). IsTriedAndCounted call tries.outcome index becomes z b) (subst (λ l. AreTriesRefused call l index becomes a tries.last) is refused) tries.tried),
-      )
-      of (refusal ∷ refusals) is refused =
-          let (m, first, passing, rest) = subst (λ l. AreTriesRefused call l index becomes a tries.last) is refused in
-          absurd (not_refused call refusal a m b alone none
-          (on_more m tries.last b (refused_on call refusals m tries.last rest) (counted_on call tries.outcome tries.last b tries.tried)) first)
+  -- a try of a call that takes no record is not refused
+  never_refused : (call : Call) (a b : PassView × G) → RunsAlone index.layout a.0.number a.0.seat b.0.seat → TakesNone call a.0 b.0 → (r : Result Reply TryFault) (m : PassView × G) → IsErr r → GoneOn m b → IsTried call r index becomes a m → ⊥
+  never_refused call a b alone none (Ok reply) m bad more tried = absurd cc
+  never_refused call a b alone none (Err Busy) m bad more tried =
+      never_busy index.layout (key_of call) a.0 m.0 (subst (λ q. RunsAlone index.layout q a.0.seat m.0.seat) (sym tried.call.unnoted.number) (try_alone call (Err Busy) a m b alone more tried).0) tried.cause
+  never_refused call a b alone none (Err FullNodes) m bad more tried = none m.0 more.1 (tried.call.full tt)
+  never_refused call a b alone none (Err FullLeaves) m bad more tried = none m.0 more.1 (tried.call.full tt)
 
 -- ---- the first call of a new index
 first_alone : (layout : Layout) (q : ℕ) (p : PassView) (t : SeatView) → IsNewPass q p → All (λ x. x.pass ≡ q) t.trace → RunsAlone layout q p.seat t
@@ -282,4 +317,4 @@ first_alone layout q p t new own = record {
     unlocked r (inr (n, has)) = absurd (cc)
 
 pub alone_calls_end : {G : Type 0} (becomes : G → Event → G → Type 0) → AloneCallsEnd becomes
-alone_calls_end becomes = record { busy = never_busy; reply = replies; once = λ index call result a b tries alone none. once index becomes call result a b tries alone none; first = first_alone }
+alone_calls_end becomes = record { busy = never_busy; reply = replies; once = λ index call result a b tries alone none. once_unless index becomes call a b (never_refused index becomes call a b alone none) result tries; first = first_alone }

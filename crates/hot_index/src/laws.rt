@@ -1,6 +1,6 @@
 //! Laws of the index. The functions do nothing: their contracts are the laws.
 
-ghost use Rattle.hot_index.specs.Alone.{AloneCallsEnd};
+ghost use Rattle.hot_index.specs.Alone.{AloneCallsEnd, AloneChangesEnd};
 ghost use Rattle.hot_index.specs.Statements.{AbsentIsNeverFull, AllLongFullMeansNoneFree, CountsAddUp, HeldIsNeverFull, OnePassFullMeansTaken, OnePassIsNeverBusy, OnePassKeepsSpare, OnePassRefusesOnlyNewKeys, ReturnedBeforeBegun};
 
 use rowex_core::Gate;
@@ -21,6 +21,13 @@ pub fn one_pass_is_never_busy()
 /// one try then. The first call of a new index is alone, if no other pass makes a step.
 pub fn alone_calls_end<G: Gate>()
     ensures { AloneCallsEnd G.becomes }
+{}
+
+/// Let a change be alone, and let enough records be free when it begins: 4,322 node records, or two thirds of them and one, and a leaf record
+/// with room for its key. A removal asks for no leaf record. The change gets its reply, and a form that waits makes just one try. Of the
+/// leaf records of an index that `create` makes, each has room.
+pub fn alone_changes_end<G: Gate>()
+    ensures { AloneChangesEnd G.becomes }
 {}
 
 /// In an index of one pass a call returns `FullLeaves` only if each leaf record with room for its key was in the tree or retired. It returns
