@@ -27,14 +27,30 @@ long long reader_threads = 3;
 atomic_ullong read_count, gone_count;
 unsigned long long most_at_once;
 
+const portion read_portion = {2048, 1 << 20};
+
 static pthread_mutex_t lock = PTHREAD_MUTEX_INITIALIZER;
 static pthread_cond_t has_read = PTHREAD_COND_INITIALIZER;
+
+/* Reads that wait for a thread, in the order in which they came: those that none has begun, those that go on, and those whose rest
+ * goes in one portion. */
+enum { NEW, BEGUN, WHOLE, LINES };
+typedef struct line {
+    read_job *first, **last;
+} line;
+
 /* Under the lock: */
-static read_job *waiting, **last_waiting = &waiting; /* reads that no thread has begun */
+static line lines[LINES] = {{NULL, &lines[NEW].first}, {NULL, &lines[BEGUN].first}, {NULL, &lines[WHOLE].first}};
 static read_job *running;
+static int whole_running;
+static unsigned turn;
 
 size_t jobs_threads(void) {
     return (size_t)reader_threads;
+}
+
+int may_read_whole(void) {
+    return reader_threads > 1;
 }
 
 int may_wait(RedisModuleCtx *ctx) {
@@ -60,73 +76,107 @@ static void come_last(void) {
 
 /* ---- Reads ---- */
 
-static read_job *begin_read(void) {
+static void line_up(line *to, read_job *it) {
+    it->next = NULL;
+    *to->last = it;
+    to->last = &it->next;
+    pthread_cond_signal(&has_read);
+}
+
+/* Takes the next read out of its line: NULL if there is none. Whole rests leave one thread to the others. */
+static read_job *take_turn(void) {
+    static const uint8_t orders[4][LINES] = {{NEW, BEGUN, WHOLE}, {NEW, WHOLE, BEGUN}, {NEW, BEGUN, WHOLE}, {BEGUN, WHOLE, NEW}};
+    const uint8_t *order = orders[turn % 4];
+    size_t at;
+    for (at = 0; at < LINES; at++) {
+        line *from = &lines[order[at]];
+        read_job *it = from->first;
+        if (it == NULL || (it->is_whole && whole_running >= reader_threads - 1))
+            continue;
+        from->first = it->next;
+        if (from->first == NULL)
+            from->last = &from->first;
+        turn++;
+        return it;
+    }
+    return NULL;
+}
+
+static read_job *begin_portion(void) {
     read_job *it;
     pthread_mutex_lock(&lock);
-    while (waiting == NULL)
+    while ((it = take_turn()) == NULL)
         pthread_cond_wait(&has_read, &lock);
-    it = waiting;
-    waiting = it->next;
-    if (waiting == NULL)
-        last_waiting = &waiting;
     it->next = running;
     running = it;
+    whole_running += it->is_whole;
     pthread_mutex_unlock(&lock);
     return it;
 }
 
-static void end_read(read_job *it) {
+static void end_portion(read_job *it, int was_whole, int has_more) {
     read_job **at = &running;
     pthread_mutex_lock(&lock);
     while (*at != it)
         at = &(*at)->next;
     *at = it->next;
+    whole_running -= was_whole;
+    if (has_more)
+        line_up(&lines[it->is_whole ? WHOLE : BEGUN], it);
     pthread_mutex_unlock(&lock);
 }
 
-/* Reads with a handle that is opened for it, and so one that an earlier read gave back. */
-static void do_read(read_job *it) {
-    RedisModuleCtx *ctx = RedisModule_GetThreadSafeContext(it->client);
+/* Reads a portion with a handle that is opened for it, and so one that an earlier read gave back. Returns whether there is more. */
+static int do_portion(read_job *it) {
     hot_handle handle = HOT_HANDLE;
+    int has_more = 0;
     RedisModule_BlockedClientMeasureTimeStart(it->client);
-    if (it->is_gone) {
-        RedisModule_ReplyWithNull(ctx);
-    } else if (hot_open(it->of->index, &handle) == HOT_DONE) {
-        it->read(it, ctx, &handle);
+    if (it->ctx == NULL)
+        it->ctx = RedisModule_GetThreadSafeContext(it->client);
+    if (hot_open(it->of->index, &handle) == HOT_DONE) {
+        has_more = it->read(it, it->ctx, &handle);
         hot_close(&handle);
     } else {
-        RedisModule_ReplyWithError(ctx, "OOM no memory for a reader");
+        it->read(it, it->ctx, NULL);
     }
     RedisModule_BlockedClientMeasureTimeEnd(it->client);
-    RedisModule_FreeThreadSafeContext(ctx);
+    return has_more;
+}
+
+static void end_read(read_job *it) {
+    RedisModule_FreeThreadSafeContext(it->ctx);
+    map_drop((map *)it->of);
+    RedisModule_UnblockClient(it->client, NULL);
+    RedisModule_Free(it);
+    atomic_fetch_add(&read_count, 1);
 }
 
 static void *read_all(void *unused) {
     come_last();
     for (;;) {
-        read_job *it = begin_read();
-        do_read(it);
-        end_read(it);
-        map_drop((map *)it->of);
-        RedisModule_UnblockClient(it->client, NULL);
-        RedisModule_Free(it);
-        atomic_fetch_add(&read_count, 1);
+        read_job *it = begin_portion();
+        int was_whole = it->is_whole, has_more = do_portion(it);
+        end_portion(it, was_whole, has_more);
+        if (!has_more)
+            end_read(it);
     }
     return unused;
 }
 
+static void note_in(read_job *first, const RedisModuleBlockedClient *client) {
+    for (; first != NULL; first = first->next)
+        if (first->client == client)
+            first->is_gone = 1;
+}
+
 /* Notes that a client has left. */
 static void note_gone(RedisModuleCtx *ctx, RedisModuleBlockedClient *client) {
-    read_job *lists[2], *it;
-    int at;
+    size_t at;
     (void)ctx;
     pthread_mutex_lock(&lock);
-    lists[0] = waiting;
-    lists[1] = running;
-    for (at = 0; at < 2; at++)
-        for (it = lists[at]; it != NULL; it = it->next)
-            if (it->client == client)
-                it->is_gone = 1;
+    note_in(running, client);
+    for (at = 0; at < LINES; at++)
+        note_in(lines[at].first, client);
     pthread_mutex_unlock(&lock);
     atomic_fetch_add(&gone_count, 1);
 }
@@ -134,14 +184,12 @@ static void note_gone(RedisModuleCtx *ctx, RedisModuleBlockedClient *client) {
 void jobs_read(RedisModuleCtx *ctx, read_job *it, indexed_map *of) {
     atomic_fetch_add(&of->uses, 1);
     it->of = of;
-    it->next = NULL;
-    it->is_gone = 0;
+    it->ctx = NULL;
+    it->is_whole = it->is_gone = 0;
     it->client = RedisModule_BlockClient(ctx, NULL, NULL, NULL, 0);
     RedisModule_SetDisconnectCallback(it->client, note_gone);
     pthread_mutex_lock(&lock);
-    *last_waiting = it;
-    last_waiting = &it->next;
-    pthread_cond_signal(&has_read);
+    line_up(&lines[NEW], it);
     pthread_mutex_unlock(&lock);
 }
 

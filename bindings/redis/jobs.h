@@ -6,15 +6,21 @@
 #include "map.h"
 #include "server.h"
 
-/* A read for a client that waits. What `read` replies with goes to it. It ends early once `is_gone` says that the client has left.
+/* A read for a client that waits. `read` replies with a portion, and returns whether there is more. The handle is NULL where there
+ * is no memory for one. Another thread may read the next portion. The read ends early once `is_gone` says that the client has left.
  */
 typedef struct read_job {
     struct read_job *next;
-    void (*read)(struct read_job *it, RedisModuleCtx *ctx, hot_handle *handle);
+    int (*read)(struct read_job *it, RedisModuleCtx *ctx, hot_handle *handle);
     indexed_map *of;
     RedisModuleBlockedClient *client;
+    RedisModuleCtx *ctx; /* of its reply; NULL until a thread begins */
+    int is_whole;        /* its rest goes in one portion, which may take long */
     atomic_int is_gone;
 } read_job;
+
+/* What a thread reads of a job in one go. */
+extern const portion read_portion;
 
 extern atomic_ullong read_count, gone_count;
 
@@ -33,10 +39,14 @@ void note_at_once(uint64_t pairs);
 extern long long reader_threads;
 size_t jobs_threads(void);
 
+/* Whether a job's rest may go in one portion: other threads are left for other reads. */
+int may_read_whole(void);
+
 /* Starts the threads, as far as the system lets it: what no thread does is left to the main one. */
 void jobs_start(void);
 
-/* Has the client wait for a read, whose memory is freed when it has ended. The map stays until then. */
+/* Blocks the client until a read has ended, which is freed then. The map stays until then. Reads that no thread has begun go first.
+ * Those that go on have their turns, and one turn of four at least. */
 void jobs_read(RedisModuleCtx *ctx, read_job *it, indexed_map *of);
 
 /* Has a table made with room for more pairs, or for those that there are: 0 if it can't be asked for. */

@@ -4,34 +4,56 @@
 #include "ranges.h"
 #include <string.h>
 
-static void reply_with_found(RedisModuleCtx *ctx, const hot_lookup *lookups, size_t count) {
+static const char NO_READER[] = "OOM no memory for a reader";
+
+/* Returns how many bytes the values have. */
+static uint64_t reply_with_found(RedisModuleCtx *ctx, const hot_lookup *lookups, size_t count) {
+    uint64_t bytes = 0;
     size_t at;
     for (at = 0; at < count; at++)
-        if (lookups[at].status == HOT_FOUND)
+        if (lookups[at].status == HOT_FOUND) {
             reply_with_word(ctx, lookups[at].value);
-        else
+            bytes += word_length(lookups[at].value);
+        } else {
             RedisModule_ReplyWithNull(ctx);
+        }
+    return bytes;
 }
 
 /* Looks fields up for a client that waits. */
 typedef struct lookup_job {
     read_job base;
-    size_t count;
+    size_t count, at;     /* how many they are, and the next one */
     hot_lookup lookups[]; /* and behind them the bytes of their fields */
 } lookup_job;
 
-/* The values of a page stay within a section. */
-static void look_up(read_job *base, RedisModuleCtx *ctx, hot_handle *handle) {
+/* The rest has no values: there is no memory, or the client has left. */
+static int refuse_rest(lookup_job *it) {
+    for (; it->at < it->count; it->at++)
+        RedisModule_ReplyWithError(it->base.ctx, NO_READER);
+    return 0;
+}
+
+/* Looks a portion up. The values of a page stay within a section. */
+static int look_up(read_job *base, RedisModuleCtx *ctx, hot_handle *handle) {
     lookup_job *it = (lookup_job *)base;
-    size_t at, size;
-    RedisModule_ReplyWithArray(ctx, (long)it->count);
-    for (at = 0; at < it->count && !base->is_gone; at += size) {
-        size = it->count - at < PAGE ? it->count - at : PAGE;
+    uint64_t bytes = 0;
+    size_t end, size;
+    if (it->at == 0 && handle == NULL)
+        return RedisModule_ReplyWithError(ctx, NO_READER), 0;
+    if (it->at == 0)
+        RedisModule_ReplyWithArray(ctx, (long)it->count);
+    if (handle == NULL || base->is_gone)
+        return refuse_rest(it);
+    end = it->count - it->at < read_portion.pairs ? it->count : it->at + read_portion.pairs;
+    for (; it->at < end && bytes < read_portion.bytes; it->at += size) {
+        size = end - it->at < PAGE ? end - it->at : PAGE;
         hot_enter(handle);
-        hot_get_many(handle, it->lookups + at, size);
-        reply_with_found(ctx, it->lookups + at, size);
+        hot_get_many(handle, it->lookups + it->at, size);
+        bytes += reply_with_found(ctx, it->lookups + it->at, size);
         hot_leave(handle);
     }
+    return it->at < it->count;
 }
 
 /* Has a job reply: 0 if there is no memory for one. */
@@ -46,6 +68,7 @@ static int give_to_job(RedisModuleCtx *ctx, map *of, const hot_lookup *lookups, 
         return 0;
     it->base.read = look_up;
     it->count = count;
+    it->at = 0;
     to = (uint8_t *)&it->lookups[count];
     for (at = 0; at < count; at++) {
         it->lookups[at].key = to;

@@ -6,6 +6,10 @@
 #include <string.h>
 #include <strings.h>
 
+const portion at_once = {1000, 1 << 20}, everything = {UINT64_MAX, UINT64_MAX};
+
+static const char NO_PAGE[] = "OOM no memory for a page";
+
 const range_request all_pairs = {{0, 0, {0}, {0}}, 0, 0, 0, LISTS, 0, LLONG_MAX};
 
 field field_of(const RedisModuleString *of) {
@@ -73,21 +77,27 @@ void reply_with_word(RedisModuleCtx *ctx, word value) {
     RedisModule_ReplyWithStringBuffer(ctx, of.at, of.length);
 }
 
+static void take_page_off(portion *from, uint64_t pairs, uint64_t bytes) {
+    from->pairs -= pairs < from->pairs ? pairs : from->pairs;
+    from->bytes -= bytes < from->bytes ? bytes : from->bytes;
+}
+
 /* A reply with a range, which is made page by page. */
 typedef struct listing {
     RedisModuleCtx *ctx;
     const map *of;
     hot_handle *handle;
-    const atomic_int *is_gone; /* NULL where nobody waits */
-    range_request asked;       /* what is left of it */
-    uint64_t told;             /* how many pairs it has replied with */
-    uint64_t listed;           /* how many it has gone through */
+    const read_job *by;  /* NULL where nobody waits */
+    range_request asked; /* what is left of it */
+    uint64_t told;       /* how many pairs it has replied with */
+    uint64_t listed;     /* how many it has gone through */
     key_page *page;
 } listing;
 
-/* Replies with the pairs of a page that are asked for. */
-static void reply_with_page(listing *it) {
+/* Replies with the pairs of a page that are asked for, and takes the page off a portion. */
+static void reply_with_page(listing *it, portion *left) {
     const uint8_t *key = it->page->bytes;
+    uint64_t bytes = 0;
     size_t at;
     for (at = 0; at < it->page->count && it->asked.limit > 0; key += it->page->heads[at++].length) {
         if (it->asked.skip > 0) {
@@ -95,11 +105,15 @@ static void reply_with_page(listing *it) {
             continue;
         }
         RedisModule_ReplyWithStringBuffer(it->ctx, (const char *)key, it->page->heads[at].length);
-        if (it->asked.with_values)
+        bytes += it->page->heads[at].length;
+        if (it->asked.with_values) {
             reply_with_word(it->ctx, it->page->heads[at].value);
+            bytes += word_length(it->page->heads[at].value);
+        }
         it->asked.limit--;
         it->told++;
     }
+    take_page_off(left, it->page->count, bytes);
 }
 
 static long length_of_reply(const listing *it, uint64_t pairs) {
@@ -136,81 +150,140 @@ static void reply_with_cursor(listing *it) {
     RedisModule_ReplyWithStringBuffer(it->ctx, cursor, 1 + key.length);
 }
 
-/* Replies with all pages but the first, which is listed. Another thread reads each within a section, and stops once the client has
- * left. */
-static void reply_with_pages(listing *it) {
-    hot_status status = HOT_DONE;
-    RedisModule_ReplyWithArray(it->ctx, REDISMODULE_POSTPONED_LEN);
+/* Ends a reply of several pages. The pairs before were sent as part of it: so an error is its last item. */
+static int end_pages(listing *it, const char *error) {
+    if (error != NULL) {
+        RedisModule_ReplyWithError(it->ctx, error);
+        it->told++;
+    }
+    RedisModule_ReplySetArrayLength(it->ctx, length_of_reply(it, it->told) - (error != NULL && it->asked.with_values));
+    return 0;
+}
+
+/* Replies with the page that is listed, and with those after it: 1 if there are more once the portion is used up. Another thread
+ * lists each page within a section, and stops once the client has left. */
+static int reply_with_pages(listing *it, portion left) {
     for (;;) {
         int is_last = is_last_page(it);
-        reply_with_page(it);
-        if (is_last || (it->is_gone != NULL && *it->is_gone) || !range_go_on(&it->asked.range, it->asked.falls, it->page))
-            break;
-        if (it->is_gone != NULL) {
+        reply_with_page(it, &left);
+        if (is_last || (it->by != NULL && it->by->is_gone) || !range_go_on(&it->asked.range, it->asked.falls, it->page))
+            return end_pages(it, NULL);
+        if (left.pairs == 0 || left.bytes == 0)
+            return 1;
+        if (it->by != NULL) {
             hot_leave(it->handle);
             hot_enter(it->handle);
         }
-        status = list_next(it);
-        if (status != HOT_DONE)
-            break;
+        if (list_next(it) != HOT_DONE)
+            return end_pages(it, NO_PAGE);
     }
-    if (status != HOT_DONE) {
-        /* The pairs before were sent as part of the reply: so the error is its last item. */
-        RedisModule_ReplyWithError(it->ctx, "OOM no memory for a page");
-        it->told++;
-    }
-    RedisModule_ReplySetArrayLength(it->ctx, length_of_reply(it, it->told) - (status != HOT_DONE && it->asked.with_values));
 }
 
-/* Replies with a range whose first page is listed. */
-static void reply_with_list(listing *it) {
+/* Replies with a range whose first page is listed: 1 if there are more. */
+static int reply_with_list(listing *it, portion left) {
     if (it->asked.what == PAGES) {
         RedisModule_ReplyWithArray(it->ctx, 2);
         reply_with_cursor(it);
     }
-    if (is_last_page(it)) {
-        RedisModule_ReplyWithArray(it->ctx, length_of_reply(it, asked_of_page(it)));
-        reply_with_page(it);
-    } else {
-        reply_with_pages(it);
+    if (!is_last_page(it)) {
+        RedisModule_ReplyWithArray(it->ctx, REDISMODULE_POSTPONED_LEN);
+        return reply_with_pages(it, left);
     }
+    RedisModule_ReplyWithArray(it->ctx, length_of_reply(it, asked_of_page(it)));
+    reply_with_page(it, &left);
+    return 0;
 }
 
-static void reply_with_count(listing *it) {
-    size_t count = it->page->count;
-    if (it->page->more && map_count(it->of, it->handle, &it->asked.range, &count) != HOT_DONE)
+/* Counts what is left of a range, and replies. */
+static void count_rest(listing *it) {
+    size_t count;
+    if (map_count(it->of, it->handle, &it->asked.range, &count) != HOT_DONE) {
         RedisModule_ReplyWithError(it->ctx, "ERR the count was refused");
-    else
-        RedisModule_ReplyWithLongLong(it->ctx, (long long)count);
+        return;
+    }
     it->listed += count;
+    RedisModule_ReplyWithLongLong(it->ctx, (long long)it->listed);
+}
+
+/* Counts the page that is listed, and those after it: 1 if there are more. */
+static int count_pages(listing *it, portion left) {
+    for (;;) {
+        if (!it->page->more || it->by->is_gone || !range_go_on(&it->asked.range, 0, it->page)) {
+            RedisModule_ReplyWithLongLong(it->ctx, (long long)it->listed);
+            return 0;
+        }
+        take_page_off(&left, it->page->count, 0);
+        if (left.pairs == 0)
+            return 1;
+        if (list_next(it) != HOT_DONE) {
+            RedisModule_ReplyWithError(it->ctx, NO_PAGE);
+            return 0;
+        }
+    }
 }
 
 static void reply_with_first(listing *it, hot_status status) {
     if (status != HOT_DONE)
-        RedisModule_ReplyWithError(it->ctx, "OOM no memory for a page");
-    else if (it->asked.what == COUNTS)
-        reply_with_count(it);
+        RedisModule_ReplyWithError(it->ctx, NO_PAGE);
+    else if (it->asked.what != COUNTS)
+        reply_with_list(it, everything);
+    else if (it->page->more && range_go_on(&it->asked.range, 0, it->page))
+        count_rest(it);
     else
-        reply_with_list(it);
+        RedisModule_ReplyWithLongLong(it->ctx, (long long)it->listed);
 }
 
 /* ---- By a job ---- */
 
 typedef struct range_job {
     read_job base;
-    range_request asked;
+    listing made;
+    int has_begun;
     key_page page;
 } range_job;
 
-static void read_by_job(read_job *base, RedisModuleCtx *ctx, hot_handle *handle) {
+/* Replies with a portion whose first page is listed, if the status says so. */
+static int list_portion(range_job *it, hot_status status) {
+    int has_begun = it->has_begun;
+    it->has_begun = 1;
+    if (status == HOT_DONE)
+        return has_begun ? reply_with_pages(&it->made, read_portion) : reply_with_list(&it->made, read_portion);
+    if (has_begun)
+        return end_pages(&it->made, NO_PAGE);
+    RedisModule_ReplyWithError(it->made.ctx, NO_PAGE);
+    return 0;
+}
+
+/* Counts a portion by pages. The rest goes faster in one go, which no other read can interrupt. */
+static int count_portion(range_job *it, hot_status status) {
+    if (status != HOT_DONE) {
+        RedisModule_ReplyWithError(it->made.ctx, NO_PAGE);
+        return 0;
+    }
+    if (!count_pages(&it->made, read_portion))
+        return 0;
+    it->base.is_whole = may_read_whole();
+    return 1;
+}
+
+static int read_by_job(read_job *base, RedisModuleCtx *ctx, hot_handle *handle) {
     range_job *it = (range_job *)base;
-    listing made = {ctx, (map *)base->of, handle, &base->is_gone, it->asked, 0, 0, &it->page};
-    /* Who counts reads no value: so none need stay for it. */
-    if (it->asked.what != COUNTS)
+    int counts = it->made.asked.what == COUNTS, has_more;
+    it->made.ctx = ctx;
+    it->made.handle = handle;
+    if (base->is_whole && handle != NULL) {
+        count_rest(&it->made);
+        return 0;
+    }
+    if (counts)
+        return count_portion(it, handle == NULL ? HOT_NO_MEMORY : list_next(&it->made));
+    /* A count reads no value: so none need stay for it. */
+    if (handle != NULL)
         hot_enter(handle);
-    reply_with_first(&made, list_next(&made));
-    if (it->asked.what != COUNTS)
+    has_more = list_portion(it, handle == NULL ? HOT_NO_MEMORY : list_next(&it->made));
+    if (handle != NULL)
         hot_leave(handle);
+    return has_more;
 }
 
 /* Has a job reply: 0 if there is no memory for one. */
@@ -219,14 +292,13 @@ static int give_to_job(RedisModuleCtx *ctx, map *of, const range_request *asked)
     if (it == NULL)
         return 0;
     it->base.read = read_by_job;
-    it->asked = *asked;
+    it->made = (listing){NULL, of, NULL, &it->base, *asked, 0, 0, &it->page};
+    it->has_begun = 0;
     jobs_read(ctx, &it->base, (indexed_map *)of);
     return 1;
 }
 
 /* ---- How much is asked ---- */
-
-const portion at_once = {1000, 1 << 20}, everything = {UINT64_MAX, UINT64_MAX};
 
 int may_be_heavy(const map *of) {
     return of->form == INDEXED && ((const indexed_map *)of)->text_bytes + at_once.pairs * HOT_MAX_KEY > at_once.bytes;

@@ -204,6 +204,28 @@ class Waits(unittest.TestCase):
             self.assertEqual(pausing.reply(), "+OK")
 
 
+class Turns(unittest.TestCase):
+    """A read that one thread can end at once goes before long ones."""
+
+    PAIRS = 100_000
+    SHORT: "tuple[object, ...]" = ("OM.RANGE", "m", "-", "+", "LIMIT", 0, 1_100)
+
+    def ended_before(self, *words: object) -> int:
+        """How many of twelve clients have their replies once a short read has ended that was sent after theirs."""
+        with Server("--ordered_map.threads", "1") as server, clients_of(server, 13) as [short, *others]:
+            fill(server, "m", numbers(self.PAIRS))
+            for client in others:
+                client.send(*words)
+            self.assertEqual(len(short.run(*self.SHORT)), 1_100)
+            ended = sum(client.has_reply(0) for client in others)
+            self.assertEqual(len({str(client.reply()) for client in others}), 1)
+        return ended
+
+    def test_short_reads(self) -> None:
+        for name in ("OM.RANGE", "OM.COUNT"):
+            self.assertLess(self.ended_before(name, "m", "-", "+"), 4, name)
+
+
 class Tracking(unittest.TestCase):
     def test_long_reads(self) -> None:
         """A client that tracks keys is told of a change behind what it has read before: else it would keep that for good."""
