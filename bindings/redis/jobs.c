@@ -4,6 +4,8 @@
 #include "index.h"
 #include <pthread.h>
 #include <signal.h>
+#include <stdlib.h>
+#include <string.h>
 #include <sys/resource.h>
 
 /* What a keeper does with an index. */
@@ -32,17 +34,18 @@ const portion read_portion = {2048, 1 << 20};
 static pthread_mutex_t lock = PTHREAD_MUTEX_INITIALIZER;
 static pthread_cond_t has_read = PTHREAD_COND_INITIALIZER;
 
-/* Reads that wait for a thread, in the order in which they came: those that none has begun, those that go on, and those whose rest
- * goes in one portion. */
-enum { NEW, BEGUN, WHOLE, LINES };
+/* Reads that wait for a thread, in the order in which they came: those that none has begun, those that go on, those whose rest goes
+ * in one portion, and those that will go on once fewer do. */
+enum { NEW, GOING, WHOLE, KINDS, LATER = KINDS, LINES };
 typedef struct line {
     read_job *first, **last;
 } line;
 
 /* Under the lock: */
-static line lines[LINES] = {{NULL, &lines[NEW].first}, {NULL, &lines[BEGUN].first}, {NULL, &lines[WHOLE].first}};
+static line lines[LINES] = {
+    {NULL, &lines[NEW].first}, {NULL, &lines[GOING].first}, {NULL, &lines[WHOLE].first}, {NULL, &lines[LATER].first}};
 static read_job *running;
-static int whole_running;
+static int whole_running, going;
 static unsigned turn;
 
 size_t jobs_threads(void) {
@@ -57,10 +60,13 @@ int may_wait(RedisModuleCtx *ctx) {
     return (RedisModule_GetContextFlags(ctx) & (IN_LUA | IN_MULTI | IS_REPLICATED | IS_LOADING | DENIES_BLOCKING)) == 0;
 }
 
-int is_tracking(RedisModuleCtx *ctx) {
+static uint64_t client_flags(RedisModuleCtx *ctx) {
     RedisModuleClientInfo info = {.version = 1};
-    return RedisModule_GetClientInfoById(&info, RedisModule_GetClientId(ctx)) == REDISMODULE_OK &&
-           (info.flags & CLIENT_TRACKS) != 0;
+    return RedisModule_GetClientInfoById(&info, RedisModule_GetClientId(ctx)) == REDISMODULE_OK ? info.flags : 0;
+}
+
+int is_tracking(RedisModuleCtx *ctx) {
+    return (client_flags(ctx) & CLIENT_TRACKS) != 0;
 }
 
 void note_at_once(uint64_t pairs) {
@@ -83,23 +89,39 @@ static void line_up(line *to, read_job *it) {
     pthread_cond_signal(&has_read);
 }
 
-/* Takes the next read out of its line: NULL if there is none. Whole rests leave one thread to the others. */
+/* The line from which reads of a kind come: NULL if none may. Whole rests leave one thread to the others. */
+static line *line_of(int kind) {
+    if (kind == GOING && lines[LATER].first != NULL && going < 2 * reader_threads)
+        return &lines[LATER];
+    if (lines[kind].first == NULL || (kind == WHOLE && whole_running >= reader_threads - 1))
+        return NULL;
+    return &lines[kind];
+}
+
+static read_job *take_first(line *from) {
+    read_job *it = from->first;
+    from->first = it->next;
+    if (from->first == NULL)
+        from->last = &from->first;
+    return it;
+}
+
+/* Takes the next read out of its line: NULL if there is none. */
 static read_job *take_turn(void) {
-    static const uint8_t orders[4][LINES] = {{NEW, BEGUN, WHOLE}, {NEW, WHOLE, BEGUN}, {NEW, BEGUN, WHOLE}, {BEGUN, WHOLE, NEW}};
+    static const uint8_t orders[4][KINDS] = {{NEW, GOING, WHOLE}, {NEW, WHOLE, GOING}, {NEW, GOING, WHOLE}, {GOING, WHOLE, NEW}};
     const uint8_t *order = orders[turn % 4];
+    line *from = NULL;
     size_t at;
-    for (at = 0; at < LINES; at++) {
-        line *from = &lines[order[at]];
-        read_job *it = from->first;
-        if (it == NULL || (it->is_whole && whole_running >= reader_threads - 1))
-            continue;
-        from->first = it->next;
-        if (from->first == NULL)
-            from->last = &from->first;
-        turn++;
-        return it;
+    for (at = 0; from == NULL && at < KINDS; at++)
+        from = line_of(order[at]);
+    if (from == NULL)
+        return NULL;
+    if (from == &lines[LATER]) {
+        from->first->is_going = 1;
+        going++;
     }
-    return NULL;
+    turn++;
+    return take_first(from);
 }
 
 static read_job *begin_portion(void) {
@@ -122,7 +144,9 @@ static void end_portion(read_job *it, int was_whole, int has_more) {
     *at = it->next;
     whole_running -= was_whole;
     if (has_more)
-        line_up(&lines[it->is_whole ? WHOLE : BEGUN], it);
+        line_up(&lines[it->is_whole ? WHOLE : it->is_going ? GOING : LATER], it);
+    else
+        going -= it->is_going;
     pthread_mutex_unlock(&lock);
 }
 
@@ -181,11 +205,38 @@ static void note_gone(RedisModuleCtx *ctx, RedisModuleBlockedClient *client) {
     atomic_fetch_add(&gone_count, 1);
 }
 
+/* How many bytes the server lets the replies to a client have: its hard limit, of which CONFIG tells as `normal 0 0 0 slave ..`. */
+static uint64_t reply_limit(RedisModuleCtx *ctx) {
+    const char *kind = client_flags(ctx) & CLIENT_SUBSCRIBES ? "pubsub " : "normal ", *found;
+    RedisModuleCallReply *reply = RedisModule_Call(ctx, "config", "cc", "get", "client-output-buffer-limit"), *value;
+    unsigned long long limit = 0;
+    char text[200] = "";
+    size_t length = 0;
+    value = reply == NULL ? NULL : RedisModule_CallReplyArrayElement(reply, 1);
+    found = value == NULL ? NULL : RedisModule_CallReplyStringPtr(value, &length);
+    if (found != NULL && length < sizeof text)
+        memcpy(text, found, length);
+    found = strstr(text, kind);
+    if (found != NULL)
+        limit = strtoull(found + strlen(kind), NULL, 10);
+    if (reply != NULL)
+        RedisModule_FreeCallReply(reply);
+    return limit == 0 ? UINT64_MAX : limit;
+}
+
+const char *why_cut(read_job *it, uint64_t bytes) {
+    it->bytes_left -= bytes < it->bytes_left ? bytes : it->bytes_left;
+    if (it->bytes_left == 0)
+        return "ERR the reply is longer than client-output-buffer-limit";
+    return it->is_gone ? "ERR the client has left" : NULL;
+}
+
 void jobs_read(RedisModuleCtx *ctx, read_job *it, indexed_map *of) {
     atomic_fetch_add(&of->uses, 1);
     it->of = of;
     it->ctx = NULL;
-    it->is_whole = it->is_gone = 0;
+    it->is_whole = it->is_going = it->is_gone = 0;
+    it->bytes_left = reply_limit(ctx);
     it->client = RedisModule_BlockClient(ctx, NULL, NULL, NULL, 0);
     RedisModule_SetDisconnectCallback(it->client, note_gone);
     pthread_mutex_lock(&lock);

@@ -7,17 +7,21 @@
 #include "server.h"
 
 /* A read for a client that waits. `read` replies with a portion, and returns whether there is more. The handle is NULL where there
- * is no memory for one. Another thread may read the next portion. The read ends early once `is_gone` says that the client has left.
- */
+ * is no memory for one. Another thread may read the next portion. */
 typedef struct read_job {
     struct read_job *next;
     int (*read)(struct read_job *it, RedisModuleCtx *ctx, hot_handle *handle);
     indexed_map *of;
     RedisModuleBlockedClient *client;
     RedisModuleCtx *ctx; /* of its reply; NULL until a thread begins */
+    uint64_t bytes_left; /* of what the server lets a reply to this client have */
     int is_whole;        /* its rest goes in one portion, which may take long */
-    atomic_int is_gone;
+    int is_going;        /* one of the few whose replies grow at one time */
+    atomic_int is_gone;  /* the client has left */
 } read_job;
+
+/* Takes bytes of a reply off what it may have. Returns why its rest is left out, or NULL if it goes on. */
+const char *why_cut(read_job *it, uint64_t bytes);
 
 /* What a thread reads of a job in one go. */
 extern const portion read_portion;
@@ -46,7 +50,7 @@ int may_read_whole(void);
 void jobs_start(void);
 
 /* Blocks the client until a read has ended, which is freed then. The map stays until then. Reads that no thread has begun go first.
- * Those that go on have their turns, and one turn of four at least. */
+ * Twice as many as there are threads go on by turns, so that few replies grow at one time. They have one turn of four at least. */
 void jobs_read(RedisModuleCtx *ctx, read_job *it, indexed_map *of);
 
 /* Has a table made with room for more pairs, or for those that there are: 0 if it can't be asked for. */

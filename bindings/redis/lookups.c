@@ -6,18 +6,12 @@
 
 static const char NO_READER[] = "OOM no memory for a reader";
 
-/* Returns how many bytes the values have. */
-static uint64_t reply_with_found(RedisModuleCtx *ctx, const hot_lookup *lookups, size_t count) {
-    uint64_t bytes = 0;
-    size_t at;
-    for (at = 0; at < count; at++)
-        if (lookups[at].status == HOT_FOUND) {
-            reply_with_word(ctx, lookups[at].value);
-            bytes += word_length(lookups[at].value);
-        } else {
-            RedisModule_ReplyWithNull(ctx);
-        }
-    return bytes;
+/* Returns how many bytes the value has. */
+static size_t reply_with_found(RedisModuleCtx *ctx, const hot_lookup *found) {
+    if (found->status == HOT_FOUND)
+        return reply_with_word(ctx, found->value);
+    RedisModule_ReplyWithNull(ctx);
+    return 0;
 }
 
 /* Looks fields up for a client that waits. */
@@ -27,31 +21,41 @@ typedef struct lookup_job {
     hot_lookup lookups[]; /* and behind them the bytes of their fields */
 } lookup_job;
 
-/* The rest has no values: there is no memory, or the client has left. */
-static int refuse_rest(lookup_job *it) {
+static int refuse_rest(lookup_job *it, const char *why) {
     for (; it->at < it->count; it->at++)
-        RedisModule_ReplyWithError(it->base.ctx, NO_READER);
+        RedisModule_ReplyWithError(it->base.ctx, why);
     return 0;
 }
 
-/* Looks a portion up. The values of a page stay within a section. */
+/* Looks a page up, and replies with as many as the portion has bytes for. Returns how many bytes these have. */
+static uint64_t look_page_up(lookup_job *it, hot_handle *handle, portion *left) {
+    size_t size = it->count - it->at < PAGE ? it->count - it->at : PAGE, at;
+    uint64_t bytes = 0;
+    hot_enter(handle);
+    hot_get_many(handle, it->lookups + it->at, size);
+    for (at = 0; at < size && left->bytes > 0; at++) {
+        size_t more = reply_with_found(it->base.ctx, &it->lookups[it->at + at]);
+        take_off(left, more);
+        bytes += more;
+    }
+    hot_leave(handle);
+    it->at += at;
+    return bytes;
+}
+
 static int look_up(read_job *base, RedisModuleCtx *ctx, hot_handle *handle) {
     lookup_job *it = (lookup_job *)base;
-    uint64_t bytes = 0;
-    size_t end, size;
+    portion left = read_portion;
     if (it->at == 0 && handle == NULL)
         return RedisModule_ReplyWithError(ctx, NO_READER), 0;
     if (it->at == 0)
         RedisModule_ReplyWithArray(ctx, (long)it->count);
-    if (handle == NULL || base->is_gone)
-        return refuse_rest(it);
-    end = it->count - it->at < read_portion.pairs ? it->count : it->at + read_portion.pairs;
-    for (; it->at < end && bytes < read_portion.bytes; it->at += size) {
-        size = end - it->at < PAGE ? end - it->at : PAGE;
-        hot_enter(handle);
-        hot_get_many(handle, it->lookups + it->at, size);
-        bytes += reply_with_found(ctx, it->lookups + it->at, size);
-        hot_leave(handle);
+    if (handle == NULL)
+        return refuse_rest(it, NO_READER);
+    while (it->at < it->count && left.pairs > 0 && left.bytes > 0) {
+        const char *cut = why_cut(base, look_page_up(it, handle, &left));
+        if (cut != NULL)
+            return refuse_rest(it, cut);
     }
     return it->at < it->count;
 }
@@ -108,7 +112,8 @@ int reply_with_values(RedisModuleCtx *ctx, map *of, hot_lookup *lookups, size_t 
     if (may_give && is_heavy(of, lookups, count) && is_given(ctx, of, lookups, count, &tracks))
         return REDISMODULE_OK;
     RedisModule_ReplyWithArray(ctx, (long)count);
-    reply_with_found(ctx, lookups, count);
+    for (at = 0; at < count; at++)
+        reply_with_found(ctx, &lookups[at]);
     if (of != NULL && may && !tracks)
         note_at_once(count);
     return REDISMODULE_OK;

@@ -51,7 +51,7 @@ void map_drop(map *of) {
 }
 
 void take_off(portion *from, size_t bytes) {
-    from->pairs--;
+    from->pairs -= from->pairs > 0;
     from->bytes -= bytes < from->bytes ? bytes : from->bytes;
 }
 
@@ -442,6 +442,14 @@ field page_last(const key_page *page) {
         key.at += page->heads[at].length;
     key.length = page->heads[at].length;
     return key;
+}
+
+void page_cut(key_page *page, int with_values, portion *left) {
+    size_t at;
+    for (at = 0; at < page->count && left->bytes > 0; at++)
+        take_off(left, page->heads[at].length + (with_values ? word_length(page->heads[at].value) : 0));
+    page->more |= at < page->count;
+    page->count = at;
 }
 
 int range_go_on(key_range *range, int falls, const key_page *page) {

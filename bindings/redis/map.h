@@ -97,6 +97,9 @@ void range_of_all(key_range *to);
 /* The last field of a page that has pairs. */
 field page_last(const key_page *page);
 
+/* Leaves the pairs of a page, or their fields alone, that a portion has bytes for, and takes them off it. */
+void page_cut(key_page *page, int with_values, portion *left);
+
 /* Lists the first pairs of a range, PAGE or `limit` of them, or the last ones in falling order: HOT_DONE or HOT_NO_MEMORY. The
  * handle is of the map's index; a small map needs none. Values that lead elsewhere are there until the map is changed, or for
  * another thread within a section of the handle. */

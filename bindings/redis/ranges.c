@@ -71,15 +71,11 @@ int read_prefix(RedisModuleString *prefix, range_request *to) {
 
 /* ---- Replies ---- */
 
-void reply_with_word(RedisModuleCtx *ctx, word value) {
+size_t reply_with_word(RedisModuleCtx *ctx, word value) {
     char room[TEXT_ROOM];
     text of = word_text(value, room);
     RedisModule_ReplyWithStringBuffer(ctx, of.at, of.length);
-}
-
-static void take_page_off(portion *from, uint64_t pairs, uint64_t bytes) {
-    from->pairs -= pairs < from->pairs ? pairs : from->pairs;
-    from->bytes -= bytes < from->bytes ? bytes : from->bytes;
+    return of.length;
 }
 
 /* A reply with a range, which is made page by page. */
@@ -87,15 +83,15 @@ typedef struct listing {
     RedisModuleCtx *ctx;
     const map *of;
     hot_handle *handle;
-    const read_job *by;  /* NULL where nobody waits */
+    read_job *by;        /* NULL where nobody waits */
     range_request asked; /* what is left of it */
     uint64_t told;       /* how many pairs it has replied with */
     uint64_t listed;     /* how many it has gone through */
     key_page *page;
 } listing;
 
-/* Replies with the pairs of a page that are asked for, and takes the page off a portion. */
-static void reply_with_page(listing *it, portion *left) {
+/* Replies with the pairs of a page that are asked for. Returns how many bytes they have. */
+static uint64_t reply_with_page(listing *it) {
     const uint8_t *key = it->page->bytes;
     uint64_t bytes = 0;
     size_t at;
@@ -106,14 +102,12 @@ static void reply_with_page(listing *it, portion *left) {
         }
         RedisModule_ReplyWithStringBuffer(it->ctx, (const char *)key, it->page->heads[at].length);
         bytes += it->page->heads[at].length;
-        if (it->asked.with_values) {
-            reply_with_word(it->ctx, it->page->heads[at].value);
-            bytes += word_length(it->page->heads[at].value);
-        }
+        if (it->asked.with_values)
+            bytes += reply_with_word(it->ctx, it->page->heads[at].value);
         it->asked.limit--;
         it->told++;
     }
-    take_page_off(left, it->page->count, bytes);
+    return bytes;
 }
 
 static long length_of_reply(const listing *it, uint64_t pairs) {
@@ -160,14 +154,15 @@ static int end_pages(listing *it, const char *error) {
     return 0;
 }
 
-/* Replies with the page that is listed, and with those after it: 1 if there are more once the portion is used up. Another thread
- * lists each page within a section, and stops once the client has left. */
+/* Replies with the page that is listed, which the portion has cut, and with those after it: 1 if there are more once the portion is
+ * used up. Another thread lists each page within a section. */
 static int reply_with_pages(listing *it, portion left) {
     for (;;) {
         int is_last = is_last_page(it);
-        reply_with_page(it, &left);
-        if (is_last || (it->by != NULL && it->by->is_gone) || !range_go_on(&it->asked.range, it->asked.falls, it->page))
-            return end_pages(it, NULL);
+        uint64_t bytes = reply_with_page(it);
+        const char *cut = it->by == NULL ? NULL : why_cut(it->by, bytes);
+        if (cut != NULL || is_last || !range_go_on(&it->asked.range, it->asked.falls, it->page))
+            return end_pages(it, is_last ? NULL : cut);
         if (left.pairs == 0 || left.bytes == 0)
             return 1;
         if (it->by != NULL) {
@@ -176,6 +171,7 @@ static int reply_with_pages(listing *it, portion left) {
         }
         if (list_next(it) != HOT_DONE)
             return end_pages(it, NO_PAGE);
+        page_cut(it->page, it->asked.with_values, &left);
     }
 }
 
@@ -184,13 +180,15 @@ static int reply_with_list(listing *it, portion left) {
     if (it->asked.what == PAGES) {
         RedisModule_ReplyWithArray(it->ctx, 2);
         reply_with_cursor(it);
+    } else {
+        page_cut(it->page, it->asked.with_values, &left);
     }
     if (!is_last_page(it)) {
         RedisModule_ReplyWithArray(it->ctx, REDISMODULE_POSTPONED_LEN);
         return reply_with_pages(it, left);
     }
     RedisModule_ReplyWithArray(it->ctx, length_of_reply(it, asked_of_page(it)));
-    reply_with_page(it, &left);
+    reply_with_page(it);
     return 0;
 }
 
@@ -212,7 +210,7 @@ static int count_pages(listing *it, portion left) {
             RedisModule_ReplyWithLongLong(it->ctx, (long long)it->listed);
             return 0;
         }
-        take_page_off(&left, it->page->count, 0);
+        left.pairs -= it->page->count < left.pairs ? it->page->count : left.pairs;
         if (left.pairs == 0)
             return 1;
         if (list_next(it) != HOT_DONE) {

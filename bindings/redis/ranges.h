@@ -35,7 +35,8 @@ int may_be_heavy(const map *of);
  * thread goes through, or has more bytes, is read by a job, where the client may wait and tracks no keys. */
 int reply_with_range(RedisModuleCtx *ctx, map *of, const range_request *asked);
 
-void reply_with_word(RedisModuleCtx *ctx, word value);
+/* Returns how many bytes the value has. */
+size_t reply_with_word(RedisModuleCtx *ctx, word value);
 
 /* A string of a command, and whether it is a word, in whatever case. */
 field field_of(const RedisModuleString *of);

@@ -49,15 +49,6 @@ static void reply_with_pairs(RedisModuleCtx *ctx, const key_page *page) {
     }
 }
 
-/* Leaves the pairs of a page that a portion has left, and takes them off it. */
-static void cut_page(key_page *page, portion *left) {
-    size_t at;
-    for (at = 0; at < page->count && left->bytes > 0; at++)
-        take_off(left, page->heads[at].length + word_length(page->heads[at].value));
-    page->more |= at < page->count;
-    page->count = at;
-}
-
 /* Lists the next pairs that it takes: 0 if there are none, or memory is refused. */
 static int list_next(const opened *of, removal *it, portion *left, key_page *page) {
     uint64_t most = left->pairs < it->asked.limit ? left->pairs : it->asked.limit;
@@ -67,7 +58,7 @@ static int list_next(const opened *of, removal *it, portion *left, key_page *pag
         map_list(of->now, map_handle(of->now), &it->asked.range, it->asked.falls, most < PAGE ? most : PAGE, page) != HOT_DONE;
     if (it->is_refused)
         return 0;
-    cut_page(page, left);
+    page_cut(page, 1, left);
     return page->count > 0;
 }
 

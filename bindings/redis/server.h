@@ -39,13 +39,14 @@ enum {
  * memory. */
 #define CALL_REFUSABLE "SM"
 
-/* What is said of a client, in version 1, and a flag of it: it keeps what it reads, and is told of changes. */
+/* What is said of a client, in version 1, and flags of it: it has subscribed to channels; it keeps what it reads, and is told of
+ * changes. */
 typedef struct RedisModuleClientInfo {
     uint64_t version, flags, id;
     char addr[46];
     uint16_t port, db;
 } RedisModuleClientInfo;
-enum { CLIENT_TRACKS = 1 << 3 };
+enum { CLIENT_SUBSCRIBES = 1 << 1, CLIENT_TRACKS = 1 << 3 };
 
 /* Kinds of events of a keyspace. */
 enum { NOTIFY_GENERIC = 1 << 2, NOTIFY_MODULE = 1 << 13 };
@@ -190,6 +191,8 @@ typedef struct RedisModuleTypeMethods {
     X(uint64_t, CreateTimer, (RedisModuleCtx * ctx, long long milliseconds, RedisModuleTimerProc *call, void *of))                 \
     X(RedisModuleCallReply *, Call, (RedisModuleCtx * ctx, const char *command, const char *form, ...))                            \
     X(void, FreeCallReply, (RedisModuleCallReply * reply))                                                                         \
+    X(RedisModuleCallReply *, CallReplyArrayElement, (RedisModuleCallReply * reply, size_t at))                                    \
+    X(const char *, CallReplyStringPtr, (RedisModuleCallReply * reply, size_t * length))                                           \
     X(void *, GetBlockedClientPrivateData, (RedisModuleCtx * ctx))                                                                 \
     X(RedisModuleString *, GetCurrentUserName, (RedisModuleCtx * ctx))                                                             \
     X(RedisModuleUser *, GetModuleUserFromUserName, (RedisModuleString * name))                                                    \

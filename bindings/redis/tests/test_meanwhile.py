@@ -5,6 +5,7 @@ A command waits for a larger table where the thread that makes tables is held. T
 import contextlib
 import ctypes
 import functools
+import itertools
 import os
 import select
 import socket
@@ -207,7 +208,7 @@ class Waits(unittest.TestCase):
 class Turns(unittest.TestCase):
     """A read that one thread can end at once goes before long ones."""
 
-    PAIRS = 100_000
+    PAIRS = 50_000
     SHORT: "tuple[object, ...]" = ("OM.RANGE", "m", "-", "+", "LIMIT", 0, 1_100)
 
     def ended_before(self, *words: object) -> int:
@@ -224,6 +225,28 @@ class Turns(unittest.TestCase):
     def test_short_reads(self) -> None:
         for name in ("OM.RANGE", "OM.COUNT"):
             self.assertLess(self.ended_before(name, "m", "-", "+"), 4, name)
+
+
+class Limits(unittest.TestCase):
+    """A reply that another thread makes counts against the limit of its client, too."""
+
+    LIMIT = 4 << 20
+
+    def test_replies_under_way(self) -> None:
+        values = {b"f%04d" % at: b"x" * 40_000 for at in range(1_500)}
+        with Server("--client-output-buffer-limit", f"normal {self.LIMIT} 0 0") as server, clients_of(server, 20) as clients:
+            fill(server, "m", numbers(5_000), 50)
+            fill(server, "m", values, 50)
+            server.client.config_resetstat()
+            before = server.client.info("memory")["used_memory"]
+            for client, words in zip(clients, itertools.cycle([("OM.RANGE", "m", "-", "+", "WITHVALUES"), ("OM.MGET", "m", *values)])):
+                client.send(*words)
+            for client in clients:
+                with contextlib.suppress(OSError):
+                    while client.socket.recv(1 << 20):
+                        pass
+            self.assertLess(server.client.info("memory")["used_memory_peak"] - before, 14 * self.LIMIT)
+            self.assertIn("output buffer limits", server.log())
 
 
 class Tracking(unittest.TestCase):
