@@ -123,24 +123,32 @@ static int om_exists(RedisModuleCtx *ctx, RedisModuleString **argv, int argc) {
     return REDISMODULE_OK;
 }
 
+/* How many words of OM.MGET come before its fields: `ATOMIC FIELDS n` may, where n is how many fields there are. */
+static int words_before_fields(RedisModuleString **argv, int argc) {
+    long long count;
+    int is_atomic = argc > 5 && is_word(argv[2], "ATOMIC") && is_word(argv[3], "FIELDS") &&
+                    RedisModule_StringToLongLong(argv[4], &count) == REDISMODULE_OK && count == argc - 5;
+    return is_atomic ? 5 : 2;
+}
+
 static int om_mget(RedisModuleCtx *ctx, RedisModuleString **argv, int argc) {
     hot_lookup few[FEW], *lookups;
     void *room;
     opened of;
-    int at, is_right = 1;
+    int at, is_right = 1, first = words_before_fields(argv, argc);
     if (argc < 3)
         return RedisModule_WrongArity(ctx);
     if (!take_room(ctx, argc, few, sizeof *few, &room))
         return REDISMODULE_OK;
     lookups = room;
-    for (at = 0; is_right && at < argc - 2; at++) {
+    for (at = 0; is_right && at < argc - first; at++) {
         field key;
-        is_right = read_fields(ctx, argv + 2 + at, 1, 0, &key);
+        is_right = read_fields(ctx, argv + first + at, 1, 0, &key);
         lookups[at].key = key.at;
         lookups[at].length = key.length;
     }
     if (is_right && open_key(&of, ctx, argv[1], REDISMODULE_READ)) {
-        reply_with_values(ctx, of.now, lookups, (size_t)argc - 2);
+        reply_with_values(ctx, of.now, lookups, (size_t)(argc - first), first > 2);
         close_key(&of);
     }
     give_room(few, room);
@@ -260,7 +268,7 @@ static int om_len(RedisModuleCtx *ctx, RedisModuleString **argv, int argc) {
 
 /* ---- Ranges ---- */
 
-/* Reads REV, LIMIT and WITHVALUES: 0, with a reply, if a word is none of these. */
+/* Reads REV, LIMIT, WITHVALUES and ATOMIC: 0, with a reply, if a word is none of these. */
 static int read_options(RedisModuleCtx *ctx, RedisModuleString **argv, int argc, range_request *to) {
     long long skip, limit;
     int at;
@@ -269,6 +277,8 @@ static int read_options(RedisModuleCtx *ctx, RedisModuleString **argv, int argc,
             to->falls = 1;
         } else if (is_word(argv[at], "WITHVALUES")) {
             to->with_values = 1;
+        } else if (is_word(argv[at], "ATOMIC")) {
+            to->is_atomic = 1;
         } else if (is_word(argv[at], "LIMIT") && at + 2 < argc) {
             if (RedisModule_StringToLongLong(argv[at + 1], &skip) != REDISMODULE_OK ||
                 RedisModule_StringToLongLong(argv[at + 2], &limit) != REDISMODULE_OK || skip < 0)
@@ -312,9 +322,12 @@ static int om_prefix(RedisModuleCtx *ctx, RedisModuleString **argv, int argc) {
 
 static int om_count(RedisModuleCtx *ctx, RedisModuleString **argv, int argc) {
     range_request asked = all_pairs;
-    if (argc != 4)
+    if (argc != 4 && argc != 5)
         return RedisModule_WrongArity(ctx);
+    if (argc == 5 && !is_word(argv[4], "ATOMIC"))
+        return RedisModule_ReplyWithError(ctx, "ERR syntax error");
     asked.what = COUNTS;
+    asked.is_atomic = argc == 5;
     return read_range(argv[2], argv[3], &asked) ? read_key(ctx, argv[1], &asked) : refuse_range(ctx);
 }
 
@@ -415,7 +428,7 @@ static const command commands[] = {
     {"om.len", om_len, "readonly fast", 2, KEY_RO, "Counts the fields", "O(1)"},
     {"om.range", om_range, "readonly", -4, KEY_RO | KEY_ACCESS, "Lists fields of a range", "O(k + n)"},
     {"om.prefix", om_prefix, "readonly", -3, KEY_RO | KEY_ACCESS, "Lists fields with a prefix", "O(k + n)"},
-    {"om.count", om_count, "readonly", 4, KEY_RO, "Counts the fields of a range", "O(k + n)"},
+    {"om.count", om_count, "readonly", -4, KEY_RO, "Counts the fields of a range", "O(k + n)"},
     {"om.scan", om_scan, "readonly", -3, KEY_RO | KEY_ACCESS, "Lists fields page by page", "O(k + n)"},
     {"om.popmin", om_popmin, "write", -2, KEY_RW | KEY_ACCESS | KEY_DELETE, "Removes the first pairs and returns them",
      "O(k) a pair"},

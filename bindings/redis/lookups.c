@@ -100,8 +100,8 @@ static int is_heavy(const map *of, const hot_lookup *lookups, size_t count) {
     return bytes > at_once.bytes;
 }
 
-int reply_with_values(RedisModuleCtx *ctx, map *of, hot_lookup *lookups, size_t count) {
-    int may = may_wait(ctx), may_give = of != NULL && of->form == INDEXED && may && jobs_threads() > 0, tracks = 0;
+int reply_with_values(RedisModuleCtx *ctx, map *of, hot_lookup *lookups, size_t count, int is_atomic) {
+    int may = !is_atomic && may_wait(ctx), may_give = of != NULL && of->form == INDEXED && may && jobs_threads() > 0, tracks = 0;
     size_t at;
     if (may_give && count > at_once.pairs && is_given(ctx, of, lookups, count, &tracks))
         return REDISMODULE_OK;

@@ -10,7 +10,7 @@ const portion at_once = {1000, 1 << 20}, everything = {UINT64_MAX, UINT64_MAX};
 
 static const char NO_PAGE[] = "OOM no memory for a page";
 
-const range_request all_pairs = {{0, 0, {0}, {0}}, 0, 0, 0, LISTS, 0, LLONG_MAX};
+const range_request all_pairs = {{0, 0, {0}, {0}}, 0, 0, 0, 0, LISTS, 0, LLONG_MAX};
 
 field field_of(const RedisModuleString *of) {
     field it;
@@ -364,17 +364,18 @@ int reply_with_range(RedisModuleCtx *ctx, map *of, const range_request *asked) {
     static key_page page;
     listing it = {ctx, of, NULL, NULL, *asked, 0, 0, &page};
     hot_status status;
-    int is_far, tracks;
+    int may_ask, is_far, tracks;
     if (of == NULL || asked->is_empty || asked->limit == 0)
         return reply_with_none(ctx, asked);
     it.handle = map_handle(of);
     status = list_next(&it);
-    is_far = status == HOT_DONE && jobs_threads() > 0 && may_wait(ctx) && goes_far(of, &it);
+    may_ask = !asked->is_atomic && may_wait(ctx);
+    is_far = status == HOT_DONE && jobs_threads() > 0 && may_ask && goes_far(of, &it);
     tracks = is_far && is_tracking(ctx);
     if (is_far && !tracks && give_to_job(ctx, of, asked))
         return REDISMODULE_OK;
     reply_with_first(&it, status);
-    if (may_wait(ctx) && !tracks)
+    if (may_ask && !tracks)
         note_at_once(it.listed);
     return REDISMODULE_OK;
 }

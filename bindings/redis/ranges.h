@@ -10,6 +10,7 @@ typedef struct range_request {
     key_range range;
     int is_empty; /* no field can be in it */
     int falls, with_values;
+    int is_atomic;                      /* it is read at one moment, and so by the main thread */
     enum { LISTS, COUNTS, PAGES } what; /* PAGES are lists behind the cursor of the next one */
     uint64_t skip, limit;
 } range_request;
@@ -32,7 +33,7 @@ int is_long(map *of, const range_request *asked);
 int may_be_heavy(const map *of);
 
 /* Replies with what is asked of a map, or of none if it is NULL. A map with an index that may have more pairs of it than the main
- * thread goes through, or has more bytes, is read by a job, where the client may wait and tracks no keys. */
+ * thread goes through, or has more bytes, is read by a job, where the client may wait, tracks no keys, and asks for no moment. */
 int reply_with_range(RedisModuleCtx *ctx, map *of, const range_request *asked);
 
 /* Returns how many bytes the value has. */

@@ -19,7 +19,7 @@ COMMANDS: "dict[str, tuple[tuple[object, ...], int, set[str]]]" = {
     "OM.LEN": (("m",), 2, {"readonly", "fast"}),
     "OM.RANGE": (("m", "-", "+"), -4, {"readonly"}),
     "OM.PREFIX": (("m", "a"), -3, {"readonly"}),
-    "OM.COUNT": (("m", "-", "+"), 4, {"readonly"}),
+    "OM.COUNT": (("m", "-", "+"), -4, {"readonly"}),
     "OM.SCAN": (("m", 0), -3, {"readonly"}),
     "OM.POPMIN": (("m",), -2, {"write"}),
     "OM.POPMAX": (("m",), -2, {"write"}),
@@ -100,6 +100,17 @@ class Commands(unittest.TestCase):
         self.said("OM.SET", "m", "ba", "1", "b\xff", "2")
         self.assertEqual(self.said("OM.PREFIX", "m", "b"), [b"b", b"ba", "b\xff".encode()])
         self.assertEqual(self.said("OM.PREFIX", "m", "", "LIMIT", 0, 1), [b"a"])
+
+    def test_reads_at_one_moment(self) -> None:
+        """They say the same. Fields of OM.MGET may have those names."""
+        self.said("OM.SET", "m", *[word for at in range(3000) for word in ("f%04d" % at, at)], "ATOMIC", "1", "FIELDS", "2", "2", "3")
+        fields = ["f%04d" % at for at in range(0, 3000, 2)]
+        for words in [("RANGE", "-", "+"), ("RANGE", "-", "+", "REV", "WITHVALUES", "LIMIT", 1, 2000), ("PREFIX", "f"), ("COUNT", "-", "+")]:
+            self.assertEqual(self.said(f"OM.{words[0]}", "m", *words[1:], "ATOMIC"), self.said(f"OM.{words[0]}", "m", *words[1:]))
+        self.assertEqual(self.said("OM.MGET", "m", "atomic", "FIELDS", len(fields), *fields), self.said("OM.MGET", "m", *fields))
+        self.assertEqual(self.said("OM.MGET", "m", "ATOMIC", "FIELDS", "2"), [b"1", b"2", b"3"])
+        self.assertEqual(self.said("OM.MGET", "m", "ATOMIC", "FIELDS", 1, "2"), [b"3"])
+        self.assertEqual(self.said("OM.COUNT", "m", "-", "+", "NOW"), "syntax error")
 
     def test_cursors(self) -> None:
         self.said("OM.SET", "m", *[word for at in range(25) for word in ("f%02d" % at, at)])

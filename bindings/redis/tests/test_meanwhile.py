@@ -205,6 +205,33 @@ class Waits(unittest.TestCase):
             self.assertEqual(pausing.reply(), "+OK")
 
 
+class Moments(unittest.TestCase):
+    def test_atomic_reads(self) -> None:
+        """A long read with that word never has one alone of two fields that one command sets, nor counts one of them."""
+        pairs = numbers(20_000)
+        reads = [("OM.RANGE", "m", "-", "+", "WITHVALUES"), ("OM.MGET", "m", "ATOMIC", "FIELDS", len(pairs) + 2, "a", *pairs, "z")]
+        with Server() as server, clients_of(server, 2) as [reader, writer]:
+            fill(server, "m", pairs)
+            seen = {False}
+            for turn in range(40):
+                words = reads[turn % 2]
+                for _ in range(100):
+                    writer.send("OM.SET", "m", "a", turn, "z", turn)
+                reader.send(*words, *["ATOMIC"] * (turn % 2 == 0))
+                for at in range(1, 200):
+                    writer.send("OM.SET", "m", "a", f"{turn}.{at}", "z", f"{turn}.{at}")
+                said = reader.reply()
+                seen.add(said[1 if turn % 2 == 0 else 0] != said[-1])
+                for _ in range(299):
+                    writer.reply()
+            self.assertEqual(seen, {False})
+            for turn in range(20):
+                for name in ("OM.DEL", "OM.SET"):
+                    reader.send("OM.COUNT", "m", "-", "+", "ATOMIC")
+                    writer.run(name, "m", *(["a", "z"] if name == "OM.DEL" else ["a", turn, "z", turn]))
+                    self.assertIn(reader.reply(), (":20000", ":20002"))
+
+
 class Turns(unittest.TestCase):
     """A read that one thread can end at once goes before long ones."""
 

@@ -157,6 +157,19 @@ class Stalls(unittest.TestCase):
         self.assertLessEqual(used, MOST, self.least)
         return used, name
 
+    def work_at_one_moment(self) -> None:
+        self.client.run_all(pairs(100))
+        self.watch("range", [packed("OM.RANGE", "m", "-", "+", "WITHVALUES", "ATOMIC")])
+        self.watch("count", [packed("OM.COUNT", "m", "-", "+", "ATOMIC")])
+        self.watch("values", [packed("OM.MGET", "m", "ATOMIC", "FIELDS", COUNT, *[field(at) for at in range(COUNT)])])
+
+    def test_reads_at_one_moment(self) -> None:
+        """They keep it as long as they have pairs: 5 ms for 1,000 at most."""
+        self.work_at_one_moment()
+        used, work = max((used, work) for work, (used, _) in self.least.items())
+        self.assertLessEqual(used, MOST * COUNT / 1000, self.least)
+        print(f"\nlongest read at one moment: {used * 1e6 / COUNT:.0f} ns a pair ({work})", end=" ")
+
     def test_long_values(self) -> None:
         self.longest(self.work_on_long_values)
 
