@@ -341,15 +341,6 @@ static int goes_far(const map *of, const listing *it) {
     return it->asked.with_values && may_be_heavy(of) && is_heavy(it);
 }
 
-int is_long(map *of, const range_request *asked) {
-    static key_page page;
-    listing it = {NULL, of, map_handle(of), NULL, *asked, 0, 0, &page};
-    if (asked->limit <= 1 || of->form == SMALL)
-        return 0;
-    return (asked->limit > at_once.pairs && map_length(of) > at_once.pairs) ||
-           (may_be_heavy(of) && list_next(&it) == HOT_DONE && is_heavy(&it));
-}
-
 static int reply_with_none(RedisModuleCtx *ctx, const range_request *asked) {
     if (asked->what == COUNTS)
         return RedisModule_ReplyWithLongLong(ctx, 0);

@@ -26,9 +26,6 @@ int refuse_range(RedisModuleCtx *ctx);
 /* What the main thread goes through in one go, and what it goes through where the client can't wait. */
 extern const portion at_once, everything;
 
-/* Whether what is asked may have more pairs, or has more bytes. */
-int is_long(map *of, const range_request *asked);
-
 /* Whether the values of a map may have more bytes than the main thread goes through in one go. */
 int may_be_heavy(const map *of);
 

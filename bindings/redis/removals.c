@@ -294,11 +294,10 @@ void take_named(opened *of, RedisModuleString **names, size_t count) {
     end_reply(&it);
 }
 
+/* One portion, of which the client is told at once: what a failover kept from it would be gone. */
 static void pop_from_key(opened *of, removal *it, const char *name) {
     int may = may_wait(of->ctx);
-    if (may && of->now != NULL && is_long(of->now, &it->asked) && wait_for_rest(of, it, name))
-        return;
-    take_portion(of, it, everything);
+    take_portion(of, it, may ? at_once : everything);
     /* Replicas take as many as were taken here. */
     if (it->taken > 0) {
         RedisModule_Replicate(of->ctx, name, "sl", of->name, (long long)it->taken);

@@ -1,5 +1,6 @@
 /* Commands that remove pairs: from one end of a range on, or of named fields. One of many pairs goes in portions: from time to time
- * the main thread takes one, which is replicated by itself, and the client waits. It ends once its key has another map. */
+ * the main thread takes one, which is replicated by itself, and the client waits. It ends once its key has another map. A pop is
+ * one portion. */
 #ifndef REMOVALS_H
 #define REMOVALS_H
 

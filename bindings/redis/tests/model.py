@@ -201,7 +201,7 @@ class Model:
 
     def pop(self) -> None:
         count, is_last = self.random.choice([0, 1, 2, 5, 1, 2, 5, 10 if self.is_small else 200, 1500]), self.random.random() < 0.5
-        fields = sorted(self.pairs, reverse=is_last)[:count]
+        fields = sorted(self.pairs, reverse=is_last)[: min(count, 1000)]
         expected = flat([(field, self.pairs.pop(field)) for field in fields])
         self.check(["OM.POPMAX" if is_last else "OM.POPMIN", NAME, count], expected)
 

@@ -4,7 +4,7 @@ from typing import Any
 
 import redis
 
-from servers import Server
+from servers import Server, flat
 
 # Of each command its least words, its arity, and its flags.
 COMMANDS: "dict[str, tuple[tuple[object, ...], int, set[str]]]" = {
@@ -129,6 +129,20 @@ class Commands(unittest.TestCase):
         self.assertEqual(self.said("OM.DELRANGE", "m", "[b", "[d", "LIMIT", 2), 2)
         self.assertEqual(self.said("OM.RANGE", "m", "-", "+"), [b"d", b"e"])
         self.assertEqual(self.said("OM.DELRANGE", "m", "-", "+"), 2)
+        self.assertEqual(self.server.client.exists("m"), 0)
+
+    def test_pops_of_many(self) -> None:
+        """Each takes a thousand pairs at most, or all that come to 1 MB. In MULTI it takes all."""
+        pairs = [(b"%06d" % at, b"%d" % at) for at in range(5_000)]
+        long = [(b"x%d" % at, b"%d" % at * 400_000) for at in range(6)]
+        self.said("OM.SET", "m", *flat(pairs))
+        self.said("OM.SET", "m", *flat(long))
+        self.assertEqual(self.said("OM.POPMAX", "m", 100), flat(long[:2:-1]))
+        self.assertEqual(self.said("OM.POPMIN", "m", 10**9), flat(pairs[:1_000]))
+        self.assertEqual(self.said("OM.POPMAX", "m", 4), flat(long[2::-1]))
+        with self.server.client.pipeline() as pipe:
+            pipe.execute_command("OM.POPMIN", "m", 10**9)
+            self.assertEqual(pipe.execute(), [flat(pairs[1_000:])])
         self.assertEqual(self.server.client.exists("m"), 0)
 
     def test_refusals(self) -> None:

@@ -294,6 +294,20 @@ class Tracking(unittest.TestCase):
                 self.assertEqual(said[1], [b"invalidate", [b"m"]], words[0])
 
 
+class Failovers(unittest.TestCase):
+    def test_pops(self) -> None:
+        """Where a server becomes a replica, what a pop has removed has been replied."""
+        pairs = numbers(60_000)
+        with Server() as server, clients_of(server, 1) as [client]:
+            fill(server, "m", pairs)
+            client.send("OM.POPMIN", "m", len(pairs))
+            while server.run("OM.LEN", "m") == len(pairs):
+                pass
+            server.run("REPLICAOF", "127.0.0.1", 1)
+            left = server.run("OM.RANGE", "m", "-", "+", "WITHVALUES")
+            self.assertEqual(client.reply() + left, flat(list(pairs.items())))
+
+
 class Moves(unittest.TestCase):
     """A cluster of two servers, the first of which has all slots in the beginning."""
 
@@ -400,22 +414,20 @@ class Moves(unittest.TestCase):
         """They reply with what they have removed."""
         name, reply = self.moved_before("OM.DELRANGE", "-", "+", "LIMIT", self.COUNT - 1)
         self.assertEqual(reply, f":{self.COUNT - self.there.run('OM.LEN', name)}")
-        name, reply = self.moved_before("OM.POPMIN", self.COUNT)
-        self.assertEqual(reply + self.there.run("OM.RANGE", name, "-", "+", "WITHVALUES"), flat(list(numbers(self.COUNT).items())))
 
     def test_removals_of_nothing(self) -> None:
-        """They say so if nothing is removed."""
+        """They say so if nothing is left."""
         name = self.new_key()
         fill(self.here, name, numbers(self.COUNT))
         self.begin_move(name)
         with clients_of(self.here, 2) as [client, sleeping]:
             sleeping.send("DEBUG", "SLEEP", 0.3)
             time.sleep(0.1)
-            client.send("OM.POPMAX", name, self.COUNT)
+            client.send("OM.DELRANGE", name, "-", "(z")
             self.move(name)
             self.assertEqual(client.reply(), "-TRYAGAIN the rest of the fields has moved")
         self.end_move(name)
-        self.assertEqual(self.there.run("OM.LEN", name), self.COUNT)
+        self.assertEqual(self.there.run("OM.LEN", name), self.COUNT - 1_000)
 
 
 if __name__ == "__main__":
