@@ -1,6 +1,7 @@
 /* The commands. Each opens its key, reads or changes its map, and replies. */
 #define _DEFAULT_SOURCE
 #include "commands.h"
+#include "arguments.h"
 #include "index.h"
 #include "keys.h"
 #include "lookups.h"
@@ -8,6 +9,7 @@
 #include "removals.h"
 #include "waits.h"
 #include <limits.h>
+#include <stdio.h>
 #include <string.h>
 
 /* ---- Words of commands ---- */
@@ -392,7 +394,7 @@ static int om_stat(RedisModuleCtx *ctx, RedisModuleString **argv, int argc) {
         return RedisModule_ReplyWithNull(ctx);
     }
     it = of.now->form == SMALL ? NULL : (const indexed_map *)of.now;
-    RedisModule_ReplyWithArray(ctx, 12);
+    RedisModule_ReplyWithMap(ctx, 6);
     reply_with_figure(ctx, "fields", map_length(of.now));
     reply_with_figure(ctx, "bytes", map_bytes(of.now));
     reply_with_figure(ctx, "has_index", it != NULL);
@@ -411,39 +413,43 @@ typedef struct command {
     const char *flags;
     int arity;
     uint64_t key;
+    RedisModuleCommandArg *arguments;
     const char *summary, *complexity;
 } command;
 
 static const command commands[] = {
-    {"om.set", om_set, "write deny-oom fast", -4, KEY_RW | KEY_UPDATE, "Sets fields of an ordered map", "O(k) a field"},
-    {"om.get", om_get, "readonly fast", 3, KEY_RO | KEY_ACCESS, "Returns the value of a field", "O(k)"},
-    {"om.mget", om_mget, "readonly", -3, KEY_RO | KEY_ACCESS, "Returns the values of fields", "O(k) a field"},
-    {"om.del", om_del, "write fast", -3, KEY_RW | KEY_DELETE, "Removes fields", "O(k) a field"},
-    {"om.add", om_add, "write deny-oom fast", 4, KEY_RW | KEY_ACCESS | KEY_UPDATE, "Adds to the integer of a field", "O(k)"},
-    {"om.cas", om_cas, "write deny-oom fast", 5, KEY_RW | KEY_ACCESS | KEY_UPDATE, "Sets a field if it has the expected value",
-     "O(k)"},
-    {"om.may", om_may, "write deny-oom fast", 2, KEY_RW | KEY_UPDATE,
+    {"om.set", om_set, "write deny-oom fast blocking", -4, KEY_RW | KEY_UPDATE, arguments_of_set, "Sets fields of an ordered map",
+     "O(k) a field"},
+    {"om.get", om_get, "readonly fast", 3, KEY_RO | KEY_ACCESS, arguments_of_field, "Returns the value of a field", "O(k)"},
+    {"om.mget", om_mget, "readonly blocking", -3, KEY_RO | KEY_ACCESS, arguments_of_mget, "Returns the values of fields",
+     "O(k) a field"},
+    {"om.del", om_del, "write fast blocking", -3, KEY_RW | KEY_DELETE, arguments_of_fields, "Removes fields", "O(k) a field"},
+    {"om.add", om_add, "write deny-oom fast blocking", 4, KEY_RW | KEY_ACCESS | KEY_UPDATE, arguments_of_add,
+     "Adds to the integer of a field", "O(k)"},
+    {"om.cas", om_cas, "write deny-oom fast blocking", 5, KEY_RW | KEY_ACCESS | KEY_UPDATE, arguments_of_cas,
+     "Sets a field if it has the expected value", "O(k)"},
+    {"om.may", om_may, "write deny-oom fast", 2, KEY_RW | KEY_UPDATE, arguments_of_key,
      "Returns 1 where the server takes changes, else its refusal: what has waited asks it", "O(1)"},
-    {"om.exists", om_exists, "readonly fast", 3, KEY_RO, "Says whether there is a field", "O(k)"},
-    {"om.len", om_len, "readonly fast", 2, KEY_RO, "Counts the fields", "O(1)"},
-    {"om.range", om_range, "readonly", -4, KEY_RO | KEY_ACCESS, "Lists fields of a range", "O(k + n)"},
-    {"om.prefix", om_prefix, "readonly", -3, KEY_RO | KEY_ACCESS, "Lists fields with a prefix", "O(k + n)"},
-    {"om.count", om_count, "readonly", -4, KEY_RO, "Counts the fields of a range", "O(k + n)"},
-    {"om.scan", om_scan, "readonly", -3, KEY_RO | KEY_ACCESS, "Lists fields page by page", "O(k + n)"},
-    {"om.popmin", om_popmin, "write", -2, KEY_RW | KEY_ACCESS | KEY_DELETE, "Removes the first pairs and returns them",
-     "O(k) a pair"},
-    {"om.popmax", om_popmax, "write", -2, KEY_RW | KEY_ACCESS | KEY_DELETE, "Removes the last pairs and returns them",
-     "O(k) a pair"},
-    {"om.delrange", om_delrange, "write", -4, KEY_RW | KEY_DELETE, "Removes the fields of a range", "O(k) a field"},
-    {"om.stat", om_stat, "readonly fast", 2, KEY_RO, "Says how a map is stored", "O(1)"},
+    {"om.exists", om_exists, "readonly fast", 3, KEY_RO, arguments_of_field, "Says whether there is a field", "O(k)"},
+    {"om.len", om_len, "readonly fast", 2, KEY_RO, arguments_of_key, "Counts the fields", "O(1)"},
+    {"om.range", om_range, "readonly blocking", -4, KEY_RO | KEY_ACCESS, arguments_of_range, "Lists fields of a range", "O(k + n)"},
+    {"om.prefix", om_prefix, "readonly blocking", -3, KEY_RO | KEY_ACCESS, arguments_of_prefix, "Lists fields with a prefix",
+     "O(k + n)"},
+    {"om.count", om_count, "readonly blocking", -4, KEY_RO, arguments_of_count, "Counts the fields of a range", "O(k + n)"},
+    {"om.scan", om_scan, "readonly blocking", -3, KEY_RO | KEY_ACCESS, arguments_of_scan, "Lists fields page by page", "O(k + n)"},
+    {"om.popmin", om_popmin, "write", -2, KEY_RW | KEY_ACCESS | KEY_DELETE, arguments_of_pop,
+     "Removes the first pairs and returns them", "O(k) a pair"},
+    {"om.popmax", om_popmax, "write", -2, KEY_RW | KEY_ACCESS | KEY_DELETE, arguments_of_pop,
+     "Removes the last pairs and returns them", "O(k) a pair"},
+    {"om.delrange", om_delrange, "write blocking", -4, KEY_RW | KEY_DELETE, arguments_of_delrange, "Removes the fields of a range",
+     "O(k) a field"},
+    {"om.stat", om_stat, "readonly fast", 2, KEY_RO, arguments_of_key, "Says how a map is stored", "O(1)"},
 };
 
 /* The categories of a command for access lists, in a server that lets modules have them. */
-static const char *categories_of(const command *it) {
-    int is_fast = strstr(it->flags, "fast") != NULL;
-    if (strstr(it->flags, "write") != NULL)
-        return is_fast ? "write fast" : "write slow";
-    return is_fast ? "read fast" : "read slow";
+static void write_categories(const command *it, char *to, size_t room) {
+    snprintf(to, room, "%s %s%s", strstr(it->flags, "write") != NULL ? "write" : "read",
+             strstr(it->flags, "fast") != NULL ? "fast" : "slow", strstr(it->flags, "blocking") != NULL ? " blocking" : "");
 }
 
 static int make_command(RedisModuleCtx *ctx, const command *it) {
@@ -452,6 +458,7 @@ static int make_command(RedisModuleCtx *ctx, const command *it) {
     RedisModuleCommandKeySpec keys[2] = {{0}};
     RedisModuleCommandInfo info = {0};
     RedisModuleCommand *of;
+    char categories[40];
     keys[0].flags = it->key;
     keys[0].begin_search_type = BEGIN_INDEX;
     keys[0].bs.index.pos = 1;
@@ -463,10 +470,12 @@ static int make_command(RedisModuleCtx *ctx, const command *it) {
     info.since = "1.0.0";
     info.arity = it->arity;
     info.key_specs = keys;
+    info.args = it->arguments;
     if (RedisModule_CreateCommand(ctx, it->name, it->run, it->flags, 1, 1, 1) != REDISMODULE_OK)
         return REDISMODULE_ERR;
     of = RedisModule_GetCommand(ctx, it->name);
-    if (RedisModule_SetCommandACLCategories != NULL && RedisModule_SetCommandACLCategories(of, categories_of(it)) != REDISMODULE_OK)
+    write_categories(it, categories, sizeof categories);
+    if (RedisModule_SetCommandACLCategories != NULL && RedisModule_SetCommandACLCategories(of, categories) != REDISMODULE_OK)
         return REDISMODULE_ERR;
     return RedisModule_SetCommandInfo(of, &info);
 }

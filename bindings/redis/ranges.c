@@ -71,6 +71,20 @@ int read_prefix(RedisModuleString *prefix, range_request *to) {
 
 /* ---- Replies ---- */
 
+void begin_list(RedisModuleCtx *ctx, int with_values, long length) {
+    if (with_values)
+        RedisModule_ReplyWithMap(ctx, length);
+    else
+        RedisModule_ReplyWithArray(ctx, length);
+}
+
+void end_list(RedisModuleCtx *ctx, int with_values, uint64_t length) {
+    if (with_values)
+        RedisModule_ReplySetMapLength(ctx, (long)length);
+    else
+        RedisModule_ReplySetArrayLength(ctx, (long)length);
+}
+
 size_t reply_with_word(RedisModuleCtx *ctx, word value) {
     char room[TEXT_ROOM];
     text of = word_text(value, room);
@@ -110,10 +124,6 @@ static uint64_t reply_with_page(listing *it) {
     return bytes;
 }
 
-static long length_of_reply(const listing *it, uint64_t pairs) {
-    return (long)(it->asked.with_values ? 2 * pairs : pairs);
-}
-
 static hot_status list_next(listing *it) {
     uint64_t most = it->asked.skip < PAGE && it->asked.limit < PAGE ? it->asked.skip + it->asked.limit : PAGE;
     hot_status status = map_list(it->of, it->handle, &it->asked.range, it->asked.falls, most, it->page);
@@ -144,13 +154,15 @@ static void reply_with_cursor(listing *it) {
     RedisModule_ReplyWithStringBuffer(it->ctx, cursor, 1 + key.length);
 }
 
-/* Ends a reply of several pages. The pairs before were sent as part of it: so an error is its last item. */
+/* Ends a reply of several pages. The pairs before were sent as part of it: so an error is its last field, whose value is nil. */
 static int end_pages(listing *it, const char *error) {
     if (error != NULL) {
         RedisModule_ReplyWithError(it->ctx, error);
         it->told++;
     }
-    RedisModule_ReplySetArrayLength(it->ctx, length_of_reply(it, it->told) - (error != NULL && it->asked.with_values));
+    if (error != NULL && it->asked.with_values)
+        RedisModule_ReplyWithNull(it->ctx);
+    end_list(it->ctx, it->asked.with_values, it->told);
     return 0;
 }
 
@@ -184,10 +196,10 @@ static int reply_with_list(listing *it, portion left) {
         page_cut(it->page, it->asked.with_values, &left);
     }
     if (!is_last_page(it)) {
-        RedisModule_ReplyWithArray(it->ctx, REDISMODULE_POSTPONED_LEN);
+        begin_list(it->ctx, it->asked.with_values, REDISMODULE_POSTPONED_LEN);
         return reply_with_pages(it, left);
     }
-    RedisModule_ReplyWithArray(it->ctx, length_of_reply(it, asked_of_page(it)));
+    begin_list(it->ctx, it->asked.with_values, (long)asked_of_page(it));
     reply_with_page(it);
     return 0;
 }
@@ -348,7 +360,8 @@ static int reply_with_none(RedisModuleCtx *ctx, const range_request *asked) {
         RedisModule_ReplyWithArray(ctx, 2);
         RedisModule_ReplyWithStringBuffer(ctx, "0", 1);
     }
-    return RedisModule_ReplyWithArray(ctx, 0);
+    begin_list(ctx, asked->with_values, 0);
+    return REDISMODULE_OK;
 }
 
 int reply_with_range(RedisModuleCtx *ctx, map *of, const range_request *asked) {

@@ -33,6 +33,11 @@ int may_be_heavy(const map *of);
  * thread goes through, or has more bytes, is read by a job, where the client may wait, tracks no keys, and asks for no moment. */
 int reply_with_range(RedisModuleCtx *ctx, map *of, const range_request *asked);
 
+/* Begins a reply with fields, or with pairs, which are a map in the protocol's third version. A length that is postponed is set in
+ * the end. */
+void begin_list(RedisModuleCtx *ctx, int with_values, long length);
+void end_list(RedisModuleCtx *ctx, int with_values, uint64_t length);
+
 /* Returns how many bytes the value has. */
 size_t reply_with_word(RedisModuleCtx *ctx, word value);
 

@@ -87,7 +87,7 @@ static uint64_t take_portion(opened *of, removal *it, portion left) {
             break;
         }
         if (it->asked.with_values && it->taken == 0)
-            RedisModule_ReplyWithArray(it->to, REDISMODULE_POSTPONED_LEN);
+            begin_list(it->to, 1, REDISMODULE_POSTPONED_LEN);
         if (it->asked.with_values)
             reply_with_pairs(it->to, &page);
         note_page(it, &page, taken == 0);
@@ -109,9 +109,9 @@ static void end_reply(removal *it) {
     else if (!it->asked.with_values)
         RedisModule_ReplyWithLongLong(it->to, (long long)it->taken);
     else if (it->taken > 0)
-        RedisModule_ReplySetArrayLength(it->to, (long)(2 * it->taken));
+        end_list(it->to, 1, it->taken);
     else
-        RedisModule_ReplyWithArray(it->to, 0);
+        begin_list(it->to, 1, 0);
 }
 
 /* Takes a portion that replicas take by its fields: they are all that there are from the least to the greatest. */

@@ -90,6 +90,10 @@ typedef struct RedisModuleCommandKeySpec {
     } fk;
 } RedisModuleCommandKeySpec;
 
+/* Types of arguments and their flags. */
+enum { ARG_STRING, ARG_INTEGER, ARG_KEY = 3, ARG_WORD = 6, ARG_EITHER, ARG_ROW };
+enum { ARG_OPTIONAL = 1 << 0, ARG_REPEATS = 1 << 1 };
+
 typedef struct RedisModuleCommandArg {
     const char *name;
     int type, key_spec_index;
@@ -183,6 +187,8 @@ typedef struct RedisModuleTypeMethods {
     X(int, ReplyWithStringBuffer, (RedisModuleCtx * ctx, const char *at, size_t length))                                           \
     X(int, ReplyWithArray, (RedisModuleCtx * ctx, long length))                                                                    \
     X(void, ReplySetArrayLength, (RedisModuleCtx * ctx, long length))                                                              \
+    X(int, ReplyWithMap, (RedisModuleCtx * ctx, long length))                                                                      \
+    X(void, ReplySetMapLength, (RedisModuleCtx * ctx, long length))                                                                \
     X(RedisModuleBlockedClient *, BlockClient,                                                                                     \
       (RedisModuleCtx * ctx, RedisModuleCmdFunc * reply, RedisModuleCmdFunc * timeout,                                             \
        void (*free)(RedisModuleCtx * ctx, void *data), long long milliseconds))                                                    \

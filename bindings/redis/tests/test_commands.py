@@ -1,31 +1,37 @@
 """Each command by examples: replies, words that are refused, events, access."""
+import contextlib
 import unittest
 from typing import Any
 
 import redis
 
+from plain import Plain
 from servers import Server, flat
 
 # Of each command its least words, its arity, and its flags.
 COMMANDS: "dict[str, tuple[tuple[object, ...], int, set[str]]]" = {
-    "OM.SET": (("m", "a", 1), -4, {"write", "denyoom", "fast"}),
+    "OM.SET": (("m", "a", 1), -4, {"write", "denyoom", "fast", "blocking"}),
     "OM.GET": (("m", "a"), 3, {"readonly", "fast"}),
-    "OM.MGET": (("m", "a"), -3, {"readonly"}),
-    "OM.DEL": (("m", "a"), -3, {"write", "fast"}),
-    "OM.ADD": (("m", "a", 1), 4, {"write", "denyoom", "fast"}),
-    "OM.CAS": (("m", "a", 1, 2), 5, {"write", "denyoom", "fast"}),
+    "OM.MGET": (("m", "a"), -3, {"readonly", "blocking"}),
+    "OM.DEL": (("m", "a"), -3, {"write", "fast", "blocking"}),
+    "OM.ADD": (("m", "a", 1), 4, {"write", "denyoom", "fast", "blocking"}),
+    "OM.CAS": (("m", "a", 1, 2), 5, {"write", "denyoom", "fast", "blocking"}),
     "OM.MAY": (("m",), 2, {"write", "denyoom", "fast"}),
     "OM.EXISTS": (("m", "a"), 3, {"readonly", "fast"}),
     "OM.LEN": (("m",), 2, {"readonly", "fast"}),
-    "OM.RANGE": (("m", "-", "+"), -4, {"readonly"}),
-    "OM.PREFIX": (("m", "a"), -3, {"readonly"}),
-    "OM.COUNT": (("m", "-", "+"), -4, {"readonly"}),
-    "OM.SCAN": (("m", 0), -3, {"readonly"}),
+    "OM.RANGE": (("m", "-", "+"), -4, {"readonly", "blocking"}),
+    "OM.PREFIX": (("m", "a"), -3, {"readonly", "blocking"}),
+    "OM.COUNT": (("m", "-", "+"), -4, {"readonly", "blocking"}),
+    "OM.SCAN": (("m", 0), -3, {"readonly", "blocking"}),
     "OM.POPMIN": (("m",), -2, {"write"}),
     "OM.POPMAX": (("m",), -2, {"write"}),
-    "OM.DELRANGE": (("m", "-", "+"), -4, {"write"}),
+    "OM.DELRANGE": (("m", "-", "+"), -4, {"write", "blocking"}),
     "OM.STAT": (("m",), 2, {"readonly", "fast"}),
 }
+
+
+def paired(words: "list[Any]") -> "dict[Any, Any]":
+    return dict(zip(words[::2], words[1::2]))
 
 
 class Commands(unittest.TestCase):
@@ -195,12 +201,45 @@ class Commands(unittest.TestCase):
             said = client.execute_command("COMMAND", "INFO", name)[name.lower()]
             self.assertEqual((said["arity"], said["first_key_pos"], said["last_key_pos"], said["step_count"]), (arity, 1, 1, 1), name)
             self.assertEqual(set(said["flags"]), flags | {"module"}, name)
+            docs = self.documented(name)
+            self.assertEqual((docs[b"since"], docs[b"arguments"][0][b"type"]), (b"1.0.0", b"key"), name)
+            self.assertEqual(len(docs[b"arguments"]) > 1, arity != 2 or name.startswith("OM.POP"), name)
             [[key, uses]] = client.execute_command("COMMAND GETKEYSANDFLAGS", name, *words)
             self.assertEqual((key, b"RW" in uses), (b"m", "write" in flags), name)
             for kind, is_in in [("write", "write" in flags), ("read", "readonly" in flags), ("fast", "fast" in flags), ("slow", "fast" not in flags)]:
                 allowed = self.server.run("ACL", "DRYRUN", kind, name, *words)
                 self.assertEqual(allowed == b"OK", is_in and has_categories, (name, kind, allowed))
         client.acl_deluser("read", "write", "fast", "slow")
+
+    def documented(self, name: str) -> "dict[bytes, Any]":
+        """What the server tells of a command."""
+        docs = paired(self.server.run("COMMAND DOCS", name)[1])
+        docs[b"arguments"] = [paired(it) for it in docs[b"arguments"]]
+        return docs
+
+    def test_arguments(self) -> None:
+        """Tools learn which words a command takes."""
+        arguments = {it[b"name"]: it for it in self.documented("OM.RANGE")[b"arguments"]}
+        self.assertEqual(list(arguments), [b"key", b"min", b"max", b"rev", b"limit", b"withvalues", b"atomic"])
+        self.assertEqual((arguments[b"limit"][b"token"], arguments[b"limit"][b"flags"]), (b"LIMIT", [b"optional"]))
+        self.assertEqual([paired(it)[b"name"] for it in arguments[b"limit"][b"arguments"]], [b"offset", b"count"])
+
+    def test_maps(self) -> None:
+        """In the protocol's third version pairs are a map, in their order."""
+        pairs = [(b"%04d" % at, b"%d" % at) for at in range(3_000)]
+        self.said("OM.SET", "m", *flat(pairs))
+        with contextlib.closing(Plain(self.server.port)) as client:
+            client.run("HELLO", 3)
+            for words, count in [
+                (("OM.RANGE", "m", "-", "+", "WITHVALUES"), 3_000),
+                (("OM.RANGE", "m", "-", "+", "WITHVALUES", "LIMIT", 0, 2), 2),
+                (("OM.PREFIX", "m", "00", "WITHVALUES"), 100),
+                (("OM.POPMIN", "m"), 1),
+                (("OM.POPMIN", "none"), 0),
+                (("OM.STAT", "m"), 6),
+            ]:
+                self.assertTrue(client.run(*words).startswith(b"%%%d\r\n" % count), words)
+            self.assertTrue(client.run("OM.SCAN", "m", 0).startswith(b"*2\r\n$5\r\n(0010\r\n%10\r\n$4\r\n0001\r\n$1\r\n1\r\n"))
 
     def test_sizes(self) -> None:
         """A map gets an index with its 257th pair, or with a value too long for a block, and is small again with 128."""
