@@ -393,7 +393,7 @@ static int om_stat(RedisModuleCtx *ctx, RedisModuleString **argv, int argc) {
         close_key(&of);
         return RedisModule_ReplyWithNull(ctx);
     }
-    it = of.now->form == SMALL ? NULL : (const indexed_map *)of.now;
+    it = of.now->form != INDEXED ? NULL : (const indexed_map *)of.now;
     RedisModule_ReplyWithMap(ctx, 6);
     reply_with_figure(ctx, "fields", map_length(of.now));
     reply_with_figure(ctx, "bytes", map_bytes(of.now));

@@ -2,6 +2,7 @@
 #define _DEFAULT_SOURCE
 #include "index.h"
 #include "jobs.h"
+#include "row.h"
 #include "server.h"
 #include <sched.h>
 #include <string.h>
@@ -218,6 +219,7 @@ static int begin_use(indexed_map *of, size_t count) {
     of->count = count;
     note_most(of);
     of->next_look = 1;
+    of->row_at = ROW_COUNT / 2;
     atomic_fetch_add(&index_count, 1);
     index_tell(of);
     return 1;

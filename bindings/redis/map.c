@@ -1,15 +1,10 @@
-/* Ordered maps of both forms. */
+/* Ordered maps of all forms. */
 #include "map.h"
 #include "index.h"
 #include "jobs.h"
+#include "row.h"
 #include "server.h"
 #include <string.h>
-
-/* A pair has so many bytes at most besides its value's. */
-enum { PAIR_MORE = ENTRY_HEAD + HOT_MAX_KEY + PACKED_MORE };
-
-/* The room in which the main thread changes a block. */
-static uint8_t edited[SMALL_BYTES + PAIR_MORE];
 
 static small_map *small_of(const map *of) {
     return (small_map *)of;
@@ -19,17 +14,32 @@ static indexed_map *indexed_of(const map *of) {
     return (indexed_map *)of;
 }
 
+static row_map *row_of(const map *of) {
+    return (row_map *)of;
+}
+
+/* The blocks of a map without an index. The one of a small map is written to `one`. */
+static small_map *const *blocks_of(const map *of, small_map **one, size_t *count) {
+    *one = small_of(of);
+    *count = of->form == SMALL ? 1 : row_of(of)->count;
+    return of->form == SMALL ? one : row_of(of)->blocks;
+}
+
 static text text_of(field value) {
     text of = {(const char *)value.at, value.length};
     return of;
 }
 
 hot_handle *map_handle(map *of) {
-    return of->form == SMALL ? NULL : &indexed_of(of)->handle;
+    return of->form == INDEXED ? &indexed_of(of)->handle : NULL;
 }
 
 uint64_t map_length(const map *of) {
-    return of->form == SMALL ? small_of(of)->count : indexed_of(of)->count;
+    switch (of->form) {
+    case SMALL: return small_of(of)->count;
+    case ROW: return row_of(of)->pairs;
+    default: return indexed_of(of)->count;
+    }
 }
 
 uint64_t map_number(map *of) {
@@ -40,12 +50,18 @@ uint64_t map_number(map *of) {
 }
 
 size_t map_bytes(const map *of) {
-    return of->form == SMALL ? RedisModule_MallocSize((void *)of) : index_memory(indexed_of(of));
+    switch (of->form) {
+    case SMALL: return RedisModule_MallocSize((void *)of);
+    case ROW: return row_bytes(row_of(of));
+    default: return index_memory(indexed_of(of));
+    }
 }
 
 void map_drop(map *of) {
     if (of->form == SMALL)
         RedisModule_Free(of);
+    else if (of->form == ROW)
+        row_free(row_of(of));
     else if (atomic_fetch_sub(&indexed_of(of)->uses, 1) == 1)
         jobs_free(indexed_of(of));
 }
@@ -58,15 +74,7 @@ void take_off(portion *from, size_t bytes) {
 /* ---- Small maps ---- */
 
 map *map_of_block(const uint8_t *bytes, size_t used, size_t count) {
-    small_map *made = RedisModule_TryAlloc(sizeof *made + used);
-    if (made == NULL)
-        return NULL;
-    ((map *)made)->number = 0;
-    made->form = SMALL;
-    made->count = (uint16_t)count;
-    made->used = (uint16_t)used;
-    memcpy(made->bytes, bytes, used);
-    return (map *)made;
+    return (map *)block_make(bytes, used, count);
 }
 
 static block_edit edit_of(const small_map *of) {
@@ -115,31 +123,6 @@ static size_t take_small(map *of, const field *fields, size_t count, map **made)
         *made = of;
     }
     return taken;
-}
-
-/* The pairs of a block as a source. */
-static int next_of_block(void *context, const uint8_t **key, size_t *length, uint64_t *value) {
-    block_reader *from = context;
-    const uint8_t *packed = block_next(from);
-    if (packed == NULL)
-        return 0;
-    *key = from->key;
-    *length = from->length;
-    *value = packed_word(packed);
-    return 1;
-}
-
-static block_reader reader_of(const small_map *of) {
-    block_reader from;
-    from.at = of->bytes;
-    from.end = of->bytes + of->used;
-    from.length = 0;
-    return from;
-}
-
-static indexed_map *index_of_block(const block_edit *of) {
-    block_reader from = {of->bytes, of->bytes + of->used, 0, {0}};
-    return index_new(next_of_block, &from);
 }
 
 /* ---- Sets ---- */
@@ -218,22 +201,52 @@ static hot_status set_indexed(indexed_map *of, setting *it) {
     return status;
 }
 
-/* Sets the rest of the pairs in an index of the block that has the first. */
-static hot_status set_beyond(const block_edit *of, setting *it, size_t first, map **made) {
-    indexed_map *larger = index_of_block(of);
-    setting rest = *it;
+/* Sets pairs in an index of those that a source gives. */
+static hot_status set_in_new_index(blocks_reader from, setting *it, map **made) {
+    indexed_map *larger = index_new(next_of_blocks, &from);
     hot_status status;
     if (larger == NULL)
         return HOT_NO_MEMORY;
-    rest.words += 2 * first;
-    rest.count -= first;
-    status = set_indexed(larger, &rest);
-    it->set = rest.set;
-    it->new_fields = rest.new_fields;
+    status = set_indexed(larger, it);
     if (status == HOT_DONE)
         *made = (map *)larger;
     else
         map_drop((map *)larger);
+    return status;
+}
+
+/* Sets pairs in a row, or in an index if it would be too large. Then that is written. */
+static hot_status set_in_row(row_map *of, setting *it, map **made) {
+    setting again = *it;
+    hot_status status = row_set(of, it);
+    blocks_reader from = {of->blocks, of->blocks + of->count, {0}};
+    if (status != HOT_FULL_LEAVES)
+        return status;
+    *it = again;
+    return set_in_new_index(from, it, made);
+}
+
+/* Sets the rest of the pairs in a larger map of the block that has the first. */
+static hot_status set_beyond(const block_edit *of, setting *it, size_t first, map **made) {
+    small_map *block = block_make(of->bytes, of->used, of->count);
+    blocks_reader from = {&block, &block + 1, {0}}, once_more = from;
+    setting rest = *it;
+    row_map *larger;
+    map *set = NULL;
+    hot_status status;
+    if (block == NULL)
+        return HOT_NO_MEMORY;
+    rest.words += 2 * first;
+    rest.count -= first;
+    larger = of->count == 0 ? NULL : row_new(next_of_blocks, &from);
+    status = larger == NULL ? set_in_new_index(once_more, &rest, &set) : set_in_row(larger, &rest, &set);
+    if (status == HOT_DONE)
+        *made = set == NULL ? (map *)larger : set;
+    if (larger != NULL && *made != (map *)larger)
+        row_free(larger);
+    RedisModule_Free(block);
+    it->set = rest.set;
+    it->new_fields = rest.new_fields;
     return status;
 }
 
@@ -244,6 +257,8 @@ hot_status map_set(map *of, setting *it, map **made) {
     it->set = it->new_fields = 0;
     if (of != NULL && of->form == INDEXED)
         return set_indexed(indexed_of(of), it);
+    if (of != NULL && of->form == ROW)
+        return set_in_row(row_of(of), it, made);
     edit = edit_of(small_of(of));
     first = set_in_small(&edit, it);
     if (first < it->count)
@@ -255,32 +270,95 @@ hot_status map_set(map *of, setting *it, map **made) {
 
 /* ---- Removals ---- */
 
-/* Makes a small map of what is left in an index, if that fits in one. */
-static map *small_again(indexed_map *of) {
-    static key_page page;
-    block_edit to = {edited, 0, 0};
+/* The pairs of a map with an index as a source. */
+typedef struct walk {
+    const map *of;
+    hot_handle *handle;
     key_range range;
-    const uint8_t *key = page.bytes;
-    char room[TEXT_ROOM];
+    key_page *page;
     size_t at;
-    range_of_all(&range);
-    if (of->text_bytes > SMALL_BYTES / 2 || map_list((map *)of, &of->handle, &range, 0, PAGE, &page) != HOT_DONE || page.more)
+    const uint8_t *key;
+    int is_refused;
+} walk;
+
+static int next_page(walk *from) {
+    if (from->page->count > 0 && (!from->page->more || !range_go_on(&from->range, 0, from->page)))
+        return 0;
+    from->is_refused = map_list(from->of, from->handle, &from->range, 0, PAGE, from->page) != HOT_DONE;
+    from->at = 0;
+    from->key = from->page->bytes;
+    return !from->is_refused && from->page->count > 0;
+}
+
+static int next_of_walk(void *context, const uint8_t **key, size_t *length, uint64_t *value) {
+    walk *from = context;
+    if (from->at == from->page->count && !next_page(from))
+        return 0;
+    *key = from->key;
+    *length = from->page->heads[from->at].length;
+    *value = from->page->heads[from->at++].value;
+    from->key += *length;
+    return 1;
+}
+
+static walk walk_of(const map *of) {
+    static key_page page;
+    walk from = {of, map_handle((map *)of), {0}, &page, 0, NULL, 0};
+    page.count = 0;
+    range_of_all(&from.range);
+    return from;
+}
+
+/* Makes a small map of what is left in a row, if that fits in one. */
+static map *small_again(const row_map *of) {
+    blocks_reader from = {of->blocks, of->blocks + of->count, {0}};
+    uint8_t before[HOT_MAX_KEY];
+    const uint8_t *key;
+    char room[TEXT_ROOM];
+    size_t length, before_length = 0, used = 0;
+    word value;
+    if (of->bytes > SMALL_BYTES / 2)
         return NULL;
-    for (at = 0; at < page.count; at++) {
-        size_t length = page.heads[at].length, before = at == 0 ? 0 : page.heads[at - 1].length;
-        to.used += block_write(edited + to.used, key, length, key - before, before, word_text(page.heads[at].value, room));
-        key += length;
+    while (next_of_blocks(&from, &key, &length, &value)) {
+        used += block_write(edited + used, key, length, before, before_length, word_text(value, room));
+        memcpy(before, key, length);
+        before_length = length;
     }
-    return map_of_block(edited, to.used, page.count);
+    return map_of_block(edited, used, of->pairs);
+}
+
+/* Makes a row of what is left in an index. Where that has too long values, fewer pairs are tried later. */
+static map *row_again(indexed_map *of) {
+    walk from = walk_of((map *)of);
+    row_map *made = of->text_bytes > ROW_BYTES / 2 ? NULL : row_new(next_of_walk, &from);
+    if (made != NULL && made->pairs != of->count) {
+        row_free(made);
+        made = NULL;
+    }
+    of->row_at = of->count / 2;
+    return (map *)made;
 }
 
 /* Gives an index that has lost pairs another form, or a smaller table, if few are left. */
 static void settle(indexed_map *of, map **made) {
-    map *smaller = of->count > 0 && of->count <= SMALL_AGAIN ? small_again(of) : NULL;
+    map *smaller = of->count > 0 && of->count <= of->row_at ? row_again(of) : NULL;
     if (smaller != NULL)
         *made = smaller;
     else
         index_trim(of);
+}
+
+static size_t take_of_row(row_map *of, const field *fields, size_t count, portion *left, uint64_t *taken, map **made) {
+    uint32_t before = of->pairs;
+    size_t at;
+    map *smaller;
+    for (at = 0; at < count && of->pairs > 0 && left->pairs > 0 && left->bytes > 0; at++)
+        take_off(left, row_take(of, fields[at]) ? fields[at].length : 0);
+    *taken += before - of->pairs;
+    smaller = of->pairs > 0 && of->pairs <= SMALL_AGAIN ? small_again(of) : NULL;
+    if (smaller != NULL)
+        *made = smaller;
+    return of->pairs == 0 ? count : at;
 }
 
 static size_t take_indexed(indexed_map *of, const field *fields, size_t count, portion *left, uint64_t *taken, map **made) {
@@ -303,6 +381,8 @@ size_t map_take(map *of, const field *fields, size_t count, portion *left, uint6
     *made = of;
     if (of->form == INDEXED)
         return take_indexed(indexed_of(of), fields, count, left, taken, made);
+    if (of->form == ROW)
+        return take_of_row(row_of(of), fields, count, left, taken, made);
     left->pairs -= count < left->pairs ? count : left->pairs;
     *taken += take_small(of, fields, count, made);
     return count;
@@ -314,7 +394,7 @@ int map_get(map *of, field key, word *value) {
     const uint8_t *packed;
     if (of->form == INDEXED)
         return hot_get(&indexed_of(of)->handle, key.at, key.length, value) == HOT_FOUND;
-    packed = block_get(small_of(of)->bytes, small_of(of)->used, key.at, key.length);
+    packed = of->form == ROW ? row_get(row_of(of), key) : block_get(small_of(of)->bytes, small_of(of)->used, key.at, key.length);
     if (packed == NULL)
         return 0;
     *value = packed_word(packed);
@@ -341,86 +421,13 @@ void range_of_all(key_range *to) {
     memcpy(to->upto, hot_last_key, HOT_MAX_KEY);
 }
 
-static int compare(const uint8_t *one, size_t one_length, const uint8_t *other, size_t other_length) {
-    int by = memcmp(one, other, one_length < other_length ? one_length : other_length);
-    return by != 0 ? by : (one_length > other_length) - (one_length < other_length);
-}
-
-static void add_to_page(key_page *page, size_t *used, const uint8_t *key, hot_head head) {
-    memcpy(page->bytes + *used, key, head.length);
-    page->heads[page->count++] = head;
-    *used += head.length;
-}
-
-/* Turns a page of a small map around. */
-static void turn(const key_page *from, key_page *to) {
-    size_t at, left = 0, written = 0;
-    to->count = 0;
-    to->more = from->more;
-    for (at = 0; at < from->count; at++)
-        left += from->heads[at].length;
-    while (at-- > 0) {
-        left -= from->heads[at].length;
-        add_to_page(to, &written, from->bytes + left, from->heads[at]);
-    }
-}
-
-/* Goes to the first pair of a range, and returns its packed value: NULL if there is none. */
-static const uint8_t *first_of_range(block_reader *from, const small_map *of, const key_range *range) {
-    const uint8_t *packed;
-    *from = reader_of(of);
-    do
-        packed = block_next(from);
-    while (packed != NULL && compare(from->key, from->length, range->from, range->from_length) < 0);
-    return packed;
-}
-
-static int is_in_range(const block_reader *from, const uint8_t *packed, const key_range *range) {
-    return packed != NULL && compare(from->key, from->length, range->upto, range->upto_length) <= 0;
-}
-
-static size_t count_small(const small_map *of, const key_range *range) {
-    block_reader from;
-    const uint8_t *packed = first_of_range(&from, of, range);
-    size_t count = 0;
-    for (; is_in_range(&from, packed, range); packed = block_next(&from))
-        count++;
-    return count;
-}
-
-/* Lists the first pairs of a range behind those that it skips. */
-static void list_rising(const small_map *of, const key_range *range, size_t skip, size_t limit, key_page *to) {
-    block_reader from;
-    const uint8_t *packed = first_of_range(&from, of, range);
-    size_t used = 0;
-    to->count = 0;
-    for (; is_in_range(&from, packed, range) && to->count < limit; packed = block_next(&from)) {
-        hot_head head = {(uint8_t)from.length, packed_word(packed)};
-        if (skip > 0)
-            skip--;
-        else
-            add_to_page(to, &used, from.key, head);
-    }
-    to->more = is_in_range(&from, packed, range);
-}
-
-static void list_small(const small_map *of, const key_range *range, int falls, size_t limit, key_page *to) {
-    static key_page rising;
-    size_t count;
-    if (!falls) {
-        list_rising(of, range, 0, limit, to);
-        return;
-    }
-    count = count_small(of, range);
-    list_rising(of, range, count > limit ? count - limit : 0, limit, &rising);
-    rising.more = count > limit;
-    turn(&rising, to);
-}
-
 hot_status map_list(const map *of, hot_handle *handle, const key_range *range, int falls, size_t limit, key_page *page) {
+    small_map *one, *const *blocks;
+    size_t count;
     limit = limit < PAGE ? limit : PAGE;
-    if (of->form == SMALL) {
-        list_small(small_of(of), range, falls, limit, page);
+    if (of->form != INDEXED) {
+        blocks = blocks_of(of, &one, &count);
+        blocks_list(blocks, count, range, falls, limit, page);
         return HOT_DONE;
     }
     return (falls ? hot_scan_packed_reverse : hot_scan_packed)(handle, range->from, range->from_length, range->upto,
@@ -429,9 +436,12 @@ hot_status map_list(const map *of, hot_handle *handle, const key_range *range, i
 }
 
 hot_status map_count(const map *of, hot_handle *handle, const key_range *range, size_t *count) {
+    small_map *one, *const *blocks;
+    size_t block_count;
     if (of->form == INDEXED)
         return hot_count(handle, range->from, range->from_length, range->upto, range->upto_length, count);
-    *count = count_small(small_of(of), range);
+    blocks = blocks_of(of, &one, &block_count);
+    *count = blocks_count(blocks, block_count, range);
     return HOT_DONE;
 }
 
@@ -468,46 +478,14 @@ map *map_of_pairs(hot_source *next, void *context) {
     return (map *)index_new(next, context);
 }
 
-/* The pairs of a map with an index as a source. */
-typedef struct walk {
-    const map *of;
-    hot_handle *handle;
-    key_range range;
-    key_page *page;
-    size_t at;
-    const uint8_t *key;
-    int is_refused;
-} walk;
-
-static int next_page(walk *from) {
-    if (from->page->count > 0 && (!from->page->more || !range_go_on(&from->range, 0, from->page)))
-        return 0;
-    from->is_refused = map_list(from->of, from->handle, &from->range, 0, PAGE, from->page) != HOT_DONE;
-    from->at = 0;
-    from->key = from->page->bytes;
-    return !from->is_refused && from->page->count > 0;
-}
-
-static int next_of_walk(void *context, const uint8_t **key, size_t *length, uint64_t *value) {
-    walk *from = context;
-    if (from->at == from->page->count && !next_page(from))
-        return 0;
-    *key = from->key;
-    *length = from->page->heads[from->at].length;
-    *value = from->page->heads[from->at++].value;
-    from->key += *length;
-    return 1;
-}
-
 map *map_copy(const map *of) {
-    static key_page page;
-    walk from = {of, NULL, {0}, &page, 0, NULL, 0};
+    walk from;
     map *made;
     if (of->form == SMALL)
         return map_of_block(small_of(of)->bytes, small_of(of)->used, small_of(of)->count);
-    page.count = 0;
-    from.handle = &indexed_of(of)->handle;
-    range_of_all(&from.range);
+    if (of->form == ROW)
+        return (map *)row_copy(row_of(of));
+    from = walk_of(of);
     made = map_of_pairs(next_of_walk, &from);
     if (made != NULL && from.is_refused) {
         map_drop(made);

@@ -1,4 +1,6 @@
-/* An ordered map: one block while it is small, and else an index whose long values stand in memory of their own. */
+/* An ordered map: one block while it is small, then a row of blocks, and else an index whose long values stand in memory of their
+ * own.
+ */
 #ifndef MAP_H
 #define MAP_H
 
@@ -7,9 +9,12 @@
 #include <hot.h>
 #include <stdatomic.h>
 
-/* A small map has so many pairs and bytes at most: a look-up in it takes up to 1 us, and an index of more takes some 80 KB at
- * least. That becomes small again when it has half as many pairs, which are a page. */
+/* A small map has so many pairs and bytes at most: a look-up in it takes up to 1 us. A row becomes small again when it has half as
+ * many pairs, which are a page. An index takes some 80 KB at least: see row.h for what has none. */
 enum { SMALL_COUNT = 256, SMALL_BYTES = 65535, SMALL_AGAIN = SMALL_COUNT / 2 };
+
+/* A pair of a block has so many bytes at most besides its value's. */
+enum { PAIR_MORE = ENTRY_HEAD + HOT_MAX_KEY + PACKED_MORE };
 
 /* A field or a value of a command. */
 typedef struct field {
@@ -17,8 +22,8 @@ typedef struct field {
     size_t length;
 } field;
 
-/* A map is either of the two below, which the form says. */
-enum form { SMALL, INDEXED };
+/* A map is one of three, as its form says: those below, or a row_map. */
+enum form { SMALL, ROW, INDEXED };
 typedef struct map {
     uint64_t number; /* see map_number; 0 until that is called */
     uint8_t form;
@@ -46,6 +51,7 @@ typedef struct indexed_map {
     hot_handle handle;                        /* of the main thread, which makes all changes */
     uint64_t count, record_bytes, text_bytes; /* see pair_bytes */
     uint64_t most, most_bytes;                /* so many pairs, and bytes of records, it had since its table was made */
+    uint64_t row_at;                          /* with so many pairs it may be a row again */
     uint32_t next_look;                       /* after so many further new pairs it is looked how full the table is */
     uint64_t asked;                           /* so many pairs it had when a job was asked for another table, or more */
     retired *gone;                            /* values that jobs may still read */
@@ -101,7 +107,7 @@ field page_last(const key_page *page);
 void page_cut(key_page *page, int with_values, portion *left);
 
 /* Lists the first pairs of a range, PAGE or `limit` of them, or the last ones in falling order: HOT_DONE or HOT_NO_MEMORY. The
- * handle is of the map's index; a small map needs none. Values that lead elsewhere are there until the map is changed, or for
+ * handle is of the map's index; another map needs none. Values that lead elsewhere are there until the map is changed, or for
  * another thread within a section of the handle. */
 hot_status map_list(const map *of, hot_handle *handle, const key_range *range, int falls, size_t limit, key_page *page);
 
@@ -111,7 +117,7 @@ hot_status map_count(const map *of, hot_handle *handle, const key_range *range, 
 /* What is left of the range behind a page that has more: 0 if nothing. */
 int range_go_on(key_range *range, int falls, const key_page *page);
 
-/* The handle of the main thread; NULL of a small map. */
+/* The handle of the main thread; NULL of a map without an index. */
 hot_handle *map_handle(map *of);
 
 uint64_t map_length(const map *of);
@@ -126,8 +132,8 @@ int map_get(map *of, field key, word *value);
 /* The same of many, with a status for each. */
 void map_get_many(map *of, hot_lookup *lookups, size_t count);
 
-/* A map of the pairs that `next` gives, in rising order; NULL if there is no memory. Of the words that it gives it takes those that
- * lead to memory of their own. A small one is made of a block. */
+/* A map with an index of the pairs that `next` gives, in rising order; NULL if there is no memory. Of the words that it gives it
+ * takes those that lead to memory of their own. A small one is made of a block. */
 map *map_of_pairs(hot_source *next, void *context);
 map *map_of_block(const uint8_t *bytes, size_t used, size_t count);
 

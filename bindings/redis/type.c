@@ -3,6 +3,7 @@
 #include "type.h"
 #include "index.h"
 #include "map.h"
+#include "row.h"
 #include <string.h>
 #include <unistd.h>
 
@@ -10,7 +11,7 @@ RedisModuleType *map_type;
 
 /* A saved map is its number of pairs, and then blocks: the number of pairs of each, and its bytes. The first key of a block has
  * nothing in common with the one before. A block ends behind so many bytes, or with one pair more. */
-enum { ENCODING = 0, BLOCK_BYTES = 48 << 10, PAIR_MORE = ENTRY_HEAD + HOT_MAX_KEY + PACKED_MORE };
+enum { ENCODING = 0, BLOCK_BYTES = 48 << 10 };
 
 /* ---- Saving ---- */
 
@@ -223,16 +224,23 @@ static int next_saved(void *context, const uint8_t **key, size_t *length, uint64
     return 1;
 }
 
+static saved_map *begin_saved(saved_map *of) {
+    of->at = 0;
+    of->from.at = of->from.end = NULL;
+    return of;
+}
+
 /* Makes the map of blocks that are right; NULL if there is no memory, or no index may have so much. */
 static map *map_of_saved(saved_map *from) {
     map *made;
     if (from->count == 1 && from->pairs <= SMALL_COUNT && from->blocks[0].used <= SMALL_BYTES)
         return map_of_block(from->blocks[0].bytes, from->blocks[0].used, (size_t)from->pairs);
+    made = from->pairs > ROW_COUNT ? NULL : (map *)row_new(next_saved, begin_saved(from));
+    if (made != NULL)
+        return made;
     if (is_over(from->record_bytes))
         return NULL;
-    from->at = 0;
-    from->from.at = from->from.end = NULL;
-    made = map_of_pairs(next_saved, from);
+    made = map_of_pairs(next_saved, begin_saved(from));
     if (made != NULL && map_length(made) != from->pairs) {
         map_drop(made);
         made = NULL;

@@ -87,7 +87,7 @@ static int run_again(RedisModuleCtx *ctx, RedisModuleString **argv, int argc) {
 
 int wait_for_table(RedisModuleCtx *ctx, map *of, size_t more, RedisModuleCmdFunc *run) {
     waiting *it;
-    if (is_again || of == NULL || of->form == SMALL || !index_is_short((indexed_map *)of, more) || !may_wait(ctx))
+    if (is_again || of == NULL || of->form != INDEXED || !index_is_short((indexed_map *)of, more) || !may_wait(ctx))
         return 0;
     it = RedisModule_TryAlloc(sizeof *it);
     if (it == NULL)

@@ -27,13 +27,14 @@ def number_of(value: bytes) -> "int | None":
 
 
 class Model:
-    """The map beside its model. Small maps and large ones come by turns."""
+    """The map beside its model. Small maps and large ones come by turns, and of these every other one has values too long for blocks."""
 
     def __init__(self, server: Server, seed: int):
         self.server = server
         self.random = random.Random(seed)
         self.pairs: "dict[bytes, bytes]" = {}
         self.is_small = True
+        self.has_long = False
         self.made: Counter[str] = Counter()
         server.run("DEL", NAME)
 
@@ -61,6 +62,8 @@ class Model:
             return b"%d" % (some.randrange(-(2**63), 2**63) >> some.randrange(64))
         if kind < 0.5:
             return some.choice(EDGES)
+        if self.has_long and kind < 0.52:
+            return some.randbytes(20_000)
         return some.randbytes(some.choice([0, 1, 6, 7, 8, 9, 20, 63, 64, 245, 246, 300]))
 
     def held(self) -> bytes:
@@ -258,6 +261,7 @@ class Model:
 
     def change_size(self) -> None:
         self.is_small = not self.is_small
+        self.has_long = not self.is_small and self.random.random() < 0.5
         if self.is_small:
             self.server.client.delete(NAME)
             self.pairs.clear()

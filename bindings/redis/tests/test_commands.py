@@ -241,17 +241,40 @@ class Commands(unittest.TestCase):
                 self.assertTrue(client.run(*words).startswith(b"%%%d\r\n" % count), words)
             self.assertTrue(client.run("OM.SCAN", "m", 0).startswith(b"*2\r\n$5\r\n(0010\r\n%10\r\n$4\r\n0001\r\n$1\r\n1\r\n"))
 
+    def forms(self, name: str = "m") -> "tuple[int, bool, bool]":
+        """How many pairs a map has, whether it has an index, and whether it takes less than a block for each 100 pairs would."""
+        fields, size, has_index = (self.said("OM.STAT", name)[at] for at in (1, 3, 5))
+        return fields, bool(has_index), size < 40 * fields + 500
+
     def test_sizes(self) -> None:
-        """A map gets an index with its 257th pair, or with a value too long for a block, and is small again with 128."""
-        for at in range(256):
-            self.said("OM.SET", "m", "f%03d" % at, at)
+        """A map is a row of blocks from its 257th pair on, has an index from its 8,193rd, and goes the way back with half as many."""
+        for count, has_index in [(256, False), (257, False), (1_000, False), (8_192, False), (8_193, True)]:
+            self.said("OM.SET", "m", *[word for at in range(count) for word in ("f%04d" % at, at)])
+            self.assertEqual(self.forms(), (count, has_index, not has_index))
+            self.assertEqual(self.said("OM.RANGE", "m", "(f0100", "[f0255", "REV", "LIMIT", 150, 2), [b"f0105", b"f0104"])
+        for begin, end, has_index in [(0, 4_096, True), (4_096, 4_097, False), (4_097, 8_064, False), (8_064, 8_065, False)]:
+            self.said("OM.DEL", "m", *["f%04d" % at for at in range(begin, end)])
+            self.assertEqual(self.forms(), (8_193 - end, has_index, not has_index))
+            self.assertEqual(self.said("OM.RANGE", "m", "-", "+"), [b"f%04d" % at for at in range(end, 8_193)])
+
+    def test_long_values(self) -> None:
+        """One of over 16 KB makes an index of a row, and that stays while there is such a value. So does 1 MB of pairs."""
+        pairs = [word for at in range(1_000) for word in ("f%04d" % at, at)]
+        for long in (["x" * 20_000], ["x" * 10_000] * 110):
+            self.said("OM.SET", "m", *pairs)
+            self.assertEqual(self.forms(), (1_000, False, True))
+            self.assertEqual(self.said("OM.SET", "m", "z", "x" * 20_000, "XX"), 0)
+            self.assertEqual(self.forms(), (1_000, False, True))
+            self.said("OM.SET", "m", *[word for at, value in enumerate(long) for word in ("z%04d" % at, value)])
+            self.assertEqual(self.said("OM.STAT", "m")[5], 1)
+            self.assertEqual(self.said("OM.MGET", "m", "f0000", "z0000", "f0999"), [b"0", long[0].encode(), b"999"])
+            self.said("OM.DEL", "m", *["z%04d" % at for at in range(len(long))])
+            self.said("OM.DEL", "m", *["f%04d" % at for at in range(999)])
+            self.assertEqual((self.said("OM.RANGE", "m", "-", "+", "WITHVALUES"), self.said("OM.STAT", "m")[5]), ([b"f0999", b"999"], 0))
+            self.server.client.delete("m")
+        self.said("OM.SET", "m", *[word for at in range(10) for word in ("f%04d" % at, "x" * 9_000)])
         self.assertEqual(self.said("OM.STAT", "m")[5], 0)
-        self.assertEqual(self.said("OM.RANGE", "m", "(f100", "[f255", "REV", "LIMIT", 150, 2), [b"f105", b"f104"])
-        self.said("OM.SET", "m", "f256", 256)
-        self.assertEqual(self.said("OM.STAT", "m")[5], 1)
-        self.said("OM.DEL", "m", *["f%03d" % at for at in range(129)])
-        self.assertEqual([self.said("OM.STAT", "m")[at] for at in (1, 5)], [128, 0])
-        self.said("OM.SET", "m", "long", "x" * 100_000)
+        self.said("OM.SET", "m", "a", 1, "long", "x" * 100_000)
         self.assertEqual(self.said("OM.STAT", "m")[5], 1)
         self.assertEqual(self.said("OM.GET", "m", "long"), b"x" * 100_000)
         self.assertEqual(self.server.client.unlink("m"), 1)
