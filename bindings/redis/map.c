@@ -66,6 +66,26 @@ void map_drop(map *of) {
         jobs_free(indexed_of(of));
 }
 
+static void *move(void *at, RedisModuleDefragCtx *ctx) {
+    void *to = RedisModule_DefragAlloc(ctx, at);
+    return to == NULL ? at : to;
+}
+
+map *map_move(map *of, RedisModuleDefragCtx *ctx) {
+    row_map *row;
+    size_t at;
+    if (of->form == INDEXED)
+        return of;
+    of = move(of, ctx);
+    if (of->form == SMALL)
+        return of;
+    row = row_of(of);
+    row->blocks = move(row->blocks, ctx);
+    for (at = 0; at < row->count; at++)
+        row->blocks[at] = move(row->blocks[at], ctx);
+    return of;
+}
+
 void take_off(portion *from, size_t bytes) {
     from->pairs -= from->pairs > 0;
     from->bytes -= bytes < from->bytes ? bytes : from->bytes;

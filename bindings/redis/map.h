@@ -146,4 +146,9 @@ void map_drop(map *of);
 /* How many bytes of memory it takes. */
 size_t map_bytes(const map *of);
 
+/* Moves the blocks that lie where the server would rather have none, and returns the map, which may be moved, too. An index stays
+ * where it is: other threads read it, and its long values. */
+struct RedisModuleDefragCtx;
+map *map_move(map *of, struct RedisModuleDefragCtx *ctx);
+
 #endif

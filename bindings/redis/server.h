@@ -16,6 +16,7 @@ typedef struct RedisModuleCommand RedisModuleCommand;
 typedef struct RedisModuleInfoCtx RedisModuleInfoCtx;
 typedef struct RedisModuleUser RedisModuleUser;
 typedef struct RedisModuleCallReply RedisModuleCallReply;
+typedef struct RedisModuleDefragCtx RedisModuleDefragCtx;
 
 enum { REDISMODULE_OK, REDISMODULE_ERR };
 enum { REDISMODULE_READ = 1, REDISMODULE_WRITE = 2, REDISMODULE_KEYTYPE_EMPTY = 0, REDISMODULE_POSTPONED_LEN = -1 };
@@ -136,7 +137,7 @@ typedef struct RedisModuleTypeMethods {
     size_t (*free_effort)(RedisModuleString *key, const void *value);
     void (*unlink)(RedisModuleString *key, const void *value);
     void *(*copy)(RedisModuleString *from, RedisModuleString *to, const void *value);
-    int (*defrag)(void *context, RedisModuleString *key, void **value);
+    int (*defrag)(RedisModuleDefragCtx *ctx, RedisModuleString *key, void **value);
 } RedisModuleTypeMethods;
 
 #define SERVER_CALLS(X)                                                                                                            \
@@ -160,6 +161,7 @@ typedef struct RedisModuleTypeMethods {
     X(void *, TryAlloc, (size_t bytes))                                                                                            \
     X(void, Free, (void *at))                                                                                                      \
     X(size_t, MallocSize, (void *at))                                                                                              \
+    X(void *, DefragAlloc, (RedisModuleDefragCtx * ctx, void *at))                                                                 \
     X(const char *, StringPtrLen, (const RedisModuleString *of, size_t *length))                                                   \
     X(int, StringToLongLong, (const RedisModuleString *of, long long *to))                                                         \
     X(RedisModuleString *, CreateString, (RedisModuleCtx * ctx, const char *at, size_t length))                                    \

@@ -326,6 +326,12 @@ static size_t effort(RedisModuleString *name, const void *value) {
     return 1;
 }
 
+static int defrag(RedisModuleDefragCtx *ctx, RedisModuleString *name, void **value) {
+    (void)name;
+    *value = map_move(*value, ctx);
+    return 0;
+}
+
 static void *copy(RedisModuleString *from, RedisModuleString *to, const void *value) {
     (void)from;
     (void)to;
@@ -347,6 +353,7 @@ int type_make(RedisModuleCtx *ctx) {
     methods.free = drop;
     methods.free_effort = effort;
     methods.copy = copy;
+    methods.defrag = defrag;
     map_type = RedisModule_CreateDataType(ctx, "hot-o-map", ENCODING, &methods);
     return map_type != NULL ? REDISMODULE_OK : REDISMODULE_ERR;
 }

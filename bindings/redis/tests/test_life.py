@@ -416,6 +416,33 @@ class Portions(unittest.TestCase):
 
 
 class Memory(unittest.TestCase):
+    def test_moves(self) -> None:
+        """The server moves blocks together where others have gone, and maps are as before. Debian's servers have no such allocator."""
+        with Server() as server:
+            try:
+                server.client.config_set("activedefrag", "yes")
+            except redis.ResponseError:
+                print("\nnot tried, since this server has no activedefrag: blocks that are moved", end=" ")
+                self.skipTest("no activedefrag")
+            server.client.config_set("activedefrag", "no")
+            server.client.config_set("hz", 100)
+            few, many = (flat(list(some_pairs(count).items())) for count in (20, 600))
+            for at in range(2_000):
+                server.run("OM.SET", f"m{at}", *(few if at % 9 else many))
+            server.client.delete(*[f"m{at}" for at in range(2_000) if at % 4])
+            before = digest(server)
+            # The server looks at its allocator from time to time.
+            time.sleep(0.5)
+            frag = server.figure("allocator_frag_bytes")
+            for name, value in [("ignore-bytes", 1), ("threshold-lower", 1), ("cycle-min", 90), ("cycle-max", 95)]:
+                server.client.config_set(f"active-defrag-{name}", value)
+            server.client.config_set("activedefrag", "yes")
+            end = time.monotonic() + 15
+            while server.figure("allocator_frag_bytes") > frag / 3 and time.monotonic() < end:
+                time.sleep(0.1)
+            self.assertLess(server.figure("allocator_frag_bytes"), frag / 3)
+            self.assertEqual(digest(server), before)
+
     def test_usage(self) -> None:
         """The server knows what a map takes, and gets it back."""
         with Server() as server:
