@@ -1,18 +1,28 @@
-/* What the tables of a connection share: its parts of indexes, the definitions of tables that it knows, and what becomes of both
- * when a transaction ends. */
+/* A connection's tables: which index each has, and what becomes of them and of their rows when a transaction ends. */
 #ifndef CONNECTION_H
 #define CONNECTION_H
 
 #include "index.h"
 
-typedef struct connection connection;
+struct connection;
 
-/* An index that a connection has, as long as a table or a definition of one does. */
-typedef struct held {
+/* An index that a connection has, as long as a definition has it. */
+struct held {
     struct held *next;
-    int tables, definitions;
+    int definitions;
     index_part part;
-} held;
+};
+
+/* A table that the connection has seen, and its index. */
+struct definition {
+    struct definition *next;
+    struct held *has;
+    int tables;              /* how many of SQLite's tables have it now */
+    int is_listed;           /* whether a table that SQLite connects finds it */
+    int made_in, dropped_in; /* in which savepoint the open transaction did so */
+    const char *where;       /* the path of its file, or its schema in memory */
+    const char *table;       /* its name */
+};
 
 /* What a statement says of a table. */
 typedef struct table_words {
@@ -22,27 +32,37 @@ typedef struct table_words {
     int has_keys, has_longest, has_grow; /* whether it says so */
 } table_words;
 
-/* The one of this connection to a database, with a use more: NULL if there is no memory. */
-connection *connection_use(sqlite3 *db);
-void connection_end_use(void *of);
+/* What each table begins with, so that SQLite's calls on transactions find the connection. */
+struct member {
+    sqlite3_vtab base;
+    struct connection *connection;
+};
 
-/* Makes the module of the table in temp by which the connection hears of its transactions: see connection.c. */
-int connection_listen(connection *of, sqlite3 *db);
+/* The one of this connection to a database, with a use more: NULL if there is no memory. */
+struct connection *connection_use(sqlite3 *db);
+void connection_end_use(void *connection);
+
+/* Makes the module of these tables, and the one by which the connection hears of transactions: see connection.c. */
+int connection_register(struct connection *connection, const sqlite3_module *tables);
 
 /* Gives a table that is created, or was before, its index. NULL, and `code` and `error`, if it is refused. */
-held *connection_create(connection *of, sqlite3 *db, const table_words *words, int *code, char **error);
-held *connection_join(connection *of, sqlite3 *db, const table_words *words, int *code, char **error);
+struct definition *connection_create(struct connection *connection, const table_words *words, int *code, char **error);
+struct definition *connection_join(struct connection *connection, const table_words *words, int *code, char **error);
 
-/* Before a table is used for which its index's name doesn't stand: another connection may have committed another one while this one
- * looked for its index. Then the table has that from now on; or if it is to be changed, so that its definition is the last one, the
- * name stands for the index that it has. */
-int connection_renew(connection *of, sqlite3 *db, const table_words *words, int changes, held **has, char **error);
+/* The table goes, as it does when the schema is read anew, and its definition stays. */
+void connection_leave(struct connection *connection, struct definition *definition);
 
-/* The table is gone, as it is when the schema is read anew, and its definition stays. */
-void connection_leave(connection *of, held *has);
+/* The table is to be dropped, or to have another name: SQLITE_OK, or why it is refused. */
+int connection_drop(struct connection *connection, struct definition *definition);
+int connection_rename(struct connection *connection, struct definition *definition, const char *table);
 
-/* The table is to be dropped, or to have another name: refused if there is no memory. */
-int connection_drop(connection *of, sqlite3 *db, const table_words *words, held *has);
-int connection_rename(connection *of, sqlite3 *db, const table_words *words, held *has, const char *table);
+/* What SQLite calls for each table that takes part in a transaction. Each speaks for all of the connection's tables, so that the first one does
+ * all there is to do. */
+int connection_begin(sqlite3_vtab *member);
+int connection_commit(sqlite3_vtab *member);
+int connection_roll_back(sqlite3_vtab *member);
+int connection_savepoint(sqlite3_vtab *member, int point);
+int connection_release(sqlite3_vtab *member, int point);
+int connection_roll_back_to(sqlite3_vtab *member, int point);
 
 #endif

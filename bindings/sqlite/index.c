@@ -7,8 +7,7 @@ SQLITE_EXTENSION_INIT3
 
 struct shared_index {
     shared_index *next;
-    char *name;
-    atomic_int is_named; /* whether the name stands for it */
+    char *name; /* or NULL */
     int uses;
     wanted_index made_as;
     hot_index *index;
@@ -147,9 +146,8 @@ static shared_index *made(const char *name, const wanted_index *wanted, int *cod
         return NULL;
     memset(of, 0, sizeof *of);
     of->made_as = *wanted;
-    of->name = sqlite3_mprintf("%s", name);
     of->mutex = sqlite3_mutex_alloc(SQLITE_MUTEX_FAST);
-    if (of->name && of->mutex)
+    if (of->mutex && (!name || (of->name = sqlite3_mprintf("%s", name)) != NULL))
         status = open_index(wanted, &of->index);
     if (status != HOT_DONE) {
         *code = status == HOT_NO_MEMORY ? SQLITE_NOMEM : SQLITE_ERROR;
@@ -161,44 +159,36 @@ static shared_index *made(const char *name, const wanted_index *wanted, int *cod
     return of;
 }
 
-/* The index that has this name. Under the mutex. */
+int shared_has_name(const shared_index *of, const char *name) {
+    return name && of->name ? strcmp(of->name, name) == 0 : !name && !of->name;
+}
+
+/* The index of this name, with a use more: NULL if there is none. Under the mutex. */
 static shared_index *named(const char *name) {
-    shared_index *of = all;
-    while (of && (!of->is_named || strcmp(of->name, name) != 0))
+    shared_index *of = name ? all : NULL;
+    while (of && !shared_has_name(of, name))
         of = of->next;
+    if (of)
+        of->uses++;
     return of;
 }
 
-static int is_as(const wanted_index *one, const wanted_index *other) {
-    return one->keys == other->keys && one->longest == other->longest && one->grows == other->grows && one->handles == other->handles &&
-           one->is_text == other->is_text;
-}
-
-/* The index that is there and may be used. Under the mutex. */
-static shared_index *fitting(const char *name, enum which which, const wanted_index *wanted) {
-    shared_index *has = named(name);
-    return has && (which == ANY_INDEX || (which != NEW_INDEX && is_as(&has->made_as, wanted))) ? has : NULL;
-}
-
-shared_index *shared_use(const char *name, enum which which, const wanted_index *wanted, int *code, char **error) {
+shared_index *shared_use(const char *name, const wanted_index *wanted, int *code, char **error) {
     shared_index *of, *new = NULL;
     pthread_mutex_lock(&all_mutex);
-    of = fitting(name, which, wanted);
-    if (!of && which != OLD_INDEX) {
-        /* It may take seconds, in which others go on. One of them may make the same. */
+    if (!(of = named(name))) {
+        /* It may take long, and others go on. One of them may make the same. */
         pthread_mutex_unlock(&all_mutex);
         if (!(new = made(name, wanted, code, error)))
             return NULL;
         pthread_mutex_lock(&all_mutex);
-        if (!(of = fitting(name, which, wanted))) {
-            new->is_named = !named(name);
+        if (!(of = named(name))) {
+            new->uses = 1;
             new->next = all;
             all = of = new;
             new = NULL;
         }
     }
-    if (of)
-        of->uses++;
     pthread_mutex_unlock(&all_mutex);
     if (new)
         free_shared(new);
@@ -217,25 +207,6 @@ void shared_end_use(shared_index *of) {
     pthread_mutex_unlock(&all_mutex);
     if (is_last)
         free_shared(of);
-}
-
-void shared_name(shared_index *of) {
-    shared_index *has;
-    pthread_mutex_lock(&all_mutex);
-    if ((has = named(of->name)) != NULL)
-        has->is_named = 0;
-    of->is_named = 1;
-    pthread_mutex_unlock(&all_mutex);
-}
-
-void shared_unname(shared_index *of) {
-    pthread_mutex_lock(&all_mutex);
-    of->is_named = 0;
-    pthread_mutex_unlock(&all_mutex);
-}
-
-int shared_is_named(const shared_index *of) {
-    return atomic_load(&of->is_named);
 }
 
 const wanted_index *shared_made_as(const shared_index *of) {

@@ -38,19 +38,13 @@ typedef struct index_part {
     change_log log;
 } index_part;
 
-/* Which index a name stands for: the one that has it, whatever it was made as; the one that has it, if it was made as is wanted; or
- * a new one. Where there is none such it is made, but an OLD_INDEX, which is a SAME_INDEX that is there. */
-enum which { ANY_INDEX, SAME_INDEX, NEW_INDEX, OLD_INDEX };
-
-/* Uses the index of a name. One that is made gets the name, if no other has it. It stays until each use of it
- * has ended. NULL, and `code` and `error`, if there is no memory or what is wanted is out of range; or for OLD_INDEX if there is none. */
-shared_index *shared_use(const char *name, enum which which, const wanted_index *wanted, int *code, char **error);
+/* Uses the index of a name, which is made if there is none; or a new one without a name, if that is NULL. It stays until each use of it has
+ * ended. NULL, and `code` and `error`, if there is no memory or what is wanted is out of range. */
+shared_index *shared_use(const char *name, const wanted_index *wanted, int *code, char **error);
 void shared_end_use(shared_index *of);
 
-/* From now on its name stands for this index, and for no other; or not for this one. */
-void shared_name(shared_index *of);
-void shared_unname(shared_index *of);
-int shared_is_named(const shared_index *of);
+/* Whether this is the index's name; for NULL, whether it has none. */
+int shared_has_name(const shared_index *of, const char *name);
 
 const wanted_index *shared_made_as(const shared_index *of);
 

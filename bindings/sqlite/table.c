@@ -13,9 +13,9 @@
  *
  * A value may stand in quotes, single or double: name='words' is name=words. Within them the same quote is written twice.
  *
- * Without a name, connections to one file have one index for a table of it; a table of a database in memory has its own. An index
- * goes with the last connection that has used it. A table of a name whose index is there is refused if it says another number of
- * keys=, longest= or grow=. */
+ * The name alone says which index a table has: tables of one name share it, in whatever files and databases they are. Such a table is
+ * refused if it says another number of keys=, longest= or grow= than the index was made with. Without a name the index is the connection's own.
+ * An index goes once no connection has a table of it: a connection has one until it drops the table, or is closed. */
 #include "connection.h"
 #include <pthread.h>
 #include <stdlib.h>
@@ -36,13 +36,11 @@ enum { OF_HALF = 4, OF_RANGE = 64 };
 
 /* A table of a connection. */
 typedef struct table {
-    sqlite3_vtab base;
+    struct member member;
     sqlite3 *db;
-    connection *of;
-    held *in;
+    struct definition *definition;
     int is_text;
     double keys;
-    char *schema, *name, *index_name; /* in one piece with the table; the last is NULL if it says none */
 } table;
 
 /* A scan of a table: a page of it, and the keys that are still to be listed. Where SQLite passes row after row and reads no column, as for
@@ -173,44 +171,20 @@ static int declare(sqlite3 *db, int is_text, char **error) {
     return code == SQLITE_OK ? sqlite3_vtab_config(db, SQLITE_VTAB_CONSTRAINT_SUPPORT, 1) : code;
 }
 
-/* A table with the words that it will want again: NULL if there is no memory. */
-static table *table_new(sqlite3 *db, connection *of, const table_words *words) {
-    const char *const texts[] = {words->schema, words->table, words->name ? words->name : ""};
-    char *to;
-    int at;
-    size_t size = 0;
-    table *it;
-    for (at = 0; at < 3; at++)
-        size += strlen(texts[at]) + 1;
-    if (!(it = sqlite3_malloc64(sizeof *it + size)))
-        return NULL;
-    memset(it, 0, sizeof *it);
-    to = (char *)(it + 1);
-    for (at = 0; at < 3; at++) {
-        char **place = at == 0 ? &it->schema : at == 1 ? &it->name : &it->index_name;
-        *place = strcpy(to, texts[at]);
-        to += strlen(to) + 1;
-    }
-    if (!words->name)
-        it->index_name = NULL;
-    it->db = db;
-    it->of = of;
-    it->is_text = words->wanted.is_text;
-    return it;
-}
-
-static int make_table(sqlite3 *db, connection *of, const table_words *words, int is_new, table **made, char **error) {
+static int make_table(sqlite3 *db, struct connection *connection, const table_words *words, int is_new, table **made, char **error) {
     int code = declare(db, words->wanted.is_text, error);
-    table *it = code == SQLITE_OK ? table_new(db, of, words) : NULL;
+    table *it = code == SQLITE_OK ? sqlite3_malloc(sizeof *it) : NULL;
     if (!it)
         return code == SQLITE_OK ? SQLITE_NOMEM : code;
-    it->in = (is_new ? connection_create : connection_join)(of, db, words, &code, error);
-    if (!it->in) {
+    memset(it, 0, sizeof *it);
+    if (!(it->definition = (is_new ? connection_create : connection_join)(connection, words, &code, error))) {
         sqlite3_free(it);
         return code;
     }
-    it->keys = (double)shared_made_as(it->in->part.of)->keys;
-    connection_use(db);
+    it->db = db;
+    it->member.connection = connection_use(db);
+    it->is_text = words->wanted.is_text;
+    it->keys = (double)shared_made_as(it->definition->has->part.of)->keys;
     *made = it;
     return SQLITE_OK;
 }
@@ -229,7 +203,7 @@ static char *copy_of(int count, const char *const *words) {
 }
 
 /* Reads what the table is made with, and makes it. */
-static int read_table(sqlite3 *db, connection *of, int count, const char *const *words, int is_new, sqlite3_vtab **made,
+static int read_table(sqlite3 *db, struct connection *connection, int count, const char *const *words, int is_new, sqlite3_vtab **made,
                       char **error) {
     table_words with = {words[1], words[2], NULL, {10000, 24, 1, 16, 1}, 0, 0, 0};
     table *it = NULL;
@@ -243,9 +217,9 @@ static int read_table(sqlite3 *db, connection *of, int count, const char *const 
         text += strlen(words[at]) + 1;
     }
     if (code == SQLITE_OK)
-        code = make_table(db, of, &with, is_new, &it, error);
+        code = make_table(db, connection, &with, is_new, &it, error);
     sqlite3_free(all);
-    *made = it ? &it->base : NULL;
+    *made = it ? &it->member.base : NULL;
     return code;
 }
 
@@ -259,45 +233,21 @@ static int connect_table(sqlite3 *db, void *of, int count, const char *const *wo
 
 static int disconnect_table(sqlite3_vtab *vtab) {
     table *it = (table *)vtab;
-    connection_leave(it->of, it->in);
-    connection_end_use(it->of);
+    connection_leave(it->member.connection, it->definition);
+    connection_end_use(it->member.connection);
     sqlite3_free(it);
     return SQLITE_OK;
 }
 
-static table_words words_of(const table *it) {
-    table_words words = {it->schema, it->name, it->index_name, *shared_made_as(it->in->part.of), 0, 0, 0};
-    return words;
-}
-
-/* Sees to it, before the table is used, that its index is the one of its name. */
-static int renew(sqlite3_vtab *vtab, int changes) {
-    table *it = (table *)vtab;
-    table_words words = words_of(it);
-    char *error = NULL;
-    int code = SQLITE_OK;
-    if (!shared_is_named(it->in->part.of))
-        code = connection_renew(it->of, it->db, &words, changes, &it->in, &error);
-    if (error) {
-        sqlite3_free(vtab->zErrMsg);
-        vtab->zErrMsg = error;
-    }
-    return code;
-}
-
 static int drop_table(sqlite3_vtab *vtab) {
     table *it = (table *)vtab;
-    table_words words = words_of(it);
-    int code = connection_drop(it->of, it->db, &words, it->in);
+    int code = connection_drop(it->member.connection, it->definition);
     return code == SQLITE_OK ? disconnect_table(vtab) : code;
 }
 
 static int rename_table(sqlite3_vtab *vtab, const char *name) {
     table *it = (table *)vtab;
-    table_words words = words_of(it);
-    if (!it->index_name)
-        return fails(vtab, SQLITE_ERROR, "only a table that was made with name= can be renamed");
-    return connection_rename(it->of, it->db, &words, it->in, name);
+    return connection_rename(it->member.connection, it->definition, name);
 }
 
 /* ---- Plans ---- */
@@ -405,7 +355,7 @@ static int limit_of(const sqlite3_index_info *plan) {
 /* A table may have more rows than it was made for. */
 static int best_index(sqlite3_vtab *vtab, sqlite3_index_info *plan) {
     const table *it = (table *)vtab;
-    const double there = (double)part_len(&it->in->part);
+    const double there = (double)part_len(&it->definition->has->part);
     double rows = there > it->keys ? there : it->keys;
     int way = choose(it, plan, &rows) | limit_of(plan);
     /* CASELESS goes in rising order alone. Keys are different: what comes after the key in ORDER BY makes no difference. */
@@ -423,10 +373,10 @@ static int best_index(sqlite3_vtab *vtab, sqlite3_index_info *plan) {
 /* ---- Cursors ---- */
 
 static int open_cursor(sqlite3_vtab *vtab, sqlite3_vtab_cursor **made) {
-    int code = renew(vtab, 0);
-    cursor *it = code == SQLITE_OK ? sqlite3_malloc(sizeof *it) : NULL;
+    cursor *it = sqlite3_malloc(sizeof *it);
+    (void)vtab;
     if (!it)
-        return code == SQLITE_OK ? SQLITE_NOMEM : code;
+        return SQLITE_NOMEM;
     memset(it, 0, sizeof *it);
     if (!(it->page.heads = sqlite3_malloc64(PAGE * (sizeof *it->page.heads + HOT_MAX_KEY)))) {
         sqlite3_free(it);
@@ -445,7 +395,7 @@ static int close_cursor(sqlite3_vtab_cursor *of) {
 }
 
 static index_part *part_of(cursor *it) {
-    return &((table *)it->base.pVtab)->in->part;
+    return &((table *)it->base.pVtab)->definition->has->part;
 }
 
 /* Has the page so many rows, of which the first one is next. */
@@ -769,24 +719,24 @@ static int take(table *it, const uint8_t *key, size_t length) {
         return SQLITE_OK;
     if (!(entry = entry_new(key, length)))
         return SQLITE_NOMEM;
-    status = part_remove(&it->in->part, entry);
-    return status == HOT_REMOVED || status == HOT_ABSENT ? SQLITE_OK : refused(&it->base, status);
+    status = part_remove(&it->definition->has->part, entry);
+    return status == HOT_REMOVED || status == HOT_ABSENT ? SQLITE_OK : refused(&it->member.base, status);
 }
 
 static int put(table *it, const uint8_t *key, size_t length, sqlite3_int64 value, int replaces) {
     log_entry *entry;
     hot_status status;
     if (length > HOT_MAX_KEY)
-        return refused(&it->base, HOT_KEY_TOO_LONG);
+        return refused(&it->member.base, HOT_KEY_TOO_LONG);
     if (!(entry = entry_new(key, length)))
         return SQLITE_NOMEM;
-    status = part_put(&it->in->part, entry, (uint64_t)value, replaces);
+    status = part_put(&it->definition->has->part, entry, (uint64_t)value, replaces);
     if (status == HOT_EXISTS) {
         if (sqlite3_vtab_on_conflict(it->db) == SQLITE_IGNORE)
             return SQLITE_CONSTRAINT;
-        return fails(&it->base, SQLITE_CONSTRAINT, "UNIQUE constraint failed: key");
+        return fails(&it->member.base, SQLITE_CONSTRAINT, "UNIQUE constraint failed: key");
     }
-    return status == HOT_INSERTED || status == HOT_NEW || status == HOT_WAS ? SQLITE_OK : refused(&it->base, status);
+    return status == HOT_INSERTED || status == HOT_NEW || status == HOT_WAS ? SQLITE_OK : refused(&it->member.base, status);
 }
 
 /* Gives a row another key. Where the table is full, its old key makes room for it. If there is still none, or another connection has put the key
@@ -795,11 +745,11 @@ static int change_key(table *it, const uint8_t *old, size_t old_length, const ui
     int replaces = sqlite3_vtab_on_conflict(it->db) == SQLITE_REPLACE, code = put(it, key, length, value, replaces);
     if (code != SQLITE_FULL)
         return code == SQLITE_OK ? take(it, old, old_length) : code;
-    sqlite3_free(it->base.zErrMsg);
-    it->base.zErrMsg = NULL;
+    sqlite3_free(it->member.base.zErrMsg);
+    it->member.base.zErrMsg = NULL;
     if ((code = take(it, old, old_length)) == SQLITE_OK)
         code = put(it, key, length, value, replaces);
-    return code == SQLITE_CONSTRAINT ? refused(&it->base, HOT_FULL_LEAVES) : code;
+    return code == SQLITE_CONSTRAINT ? refused(&it->member.base, HOT_FULL_LEAVES) : code;
 }
 
 /* Refuses a key or value of another type. A row that breaks a constraint is left out by OR IGNORE. As in a STRICT table it leaves out one with
@@ -807,7 +757,7 @@ static int change_key(table *it, const uint8_t *old, size_t old_length, const ui
 static int refuse_type(table *it, sqlite3_value *value, const char *text) {
     int is_null = sqlite3_value_type(value) == SQLITE_NULL;
     int is_mismatch = !is_null && sqlite3_vtab_on_conflict(it->db) == SQLITE_IGNORE;
-    return fails(&it->base, is_mismatch ? SQLITE_MISMATCH : SQLITE_CONSTRAINT_DATATYPE, text);
+    return fails(&it->member.base, is_mismatch ? SQLITE_MISMATCH : SQLITE_CONSTRAINT_DATATYPE, text);
 }
 
 static int update_row(sqlite3_vtab *vtab, int count, sqlite3_value **values, sqlite3_int64 *number) {
@@ -830,35 +780,6 @@ static int update_row(sqlite3_vtab *vtab, int count, sqlite3_value **values, sql
     return put(it, key, length, value, is_same || sqlite3_vtab_on_conflict(it->db) == SQLITE_REPLACE);
 }
 
-static int begin(sqlite3_vtab *vtab) {
-    return renew(vtab, 1);
-}
-
-static int commit(sqlite3_vtab *vtab) {
-    part_forget(&((table *)vtab)->in->part);
-    return SQLITE_OK;
-}
-
-static int roll_back(sqlite3_vtab *vtab) {
-    part_roll_back(&((table *)vtab)->in->part, NO_POINT);
-    return SQLITE_OK;
-}
-
-static int savepoint(sqlite3_vtab *vtab, int point) {
-    part_begin_point(&((table *)vtab)->in->part, point);
-    return SQLITE_OK;
-}
-
-static int release(sqlite3_vtab *vtab, int point) {
-    part_release(&((table *)vtab)->in->part, point);
-    return SQLITE_OK;
-}
-
-static int roll_back_to(sqlite3_vtab *vtab, int point) {
-    part_roll_back(&((table *)vtab)->in->part, point);
-    return SQLITE_OK;
-}
-
 static const sqlite3_module module = {
     .iVersion = 2,
     .xCreate = create_table,
@@ -874,13 +795,13 @@ static const sqlite3_module module = {
     .xColumn = column_of,
     .xRowid = rowid_of,
     .xUpdate = update_row,
-    .xBegin = begin,
-    .xCommit = commit,
-    .xRollback = roll_back,
+    .xBegin = connection_begin,
+    .xCommit = connection_commit,
+    .xRollback = connection_roll_back,
     .xRename = rename_table,
-    .xSavepoint = savepoint,
-    .xRelease = release,
-    .xRollbackTo = roll_back_to,
+    .xSavepoint = connection_savepoint,
+    .xRelease = connection_release,
+    .xRollbackTo = connection_roll_back_to,
 };
 
 /* Sets what SQLite's calls go by, once for all connections, since other threads may make such calls already. */
@@ -894,17 +815,13 @@ static void set_api(const sqlite3_api_routines *api) {
 
 /* What .load and sqlite3_load_extension call: the only name that the library shows. A connection may load it again. */
 __attribute__((visibility("default"))) int sqlite3_hottable_init(sqlite3 *db, char **error, const sqlite3_api_routines *api) {
-    connection *of;
+    struct connection *connection;
     int code;
     (void)error;
     set_api(api);
-    if (!(of = connection_use(db)))
+    if (!(connection = connection_use(db)))
         return SQLITE_NOMEM;
-    /* If either fails, it ends its use itself. */
-    code = connection_listen(of, db);
-    if (code != SQLITE_OK) {
-        connection_end_use(of);
-        return code;
-    }
-    return sqlite3_create_module_v2(db, "hot", &module, of, connection_end_use);
+    code = connection_register(connection, &module);
+    connection_end_use(connection);
+    return code;
 }

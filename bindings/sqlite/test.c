@@ -79,14 +79,15 @@ static sqlite3 *open_file(const char *file) {
     return db;
 }
 
-static const char *const ordinary_table = "CREATE TABLE p(key TEXT PRIMARY KEY NOT NULL, value INTEGER NOT NULL) WITHOUT ROWID";
+static const char *const ordinary_columns = "p(key TEXT PRIMARY KEY NOT NULL, value INTEGER NOT NULL) WITHOUT ROWID";
 
 /* A connection with a table t over the index of this name, and an ordinary table p. */
 static sqlite3 *connect_to(const char *arguments) {
     sqlite3 *db = open_file(":memory:");
     if (run(db, "CREATE VIRTUAL TABLE t USING hot(%s)", arguments) != SQLITE_OK)
         fail(arguments, sqlite3_errmsg(db));
-    want(db, SQLITE_OK, ordinary_table);
+    if (run(db, "CREATE TABLE %s", ordinary_columns) != SQLITE_OK)
+        fail("an ordinary table", sqlite3_errmsg(db));
     return db;
 }
 
@@ -528,7 +529,7 @@ static int run_both(sqlite3 *db, const char *mine, const char *others) {
     return code;
 }
 
-/* What else a connection may do: none of it shows in the two tables. */
+/* What else a connection may do: none of it shows in the two tables, except that a change of temp_store drops those that are in temp. */
 static void change_others(sqlite3 *db, unsigned *seed) {
     static const char *const forms[] = {
         "CREATE TABLE other(x)",
@@ -536,7 +537,6 @@ static void change_others(sqlite3 *db, unsigned *seed) {
         "VACUUM",
         "PRAGMA temp_store = 1",
         "PRAGMA temp_store = 2",
-        "ALTER TABLE t RENAME TO renamed",
         "ATTACH ':memory:' AS m",
         "DETACH m",
         "CREATE VIRTUAL TABLE m.within USING hot(keys=7)",
@@ -548,63 +548,66 @@ static void change_others(sqlite3 *db, unsigned *seed) {
         "ALTER TABLE temp.other_one RENAME TO one",
         "DROP TABLE temp.one",
     };
-    unsigned at = draw(seed, 1 + sizeof forms / sizeof *forms);
+    unsigned at = draw(seed, 2 + sizeof forms / sizeof *forms);
     if (at == 0)
         sqlite3_load_extension(db, library, NULL, NULL);
+    else if (at == 1)
+        run_both(db, "ALTER TABLE t RENAME TO r; ALTER TABLE r RENAME TO t", "ALTER TABLE p RENAME TO q; ALTER TABLE q RENAME TO p");
     else
-        run(db, "%s", forms[at - 1]);
+        run(db, "%s", forms[at - 2]);
 }
 
-static void change_tables(sqlite3 *db, unsigned *seed) {
+static void change_tables(sqlite3 *db, const char *schema, unsigned *seed) {
     static const char *const arguments[] = {"", "(keys=5, longest=20)", "(keys=2000)", "(connections=5)"};
     char *mine = NULL, *others = NULL, one[16], two[16];
     const char *form;
     switch (draw(seed, 8)) {
     case 0: run_both(db, "DROP TABLE t", "DROP TABLE p"); return;
     case 1:
-    case 2: mine = sqlite3_mprintf("CREATE VIRTUAL TABLE t USING hot%s", arguments[draw(seed, 4)]); break;
+    case 2:
+        mine = sqlite3_mprintf("CREATE VIRTUAL TABLE %s.t USING hot%s", schema, arguments[draw(seed, 4)]);
+        others = sqlite3_mprintf("CREATE TABLE %s.%s", schema, ordinary_columns);
+        break;
     case 3: change_others(db, seed); return;
     default:
         draw_change(seed, "", &form, one, two);
         mine = sqlite3_mprintf(form, "t", one, two);
         others = sqlite3_mprintf(form, "p", one, two);
     }
-    run_both(db, mine, others ? others : ordinary_table);
+    run_both(db, mine, others);
     sqlite3_free(mine);
     sqlite3_free(others);
 }
 
-/* Tables that are created, changed and dropped by connections to a file, one of which may be in a transaction. They come and go. */
-static void random_tables(void) {
+/* Tables of a schema that are created, changed and dropped by connections to a file, one of which may be in a transaction. They come and go. */
+static void random_tables(const char *schema, int connections) {
     sqlite3 *all[READERS] = {NULL};
     unsigned seed = 1;
-    int within = -1; /* who is in a transaction */
+    int within = -1; /* the connection that is in a transaction */
     new_scratch();
     for (int turn = 0; turn < CHANGES_OF_TABLES; turn++) {
-        int at = within >= 0 ? within : (int)draw(&seed, READERS);
+        int at = within >= 0 ? within : (int)draw(&seed, (unsigned)connections);
         if (!all[at])
             all[at] = open_file(scratch);
         if (draw(&seed, 3) == 0)
             draw_transaction(all[at], &seed);
-        change_tables(all[at], &seed);
+        change_tables(all[at], schema, &seed);
         within = sqlite3_get_autocommit(all[at]) ? -1 : at;
         compare_tables(all[at], "a change");
-        for (int other = 0; other < READERS && within < 0; other++)
+        for (int other = 0; other < connections && within < 0; other++)
             if (all[other])
                 compare_tables(all[other], "a change of another connection");
         if (within < 0 && draw(&seed, 40) == 0) {
-            int is_alone = !all[(at + 1) % READERS] && !all[(at + 2) % READERS];
-            if (is_alone)
-                run(all[at], "DELETE FROM p"); /* rows go with the last connection */
+            run(all[at], "DELETE FROM main.p"); /* rows go with the connection */
             sqlite3_close(all[at]);
             all[at] = NULL;
         }
     }
-    for (int at = 0; at < READERS; at++)
+    for (int at = 0; at < connections; at++)
         sqlite3_close(all[at]);
 }
 
-/* What a transaction leaves in the table, which has the row a1, in connections that were there and in later ones; or "none". */
+/* What a transaction leaves in the table, which has the row a1; or "none". */
 static const struct transaction {
     const char *statements, *rows;
 } transactions[] = {
@@ -636,6 +639,9 @@ static const struct transaction {
     {"DROP TABLE t; BEGIN; CREATE VIRTUAL TABLE t USING hot; INSERT INTO t VALUES ('b', 2); DROP TABLE t; COMMIT", "none"},
     {"DROP TABLE t; CREATE VIRTUAL TABLE t USING hot(keys=5); INSERT INTO t VALUES ('b', 2)", "b2"},
     {"BEGIN; ALTER TABLE t RENAME TO u; ROLLBACK", "a1"},
+    {"BEGIN; INSERT INTO t VALUES ('b', 2); SAVEPOINT s; ALTER TABLE t RENAME TO u; INSERT INTO u VALUES ('c', 3); ROLLBACK TO s; COMMIT", "a1 b2"},
+    {"ALTER TABLE t RENAME TO u; INSERT INTO u VALUES ('b', 2); ALTER TABLE u RENAME TO t", "a1 b2"},
+    {"ALTER TABLE t RENAME TO u; CREATE VIRTUAL TABLE t USING hot; INSERT INTO t VALUES ('b', 2); DROP TABLE u", "b2"},
 };
 
 static void wants_in_t(sqlite3 *db, const struct transaction *it) {
@@ -646,26 +652,21 @@ static void wants_in_t(sqlite3 *db, const struct transaction *it) {
     sqlite3_free(found);
 }
 
-static void listed_transactions(const char *arguments) {
+static void listed_transactions(const char *schema, const char *arguments) {
     for (size_t at = 0; at < sizeof transactions / sizeof *transactions; at++) {
         const struct transaction *it = &transactions[at];
-        sqlite3 *db, *other, *later;
+        sqlite3 *db;
         new_scratch();
         db = open_file(scratch);
-        other = open_file(scratch);
-        run(db, "CREATE VIRTUAL TABLE t USING hot(%s)", arguments);
+        if (run(db, "CREATE VIRTUAL TABLE %s.t USING hot(%s)", schema, arguments) != SQLITE_OK)
+            fail(arguments, sqlite3_errmsg(db));
         want(db, SQLITE_OK, "INSERT INTO t VALUES ('a', 1)");
-        want(other, SQLITE_OK, "SELECT * FROM t");
         run(db, "%s", it->statements);
         run(db, "COMMIT");
-        later = open_file(scratch);
         wants_in_t(db, it);
-        wants_in_t(other, it);
-        wants_in_t(later, it);
+        if (number(db, "SELECT count(*) FROM temp.sqlite_schema WHERE name NOT IN ('t', 'u')") != 0)
+            fail(it->statements, "it leaves a table in temp");
         sqlite3_close(db);
-        wants_in_t(other, it);
-        sqlite3_close(later);
-        sqlite3_close(other);
     }
 }
 
@@ -677,7 +678,7 @@ static void drop_that_fails(void) {
     db = open_file(scratch);
     other = open_file(scratch);
     want(db, SQLITE_OK,
-         "CREATE TABLE x(y); INSERT INTO x VALUES (1), (2); CREATE VIRTUAL TABLE t USING hot; INSERT INTO t VALUES ('a', 1)");
+         "CREATE TABLE x(y); INSERT INTO x VALUES (1), (2); CREATE VIRTUAL TABLE t USING hot(name=fails); INSERT INTO t VALUES ('a', 1)");
     if (sqlite3_prepare_v2(other, "SELECT y FROM x", -1, &query, NULL) != SQLITE_OK || sqlite3_step(query) != SQLITE_ROW)
         fail("a reader", sqlite3_errmsg(other));
     want(db, SQLITE_BUSY, "DROP TABLE t");
@@ -690,121 +691,23 @@ static void drop_that_fails(void) {
     sqlite3_close(other);
 }
 
-/* ---- A connection that comes while another one commits ---- */
-
-static sqlite3 *comes; /* it has looked for its table's index before the other's commit is told to the tables */
-
-static int connect_spy(sqlite3 *db, void *unused, int count, const char *const *words, sqlite3_vtab **made, char **error) {
-    (void)unused;
-    (void)count;
-    (void)words;
-    (void)error;
-    *made = calloc(1, sizeof **made);
-    return sqlite3_declare_vtab(db, "CREATE TABLE x(y)");
-}
-
-static int disconnect_spy(sqlite3_vtab *of) {
-    free(of);
-    return SQLITE_OK;
-}
-
-static int plan_spy(sqlite3_vtab *of, sqlite3_index_info *plan) {
-    (void)of;
-    (void)plan;
-    return SQLITE_CONSTRAINT;
-}
-
-static int update_spy(sqlite3_vtab *of, int count, sqlite3_value **values, sqlite3_int64 *row) {
-    (void)of;
-    (void)count;
-    (void)values;
-    *row = 1;
-    return SQLITE_OK;
-}
-
-static int begin_spy(sqlite3_vtab *of) {
-    (void)of;
-    return SQLITE_OK;
-}
-
-static int commit_spy(sqlite3_vtab *of) {
-    (void)of;
-    if (!comes) {
-        comes = open_file(scratch);
-        number(comes, "SELECT count(*) FROM t");
-    }
-    return SQLITE_OK;
-}
-
-static const sqlite3_module spies = {
-    .xCreate = connect_spy,
-    .xConnect = connect_spy,
-    .xBestIndex = plan_spy,
-    .xDisconnect = disconnect_spy,
-    .xDestroy = disconnect_spy,
-    .xUpdate = update_spy,
-    .xBegin = begin_spy,
-    .xCommit = commit_spy,
-    .xRollback = begin_spy,
-};
-
-static void connection_within_a_commit(const char *arguments) {
-    sqlite3 *db;
-    comes = NULL;
-    new_scratch();
-    db = open_file(scratch);
-    sqlite3_create_module(db, "spy", &spies, NULL);
-    want(db, SQLITE_OK, "CREATE VIRTUAL TABLE t USING hot(keys=5)");
-    want(db, SQLITE_OK, "BEGIN; CREATE VIRTUAL TABLE temp.s USING spy; INSERT INTO s VALUES (1); DROP TABLE t");
-    if (run(db, "CREATE VIRTUAL TABLE t USING hot(%s)", arguments) != SQLITE_OK)
-        fail(arguments, sqlite3_errmsg(db));
-    want(db, SQLITE_OK, "INSERT INTO t VALUES ('a', 1); COMMIT");
-    if (!comes || number(comes, "SELECT count(*) FROM t") != 1)
-        fail("a connection within a commit", "it has the index of the table that was dropped");
-    want(comes, SQLITE_OK, "INSERT INTO t VALUES ('b', 2)");
-    if (number(db, "SELECT count(*) FROM t") != 2)
-        fail("a connection within a commit", "its change is lost");
-    sqlite3_close(db);
-    if (number(comes, "SELECT count(*) FROM t") != 2)
-        fail("a connection within a commit", "the index went with the other connection");
-    sqlite3_close(comes);
-}
-
-/* A connection that read the schema before another one committed looks for the index of the table that was dropped. */
-static void connection_with_an_old_schema(void) {
-    sqlite3 *db, *other;
-    new_scratch();
-    db = open_file(scratch);
-    want(db, SQLITE_OK, "CREATE VIRTUAL TABLE t USING hot(keys=5)");
-    other = open_file(scratch);
-    want(other, SQLITE_OK, "SELECT * FROM sqlite_schema");
-    want(db, SQLITE_OK, "BEGIN; DROP TABLE t; CREATE VIRTUAL TABLE t USING hot(keys=6); INSERT INTO t VALUES ('a', 1); COMMIT");
-    if (number(other, "SELECT count(*) FROM t") != 1 || number(db, "SELECT count(*) FROM t") != 1)
-        fail("an old schema", "the new table lost its rows");
-    sqlite3_close(other);
-    sqlite3_close(db);
-}
-
-/* A connection without the library changes a table's definition, as another process may: all that have it agree on a new index. */
+/* A connection without the library changes a table's definition, as another process may: it has none of the rows from before. */
 static void definition_from_outside(void) {
-    sqlite3 *one, *other, *outside;
+    sqlite3 *db, *outside;
     new_scratch();
-    one = open_file(scratch);
-    other = open_file(scratch);
-    want(one, SQLITE_OK, "CREATE VIRTUAL TABLE t USING hot(keys=5); INSERT INTO t VALUES ('a', 1)");
-    want(other, SQLITE_OK, "SELECT * FROM t");
+    db = open_file(scratch);
+    want(db, SQLITE_OK, "CREATE VIRTUAL TABLE t USING hot(keys=5); INSERT INTO t VALUES ('a', 1)");
     if (sqlite3_open(scratch, &outside) != SQLITE_OK)
         fail("open", sqlite3_errmsg(outside));
     want(outside, SQLITE_OK, "PRAGMA writable_schema = 1; UPDATE sqlite_schema SET sql = replace(sql, '=5', '=6'); CREATE TABLE x(y)");
-    if (number(one, "SELECT count(*) FROM t") != 0 || number(other, "SELECT count(*) FROM t") != 0)
+    if (number(db, "SELECT count(*) FROM t") != 0)
         fail("a definition from outside", "the table has the rows of the one before");
-    want(other, SQLITE_OK, "INSERT INTO t VALUES ('b', 2)");
-    want(one, SQLITE_OK, "INSERT INTO t VALUES ('c', 3)");
-    if (number(one, "SELECT count(*) FROM t") != 2 || number(other, "SELECT count(*) FROM t") != 2)
-        fail("a definition from outside", "two connections have different rows");
+    want(db, SQLITE_OK, "INSERT INTO t VALUES ('b', 2)");
+    want(outside, SQLITE_OK, "UPDATE sqlite_schema SET sql = replace(sql, 'keys=6', 'name=outside'); CREATE TABLE y(z)");
+    if (number(db, "SELECT count(*) FROM t") != 0)
+        fail("a definition from outside", "a name has the rows of the table before");
     sqlite3_close(outside);
-    sqlite3_close(one);
-    sqlite3_close(other);
+    sqlite3_close(db);
 }
 
 /* A table that is created or dropped is no row that is changed. */
@@ -821,26 +724,6 @@ static void counts_of_changes(void) {
     sqlite3_free(before);
     sqlite3_free(after);
     sqlite3_close(db);
-}
-
-/* Names with a line's end: what one file's and another's table are called reads the same. */
-static void names_of_lines(void) {
-    char *longer = sqlite3_mprintf("%s\nx", scratch);
-    sqlite3 *one, *other, *later;
-    new_scratch();
-    remove(longer);
-    one = open_file(scratch);
-    other = open_file(longer);
-    want(one, SQLITE_OK, "CREATE VIRTUAL TABLE 'x\nt' USING hot(keys=5); INSERT INTO 'x\nt' VALUES ('one', 1)");
-    want(other, SQLITE_OK, "CREATE VIRTUAL TABLE t USING hot(keys=5); INSERT INTO t VALUES ('other', 1)");
-    later = open_file(scratch);
-    if (number(later, "SELECT key = 'one' FROM 'x\nt'") != 1)
-        fail("names of lines", "a table has the rows of another file's");
-    sqlite3_close(later);
-    sqlite3_close(other);
-    sqlite3_close(one);
-    remove(longer);
-    sqlite3_free(longer);
 }
 
 /* Tables of one name= in two connections, of which each may drop its own. */
@@ -1176,103 +1059,43 @@ static void own_functions(void) {
     sqlite3_close(db);
 }
 
-/* The same index in connections to one file, until the last one is closed. */
-static void one_file(void) {
+/* The name alone says which rows a table has: connections to different files share them, until the last one is closed. */
+static void one_name(void) {
+    char *beside = sqlite3_mprintf("%s.beside", scratch);
     new_scratch();
+    remove(beside);
     for (int turn = 0; turn < 2; turn++) {
-        sqlite3 *both[2] = {open_file(scratch), open_file(scratch)};
-        if (turn == 0)
-            want(both[0], SQLITE_OK, "CREATE VIRTUAL TABLE t USING hot(keys=100)");
+        sqlite3 *both[2] = {open_file(scratch), open_file(beside)};
+        for (int at = 0; at < 2 && turn == 0; at++)
+            want(both[at], SQLITE_OK, "CREATE VIRTUAL TABLE t USING hot(name=one); CREATE VIRTUAL TABLE u USING hot(name=other)");
         if (number(both[1], "SELECT count(*) FROM t") != 0)
-            fail("a file", "the index is older than its connections");
-        want(both[0], SQLITE_OK, "INSERT INTO t VALUES ('a', 1)");
-        if (number(both[1], "SELECT value FROM t WHERE key = 'a'") != 1)
-            fail("a file", "its connections have different indexes");
+            fail("a name", "the index is older than its connections");
+        want(both[0], SQLITE_OK, "INSERT INTO t VALUES ('a', 1); BEGIN; INSERT INTO t VALUES ('b', 2)");
+        want(both[1], SQLITE_OK, "INSERT INTO t VALUES ('c', 3)");
+        want(both[0], SQLITE_OK, "ROLLBACK");
+        if (number(both[1], "SELECT sum(value) FROM t") != 4 || number(both[0], "SELECT count(*) FROM u") != 0)
+            fail("a name", "a rollback takes back another connection's row, or another name has it");
         sqlite3_close(both[0]);
-        if (number(both[1], "SELECT value FROM t WHERE key = 'a'") != 1)
-            fail("a file", "the index went too early");
+        if (number(both[1], "SELECT sum(value) FROM t") != 4)
+            fail("a name", "the index went too early");
         sqlite3_close(both[1]);
     }
-}
-
-/* Copies a file to the place of another one. */
-static void copy_file(const char *from, const char *to) {
-    static char bytes[1 << 20];
-    FILE *in = fopen(from, "rb"), *out = fopen(to, "wb");
-    size_t length = in ? fread(bytes, 1, sizeof bytes, in) : 0;
-    if (!out || length == 0 || length == sizeof bytes || fwrite(bytes, 1, length, out) != length || fclose(out) != 0)
-        fail("copy", to);
-    fclose(in);
-}
-
-/* A file is one by whatever path, and another one that comes to its path is another. */
-static void files_and_paths(void) {
-    char *beside = sqlite3_mprintf("%s.beside", scratch);
-    sqlite3 *db, *linked, *other;
-    new_scratch();
     remove(beside);
-    db = open_file(scratch);
-    want(db, SQLITE_OK, "CREATE VIRTUAL TABLE t USING hot(keys=100); INSERT INTO t VALUES ('a', 1)");
-    if (link(scratch, beside) != 0)
-        fail("link", beside);
-    linked = open_file(beside);
-    if (number(linked, "SELECT count(*) FROM t") != 1)
-        fail("a path", "a file has another index by another path");
-    sqlite3_close(linked);
-    remove(beside);
-    copy_file(scratch, beside);
-    if (rename(beside, scratch) != 0)
-        fail("rename", beside);
-    other = open_file(scratch);
-    if (number(other, "SELECT count(*) FROM t") != 0)
-        fail("a path", "a file has the rows of the one that it replaced");
-    want(other, SQLITE_OK, "INSERT INTO t VALUES ('b', 1), ('c', 1)");
-    want(db, SQLITE_OK, "PRAGMA writable_schema = RESET");
-    if (number(db, "SELECT count(*) FROM t") != 1)
-        fail("a path", "a file has the rows of the one that replaced it");
-    sqlite3_close(db);
-    sqlite3_close(other);
     sqlite3_free(beside);
 }
 
-/* Two files that were removed before their tables were made have had one path. */
-static void removed_files(void) {
+/* Without a name each connection to a file has rows of its own, which stay when the schema is read anew. */
+static void own_rows(void) {
     sqlite3 *both[2];
-    for (int at = 0; at < 2; at++) {
-        new_scratch();
-        both[at] = open_file(scratch);
-    }
     new_scratch();
     for (int at = 0; at < 2; at++)
-        if (run(both[at], "CREATE VIRTUAL TABLE t USING hot(keys=100); INSERT INTO t VALUES ('a', %d)", at) != SQLITE_OK)
-            fail("a removed file", sqlite3_errmsg(both[at]));
-    for (int at = 0; at < 2; at++) {
-        if (number(both[at], "SELECT value FROM t") != at)
-            fail("a removed file", "it has the rows of another one");
+        both[at] = open_file(scratch);
+    want(both[0], SQLITE_OK, "CREATE VIRTUAL TABLE t USING hot(keys=100); INSERT INTO t VALUES ('a', 1)");
+    want(both[1], SQLITE_OK, "INSERT INTO t VALUES ('b', 2), ('c', 3); CREATE TABLE x(y)");
+    if (number(both[0], "SELECT sum(value) FROM t") != 1 || number(both[1], "SELECT sum(value) FROM t") != 5)
+        fail("a table without a name", "two connections share rows");
+    for (int at = 0; at < 2; at++)
         sqlite3_close(both[at]);
-    }
-}
-
-/* A copy that is made once another is removed may have its number in the system, but has none of its rows. */
-static void copies_in_turn(void) {
-    char *copy = sqlite3_mprintf("%s.beside", scratch);
-    sqlite3 *db;
-    new_scratch();
-    db = open_file(scratch);
-    want(db, SQLITE_OK, "CREATE VIRTUAL TABLE t USING hot(keys=100)");
-    sqlite3_close(db);
-    db = open_file(":memory:");
-    for (int turn = 0; turn < 3; turn++) {
-        copy_file(scratch, copy);
-        if (run(db, "ATTACH %Q AS a", copy) != SQLITE_OK)
-            fail(copy, sqlite3_errmsg(db));
-        if (number(db, "SELECT count(*) FROM a.t") != 0)
-            fail("a copy", "it has the rows of one that was removed");
-        want(db, SQLITE_OK, "INSERT INTO a.t VALUES ('a', 1); DETACH a");
-        remove(copy);
-    }
-    sqlite3_close(db);
-    sqlite3_free(copy);
 }
 
 /* Two files have one schema's name in turn, and tables of one name: each has its rows as long as the connection is there. */
@@ -1333,24 +1156,20 @@ int main(int count, char **words) {
     counted_rows();
     rollback_without_room("ROLLBACK");
     rollback_without_room("ROLLBACK TO s; ROLLBACK");
-    one_file();
-    files_and_paths();
-    removed_files();
-    copies_in_turn();
+    one_name();
+    own_rows();
     files_in_turn("keys=10");
     files_in_turn("name=turn");
     mutexes_of_applications();
     plans();
-    listed_transactions("keys=100");
-    listed_transactions("keys=100, connections=3");
-    random_tables();
+    listed_transactions("main", "keys=100");
+    listed_transactions("temp", "keys=100");
+    listed_transactions("main", "name=listed");
+    random_tables("main", 1);
+    random_tables("temp", READERS);
     drop_that_fails();
-    connection_within_a_commit("keys=5");
-    connection_within_a_commit("keys=6");
-    connection_with_an_old_schema();
     definition_from_outside();
     counts_of_changes();
-    names_of_lines();
     tables_of_a_name();
     loaded_twice();
     names_and_handles();

@@ -113,7 +113,7 @@ CREATE VIRTUAL TABLE quoted USING hot(name='it''s', keys='5');
 CREATE VIRTUAL TABLE another USING hot(name="it's", keys=6);
 ALTER TABLE one RENAME TO first;
 SELECT 'renamed', value FROM first;
-ALTER TABLE t RENAME TO tt;
+ALTER TABLE t RENAME TO tt; ALTER TABLE tt RENAME TO t;
 CREATE VIRTUAL TABLE b USING hot(type='blob');
 INSERT INTO b VALUES (x'00ff', 1), (x'', 2), (x'ff', -1);
 SELECT 'blobs', hex(key), value FROM b WHERE key >= x'00' ORDER BY key DESC;
