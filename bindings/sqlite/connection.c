@@ -8,16 +8,16 @@
 #include <string.h>
 SQLITE_EXTENSION_INIT3
 
-/* No savepoint: outside all, and not in the open transaction. */
-enum { OUTSIDE = -1, NOT_NOW = -2 };
+/* In which savepoint a table was made or dropped, if not in the open transaction. */
+enum { NOT_NOW = NO_POINT - 1 };
 
 struct connection {
     struct connection *next;
     sqlite3 *db;
     int uses;  /* by modules and tables */
     int hears; /* whether it hears of the open transaction, whatever tables come and go */
-    int point; /* the innermost savepoint that is open */
-    struct held *all;
+    struct change_log log;
+    struct held *all; /* while a definition or the log has them */
     struct definition *definitions;
 };
 
@@ -32,15 +32,15 @@ static void free_held(struct connection *connection, struct held *held) {
         place = &(*place)->next;
     *place = held->next;
     part_leave(&held->part);
-    shared_end_use(held->part.of);
+    shared_end_use(held->part.shared);
     sqlite3_free(held);
 }
 
-/* Frees a definition that is neither listed nor has a table, and an index that had no other. */
+/* Frees a definition that is neither listed nor has a table, and an index that had no other. While a transaction is open, that goes with it. */
 static void let_go(struct connection *connection, struct definition *definition) {
     if (definition->is_listed || definition->tables)
         return;
-    if (--definition->has->definitions == 0)
+    if (--definition->has->definitions == 0 && !connection->log.last)
         free_held(connection, definition->has);
     sqlite3_free(definition);
 }
@@ -53,10 +53,10 @@ static void unlist(struct connection *connection, struct definition **place) {
 }
 
 /* The connection's part of an index, of which this is one use: NULL if it is refused. */
-static struct held *hold(struct connection *connection, shared_index *index, int *code, char **error) {
+static struct held *hold(struct connection *connection, struct shared_index *index, int *code, char **error) {
     struct held *held = connection->all;
     hot_status status;
-    while (held && held->part.of != index)
+    while (held && held->part.shared != index)
         held = held->next;
     *code = SQLITE_NOMEM;
     if (held || !(held = sqlite3_malloc(sizeof *held))) {
@@ -64,7 +64,7 @@ static struct held *hold(struct connection *connection, shared_index *index, int
         return held;
     }
     memset(held, 0, sizeof *held);
-    if ((status = part_take(index, connection->point, &held->part)) != HOT_DONE) {
+    if ((status = part_take(index, &connection->log, &held->part)) != HOT_DONE) {
         if (status == HOT_NO_HANDLE) {
             *code = SQLITE_BUSY;
             *error = sqlite3_mprintf("hot: %d connections have the index: make it with more connections=",
@@ -87,7 +87,7 @@ struct connection *connection_use(sqlite3 *db) {
     if (!connection && (connection = sqlite3_malloc(sizeof *connection)) != NULL) {
         memset(connection, 0, sizeof *connection);
         connection->db = db;
-        connection->point = OUTSIDE;
+        connection->log.point = NO_POINT;
         connection->next = connections;
         connections = connection;
     }
@@ -120,9 +120,7 @@ static struct connection *connection_of(sqlite3_vtab *member) {
 /* Rolls back what was done in the savepoint and in those within it: rows, tables that were made, and tables that were dropped. */
 static void take_back(struct connection *connection, int point) {
     struct definition **place = &connection->definitions;
-    struct held *held;
-    for (held = connection->all; held; held = held->next)
-        part_roll_back(&held->part, point);
+    log_roll_back(&connection->log, point);
     while (*place) {
         if ((*place)->dropped_in >= point)
             (*place)->dropped_in = NOT_NOW;
@@ -131,7 +129,17 @@ static void take_back(struct connection *connection, int point) {
         else
             place = &(*place)->next;
     }
-    connection->point = point;
+}
+
+static int end_transaction(struct connection *connection) {
+    struct held *held = connection->all, *next;
+    for (; held; held = next) {
+        next = held->next;
+        if (!held->definitions)
+            free_held(connection, held);
+    }
+    connection->hears = 0;
+    return SQLITE_OK;
 }
 
 int connection_begin(sqlite3_vtab *member) {
@@ -142,9 +150,7 @@ int connection_begin(sqlite3_vtab *member) {
 int connection_commit(sqlite3_vtab *member) {
     struct connection *connection = connection_of(member);
     struct definition **place = &connection->definitions;
-    struct held *held;
-    for (held = connection->all; held; held = held->next)
-        part_forget(&held->part);
+    log_commit(&connection->log);
     while (*place) {
         (*place)->made_in = NOT_NOW;
         if ((*place)->dropped_in != NOT_NOW)
@@ -152,33 +158,23 @@ int connection_commit(sqlite3_vtab *member) {
         else
             place = &(*place)->next;
     }
-    connection->hears = 0;
-    connection->point = OUTSIDE;
-    return SQLITE_OK;
+    return end_transaction(connection);
 }
 
 int connection_roll_back(sqlite3_vtab *member) {
-    take_back(connection_of(member), OUTSIDE);
-    connection_of(member)->hears = 0;
-    return SQLITE_OK;
+    take_back(connection_of(member), NO_POINT);
+    return end_transaction(connection_of(member));
 }
 
 int connection_savepoint(sqlite3_vtab *member, int point) {
-    struct connection *connection = connection_of(member);
-    struct held *held;
-    connection->point = point;
-    for (held = connection->all; held; held = held->next)
-        part_begin_point(&held->part, point);
+    connection_of(member)->log.point = point;
     return SQLITE_OK;
 }
 
 int connection_release(sqlite3_vtab *member, int point) {
     struct connection *connection = connection_of(member);
     struct definition *definition;
-    struct held *held;
-    connection->point = point - 1;
-    for (held = connection->all; held; held = held->next)
-        part_release(&held->part, point);
+    log_release(&connection->log, point);
     for (definition = connection->definitions; definition; definition = definition->next) {
         definition->made_in = definition->made_in < point ? definition->made_in : point - 1;
         definition->dropped_in = definition->dropped_in < point ? definition->dropped_in : point - 1;
@@ -311,7 +307,7 @@ static struct definition *define(struct connection *connection, const char *wher
 }
 
 /* Why the table can't have the index, or NULL. */
-static char *mismatch(const table_words *words, const wanted_index *made_as) {
+static char *mismatch(const struct table_words *words, const struct wanted_index *made_as) {
     if (made_as->is_text != words->wanted.is_text)
         return sqlite3_mprintf("hot: the index has keys of another type");
     if ((words->has_keys && made_as->keys != words->wanted.keys) ||
@@ -323,8 +319,8 @@ static char *mismatch(const table_words *words, const wanted_index *made_as) {
 }
 
 /* Gives a table the index of its name, or a new one without a name. */
-static struct definition *define_new(struct connection *connection, const char *where, const table_words *words, int *code, char **error) {
-    shared_index *index = shared_use(words->name, &words->wanted, code, error);
+static struct definition *define_new(struct connection *connection, const char *where, const struct table_words *words, int *code, char **error) {
+    struct shared_index *index = shared_use(words->name, &words->wanted, code, error);
     struct definition *definition;
     struct held *held;
     if (index && (*error = mismatch(words, shared_made_as(index))) != NULL) {
@@ -340,21 +336,21 @@ static struct definition *define_new(struct connection *connection, const char *
 }
 
 /* Whether a table of these words is the one that the connection has seen: another connection may have dropped that, and made another one. */
-static int is_as(const struct definition *definition, const table_words *words) {
-    const shared_index *index = definition->has->part.of;
-    const wanted_index *one = shared_made_as(index), *other = &words->wanted;
+static int is_as(const struct definition *definition, const struct table_words *words) {
+    const struct shared_index *index = definition->has->part.shared;
+    const struct wanted_index *one = shared_made_as(index), *other = &words->wanted;
     if (words->name)
         return shared_has_name(index, words->name);
     return shared_has_name(index, NULL) && one->keys == other->keys && one->longest == other->longest && one->grows == other->grows &&
            one->handles == other->handles && one->is_text == other->is_text;
 }
 
-struct definition *connection_create(struct connection *connection, const table_words *words, int *code, char **error) {
+struct definition *connection_create(struct connection *connection, const struct table_words *words, int *code, char **error) {
     char *where = place_of(connection->db, words->schema);
     struct definition *definition = NULL, **place;
     *code = !where ? SQLITE_NOMEM : sqlite3_get_autocommit(connection->db) ? SQLITE_OK : hear(connection);
     if (*code == SQLITE_OK && (definition = define_new(connection, where, words, code, error)) != NULL) {
-        definition->made_in = connection->point;
+        definition->made_in = connection->log.point;
         definition->tables = 1;
         /* One that is gone: another connection has dropped it, or its database was detached. */
         if (*(place = find(&definition->next, where, words->table)) != NULL)
@@ -364,7 +360,7 @@ struct definition *connection_create(struct connection *connection, const table_
     return definition;
 }
 
-struct definition *connection_join(struct connection *connection, const table_words *words, int *code, char **error) {
+struct definition *connection_join(struct connection *connection, const struct table_words *words, int *code, char **error) {
     char *where = place_of(connection->db, words->schema);
     struct definition *definition = NULL, **place;
     *code = SQLITE_NOMEM;
@@ -392,7 +388,7 @@ void connection_leave(struct connection *connection, struct definition *definiti
 int connection_drop(struct connection *connection, struct definition *definition) {
     int code = hear(connection);
     if (connection->hears)
-        definition->dropped_in = connection->point;
+        definition->dropped_in = connection->log.point;
     return code;
 }
 
@@ -404,6 +400,6 @@ int connection_rename(struct connection *connection, struct definition *definiti
     if (!(renamed = define(connection, definition->where, table, definition->has)))
         return SQLITE_NOMEM;
     if (connection->hears)
-        renamed->made_in = definition->dropped_in = connection->point;
+        renamed->made_in = definition->dropped_in = connection->log.point;
     return SQLITE_OK;
 }

@@ -10,7 +10,7 @@ struct connection;
 struct held {
     struct held *next;
     int definitions;
-    index_part part;
+    struct part part;
 };
 
 /* A table that the connection has seen, and its index. */
@@ -25,12 +25,12 @@ struct definition {
 };
 
 /* What a statement says of a table. */
-typedef struct table_words {
+struct table_words {
     const char *schema, *table;
     const char *name;          /* that of the index, or NULL */
-    wanted_index wanted;       /* what a new index is to be */
+    struct wanted_index wanted;       /* what a new index is to be */
     int has_keys, has_longest, has_grow; /* whether it says so */
-} table_words;
+};
 
 /* What each table begins with, so that SQLite's calls on transactions find the connection. */
 struct member {
@@ -46,8 +46,8 @@ void connection_end_use(void *connection);
 int connection_register(struct connection *connection, const sqlite3_module *tables);
 
 /* Gives a table that is created, or was before, its index. NULL, and `code` and `error`, if it is refused. */
-struct definition *connection_create(struct connection *connection, const table_words *words, int *code, char **error);
-struct definition *connection_join(struct connection *connection, const table_words *words, int *code, char **error);
+struct definition *connection_create(struct connection *connection, const struct table_words *words, int *code, char **error);
+struct definition *connection_join(struct connection *connection, const struct table_words *words, int *code, char **error);
 
 /* The table goes, as it does when the schema is read anew, and its definition stays. */
 void connection_leave(struct connection *connection, struct definition *definition);

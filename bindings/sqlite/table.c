@@ -47,10 +47,10 @@ typedef struct table {
  * count(*), the rest is counted, and not listed. What each row takes is in a few fields, and the rest is done apart. */
 typedef struct cursor {
     sqlite3_vtab_cursor base;
-    key_bound from, upto;
+    struct key_bound from, upto;
     int falls;
-    key_bound folded; /* CASELESS: what keys begin with, in capitals */
-    key_page page;
+    struct key_bound folded; /* CASELESS: what keys begin with, in capitals */
+    struct key_page page;
     const hot_head *row;  /* in the page; behind its last row where there is none */
     const hot_head *last; /* up to here the row behind one is the next one of the page */
     const uint8_t *key;   /* the row's key; behind the last row the end of its key */
@@ -73,7 +73,10 @@ static int refused(sqlite3_vtab *vtab, hot_status status) {
     switch (status) {
     case HOT_NO_MEMORY: return SQLITE_NOMEM;
     case HOT_FULL_NODES:
-    case HOT_FULL_LEAVES: return fails(vtab, SQLITE_FULL, "the index is full: make it with more keys=, or without grow=0");
+    case HOT_FULL_LEAVES:
+        return fails(vtab, SQLITE_FULL,
+                     ((table *)vtab)->definition->has->part.removed ? "the index is full, and rows that were removed keep their room until COMMIT"
+                                                                    : "the index is full: make it with more keys=, or without grow=0");
     case HOT_KEY_TOO_LONG: return fails(vtab, SQLITE_TOOBIG, "the key is too long");
     default: return fails(vtab, SQLITE_ERROR, hot_status_text(status));
     }
@@ -127,7 +130,7 @@ static int read_number(const char *text, sqlite3_int64 least, sqlite3_int64 most
 }
 
 /* Reads an argument: 0 if there is none such. The name of an index stays in the text. */
-static int read_argument(char *text, table_words *to) {
+static int read_argument(char *text, struct table_words *to) {
     const char *value;
     if ((value = value_of(text, "keys")) != NULL)
         return to->has_keys = read_number(value, 0, UINT32_MAX, &to->wanted.keys);
@@ -171,7 +174,7 @@ static int declare(sqlite3 *db, int is_text, char **error) {
     return code == SQLITE_OK ? sqlite3_vtab_config(db, SQLITE_VTAB_CONSTRAINT_SUPPORT, 1) : code;
 }
 
-static int make_table(sqlite3 *db, struct connection *connection, const table_words *words, int is_new, table **made, char **error) {
+static int make_table(sqlite3 *db, struct connection *connection, const struct table_words *words, int is_new, table **made, char **error) {
     int code = declare(db, words->wanted.is_text, error);
     table *it = code == SQLITE_OK ? sqlite3_malloc(sizeof *it) : NULL;
     if (!it)
@@ -184,7 +187,7 @@ static int make_table(sqlite3 *db, struct connection *connection, const table_wo
     it->db = db;
     it->member.connection = connection_use(db);
     it->is_text = words->wanted.is_text;
-    it->keys = (double)shared_made_as(it->definition->has->part.of)->keys;
+    it->keys = (double)shared_made_as(it->definition->has->part.shared)->keys;
     *made = it;
     return SQLITE_OK;
 }
@@ -205,7 +208,7 @@ static char *copy_of(int count, const char *const *words) {
 /* Reads what the table is made with, and makes it. */
 static int read_table(sqlite3 *db, struct connection *connection, int count, const char *const *words, int is_new, sqlite3_vtab **made,
                       char **error) {
-    table_words with = {words[1], words[2], NULL, {10000, 24, 1, 16, 1}, 0, 0, 0};
+    struct table_words with = {words[1], words[2], NULL, {10000, 24, 1, 16, 1}, 0, 0, 0};
     table *it = NULL;
     char *all = copy_of(count - 3, words + 3), *text = all;
     int at, code = all ? SQLITE_OK : SQLITE_NOMEM;
@@ -394,7 +397,7 @@ static int close_cursor(sqlite3_vtab_cursor *of) {
     return SQLITE_OK;
 }
 
-static index_part *part_of(cursor *it) {
+static struct part *part_of(cursor *it) {
     return &((table *)it->base.pVtab)->definition->has->part;
 }
 
@@ -476,7 +479,7 @@ static uint8_t small_of(uint8_t byte) {
 
 /* The least bytes from the key on that are the folded ones, whatever their case, if the key doesn't begin so: 0 if there are none. If the key
  * does, they are its own. */
-static int next_folded(const key_bound *folded, const uint8_t *key, size_t length, key_bound *to) {
+static int next_folded(const struct key_bound *folded, const uint8_t *key, size_t length, struct key_bound *to) {
     size_t at, can_rise = HOT_MAX_KEY;
     to->length = folded->length;
     memcpy(to->key, folded->key, folded->length);
@@ -500,7 +503,7 @@ static int next_folded(const key_bound *folded, const uint8_t *key, size_t lengt
     return 1;
 }
 
-static int begins_so(const key_bound *folded, const uint8_t *key, size_t length) {
+static int begins_so(const struct key_bound *folded, const uint8_t *key, size_t length) {
     size_t at;
     if (length < folded->length)
         return 0;
@@ -572,7 +575,7 @@ static int bytes_of(const table *of, sqlite3_value *value, const uint8_t **bytes
 }
 
 /* Makes a value the lower bound of a range, or the one just below it: one of another type sets none. 0 if no key is inside. */
-static int set_from(const table *of, sqlite3_value *value, int is_above, key_bound *from) {
+static int set_from(const table *of, sqlite3_value *value, int is_above, struct key_bound *from) {
     const uint8_t *bytes;
     size_t length;
     if (sqlite3_value_type(value) == SQLITE_NULL)
@@ -587,7 +590,7 @@ static int set_from(const table *of, sqlite3_value *value, int is_above, key_bou
 }
 
 /* The same for the upper bound, or the one just above it. */
-static int set_upto(const table *of, sqlite3_value *value, int is_below, key_bound *upto) {
+static int set_upto(const table *of, sqlite3_value *value, int is_below, struct key_bound *upto) {
     const uint8_t *bytes;
     size_t length;
     if (sqlite3_value_type(value) == SQLITE_NULL)
@@ -621,6 +624,15 @@ static void set_caseless(cursor *it, sqlite3_value *from, sqlite3_value *below) 
     it->folded = it->from;
 }
 
+/* Makes this pair all that the page has. */
+static void set_page(struct key_page *page, const uint8_t *key, size_t length, uint64_t value) {
+    if (length)
+        memcpy(page->bytes, key, length);
+    page->heads->length = (uint8_t)length;
+    page->heads->value = value;
+    page->count = 1;
+}
+
 /* A single key: its row is the page. 0 if the value is of another type, so that all keys have to be looked at. */
 static int find_key(cursor *it, sqlite3_value *value, int *code) {
     const uint8_t *bytes;
@@ -631,7 +643,7 @@ static int find_key(cursor *it, sqlite3_value *value, int *code) {
         return 0;
     status = part_get(part_of(it), bytes, length, &found);
     if (status == HOT_FOUND)
-        page_set(&it->page, bytes, length, found);
+        set_page(&it->page, bytes, length, found);
     *code = status == HOT_FOUND || status == HOT_ABSENT ? SQLITE_OK : refused(it->base.pVtab, status);
     return 1;
 }
@@ -713,43 +725,18 @@ static int rowid_of(sqlite3_vtab_cursor *of, sqlite3_int64 *number) {
 /* ---- Changes ---- */
 
 static int take(table *it, const uint8_t *key, size_t length) {
-    log_entry *entry;
-    hot_status status;
-    if (length > HOT_MAX_KEY)
-        return SQLITE_OK;
-    if (!(entry = entry_new(key, length)))
-        return SQLITE_NOMEM;
-    status = part_remove(&it->definition->has->part, entry);
+    hot_status status = length > HOT_MAX_KEY ? HOT_ABSENT : part_remove(&it->definition->has->part, key, length);
     return status == HOT_REMOVED || status == HOT_ABSENT ? SQLITE_OK : refused(&it->member.base, status);
 }
 
 static int put(table *it, const uint8_t *key, size_t length, sqlite3_int64 value, int replaces) {
-    log_entry *entry;
-    hot_status status;
-    if (length > HOT_MAX_KEY)
-        return refused(&it->member.base, HOT_KEY_TOO_LONG);
-    if (!(entry = entry_new(key, length)))
-        return SQLITE_NOMEM;
-    status = part_put(&it->definition->has->part, entry, (uint64_t)value, replaces);
+    hot_status status = length > HOT_MAX_KEY ? HOT_KEY_TOO_LONG : part_put(&it->definition->has->part, key, length, (uint64_t)value, replaces);
     if (status == HOT_EXISTS) {
         if (sqlite3_vtab_on_conflict(it->db) == SQLITE_IGNORE)
             return SQLITE_CONSTRAINT;
         return fails(&it->member.base, SQLITE_CONSTRAINT, "UNIQUE constraint failed: key");
     }
     return status == HOT_INSERTED || status == HOT_NEW || status == HOT_WAS ? SQLITE_OK : refused(&it->member.base, status);
-}
-
-/* Gives a row another key. Where the table is full, its old key makes room for it. If there is still none, or another connection has put the key
- * in meanwhile, SQLite takes the removal back by SQLITE_FULL: for a constraint it would not, in a statement for one row. */
-static int change_key(table *it, const uint8_t *old, size_t old_length, const uint8_t *key, size_t length, sqlite3_int64 value) {
-    int replaces = sqlite3_vtab_on_conflict(it->db) == SQLITE_REPLACE, code = put(it, key, length, value, replaces);
-    if (code != SQLITE_FULL)
-        return code == SQLITE_OK ? take(it, old, old_length) : code;
-    sqlite3_free(it->member.base.zErrMsg);
-    it->member.base.zErrMsg = NULL;
-    if ((code = take(it, old, old_length)) == SQLITE_OK)
-        code = put(it, key, length, value, replaces);
-    return code == SQLITE_CONSTRAINT ? refused(&it->member.base, HOT_FULL_LEAVES) : code;
 }
 
 /* Refuses a key or value of another type. A row that breaks a constraint is left out by OR IGNORE. As in a STRICT table it leaves out one with
@@ -764,7 +751,7 @@ static int update_row(sqlite3_vtab *vtab, int count, sqlite3_value **values, sql
     table *it = (table *)vtab;
     const uint8_t *key = NULL, *old = NULL;
     size_t length = 0, old_length = 0;
-    int has_old = bytes_of(it, values[0], &old, &old_length), is_same;
+    int has_old = bytes_of(it, values[0], &old, &old_length), is_same, code;
     sqlite3_int64 value;
     (void)number;
     if (count == 1)
@@ -775,9 +762,8 @@ static int update_row(sqlite3_vtab *vtab, int count, sqlite3_value **values, sql
         return refuse_type(it, values[3], "a value must be an integer");
     value = sqlite3_value_int64(values[3]);
     is_same = has_old && old_length == length && memcmp(old, key, length) == 0;
-    if (has_old && !is_same)
-        return change_key(it, old, old_length, key, length, value);
-    return put(it, key, length, value, is_same || sqlite3_vtab_on_conflict(it->db) == SQLITE_REPLACE);
+    code = put(it, key, length, value, is_same || sqlite3_vtab_on_conflict(it->db) == SQLITE_REPLACE);
+    return code == SQLITE_OK && has_old && !is_same ? take(it, old, old_length) : code;
 }
 
 static const sqlite3_module module = {

@@ -1,5 +1,5 @@
 /* Tests hot_table.so beside ordinary tables: by random statements, also by ones that count, or create and drop tables, by all comparisons of
- * the key in twos, by rollbacks of which another connection has taken the room, by refusing each allocation, and by threads with a
+ * the key in twos, by transactions of which another connection takes the room, by refusing each allocation, and by threads with a
  * connection each.
  *
  *     test HOT_TABLE.so [threads]     the threads alone
@@ -373,6 +373,16 @@ static void counted_rows(void) {
             fail(unread[at], "it reads rows");
     for (int turn = 0; turn < 1000; turn++)
         compare_counts(db, &seed, &calls);
+    /* Most pages have removed rows alone. */
+    want(db, SQLITE_OK, "BEGIN; DELETE FROM t WHERE value > 1 AND key <> 'b2'; DELETE FROM p WHERE value > 1 AND key <> 'b2'");
+    for (int turn = 0; turn < 300; turn++)
+        compare_counts(db, &seed, &calls);
+    want(db, SQLITE_OK, "DELETE FROM t WHERE key > 'b' AND key < 'z'; DELETE FROM p WHERE key > 'b' AND key < 'z'");
+    for (int turn = 0; turn < 600; turn++) {
+        if (turn == 300)
+            want(db, SQLITE_OK, "ROLLBACK");
+        compare_counts(db, &seed, &calls);
+    }
     sqlite3_close(db);
     counted_row_that_goes();
 }
@@ -391,41 +401,68 @@ static int fill(sqlite3 *db, const char *begin, int most) {
     return count;
 }
 
-static void wants_rows(sqlite3 *db, const char *rows, int others) {
-    char *sum = sqlite3_mprintf("SELECT count(*) = %d FROM (SELECT * FROM t WHERE key > 'm' ORDER BY key DESC)", others);
+static void wants_rows(sqlite3 *db, const char *rows) {
     char *found = answer(db, "%s", all_rows);
-    if (strcmp(found, rows) != 0 || !number(db, sum))
-        fail("after a rollback", found);
+    if (strcmp(found, rows) != 0)
+        fail("after a transaction", found);
     sqlite3_free(found);
-    sqlite3_free(sum);
 }
 
-/* One connection takes all that another has removed, and that one rolls back: each sees the rows of both, also after changes. */
-static void rollback_without_room(const char *undone) {
+/* What a transaction removes keeps its room until COMMIT, so that no connection takes it, and ROLLBACK has all rows back. */
+static void room_of_removed_rows(const char *end) {
     sqlite3 *one = connect_to("name=rollback, keys=0, longest=24, grow=0"), *other = connect_to("name=rollback");
-    int count = fill(one, "a", INT_MAX), others;
-    char *rows;
-    run(one, "DELETE FROM t WHERE key >= 'a%06d'", count - 20);
-    rows = answer(one, "%s", all_rows);
-    want(one, SQLITE_OK, "BEGIN; UPDATE t SET value = -1; SAVEPOINT s; DELETE FROM t WHERE key >= 'a000001'");
-    others = fill(other, "z", INT_MAX);
-    if (others < count / 2)
-        fail("rollback", "the room that was left was not taken");
-    want(one, SQLITE_OK, undone);
-    wants_rows(one, rows, others);
-    wants_rows(other, rows, others);
-    want(other, SQLITE_CONSTRAINT, "INSERT INTO t VALUES ('a000007', 1)");
-    want(other, SQLITE_OK, "BEGIN; UPDATE t SET value = 0 WHERE key = 'a000005'; DELETE FROM t WHERE key = 'a000006'; ROLLBACK");
-    wants_rows(one, rows, others);
-    if (number(one, "SELECT value FROM t WHERE key = 'a000005'") != 5 || number(one, "SELECT count(*) FROM t WHERE key = 'a'") != 0)
-        fail("rollback", "a key has another value");
-    /* There is room again. */
-    want(other, SQLITE_OK, "DELETE FROM t WHERE key > 'm'");
-    want(other, SQLITE_OK, "INSERT OR REPLACE INTO t VALUES ('z', 1)");
-    wants_rows(one, rows, 1);
-    want(one, SQLITE_OK, "DELETE FROM t WHERE key = 'z'");
-    wants_rows(other, rows, 0);
+    int count = fill(one, "a", INT_MAX), is_kept = strcmp(end, "COMMIT") == 0;
+    char *rows = answer(one, "%s", all_rows);
+    want(one, SQLITE_OK, "BEGIN; UPDATE t SET value = -1; SAVEPOINT s; DELETE FROM t; INSERT INTO t VALUES ('a000003', 5); DELETE FROM t");
+    if (number(one, "SELECT count(*) FROM t") != 0 || number(other, "SELECT count(*) FROM t") != count)
+        fail("removed rows", "their connection lists them, or another one doesn't");
+    if (fill(other, "z", INT_MAX) != 0)
+        fail("removed rows", "another connection has taken their room");
+    want(one, SQLITE_OK, end);
+    wants_rows(one, is_kept ? "" : rows);
+    wants_rows(other, is_kept ? "" : rows);
+    if (is_kept && fill(other, "z", INT_MAX) < count / 2)
+        fail("removed rows", "they keep their room");
     sqlite3_free(rows);
+    sqlite3_close(one);
+    sqlite3_close(other);
+}
+
+/* A row for which there is no room until COMMIT is refused at once, and nothing is lost. */
+static void no_room_until_commit(void) {
+    static const char *const changes[] = {"INSERT INTO t VALUES ('z', 1)", "UPDATE t SET key = 'z' || key", "INSERT INTO t VALUES ('a000000', 1), ('z', 2)"};
+    sqlite3 *db = connect_to("keys=0, longest=24, grow=0");
+    char *rows;
+    int count = fill(db, "a", INT_MAX);
+    rows = answer(db, "%s", all_rows);
+    for (size_t at = 0; at < sizeof changes / sizeof *changes; at++) {
+        want(db, SQLITE_OK, "BEGIN; DELETE FROM t WHERE key < 'a000005'");
+        want(db, SQLITE_FULL, changes[at]);
+        if (!strstr(sqlite3_errmsg(db), "until COMMIT"))
+            fail(changes[at], sqlite3_errmsg(db));
+        run(db, "ROLLBACK");
+        wants_rows(db, rows);
+    }
+    want(db, SQLITE_OK, "DELETE FROM t WHERE key < 'a000005'");
+    if (fill(db, "z", INT_MAX) < 1 || number(db, "SELECT count(*) FROM t WHERE key < 'm'") != count - 5)
+        fail("room", "removed rows keep it after their transaction");
+    sqlite3_free(rows);
+    sqlite3_close(db);
+}
+
+/* A rollback leaves what other connections have changed since. */
+static void rollback_beside_others(void) {
+    sqlite3 *one = connect_to("name=beside"), *other = connect_to("name=beside");
+    want(one, SQLITE_OK, "INSERT INTO t VALUES ('a', 1), ('b', 2), ('c', 3), ('d', 4)");
+    want(one, SQLITE_OK, "BEGIN; UPDATE t SET value = value + 10; DELETE FROM t WHERE key >= 'c'; INSERT INTO t VALUES ('d', 40)");
+    want(other, SQLITE_OK, "UPDATE t SET value = 20 WHERE key = 'a'; DELETE FROM t WHERE key = 'b'; UPDATE t SET value = 30 WHERE key = 'c'");
+    want(one, SQLITE_OK, "ROLLBACK");
+    wants_rows(one, "a 20,c 30,d 4");
+    want(one, SQLITE_OK, "BEGIN; DELETE FROM t WHERE key = 'a'");
+    want(other, SQLITE_CONSTRAINT, "INSERT INTO t VALUES ('a', 5)");
+    want(other, SQLITE_OK, "DELETE FROM t WHERE key <> 'd'");
+    want(one, SQLITE_OK, "ROLLBACK");
+    wants_rows(other, "d 4");
     sqlite3_close(one);
     sqlite3_close(other);
 }
@@ -776,6 +813,8 @@ static void names_and_handles(void) {
     want(db, SQLITE_OK, "ATTACH ':memory:' AS m; CREATE VIRTUAL TABLE m.x USING hot(type=blob, keys=5)");
     if (number(db, "SELECT count(*) FROM m.x") != 0)
         fail("DETACH", "a table has the rows of one that is gone");
+    want(db, SQLITE_OK, "DROP TABLE m.x; CREATE VIRTUAL TABLE m.x USING hot(name=gone, keys=5); DETACH m; ATTACH ':memory:' AS m");
+    want(db, SQLITE_OK, "CREATE VIRTUAL TABLE m.x USING hot; CREATE VIRTUAL TABLE m.y USING hot(name=gone, keys=7)");
     want(db, SQLITE_OK, "BEGIN");
     for (int turn = 0; turn < 20; turn++)
         want(db, SQLITE_OK,
@@ -797,7 +836,7 @@ static int fill_with_blobs(sqlite3 *db) {
     return count;
 }
 
-/* A full table takes new values and new keys of its rows, and can be emptied and filled again. */
+/* A full table takes new values of its rows, and can be emptied and filled again. A row's new key is refused, and no row is lost. */
 static void full_tables(void) {
     static const int keys[] = {0, 1, 100, 1000};
     for (size_t at = 0; at < sizeof keys / sizeof *keys; at++) {
@@ -807,9 +846,9 @@ static void full_tables(void) {
         want(db, SQLITE_OK, "UPDATE t SET value = value + 1; BEGIN; DELETE FROM t; ROLLBACK");
         if (number(db, "SELECT count(*) FROM t") != count || number(db, "SELECT sum(value) FROM t") != count * (count + 1) / 2)
             fail(arguments, "a rollback did not put all back");
-        want(db, SQLITE_OK, "UPDATE t SET key = CAST(x'ff' || substr(key, 2) AS BLOB)");
-        if (number(db, "SELECT sum(value) FROM t WHERE key > x'fe'") != count * (count + 1) / 2)
-            fail(arguments, "a row has not its new key");
+        want(db, SQLITE_FULL, "UPDATE t SET key = CAST(x'ff' || substr(key, 2) AS BLOB)");
+        if (number(db, "SELECT sum(value) FROM t WHERE key < x'fe'") != count * (count + 1) / 2)
+            fail(arguments, "a row has not its old key");
         want(db, SQLITE_OK, "DELETE FROM t");
         if (number(db, "SELECT count(*) FROM t") != 0 || fill_with_blobs(db) != count)
             fail(arguments, "it is not as empty as it was");
@@ -1154,8 +1193,11 @@ int main(int count, char **words) {
     refused_statement("CREATE VIRTUAL TABLE v USING hot(keys=5)");
     random_statements();
     counted_rows();
-    rollback_without_room("ROLLBACK");
-    rollback_without_room("ROLLBACK TO s; ROLLBACK");
+    room_of_removed_rows("ROLLBACK");
+    room_of_removed_rows("ROLLBACK TO s; ROLLBACK");
+    room_of_removed_rows("COMMIT");
+    no_room_until_commit();
+    rollback_beside_others();
     one_name();
     own_rows();
     files_in_turn("keys=10");
