@@ -1,23 +1,23 @@
-/* A connection's tables, and what a transaction that creates or drops tables does to them.
+/* A connection's tables, and how a transaction that creates or drops tables ends for them.
  *
- * SQLite tells a table nothing more once it is dropped, and one that is created doesn't hear when a savepoint from before is rolled back. So
- * such a transaction also changes a table that is always there, of which SQLite keeps no definition: that one hears of all.
+ * SQLite makes no more calls for a table that was dropped, and none for a new table when an older savepoint is rolled back. So such a
+ * transaction also writes to a listener, which SQLite calls in each case. It is an eponymous virtual table: no schema has it.
  */
 #include "connection.h"
 #include <pthread.h>
 #include <string.h>
 SQLITE_EXTENSION_INIT3
 
-/* In which savepoint a table was made or dropped, if not in the open transaction. */
+/* Stands for the savepoint of a table that the open transaction has not made, or not dropped. */
 enum { NOT_NOW = NO_POINT - 1 };
 
 struct connection {
     struct connection *next;
     sqlite3 *db;
     int uses;  /* by modules and tables */
-    int hears; /* whether it hears of the open transaction, whatever tables come and go */
+    int hears; /* whether the listener takes part in the open transaction */
     struct change_log log;
-    struct held *all; /* while a definition or the log has them */
+    struct held *all;
     struct definition *definitions;
 };
 
@@ -36,7 +36,8 @@ static void free_held(struct connection *connection, struct held *held) {
     sqlite3_free(held);
 }
 
-/* Frees a definition that is neither listed nor has a table, and an index that had no other. While a transaction is open, that goes with it. */
+/* Frees a definition that is neither listed nor has a table, and then a part without a definition. While the log may name the part, that waits
+ * until the transaction ends. */
 static void let_go(struct connection *connection, struct definition *definition) {
     if (definition->is_listed || definition->tables)
         return;
@@ -52,7 +53,7 @@ static void unlist(struct connection *connection, struct definition **place) {
     let_go(connection, definition);
 }
 
-/* The connection's part of an index, of which this is one use: NULL if it is refused. */
+/* Takes over one use of an index. Returns the connection's part of it: NULL if it is refused. */
 static struct held *hold(struct connection *connection, struct shared_index *index, int *code, char **error) {
     struct held *held = connection->all;
     hot_status status;
@@ -117,7 +118,7 @@ static struct connection *connection_of(sqlite3_vtab *member) {
     return ((struct member *)member)->connection;
 }
 
-/* Rolls back what was done in the savepoint and in those within it: rows, tables that were made, and tables that were dropped. */
+/* Rolls back rows, made tables and dropped tables to the beginning of a savepoint. */
 static void take_back(struct connection *connection, int point) {
     struct definition **place = &connection->definitions;
     log_roll_back(&connection->log, point);
@@ -187,7 +188,7 @@ int connection_roll_back_to(sqlite3_vtab *member, int point) {
     return SQLITE_OK;
 }
 
-/* ---- The table that is always there ---- */
+/* ---- The listener ---- */
 
 static int connect_listener(sqlite3 *db, void *connection, int count, const char *const *words, sqlite3_vtab **made, char **error) {
     struct member *listener = sqlite3_malloc(sizeof *listener);
@@ -247,7 +248,7 @@ static const sqlite3_module listeners = {
     .xRollbackTo = connection_roll_back_to,
 };
 
-/* Each connection has a module of its own name, so that no other copy of this library has it. A failed call ends the module's use itself. */
+/* The listener's name has the connection's address, so no other copy of this library uses it. SQLite ends the use of a module that it refuses. */
 int connection_register(struct connection *connection, const sqlite3_module *tables) {
     char *name = sqlite3_mprintf("hot_transaction_%p", (void *)connection);
     int code = name ? sqlite3_create_module_v2(connection->db, name, &listeners, connection_use(connection->db), connection_end_use) : SQLITE_NOMEM;
@@ -255,8 +256,8 @@ int connection_register(struct connection *connection, const sqlite3_module *tab
     return code == SQLITE_OK ? sqlite3_create_module_v2(connection->db, "hot", tables, connection_use(connection->db), connection_end_use) : code;
 }
 
-/* Hears of the open transaction from now on, by a statement that changes no row: SQLITE_OK, or why it can't, as where the main database can't be
- * written. A statement that is a transaction of its own goes on unheard. */
+/* Adds the listener to the open transaction, by a statement that writes no row. SQLITE_OK, or SQLite's code, as where the main database can't be
+ * written. A statement outside BEGIN and COMMIT goes on without the listener. */
 static int hear(struct connection *connection) {
     char *sql;
     int code;
@@ -272,20 +273,20 @@ static int hear(struct connection *connection) {
 
 /* ---- Tables ---- */
 
-/* Where a schema is: the path of its file, or a schema in memory. NULL if there is no memory. */
+/* Where a table is stored: the path of its file, or its schema if that is in memory. NULL if there is no memory. */
 static char *place_of(sqlite3 *db, const char *schema) {
     const char *path = sqlite3_db_filename(db, schema);
     return path && *path ? sqlite3_mprintf("file %s", path) : sqlite3_mprintf("schema %s", schema);
 }
 
-/* Where the list has the table's definition from `place` on, unless that is dropped; or the list's end. */
+/* The place in the list, from this one on, of the table's definition that is not dropped; or the list's end. */
 static struct definition **find(struct definition **place, const char *where, const char *table) {
     while (*place && ((*place)->dropped_in != NOT_NOW || strcmp((*place)->where, where) != 0 || strcmp((*place)->table, table) != 0))
         place = &(*place)->next;
     return place;
 }
 
-/* Lists a definition of a table that has the index: NULL if there is no memory, and then an index without a definition goes. */
+/* Lists a definition of a table. NULL if there is no memory, and then a part without a definition is freed. */
 static struct definition *define(struct connection *connection, const char *where, const char *table, struct held *has) {
     const size_t size = strlen(where) + 1;
     struct definition *definition = sqlite3_malloc64(sizeof *definition + size + strlen(table) + 1);
@@ -306,21 +307,21 @@ static struct definition *define(struct connection *connection, const char *wher
     return definition;
 }
 
-/* Why the table can't have the index, or NULL. */
-static char *mismatch(const struct table_words *words, const struct wanted_index *made_as) {
-    if (made_as->is_text != words->wanted.is_text)
+/* Why a table of these words can't use the index: NULL if it can. */
+static char *mismatch(const struct table_words *words, const struct index_settings *made_as) {
+    if (made_as->is_text != words->settings.is_text)
         return sqlite3_mprintf("hot: the index has keys of another type");
-    if ((words->has_keys && made_as->keys != words->wanted.keys) ||
-        (words->has_longest && made_as->longest != words->wanted.longest))
+    if ((words->has_keys && made_as->keys != words->settings.keys) ||
+        (words->has_longest && made_as->longest != words->settings.longest))
         return sqlite3_mprintf("hot: the index was made with keys=%lld, longest=%lld", made_as->keys, made_as->longest);
-    if (words->has_grow && made_as->grows != words->wanted.grows)
+    if (words->has_grow && made_as->grows != words->settings.grows)
         return sqlite3_mprintf("hot: the index was made with grow=%lld", made_as->grows);
     return NULL;
 }
 
-/* Gives a table the index of its name, or a new one without a name. */
+/* Defines a table, with the index of its name, or with a new one if it has none. */
 static struct definition *define_new(struct connection *connection, const char *where, const struct table_words *words, int *code, char **error) {
-    struct shared_index *index = shared_use(words->name, &words->wanted, code, error);
+    struct shared_index *index = shared_use(words->name, &words->settings, code, error);
     struct definition *definition;
     struct held *held;
     if (index && (*error = mismatch(words, shared_made_as(index))) != NULL) {
@@ -335,10 +336,10 @@ static struct definition *define_new(struct connection *connection, const char *
     return definition;
 }
 
-/* Whether a table of these words is the one that the connection has seen: another connection may have dropped that, and made another one. */
+/* Whether the definition is that of a table of these words. It may be older: another connection may have dropped the table and made another. */
 static int is_as(const struct definition *definition, const struct table_words *words) {
     const struct shared_index *index = definition->has->part.shared;
-    const struct wanted_index *one = shared_made_as(index), *other = &words->wanted;
+    const struct index_settings *one = shared_made_as(index), *other = &words->settings;
     if (words->name)
         return shared_has_name(index, words->name);
     return shared_has_name(index, NULL) && one->keys == other->keys && one->longest == other->longest && one->grows == other->grows &&
@@ -352,7 +353,7 @@ struct definition *connection_create(struct connection *connection, const struct
     if (*code == SQLITE_OK && (definition = define_new(connection, where, words, code, error)) != NULL) {
         definition->made_in = connection->log.point;
         definition->tables = 1;
-        /* One that is gone: another connection has dropped it, or its database was detached. */
+        /* Another connection has dropped an older table of this name, or its database was detached. */
         if (*(place = find(&definition->next, where, words->table)) != NULL)
             unlist(connection, place);
     }
@@ -384,7 +385,7 @@ void connection_leave(struct connection *connection, struct definition *definiti
     let_go(connection, definition);
 }
 
-/* A definition that goes unheard stays listed, until the table is created again or the connection is closed. */
+/* Without the listener the definition stays, until the table is created again or the connection is closed. */
 int connection_drop(struct connection *connection, struct definition *definition) {
     int code = hear(connection);
     if (connection->hears)

@@ -6,7 +6,7 @@
 
 struct connection;
 
-/* An index that a connection has, as long as a definition has it. */
+/* A connection's part of an index. It stays as long as a definition has it, and until the open transaction ends. */
 struct held {
     struct held *next;
     int definitions;
@@ -17,47 +17,47 @@ struct held {
 struct definition {
     struct definition *next;
     struct held *has;
-    int tables;              /* how many of SQLite's tables have it now */
-    int is_listed;           /* whether a table that SQLite connects finds it */
-    int made_in, dropped_in; /* in which savepoint the open transaction did so */
+    int tables;              /* the number of SQLite's objects that stand for the table */
+    int is_listed;           /* whether SQLite may connect the table again */
+    int made_in, dropped_in; /* the savepoint of the open transaction that did so */
     const char *where;       /* the path of its file, or its schema in memory */
     const char *table;       /* its name */
 };
 
-/* What a statement says of a table. */
+/* What a statement says about a table. */
 struct table_words {
     const char *schema, *table;
-    const char *name;          /* that of the index, or NULL */
-    struct wanted_index wanted;       /* what a new index is to be */
-    int has_keys, has_longest, has_grow; /* whether it says so */
+    const char *name; /* of the index, or NULL */
+    struct index_settings settings;
+    int has_keys, has_longest, has_grow; /* whether the statement has these arguments */
 };
 
-/* What each table begins with, so that SQLite's calls on transactions find the connection. */
+/* The beginning of each table, by which SQLite's calls on transactions find the connection. */
 struct member {
     sqlite3_vtab base;
     struct connection *connection;
 };
 
-/* The one of this connection to a database, with a use more: NULL if there is no memory. */
+/* Uses what is known about SQLite's connection: NULL if there is no memory. Each use is ended. */
 struct connection *connection_use(sqlite3 *db);
 void connection_end_use(void *connection);
 
-/* Makes the module of these tables, and the one by which the connection hears of transactions: see connection.c. */
+/* Registers the module of tables, and that of the listener: see connection.c. SQLITE_OK, or SQLite's code. */
 int connection_register(struct connection *connection, const sqlite3_module *tables);
 
-/* Gives a table that is created, or was before, its index. NULL, and `code` and `error`, if it is refused. */
+/* Finds or makes the index of a table that is created, or that SQLite connects again. NULL, and `code` and `error`, if it is refused. */
 struct definition *connection_create(struct connection *connection, const struct table_words *words, int *code, char **error);
 struct definition *connection_join(struct connection *connection, const struct table_words *words, int *code, char **error);
 
-/* The table goes, as it does when the schema is read anew, and its definition stays. */
+/* SQLite frees the table, as it does before it reads the schema again. The definition stays. */
 void connection_leave(struct connection *connection, struct definition *definition);
 
-/* The table is to be dropped, or to have another name: SQLITE_OK, or why it is refused. */
+/* Drops or renames a table: SQLITE_OK, or SQLite's code. */
 int connection_drop(struct connection *connection, struct definition *definition);
 int connection_rename(struct connection *connection, struct definition *definition, const char *table);
 
-/* What SQLite calls for each table that takes part in a transaction. Each speaks for all of the connection's tables, so that the first one does
- * all there is to do. */
+/* SQLite makes these calls for each table that takes part in a transaction. Each serves all of the connection's tables, so repeated calls do
+ * nothing more. */
 int connection_begin(sqlite3_vtab *member);
 int connection_commit(sqlite3_vtab *member);
 int connection_roll_back(sqlite3_vtab *member);

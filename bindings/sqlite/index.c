@@ -8,7 +8,7 @@ struct shared_index {
     struct shared_index *next;
     char *name; /* or NULL */
     int uses;
-    struct wanted_index made_as;
+    struct index_settings made_as;
     hot_index *index;
 };
 
@@ -24,34 +24,34 @@ static void free_shared(struct shared_index *shared) {
     sqlite3_free(shared);
 }
 
-/* What an index is to have room for: if several connections may change it, for as many keys at least as hot.h says. */
-static hot_stock stock_for(const struct wanted_index *wanted) {
-    const long long handles = wanted->handles < 8 ? wanted->handles : 8, least = handles > 1 ? 256 * handles : 0;
+/* The records of a new index. Where several connections may change it, these are enough for the keys that hot.h asks for then. */
+static hot_stock stock_for(const struct index_settings *settings) {
+    const long long handles = settings->handles < 8 ? settings->handles : 8, least = handles > 1 ? 256 * handles : 0;
     hot_stock stock;
-    hot_stock_for_keys((uint32_t)(wanted->keys > least ? wanted->keys : least), (size_t)wanted->longest, &stock);
+    hot_stock_for_keys((uint32_t)(settings->keys > least ? settings->keys : least), (size_t)settings->longest, &stock);
     return stock;
 }
 
-/* Makes the index itself. One that grows has a handle of its own. */
-static hot_status open_index(const struct wanted_index *wanted, hot_index **index) {
+/* Opens the index itself. One that grows needs a handle for itself. */
+static hot_status open_index(const struct index_settings *settings, hot_index **index) {
     enum { MOST_TO_GROW = 1023 };
-    const size_t handles = (size_t)wanted->handles;
-    const hot_stock stock = stock_for(wanted);
-    if (!wanted->grows)
+    const size_t handles = (size_t)settings->handles;
+    const hot_stock stock = stock_for(settings);
+    if (!settings->grows)
         return hot_open_index(&stock, handles, index);
     return hot_open_growing(&stock, SIZE_MAX, handles < MOST_TO_GROW ? handles : MOST_TO_GROW, index);
 }
 
-static struct shared_index *made(const char *name, const struct wanted_index *wanted, int *code, char **error) {
+static struct shared_index *made(const char *name, const struct index_settings *settings, int *code, char **error) {
     struct shared_index *shared = sqlite3_malloc64(sizeof *shared);
     hot_status status = HOT_NO_MEMORY;
     *code = SQLITE_NOMEM;
     if (!shared)
         return NULL;
     memset(shared, 0, sizeof *shared);
-    shared->made_as = *wanted;
+    shared->made_as = *settings;
     if (!name || (shared->name = sqlite3_mprintf("%s", name)) != NULL)
-        status = open_index(wanted, &shared->index);
+        status = open_index(settings, &shared->index);
     if (status != HOT_DONE) {
         *code = status == HOT_NO_MEMORY ? SQLITE_NOMEM : SQLITE_ERROR;
         *error = sqlite3_mprintf("hot: %s", hot_status_text(status));
@@ -76,13 +76,13 @@ static struct shared_index *named(const char *name) {
     return shared;
 }
 
-struct shared_index *shared_use(const char *name, const struct wanted_index *wanted, int *code, char **error) {
+struct shared_index *shared_use(const char *name, const struct index_settings *settings, int *code, char **error) {
     struct shared_index *shared, *new = NULL;
     pthread_mutex_lock(&all_mutex);
     if (!(shared = named(name))) {
         /* Making an index may take long, and others go on. One of them may make the same. */
         pthread_mutex_unlock(&all_mutex);
-        if (!(new = made(name, wanted, code, error)))
+        if (!(new = made(name, settings, code, error)))
             return NULL;
         pthread_mutex_lock(&all_mutex);
         if (!(shared = named(name))) {
@@ -112,7 +112,7 @@ void shared_end_use(struct shared_index *shared) {
         free_shared(shared);
 }
 
-const struct wanted_index *shared_made_as(const struct shared_index *shared) {
+const struct index_settings *shared_made_as(const struct shared_index *shared) {
     return &shared->made_as;
 }
 
@@ -142,7 +142,7 @@ struct change {
     uint8_t key[];
 };
 
-/* A change that is still to be made: NULL if there is no memory. */
+/* A change that is not made yet: NULL if there is no memory. */
 static struct change *change_new(struct part *part, const uint8_t *key, size_t length) {
     struct change *change = sqlite3_malloc64(sizeof *change + length);
     if (!change)
@@ -161,7 +161,7 @@ static void keep(struct change_log *log, struct change *change) {
     log->last = change;
 }
 
-/* The list of removals that a key belongs in. There are some lists. */
+/* The list of removals for a key. The log has lists. */
 static struct change **list_of(const struct part *part, const uint8_t *key, size_t length) {
     uint64_t hash = (uint64_t)(uintptr_t)part;
     size_t at;
@@ -184,7 +184,7 @@ static void unlink_removal(struct change *removal) {
     removal->part->log->count--;
 }
 
-/* Sees to it that there are about as many lists as removals: 0 if there is no memory for the first ones. */
+/* Makes more lists where there are fewer than removals: 0 if there are none and no memory for them. */
 static int make_lists(struct change_log *log) {
     const size_t buckets = log->buckets ? log->buckets * 2 : 16;
     struct change **lists, *change;
@@ -202,7 +202,7 @@ static int make_lists(struct change_log *log) {
     return 1;
 }
 
-/* The removal of a key that is removed: NULL if it is not. */
+/* The removal of a key: NULL if the key is not removed. */
 static struct change *removal_of(const struct part *part, const uint8_t *key, size_t length) {
     struct change *removal = part->removed ? *list_of(part, key, length) : NULL;
     while (removal && (removal->is_taken_back || removal->part != part || removal->length != length || memcmp(removal->key, key, length) != 0))
@@ -235,7 +235,7 @@ static hot_status list(struct part *part, const struct key_bound *from, const st
                                                                &page->more);
 }
 
-/* Leaves out of the page the keys that are removed. Returns the end of all that were listed. */
+/* Takes removed keys out of a page. Returns where the page's keys ended before. */
 static const uint8_t *leave_out_removed(const struct part *part, struct key_page *page) {
     const uint8_t *from = page->bytes;
     uint8_t *to = page->bytes;

@@ -7,21 +7,21 @@
 
 struct shared_index;
 
-/* What a new index is to be. */
-struct wanted_index {
+/* What an index is made with. */
+struct index_settings {
     sqlite3_int64 keys, longest, grows, handles;
     int is_text;
 };
 
-/* Uses the index of a name, which is made if there is none; or a new one without a name, if that is NULL. It stays until each use of it has
- * ended. NULL, and `code` and `error`, if there is no memory or what is wanted is out of range. */
-struct shared_index *shared_use(const char *name, const struct wanted_index *wanted, int *code, char **error);
+/* Uses the index of a name, and makes it if there is none. Makes a new index without a name if that is NULL. The index stays until each use has
+ * ended. NULL, and `code` and `error`, if there is no memory or a setting is out of range. */
+struct shared_index *shared_use(const char *name, const struct index_settings *settings, int *code, char **error);
 void shared_end_use(struct shared_index *shared);
 
 /* Whether this is the index's name; for NULL, whether it has none. */
 int shared_has_name(const struct shared_index *shared, const char *name);
 
-const struct wanted_index *shared_made_as(const struct shared_index *shared);
+const struct index_settings *shared_made_as(const struct shared_index *shared);
 
 struct change;
 
@@ -30,23 +30,23 @@ struct change_log {
     struct change *last;
     int point;                /* the innermost savepoint that is open */
     struct change **removals; /* by their keys' hashes */
-    size_t buckets, count;    /* of how many lists, of how many removals */
+    size_t buckets, count;    /* the numbers of lists, and of removals */
 };
 
-/* A connection's part of an index: a handle, and how many keys the open transaction has removed. These stay in the index until it commits, and
- * the calls below leave them out: so a rollback needs no room. */
+/* A connection's part of an index. Keys that the open transaction removes stay in the index until it commits, so a rollback needs no room. The
+ * calls below pass these keys over. */
 struct part {
     struct shared_index *shared;
     struct change_log *log;
     hot_handle handle;
-    size_t removed;
+    size_t removed; /* the number of such keys */
 };
 
 /* Opens a handle for a connection with this log: HOT_NO_HANDLE if all are taken. The part stays where it is. */
 hot_status part_take(struct shared_index *shared, struct change_log *log, struct part *part);
 void part_leave(struct part *part);
 
-/* The key's value. It is absent if it is too long. */
+/* Looks a key up: HOT_FOUND or HOT_ABSENT, also for one that is too long; or what hot_get returns. */
 hot_status part_get(struct part *part, const uint8_t *key, size_t length, uint64_t *value);
 
 /* Lists pairs from `from` up to `upto`, or down from `upto`, as hot_scan_packed and hot_scan_packed_reverse do. */
@@ -55,38 +55,38 @@ struct key_bound {
     uint8_t key[HOT_MAX_KEY];
 };
 struct key_page {
-    hot_head *heads; /* with room for as many as the limit is */
-    uint8_t *bytes;  /* the keys, one after another, with room for as many of the longest */
+    hot_head *heads; /* room for `limit` pairs */
+    uint8_t *bytes;  /* their keys, one after another: room for `limit` keys of HOT_MAX_KEY bytes */
     size_t limit, count;
     uint32_t more;
 };
 hot_status part_list(struct part *part, const struct key_bound *from, const struct key_bound *upto, int falls, struct key_page *page);
 
-/* How many keys the index has, with those that are removed. */
+/* The number of keys in the index, with removed ones. */
 size_t part_len(struct part *part);
 
-/* Counts the pairs from `from` up to `upto`, as hot_count does: 1. It does not, and returns 0, where the index has so many keys that this
- * may take much longer than to list `listed` pairs, or where keys are removed. */
+/* Counts the pairs from `from` up to `upto`, as hot_count does, and returns 1. It returns 0 where keys are removed, or where counting may take
+ * much longer than listing `listed` pairs. */
 int part_count(struct part *part, const struct key_bound *from, const struct key_bound *upto, size_t listed, size_t *count);
 
-/* Writes the least key above this one, or the greatest one below it: 0 if there is none. */
+/* Writes the least key above this one, or if `falls` the greatest one below it: 0 if there is none. */
 int key_beyond(const uint8_t *key, size_t length, int falls, struct key_bound *to);
 
-/* These make a change, and log it. part_put returns what hot_insert does, or hot_upsert where it replaces; part_remove HOT_REMOVED, or
- * HOT_ABSENT where the key is removed already. HOT_NO_MEMORY if there is none for the log. */
+/* Change a key, and log that. part_put returns what hot_insert does, or hot_upsert if it replaces. part_remove returns HOT_REMOVED, or HOT_ABSENT
+ * if the key is removed already. Both return HOT_NO_MEMORY if there is none for the log. */
 hot_status part_put(struct part *part, const uint8_t *key, size_t length, uint64_t value, int replaces);
 hot_status part_remove(struct part *part, const uint8_t *key, size_t length);
 
-/* Savepoints have numbers: each has one more than that around it, and NO_POINT is the transaction itself. */
+/* Savepoints are numbered from 0 on, from the outermost one inwards. NO_POINT is the transaction itself. */
 enum { NO_POINT = -1 };
 
-/* The transaction commits: what it has removed leaves the indexes. */
+/* Commits: removed keys leave the indexes. */
 void log_commit(struct change_log *log);
 
-/* The savepoint ends, and those within it: what they have changed is the change of the one around it. */
+/* Releases a savepoint and those within it: their changes become changes of the savepoint around them. */
 void log_release(struct change_log *log, int point);
 
-/* Rolls back what was changed in the savepoint and in those within it, where no other connection has changed it since. It is never refused. */
+/* Rolls back the changes of a savepoint and of those within it, except where another connection has changed the key since. It never fails. */
 void log_roll_back(struct change_log *log, int point);
 
 #endif

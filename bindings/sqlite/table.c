@@ -1,66 +1,66 @@
-/* hot_table.so: a table in memory for SQLite, over libhot, which the connections of a process use at the same time.
+/* hot_table.so: a table in memory for SQLite, over libhot. The connections of a process use it at the same time.
  *
  *     .load ./hot_table
  *     CREATE VIRTUAL TABLE t USING hot(keys=1000000, longest=24);
  *
- * has the columns key TEXT PRIMARY KEY and value INTEGER, and room at first for so many keys of at most so many bytes: by default
- * 10,000 of 24. More arguments:
+ * The columns are key TEXT PRIMARY KEY and value INTEGER. The table begins with room for 10,000 keys of at most 24 bytes, or for `keys` keys of
+ * at most `longest` bytes. More arguments:
  *
- *     grow=0            it has no more room than that, as a fixed index: by default it grows
- *     type=blob         the keys are blobs
- *     name=words        tables of this name, in any database of the process, have one index
- *     connections=16    how many connections may have the index at a time: by default 16
+ *     grow=0            the room stays as it is; by default the table grows
+ *     type=blob         keys are blobs
+ *     name=words        tables of this name share one index, in any database of the process
+ *     connections=16    the most connections that use the index at a time; by default 16
  *
  * A value may stand in quotes, single or double: name='words' is name=words. Within them the same quote is written twice.
  *
- * The name alone says which index a table has: tables of one name share it, in whatever files and databases they are. Such a table is
- * refused if it says another number of keys=, longest= or grow= than the index was made with. Without a name the index is the connection's own.
- * An index goes once no connection has a table of it: a connection has one until it drops the table, or is closed. */
+ * The name alone says which index a table has. Such a table is refused if it says another number of keys=, longest= or grow= than the index was
+ * made with. Without a name the index is the connection's own. An index goes once each connection that had a table of it has dropped the table or
+ * was closed. */
 #include "connection.h"
 #include <pthread.h>
 #include <stdlib.h>
 #include <string.h>
 SQLITE_EXTENSION_INIT1
 
-/* How a cursor is to go, as a number from best_index to filter_rows. ABOVE comes with FROM, BELOW with UPTO, and LIMITED where SQLite may
- * stop or begin to read at a row of its choice. */
+/* A plan, as a number that best_index passes to filter_rows. ABOVE comes with FROM, and BELOW with UPTO. LIMITED says that SQLite may begin or
+ * stop to read at a row of its choice. */
 enum { EQUAL = 1, FROM = 2, UPTO = 4, CASELESS = 8, FALLING = 16, ABOVE = 32, BELOW = 64, LIMITED = 128 };
 enum { FIRST_PAGE = 4, PAGE = 256 };
 
 /* The columns. */
 enum { KEY, VALUE };
 
-/* Of how many rows one is in a range with one end, and with both: as SQLite guesses of its own trees. With more in a range it would begin a join
- * at this table, and read all of it: it takes such a plan for one that sorts nothing. */
+/* Estimates, as of SQLite's own trees: a range with one end has one row in OF_HALF, one with both ends one in OF_RANGE. With a larger estimate
+ * SQLite begins a join at this table and reads all of it, since that saves a sort. */
 enum { OF_HALF = 4, OF_RANGE = 64 };
 
-/* A table of a connection. */
-typedef struct table {
+/* A table, as one connection has it. */
+struct hot_table {
     struct member member;
     sqlite3 *db;
     struct definition *definition;
     int is_text;
     double keys;
-} table;
+};
 
-/* A scan of a table: a page of it, and the keys that are still to be listed. Where SQLite passes row after row and reads no column, as for
- * count(*), the rest is counted, and not listed. What each row takes is in a few fields, and the rest is done apart. */
-typedef struct cursor {
+/* A scan of a table: a page of its rows, and the range after that page. Where SQLite reads no column of many rows, as for count(*), the scan
+ * counts the rest instead of listing it. */
+struct scan {
     sqlite3_vtab_cursor base;
     struct key_bound from, upto;
     int falls;
     struct key_bound folded; /* CASELESS: what keys begin with, in capitals */
     struct key_page page;
-    const hot_head *row;  /* in the page; behind its last row where there is none */
-    const hot_head *last; /* up to here the row behind one is the next one of the page */
-    const uint8_t *key;   /* the row's key; behind the last row the end of its key */
-    int is_over;          /* whether there is no row */
-    int counts;           /* whether it may count rows */
+    const hot_head *row;  /* the current row, in the page; or the page's end */
+    const hot_head *last; /* before this row the next one of the page is the scan's next one, too */
+    const uint8_t *key;   /* the row's key; at the page's end that of its keys */
+    int is_over;          /* whether there is no current row */
+    int counts;           /* whether the scan may count rows */
     int is_read;          /* whether a column of the page was read */
-    size_t unread;        /* how many rows of the pages before it were passed since one was read */
-    size_t left;          /* how many rows are counted, from this one on; 0 where they are listed */
-    size_t passed;        /* how many counted rows come before it */
-} cursor;
+    size_t unread;        /* rows of earlier pages that were passed since a column was read */
+    size_t left;          /* counted rows from the current one on; 0 where rows are listed */
+    size_t passed;        /* counted rows before the current one */
+};
 
 static int fails(sqlite3_vtab *vtab, int code, const char *text) {
     sqlite3_free(vtab->zErrMsg);
@@ -68,15 +68,15 @@ static int fails(sqlite3_vtab *vtab, int code, const char *text) {
     return code;
 }
 
-/* SQLite's error for a call that was refused. */
+/* SQLite's code for a refused call, and its message. */
 static int refused(sqlite3_vtab *vtab, hot_status status) {
     switch (status) {
     case HOT_NO_MEMORY: return SQLITE_NOMEM;
     case HOT_FULL_NODES:
     case HOT_FULL_LEAVES:
-        return fails(vtab, SQLITE_FULL,
-                     ((table *)vtab)->definition->has->part.removed ? "the index is full, and rows that were removed keep their room until COMMIT"
-                                                                    : "the index is full: make it with more keys=, or without grow=0");
+        if (((struct hot_table *)vtab)->definition->has->part.removed)
+            return fails(vtab, SQLITE_FULL, "the index is full, and removed rows keep their room until COMMIT");
+        return fails(vtab, SQLITE_FULL, "the index is full: make it with more keys=, or without grow=0");
     case HOT_KEY_TOO_LONG: return fails(vtab, SQLITE_TOOBIG, "the key is too long");
     default: return fails(vtab, SQLITE_ERROR, hot_status_text(status));
     }
@@ -84,7 +84,7 @@ static int refused(sqlite3_vtab *vtab, hot_status status) {
 
 /* ---- Tables ---- */
 
-/* Takes the quotes off a text that is in quotes as a whole. */
+/* Removes the quotes around a text, if one pair surrounds it. */
 static void unquote(char *text) {
     const char quote = *text, *from = text + 1;
     char *to = text;
@@ -101,7 +101,7 @@ static void unquote(char *text) {
     *to = '\0';
 }
 
-/* The value of the argument, without quotes around it, if the text is one of this name. */
+/* The unquoted value of an argument `name=value`: NULL if the text has another form. */
 static const char *value_of(char *text, const char *name) {
     size_t length = strlen(name);
     while (*text == ' ')
@@ -118,7 +118,7 @@ static const char *value_of(char *text, const char *name) {
     return text;
 }
 
-/* Reads an argument that is a number: 1 if it is in the range. */
+/* Reads a number: 1 if it is one, from `least` to `most`. */
 static int read_number(const char *text, sqlite3_int64 least, sqlite3_int64 most, sqlite3_int64 *number) {
     char *end;
     if (*text < '0' || *text > '9')
@@ -129,20 +129,20 @@ static int read_number(const char *text, sqlite3_int64 least, sqlite3_int64 most
     return *end == '\0' && *number >= least && *number <= most;
 }
 
-/* Reads an argument: 0 if there is none such. The name of an index stays in the text. */
+/* Reads an argument: 0 if it is unknown or out of range. The name of an index is not copied. */
 static int read_argument(char *text, struct table_words *to) {
     const char *value;
     if ((value = value_of(text, "keys")) != NULL)
-        return to->has_keys = read_number(value, 0, UINT32_MAX, &to->wanted.keys);
+        return to->has_keys = read_number(value, 0, UINT32_MAX, &to->settings.keys);
     if ((value = value_of(text, "longest")) != NULL)
-        return to->has_longest = read_number(value, 0, HOT_MAX_KEY, &to->wanted.longest);
+        return to->has_longest = read_number(value, 0, HOT_MAX_KEY, &to->settings.longest);
     if ((value = value_of(text, "grow")) != NULL)
-        return to->has_grow = read_number(value, 0, 1, &to->wanted.grows);
+        return to->has_grow = read_number(value, 0, 1, &to->settings.grows);
     if ((value = value_of(text, "connections")) != NULL)
-        return read_number(value, 1, 1024, &to->wanted.handles);
+        return read_number(value, 1, 1024, &to->settings.handles);
     if ((value = value_of(text, "type")) != NULL) {
-        to->wanted.is_text = sqlite3_stricmp(value, "text") == 0;
-        return to->wanted.is_text || sqlite3_stricmp(value, "blob") == 0;
+        to->settings.is_text = sqlite3_stricmp(value, "text") == 0;
+        return to->settings.is_text || sqlite3_stricmp(value, "blob") == 0;
     }
     if ((value = value_of(text, "name")) != NULL && *value) {
         to->name = value;
@@ -158,7 +158,7 @@ static int note_encoding(void *is_utf8, int count, char **values, char **names) 
     return 0;
 }
 
-/* Says which columns the table has. In a database in UTF-16 text would have another order than the index. */
+/* Declares the columns. Text is refused in a UTF-16 database, where its order differs from that of the index. */
 static int declare(sqlite3 *db, int is_text, char **error) {
     int is_utf8 = !is_text, code = SQLITE_OK;
     if (is_text)
@@ -174,25 +174,26 @@ static int declare(sqlite3 *db, int is_text, char **error) {
     return code == SQLITE_OK ? sqlite3_vtab_config(db, SQLITE_VTAB_CONSTRAINT_SUPPORT, 1) : code;
 }
 
-static int make_table(sqlite3 *db, struct connection *connection, const struct table_words *words, int is_new, table **made, char **error) {
-    int code = declare(db, words->wanted.is_text, error);
-    table *it = code == SQLITE_OK ? sqlite3_malloc(sizeof *it) : NULL;
-    if (!it)
+static int make_table(sqlite3 *db, struct connection *connection, const struct table_words *words, int is_new, struct hot_table **made,
+                      char **error) {
+    int code = declare(db, words->settings.is_text, error);
+    struct hot_table *table = code == SQLITE_OK ? sqlite3_malloc(sizeof *table) : NULL;
+    if (!table)
         return code == SQLITE_OK ? SQLITE_NOMEM : code;
-    memset(it, 0, sizeof *it);
-    if (!(it->definition = (is_new ? connection_create : connection_join)(connection, words, &code, error))) {
-        sqlite3_free(it);
+    memset(table, 0, sizeof *table);
+    if (!(table->definition = (is_new ? connection_create : connection_join)(connection, words, &code, error))) {
+        sqlite3_free(table);
         return code;
     }
-    it->db = db;
-    it->member.connection = connection_use(db);
-    it->is_text = words->wanted.is_text;
-    it->keys = (double)shared_made_as(it->definition->has->part.shared)->keys;
-    *made = it;
+    table->db = db;
+    table->member.connection = connection_use(db);
+    table->is_text = words->settings.is_text;
+    table->keys = (double)shared_made_as(table->definition->has->part.shared)->keys;
+    *made = table;
     return SQLITE_OK;
 }
 
-/* The arguments, one after another, where they may be changed: NULL if there is no memory. */
+/* A copy of the arguments, one after another: NULL if there is no memory. */
 static char *copy_of(int count, const char *const *words) {
     size_t size = 1;
     char *all, *to;
@@ -205,11 +206,11 @@ static char *copy_of(int count, const char *const *words) {
     return all;
 }
 
-/* Reads what the table is made with, and makes it. */
+/* Reads the arguments of a table, and makes it. */
 static int read_table(sqlite3 *db, struct connection *connection, int count, const char *const *words, int is_new, sqlite3_vtab **made,
                       char **error) {
     struct table_words with = {words[1], words[2], NULL, {10000, 24, 1, 16, 1}, 0, 0, 0};
-    table *it = NULL;
+    struct hot_table *table = NULL;
     char *all = copy_of(count - 3, words + 3), *text = all;
     int at, code = all ? SQLITE_OK : SQLITE_NOMEM;
     for (at = 3; at < count && code == SQLITE_OK; at++) {
@@ -220,47 +221,47 @@ static int read_table(sqlite3 *db, struct connection *connection, int count, con
         text += strlen(words[at]) + 1;
     }
     if (code == SQLITE_OK)
-        code = make_table(db, connection, &with, is_new, &it, error);
+        code = make_table(db, connection, &with, is_new, &table, error);
     sqlite3_free(all);
-    *made = it ? &it->member.base : NULL;
+    *made = table ? &table->member.base : NULL;
     return code;
 }
 
-static int create_table(sqlite3 *db, void *of, int count, const char *const *words, sqlite3_vtab **made, char **error) {
-    return read_table(db, of, count, words, 1, made, error);
+static int create_table(sqlite3 *db, void *connection, int count, const char *const *words, sqlite3_vtab **made, char **error) {
+    return read_table(db, connection, count, words, 1, made, error);
 }
 
-static int connect_table(sqlite3 *db, void *of, int count, const char *const *words, sqlite3_vtab **made, char **error) {
-    return read_table(db, of, count, words, 0, made, error);
+static int connect_table(sqlite3 *db, void *connection, int count, const char *const *words, sqlite3_vtab **made, char **error) {
+    return read_table(db, connection, count, words, 0, made, error);
 }
 
 static int disconnect_table(sqlite3_vtab *vtab) {
-    table *it = (table *)vtab;
-    connection_leave(it->member.connection, it->definition);
-    connection_end_use(it->member.connection);
-    sqlite3_free(it);
+    struct hot_table *table = (struct hot_table *)vtab;
+    connection_leave(table->member.connection, table->definition);
+    connection_end_use(table->member.connection);
+    sqlite3_free(table);
     return SQLITE_OK;
 }
 
 static int drop_table(sqlite3_vtab *vtab) {
-    table *it = (table *)vtab;
-    int code = connection_drop(it->member.connection, it->definition);
+    struct hot_table *table = (struct hot_table *)vtab;
+    int code = connection_drop(table->member.connection, table->definition);
     return code == SQLITE_OK ? disconnect_table(vtab) : code;
 }
 
 static int rename_table(sqlite3_vtab *vtab, const char *name) {
-    table *it = (table *)vtab;
-    return connection_rename(it->member.connection, it->definition, name);
+    struct hot_table *table = (struct hot_table *)vtab;
+    return connection_rename(table->member.connection, table->definition, name);
 }
 
 /* ---- Plans ---- */
 
-/* What a constraint on the key gives a cursor: how to go, or 0. */
+/* The part of a plan that serves a constraint: EQUAL, FROM or UPTO; or 0 if none does. */
 static int way_of(sqlite3_index_info *plan, int at) {
-    const struct sqlite3_index_constraint *it = &plan->aConstraint[at];
-    if (it->iColumn != 0 || !it->usable)
+    const struct sqlite3_index_constraint *constraint = &plan->aConstraint[at];
+    if (constraint->iColumn != 0 || !constraint->usable)
         return 0;
-    switch (it->op) {
+    switch (constraint->op) {
     case SQLITE_INDEX_CONSTRAINT_EQ: return EQUAL;
     case SQLITE_INDEX_CONSTRAINT_GT:
     case SQLITE_INDEX_CONSTRAINT_GE: return FROM;
@@ -275,19 +276,19 @@ static int is_strict(const sqlite3_index_info *plan, int at) {
     return plan->aConstraint[at].op == SQLITE_INDEX_CONSTRAINT_GT || plan->aConstraint[at].op == SQLITE_INDEX_CONSTRAINT_LT;
 }
 
-/* Whether SQLite knows already that the value is of the keys' type. Then the scan has just the rows that are asked for. */
-static int is_exact(const table *of, sqlite3_index_info *plan, int at) {
+/* Whether SQLite knows already that the value has the type of keys. Then the scan lists exactly the rows that satisfy the constraint. */
+static int is_exact(const struct hot_table *table, sqlite3_index_info *plan, int at) {
 #if SQLITE_VERSION_NUMBER >= 3038000
     sqlite3_value *value;
     return sqlite3_libversion_number() >= 3038000 && sqlite3_vtab_rhs_value(plan, at, &value) == SQLITE_OK &&
-           sqlite3_value_type(value) == (of->is_text ? SQLITE_TEXT : SQLITE_BLOB);
+           sqlite3_value_type(value) == (table->is_text ? SQLITE_TEXT : SQLITE_BLOB);
 #else
-    (void)of, (void)plan, (void)at;
+    (void)table, (void)plan, (void)at;
     return 0;
 #endif
 }
 
-/* The first constraint of this way by a collation: -1 if there is none. */
+/* The first constraint of this kind and collation: -1 if there is none. */
 static int find_constraint(sqlite3_index_info *plan, int way, const char *collation) {
     int at;
     for (at = 0; at < plan->nConstraint; at++)
@@ -296,7 +297,7 @@ static int find_constraint(sqlite3_index_info *plan, int way, const char *collat
     return -1;
 }
 
-/* What a query plan says of it. */
+/* The text of a plan in EXPLAIN QUERY PLAN. */
 static char *text_of(int way) {
     static const char *const texts[] = {"all keys", "key=?", "key>?", "", "key<?", "", "key>? AND key<?", "", "key LIKE ?"};
     static const char *const falling[] = {"all keys, falling", "key=?", "key>?, falling",          "",
@@ -305,18 +306,17 @@ static char *text_of(int way) {
     return (char *)((way & FALLING) ? falling[kind] : texts[kind]);
 }
 
-/* Has a bound be the value of this number: what it adds to the way. */
-static int use_bound(const table *of, sqlite3_index_info *plan, int at, int number) {
+/* Passes a bound to the scan as its argument of this number. Returns what the bound adds to the plan. */
+static int use_bound(const struct hot_table *table, sqlite3_index_info *plan, int at, int number) {
     int is_from = way_of(plan, at) == FROM;
     plan->aConstraintUsage[at].argvIndex = number;
-    plan->aConstraintUsage[at].omit = (unsigned char)is_exact(of, plan, at);
+    plan->aConstraintUsage[at].omit = (unsigned char)is_exact(table, plan, at);
     return is_from ? FROM | (is_strict(plan, at) ? ABOVE : 0) : UPTO | (is_strict(plan, at) ? BELOW : 0);
 }
 
-/* SQLite makes a range of LIKE and GLOB, if they are its own: that of LIKE is one by NOCASE, without its end, of text that begins with some
- * letters. It checks each row again, unless a bound is exact: so of several constraints of a kind one is enough, and a range may be wider than
- * what was asked for. */
-static int choose(const table *of, sqlite3_index_info *plan, double *rows) {
+/* Chooses the plan of a scan. SQLite turns its own LIKE and GLOB into ranges: LIKE into one by NOCASE whose upper bound is exclusive. SQLite
+ * checks each row again, unless a bound is exact. So one constraint of each kind is enough, and a scan may list more than the query's rows. */
+static int choose(const struct hot_table *table, sqlite3_index_info *plan, double *rows) {
     int equal = find_constraint(plan, EQUAL, "BINARY");
     int from = find_constraint(plan, FROM, "BINARY"), upto = find_constraint(plan, UPTO, "BINARY");
     int way = 0;
@@ -328,7 +328,7 @@ static int choose(const table *of, sqlite3_index_info *plan, double *rows) {
     if (from < 0 && upto < 0) {
         from = find_constraint(plan, FROM, "NOCASE");
         upto = find_constraint(plan, UPTO, "NOCASE");
-        if (from < 0 || upto < 0 || !is_strict(plan, upto) || !of->is_text)
+        if (from < 0 || upto < 0 || !is_strict(plan, upto) || !table->is_text)
             return 0;
         plan->aConstraintUsage[from].argvIndex = 1;
         plan->aConstraintUsage[upto].argvIndex = 2;
@@ -337,13 +337,13 @@ static int choose(const table *of, sqlite3_index_info *plan, double *rows) {
     }
     *rows /= from >= 0 && upto >= 0 ? OF_RANGE : OF_HALF;
     if (from >= 0)
-        way |= use_bound(of, plan, from, 1);
+        way |= use_bound(table, plan, from, 1);
     if (upto >= 0)
-        way |= use_bound(of, plan, upto, from >= 0 ? 2 : 1);
+        way |= use_bound(table, plan, upto, from >= 0 ? 2 : 1);
     return way;
 }
 
-/* LIMITED if the query has LIMIT or OFFSET, and SQLite says so. */
+/* LIMITED if SQLite says that the query has LIMIT or OFFSET. */
 static int limit_of(const sqlite3_index_info *plan) {
     int at;
     for (at = 0; at < plan->nConstraint; at++) {
@@ -355,13 +355,12 @@ static int limit_of(const sqlite3_index_info *plan) {
     return 0;
 }
 
-/* A table may have more rows than it was made for. */
 static int best_index(sqlite3_vtab *vtab, sqlite3_index_info *plan) {
-    const table *it = (table *)vtab;
-    const double there = (double)part_len(&it->definition->has->part);
-    double rows = there > it->keys ? there : it->keys;
-    int way = choose(it, plan, &rows) | limit_of(plan);
-    /* CASELESS goes in rising order alone. Keys are different: what comes after the key in ORDER BY makes no difference. */
+    const struct hot_table *table = (struct hot_table *)vtab;
+    const double there = (double)part_len(&table->definition->has->part);
+    double rows = there > table->keys ? there : table->keys; /* a table may have grown */
+    int way = choose(table, plan, &rows) | limit_of(plan);
+    /* CASELESS lists in rising order alone. Keys are distinct, so terms of ORDER BY after the key change nothing. */
     if (plan->nOrderBy > 0 && plan->aOrderBy[0].iColumn == 0 && !(way & CASELESS && plan->aOrderBy[0].desc)) {
         way |= plan->aOrderBy[0].desc ? FALLING : 0;
         plan->orderByConsumed = 1;
@@ -376,93 +375,93 @@ static int best_index(sqlite3_vtab *vtab, sqlite3_index_info *plan) {
 /* ---- Cursors ---- */
 
 static int open_cursor(sqlite3_vtab *vtab, sqlite3_vtab_cursor **made) {
-    cursor *it = sqlite3_malloc(sizeof *it);
+    struct scan *scan = sqlite3_malloc(sizeof *scan);
     (void)vtab;
-    if (!it)
+    if (!scan)
         return SQLITE_NOMEM;
-    memset(it, 0, sizeof *it);
-    if (!(it->page.heads = sqlite3_malloc64(PAGE * (sizeof *it->page.heads + HOT_MAX_KEY)))) {
-        sqlite3_free(it);
+    memset(scan, 0, sizeof *scan);
+    if (!(scan->page.heads = sqlite3_malloc64(PAGE * (sizeof *scan->page.heads + HOT_MAX_KEY)))) {
+        sqlite3_free(scan);
         return SQLITE_NOMEM;
     }
-    it->page.bytes = (uint8_t *)(it->page.heads + PAGE);
-    *made = &it->base;
+    scan->page.bytes = (uint8_t *)(scan->page.heads + PAGE);
+    *made = &scan->base;
     return SQLITE_OK;
 }
 
-static int close_cursor(sqlite3_vtab_cursor *of) {
-    cursor *it = (cursor *)of;
-    sqlite3_free(it->page.heads);
-    sqlite3_free(it);
+static int close_cursor(sqlite3_vtab_cursor *cursor) {
+    struct scan *scan = (struct scan *)cursor;
+    sqlite3_free(scan->page.heads);
+    sqlite3_free(scan);
     return SQLITE_OK;
 }
 
-static struct part *part_of(cursor *it) {
-    return &((table *)it->base.pVtab)->definition->has->part;
+static struct part *part_of(struct scan *scan) {
+    return &((struct hot_table *)scan->base.pVtab)->definition->has->part;
 }
 
-/* Has the page so many rows, of which the first one is next. */
-static void begin_page(cursor *it, size_t count) {
-    it->page.count = count;
-    it->row = it->page.heads;
-    it->last = it->row + (count && !it->folded.length ? count - 1 : 0);
-    it->key = it->page.bytes;
+/* Sets the page's number of rows, and goes to its first row. */
+static void begin_page(struct scan *scan, size_t count) {
+    scan->page.count = count;
+    scan->row = scan->page.heads;
+    scan->last = scan->row + (count && !scan->folded.length ? count - 1 : 0);
+    scan->key = scan->page.bytes;
 }
 
-static int load(cursor *it) {
-    hot_status status = part_list(part_of(it), &it->from, &it->upto, it->falls, &it->page);
-    begin_page(it, status == HOT_DONE ? it->page.count : 0);
-    return status == HOT_DONE ? SQLITE_OK : refused(it->base.pVtab, status);
+static int load(struct scan *scan) {
+    hot_status status = part_list(part_of(scan), &scan->from, &scan->upto, scan->falls, &scan->page);
+    begin_page(scan, status == HOT_DONE ? scan->page.count : 0);
+    return status == HOT_DONE ? SQLITE_OK : refused(scan->base.pVtab, status);
 }
 
-static int is_behind_page(const cursor *it) {
-    return it->row == it->page.heads + it->page.count;
+static int is_at_page_end(const struct scan *scan) {
+    return scan->row == scan->page.heads + scan->page.count;
 }
 
-static void pass_row(cursor *it) {
-    it->key += it->row->length;
-    it->row++;
+static void pass_row(struct scan *scan) {
+    scan->key += scan->row->length;
+    scan->row++;
 }
 
-/* Goes on behind the page, whose rows are passed: 0 if no key comes there. */
-static int go_beyond(cursor *it) {
-    size_t length = it->row[-1].length;
-    return key_beyond(it->key - length, length, it->falls, it->falls ? &it->upto : &it->from);
+/* Moves the range to what comes after the page, at whose end the scan is: 0 if no key may come there. */
+static int go_beyond(struct scan *scan) {
+    size_t length = scan->row[-1].length;
+    return key_beyond(scan->key - length, length, scan->falls, scan->falls ? &scan->upto : &scan->from);
 }
 
-/* Counts what comes after the page, if no column was read for long, so that none may be: 0 if it is to be listed. */
-static int count_rest(cursor *it) {
-    it->unread = it->is_read ? 0 : it->unread + it->page.count;
-    it->is_read = 0;
-    if (!it->counts || !it->unread || !part_count(part_of(it), &it->from, &it->upto, it->unread, &it->left))
+/* Counts the rows after the page, if no column was read for long: 0 if they are to be listed. */
+static int count_rest(struct scan *scan) {
+    scan->unread = scan->is_read ? 0 : scan->unread + scan->page.count;
+    scan->is_read = 0;
+    if (!scan->counts || !scan->unread || !part_count(part_of(scan), &scan->from, &scan->upto, scan->unread, &scan->left))
         return 0;
-    begin_page(it, 0);
-    it->passed = 0;
+    begin_page(scan, 0);
+    scan->passed = 0;
     return 1;
 }
 
-/* Loads what comes after the page. */
-static int load_next(cursor *it) {
-    it->page.limit = it->page.limit * 4 < PAGE ? it->page.limit * 4 : PAGE;
-    if (!go_beyond(it)) {
-        begin_page(it, 0);
+/* Loads the next page, or counts what is left. */
+static int load_next(struct scan *scan) {
+    scan->page.limit = scan->page.limit * 4 < PAGE ? scan->page.limit * 4 : PAGE;
+    if (!go_beyond(scan)) {
+        begin_page(scan, 0);
         return SQLITE_OK;
     }
-    return count_rest(it) ? SQLITE_OK : load(it);
+    return count_rest(scan) ? SQLITE_OK : load(scan);
 }
 
-/* Lists a row that was counted, of which a column is read after all, and those behind it. */
-static int list_counted(cursor *it) {
+/* Lists the current row, which was only counted, and the rows after it: a column is read after all. */
+static int list_counted(struct scan *scan) {
     int code;
-    it->left = 0;
-    it->page.limit = PAGE;
-    while ((code = load(it)) == SQLITE_OK) {
-        for (; it->passed && !is_behind_page(it); it->passed--)
-            pass_row(it);
-        if (!is_behind_page(it))
+    scan->left = 0;
+    scan->page.limit = PAGE;
+    while ((code = load(scan)) == SQLITE_OK) {
+        for (; scan->passed && !is_at_page_end(scan); scan->passed--)
+            pass_row(scan);
+        if (!is_at_page_end(scan))
             return SQLITE_OK;
-        if (!it->page.count || !it->page.more || !go_beyond(it))
-            return fails(it->base.pVtab, SQLITE_BUSY, "the row was removed meanwhile: try again");
+        if (!scan->page.count || !scan->page.more || !go_beyond(scan))
+            return fails(scan->base.pVtab, SQLITE_BUSY, "the row was removed meanwhile: try again");
     }
     return code;
 }
@@ -477,8 +476,8 @@ static uint8_t small_of(uint8_t byte) {
     return is_capital(byte) ? byte | 32 : byte;
 }
 
-/* The least bytes from the key on that are the folded ones, whatever their case, if the key doesn't begin so: 0 if there are none. If the key
- * does, they are its own. */
+/* Writes the least text, not below the key, that equals the folded one in all but case: 0 if there is none. If the key begins with such a text,
+ * that is written. */
 static int next_folded(const struct key_bound *folded, const uint8_t *key, size_t length, struct key_bound *to) {
     size_t at, can_rise = HOT_MAX_KEY;
     to->length = folded->length;
@@ -512,75 +511,75 @@ static int begins_so(const struct key_bound *folded, const uint8_t *key, size_t 
     return at == folded->length;
 }
 
-/* Goes on to a row that there is, for CASELESS to one that begins as it should. */
-static int find_row(cursor *it) {
+/* Goes to the next row of the scan, if the current one is the page's end or, by CASELESS, doesn't begin as the pattern does. */
+static int find_row(struct scan *scan) {
     int code = SQLITE_OK;
     for (;;) {
-        if (is_behind_page(it)) {
-            if (!it->page.count || !it->page.more)
+        if (is_at_page_end(scan)) {
+            if (!scan->page.count || !scan->page.more)
                 return code;
-            code = load_next(it);
-            if (it->left)
+            code = load_next(scan);
+            if (scan->left)
                 return code;
-        } else if (begins_so(&it->folded, it->key, it->row->length)) {
+        } else if (begins_so(&scan->folded, scan->key, scan->row->length)) {
             return code;
         } else {
-            if (!next_folded(&it->folded, it->key, it->row->length, &it->from)) {
-                begin_page(it, 0);
+            if (!next_folded(&scan->folded, scan->key, scan->row->length, &scan->from)) {
+                begin_page(scan, 0);
                 return SQLITE_OK;
             }
-            it->page.limit = FIRST_PAGE;
-            code = load(it);
+            scan->page.limit = FIRST_PAGE;
+            code = load(scan);
         }
         if (code != SQLITE_OK)
             return code;
     }
 }
 
-static void note_end(cursor *it) {
-    it->is_over = !it->left && is_behind_page(it);
+static void note_end(struct scan *scan) {
+    scan->is_over = !scan->left && is_at_page_end(scan);
 }
 
-/* Goes on from a row behind which may be none in the page. */
-__attribute__((noinline)) static int find_next_row(cursor *it) {
+/* Goes to the next row where that may not be in the page. */
+__attribute__((noinline)) static int find_next_row(struct scan *scan) {
     int code = SQLITE_OK;
-    if (it->left) {
-        it->left--;
-        it->passed++;
+    if (scan->left) {
+        scan->left--;
+        scan->passed++;
     } else {
-        pass_row(it);
-        code = find_row(it);
+        pass_row(scan);
+        code = find_row(scan);
     }
-    note_end(it);
+    note_end(scan);
     return code;
 }
 
-static int next_row(sqlite3_vtab_cursor *of) {
-    cursor *it = (cursor *)of;
-    if (it->row >= it->last)
-        return find_next_row(it);
-    pass_row(it);
+static int next_row(sqlite3_vtab_cursor *cursor) {
+    struct scan *scan = (struct scan *)cursor;
+    if (scan->row >= scan->last)
+        return find_next_row(scan);
+    pass_row(scan);
     return SQLITE_OK;
 }
 
-/* A value's bytes as a key has them: 0 if it is of another type. */
-static int bytes_of(const table *of, sqlite3_value *value, const uint8_t **bytes, size_t *length) {
-    if (sqlite3_value_type(value) != (of->is_text ? SQLITE_TEXT : SQLITE_BLOB))
+/* The bytes of a value as a key: 0 if its type is not that of keys. */
+static int bytes_of(const struct hot_table *table, sqlite3_value *value, const uint8_t **bytes, size_t *length) {
+    if (sqlite3_value_type(value) != (table->is_text ? SQLITE_TEXT : SQLITE_BLOB))
         return 0;
-    *bytes = of->is_text ? sqlite3_value_text(value) : sqlite3_value_blob(value);
+    *bytes = table->is_text ? sqlite3_value_text(value) : sqlite3_value_blob(value);
     *length = (size_t)sqlite3_value_bytes(value);
     if (!*bytes)
         *bytes = (const uint8_t *)"";
     return 1;
 }
 
-/* Makes a value the lower bound of a range, or the one just below it: one of another type sets none. 0 if no key is inside. */
-static int set_from(const table *of, sqlite3_value *value, int is_above, struct key_bound *from) {
+/* Sets the lower bound of a range, which `is_above` excludes. A value of another type sets none. 0 if no key is in the range. */
+static int set_from(const struct hot_table *table, sqlite3_value *value, int is_above, struct key_bound *from) {
     const uint8_t *bytes;
     size_t length;
     if (sqlite3_value_type(value) == SQLITE_NULL)
         return 0;
-    if (!bytes_of(of, value, &bytes, &length))
+    if (!bytes_of(table, value, &bytes, &length))
         return 1;
     if (is_above || length > HOT_MAX_KEY)
         return hot_after(bytes, length < HOT_MAX_KEY ? length : HOT_MAX_KEY, from->key, &from->length) == HOT_DONE;
@@ -589,13 +588,13 @@ static int set_from(const table *of, sqlite3_value *value, int is_above, struct 
     return 1;
 }
 
-/* The same for the upper bound, or the one just above it. */
-static int set_upto(const table *of, sqlite3_value *value, int is_below, struct key_bound *upto) {
+/* Sets the upper bound of a range, which `is_below` excludes, in the same way. */
+static int set_upto(const struct hot_table *table, sqlite3_value *value, int is_below, struct key_bound *upto) {
     const uint8_t *bytes;
     size_t length;
     if (sqlite3_value_type(value) == SQLITE_NULL)
         return 0;
-    if (!bytes_of(of, value, &bytes, &length))
+    if (!bytes_of(table, value, &bytes, &length))
         return 1;
     if (is_below && length <= HOT_MAX_KEY)
         return hot_before(bytes, length, upto->key, &upto->length) == HOT_DONE;
@@ -604,24 +603,24 @@ static int set_upto(const table *of, sqlite3_value *value, int is_below, struct 
     return 1;
 }
 
-/* If keys from the one value on and below the other, by NOCASE, are those that begin with the first one, whatever their case, the
- * scan is of these: else of all. */
-static void set_caseless(cursor *it, sqlite3_value *from, sqlite3_value *below) {
-    const table *of = (table *)it->base.pVtab;
+/* Makes the scan one of the keys that begin with `from` in any case, if these are the keys from `from` up to `below` by NOCASE. Else it stays one of
+ * all keys. */
+static void set_caseless(struct scan *scan, sqlite3_value *from, sqlite3_value *below) {
+    const struct hot_table *table = (struct hot_table *)scan->base.pVtab;
     const uint8_t *first, *end;
     size_t length, end_length, at;
-    if (!bytes_of(of, from, &first, &length) || !bytes_of(of, below, &end, &end_length) || length != end_length || length == 0)
+    if (!bytes_of(table, from, &first, &length) || !bytes_of(table, below, &end, &end_length) || length != end_length || length == 0)
         return;
     for (at = 0; at + 1 < length && small_of(first[at]) == small_of(end[at]); at++) {
     }
     if (at + 1 < length || small_of(first[at]) + 1 != small_of(end[at]))
         return;
     for (at = 0; at < length && at < HOT_MAX_KEY; at++) {
-        it->from.key[at] = capital_of(first[at]);
-        it->upto.key[at] = small_of(first[at]);
+        scan->from.key[at] = capital_of(first[at]);
+        scan->upto.key[at] = small_of(first[at]);
     }
-    it->from.length = at;
-    it->folded = it->from;
+    scan->from.length = at;
+    scan->folded = scan->from;
 }
 
 /* Makes this pair all that the page has. */
@@ -633,137 +632,140 @@ static void set_page(struct key_page *page, const uint8_t *key, size_t length, u
     page->count = 1;
 }
 
-/* A single key: its row is the page. 0 if the value is of another type, so that all keys have to be looked at. */
-static int find_key(cursor *it, sqlite3_value *value, int *code) {
+/* Looks one key up, whose row becomes the page. 0 if the value has another type, so that SQLite has to compare all keys with it. */
+static int find_key(struct scan *scan, sqlite3_value *value, int *code) {
     const uint8_t *bytes;
     size_t length;
     uint64_t found;
     hot_status status;
-    if (!bytes_of((table *)it->base.pVtab, value, &bytes, &length))
+    if (!bytes_of((struct hot_table *)scan->base.pVtab, value, &bytes, &length))
         return 0;
-    status = part_get(part_of(it), bytes, length, &found);
+    status = part_get(part_of(scan), bytes, length, &found);
     if (status == HOT_FOUND)
-        set_page(&it->page, bytes, length, found);
-    *code = status == HOT_FOUND || status == HOT_ABSENT ? SQLITE_OK : refused(it->base.pVtab, status);
+        set_page(&scan->page, bytes, length, found);
+    *code = status == HOT_FOUND || status == HOT_ABSENT ? SQLITE_OK : refused(scan->base.pVtab, status);
     return 1;
 }
 
-/* Begins to go by the way. */
-static int begin_rows(cursor *it, int way, sqlite3_value **values) {
-    const table *from_table = (table *)it->base.pVtab;
-    int code = SQLITE_OK, has_keys = 1;
-    it->falls = (way & FALLING) != 0;
-    it->folded.length = it->from.length = it->page.more = 0;
-    begin_page(it, 0);
-    it->counts = !(way & (LIMITED | CASELESS));
-    it->is_read = 0;
-    it->unread = it->left = it->passed = 0;
-    it->upto.length = HOT_MAX_KEY;
-    memset(it->upto.key, 0xff, HOT_MAX_KEY);
-    it->page.limit = FIRST_PAGE;
-    if (way & EQUAL) {
-        if (sqlite3_value_type(values[0]) == SQLITE_NULL || find_key(it, values[0], &code))
-            return code;
-    }
-    if (way & FROM)
-        has_keys = set_from(from_table, *values++, way & ABOVE, &it->from);
-    if (way & UPTO)
-        has_keys = set_upto(from_table, *values, way & BELOW, &it->upto) && has_keys;
-    if (way & CASELESS)
-        set_caseless(it, values[0], values[1]);
-    if (!has_keys || (code = load(it)) != SQLITE_OK)
-        return code;
-    return find_row(it);
+/* Makes the scan one of all keys, which has no row yet. */
+static void begin_scan(struct scan *scan, int way) {
+    scan->from.length = scan->folded.length = 0;
+    scan->upto.length = HOT_MAX_KEY;
+    memset(scan->upto.key, 0xff, HOT_MAX_KEY);
+    scan->falls = (way & FALLING) != 0;
+    scan->page.limit = FIRST_PAGE;
+    scan->page.more = 0;
+    begin_page(scan, 0);
+    scan->counts = !(way & (LIMITED | CASELESS));
+    scan->is_read = 0;
+    scan->unread = scan->left = scan->passed = 0;
 }
 
-static int filter_rows(sqlite3_vtab_cursor *of, int way, const char *text, int count, sqlite3_value **values) {
-    cursor *it = (cursor *)of;
-    int code = begin_rows(it, way, values);
+/* Goes to the first row of a plan, whose bounds have these values. */
+static int begin_rows(struct scan *scan, int way, sqlite3_value **values) {
+    const struct hot_table *table = (struct hot_table *)scan->base.pVtab;
+    int code = SQLITE_OK, has_keys = 1;
+    begin_scan(scan, way);
+    if (way & EQUAL && (sqlite3_value_type(values[0]) == SQLITE_NULL || find_key(scan, values[0], &code)))
+        return code;
+    if (way & CASELESS)
+        set_caseless(scan, values[0], values[1]);
+    if (way & FROM)
+        has_keys = set_from(table, *values++, way & ABOVE, &scan->from);
+    if (way & UPTO)
+        has_keys = set_upto(table, *values, way & BELOW, &scan->upto) && has_keys;
+    if (!has_keys || (code = load(scan)) != SQLITE_OK)
+        return code;
+    return find_row(scan);
+}
+
+static int filter_rows(sqlite3_vtab_cursor *cursor, int way, const char *text, int count, sqlite3_value **values) {
+    struct scan *scan = (struct scan *)cursor;
+    int code = begin_rows(scan, way, values);
     (void)text;
     (void)count;
-    note_end(it);
+    note_end(scan);
     return code;
 }
 
-static int is_at_end(sqlite3_vtab_cursor *of) {
-    return ((const cursor *)of)->is_over;
+static int is_at_end(sqlite3_vtab_cursor *cursor) {
+    return ((const struct scan *)cursor)->is_over;
 }
 
-static sqlite3_int64 value_of_row(const cursor *it) {
-    return (sqlite3_int64)it->row->value;
+static sqlite3_int64 value_of_row(const struct scan *scan) {
+    return (sqlite3_int64)scan->row->value;
 }
 
-/* The key, or a column of a row that was counted. */
-__attribute__((noinline)) static int other_column(cursor *it, sqlite3_context *to, int number) {
-    int code = it->left ? list_counted(it) : SQLITE_OK;
+/* Gives SQLite the key, or a column of a row that was counted. */
+__attribute__((noinline)) static int other_column(struct scan *scan, sqlite3_context *to, int number) {
+    int code = scan->left ? list_counted(scan) : SQLITE_OK;
     if (code != SQLITE_OK)
         return code;
     if (number == VALUE)
-        sqlite3_result_int64(to, value_of_row(it));
-    else if (((table *)it->base.pVtab)->is_text)
-        sqlite3_result_text(to, (const char *)it->key, it->row->length, SQLITE_TRANSIENT);
+        sqlite3_result_int64(to, value_of_row(scan));
+    else if (((struct hot_table *)scan->base.pVtab)->is_text)
+        sqlite3_result_text(to, (const char *)scan->key, scan->row->length, SQLITE_TRANSIENT);
     else
-        sqlite3_result_blob(to, it->key, it->row->length, SQLITE_TRANSIENT);
+        sqlite3_result_blob(to, scan->key, scan->row->length, SQLITE_TRANSIENT);
     return SQLITE_OK;
 }
 
-static int column_of(sqlite3_vtab_cursor *of, sqlite3_context *to, int number) {
-    cursor *it = (cursor *)of;
-    it->is_read = 1;
-    if (number != VALUE || it->left)
-        return other_column(it, to, number);
-    sqlite3_result_int64(to, value_of_row(it));
+static int column_of(sqlite3_vtab_cursor *cursor, sqlite3_context *to, int number) {
+    struct scan *scan = (struct scan *)cursor;
+    scan->is_read = 1;
+    if (number != VALUE || scan->left)
+        return other_column(scan, to, number);
+    sqlite3_result_int64(to, value_of_row(scan));
     return SQLITE_OK;
 }
 
-static int rowid_of(sqlite3_vtab_cursor *of, sqlite3_int64 *number) {
-    (void)of;
+static int rowid_of(sqlite3_vtab_cursor *cursor, sqlite3_int64 *number) {
+    (void)cursor;
     *number = 0;
     return SQLITE_ERROR; /* the table is WITHOUT ROWID */
 }
 
 /* ---- Changes ---- */
 
-static int take(table *it, const uint8_t *key, size_t length) {
-    hot_status status = length > HOT_MAX_KEY ? HOT_ABSENT : part_remove(&it->definition->has->part, key, length);
-    return status == HOT_REMOVED || status == HOT_ABSENT ? SQLITE_OK : refused(&it->member.base, status);
+static int take(struct hot_table *table, const uint8_t *key, size_t length) {
+    hot_status status = length > HOT_MAX_KEY ? HOT_ABSENT : part_remove(&table->definition->has->part, key, length);
+    return status == HOT_REMOVED || status == HOT_ABSENT ? SQLITE_OK : refused(&table->member.base, status);
 }
 
-static int put(table *it, const uint8_t *key, size_t length, sqlite3_int64 value, int replaces) {
-    hot_status status = length > HOT_MAX_KEY ? HOT_KEY_TOO_LONG : part_put(&it->definition->has->part, key, length, (uint64_t)value, replaces);
+static int put(struct hot_table *table, const uint8_t *key, size_t length, sqlite3_int64 value, int replaces) {
+    hot_status status = length > HOT_MAX_KEY ? HOT_KEY_TOO_LONG : part_put(&table->definition->has->part, key, length, (uint64_t)value, replaces);
     if (status == HOT_EXISTS) {
-        if (sqlite3_vtab_on_conflict(it->db) == SQLITE_IGNORE)
+        if (sqlite3_vtab_on_conflict(table->db) == SQLITE_IGNORE)
             return SQLITE_CONSTRAINT;
-        return fails(&it->member.base, SQLITE_CONSTRAINT, "UNIQUE constraint failed: key");
+        return fails(&table->member.base, SQLITE_CONSTRAINT, "UNIQUE constraint failed: key");
     }
-    return status == HOT_INSERTED || status == HOT_NEW || status == HOT_WAS ? SQLITE_OK : refused(&it->member.base, status);
+    return status == HOT_INSERTED || status == HOT_NEW || status == HOT_WAS ? SQLITE_OK : refused(&table->member.base, status);
 }
 
-/* Refuses a key or value of another type. A row that breaks a constraint is left out by OR IGNORE. As in a STRICT table it leaves out one with
- * NULL, but none of another type. */
-static int refuse_type(table *it, sqlite3_value *value, const char *text) {
+/* Refuses a key or value of another type. As in a STRICT table, OR IGNORE leaves out a row with NULL, and refuses one with another type. */
+static int refuse_type(struct hot_table *table, sqlite3_value *value, const char *text) {
     int is_null = sqlite3_value_type(value) == SQLITE_NULL;
-    int is_mismatch = !is_null && sqlite3_vtab_on_conflict(it->db) == SQLITE_IGNORE;
-    return fails(&it->member.base, is_mismatch ? SQLITE_MISMATCH : SQLITE_CONSTRAINT_DATATYPE, text);
+    int is_mismatch = !is_null && sqlite3_vtab_on_conflict(table->db) == SQLITE_IGNORE;
+    return fails(&table->member.base, is_mismatch ? SQLITE_MISMATCH : SQLITE_CONSTRAINT_DATATYPE, text);
 }
 
 static int update_row(sqlite3_vtab *vtab, int count, sqlite3_value **values, sqlite3_int64 *number) {
-    table *it = (table *)vtab;
+    struct hot_table *table = (struct hot_table *)vtab;
     const uint8_t *key = NULL, *old = NULL;
     size_t length = 0, old_length = 0;
-    int has_old = bytes_of(it, values[0], &old, &old_length), is_same, code;
+    int has_old = bytes_of(table, values[0], &old, &old_length), is_same, code;
     sqlite3_int64 value;
     (void)number;
     if (count == 1)
-        return has_old ? take(it, old, old_length) : SQLITE_OK;
-    if (!bytes_of(it, values[2], &key, &length))
-        return refuse_type(it, values[2], it->is_text ? "a key must be text" : "a key must be a blob");
+        return has_old ? take(table, old, old_length) : SQLITE_OK;
+    if (!bytes_of(table, values[2], &key, &length))
+        return refuse_type(table, values[2], table->is_text ? "a key must be text" : "a key must be a blob");
     if (sqlite3_value_numeric_type(values[3]) != SQLITE_INTEGER)
-        return refuse_type(it, values[3], "a value must be an integer");
+        return refuse_type(table, values[3], "a value must be an integer");
     value = sqlite3_value_int64(values[3]);
     is_same = has_old && old_length == length && memcmp(old, key, length) == 0;
-    code = put(it, key, length, value, is_same || sqlite3_vtab_on_conflict(it->db) == SQLITE_REPLACE);
-    return code == SQLITE_OK && has_old && !is_same ? take(it, old, old_length) : code;
+    code = put(table, key, length, value, is_same || sqlite3_vtab_on_conflict(table->db) == SQLITE_REPLACE);
+    return code == SQLITE_OK && has_old && !is_same ? take(table, old, old_length) : code;
 }
 
 static const sqlite3_module module = {
@@ -790,7 +792,7 @@ static const sqlite3_module module = {
     .xRollbackTo = connection_roll_back_to,
 };
 
-/* Sets what SQLite's calls go by, once for all connections, since other threads may make such calls already. */
+/* Sets the table of SQLite's calls, once for all connections: other threads may be using it. */
 static void set_api(const sqlite3_api_routines *api) {
     static pthread_mutex_t mutex = PTHREAD_MUTEX_INITIALIZER;
     pthread_mutex_lock(&mutex);
@@ -799,7 +801,7 @@ static void set_api(const sqlite3_api_routines *api) {
     pthread_mutex_unlock(&mutex);
 }
 
-/* What .load and sqlite3_load_extension call: the only name that the library shows. A connection may load it again. */
+/* What .load and sqlite3_load_extension call: the library's only public name. A connection may load the library twice. */
 __attribute__((visibility("default"))) int sqlite3_hottable_init(sqlite3 *db, char **error, const sqlite3_api_routines *api) {
     struct connection *connection;
     int code;

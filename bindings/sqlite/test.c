@@ -1,6 +1,5 @@
-/* Tests hot_table.so beside ordinary tables: by random statements, also by ones that count, or create and drop tables, by all comparisons of
- * the key in twos, by transactions of which another connection takes the room, by refusing each allocation, and by threads with a
- * connection each.
+/* Tests hot_table.so beside ordinary tables: random statements, also ones that count, or create and drop tables; all pairs of comparisons of the
+ * key; transactions whose room another connection tries to take; each allocation refused in turn; and threads, each with a connection.
  *
  *     test HOT_TABLE.so [threads]     the threads alone
  *
@@ -37,13 +36,13 @@ static int run(sqlite3 *db, const char *form, ...) {
     return code;
 }
 
-/* Runs a statement that is to have this status. */
-static void want(sqlite3 *db, int wanted, const char *sql) {
-    if (run(db, "%s", sql) != wanted)
+/* Runs a statement, which returns this status. */
+static void expect(sqlite3 *db, int expected, const char *sql) {
+    if (run(db, "%s", sql) != expected)
         fail(sql, sqlite3_errmsg(db));
 }
 
-/* The first column of the first row as a text, which is to be freed. */
+/* The first column of the first row as a text, which the caller frees. */
 static char *answer(sqlite3 *db, const char *form, ...) {
     va_list words;
     sqlite3_stmt *query;
@@ -66,7 +65,7 @@ static int number(sqlite3 *db, const char *sql) {
     return found;
 }
 
-/* A connection to a file that has loaded the library. */
+/* Opens a connection to a file, which loads the library. */
 static sqlite3 *open_file(const char *file) {
     sqlite3 *db;
     char *error = NULL;
@@ -75,13 +74,13 @@ static sqlite3 *open_file(const char *file) {
     sqlite3_enable_load_extension(db, 1);
     if (sqlite3_load_extension(db, library, NULL, &error) != SQLITE_OK)
         fail(library, error);
-    want(db, SQLITE_OK, "PRAGMA synchronous = OFF; PRAGMA journal_mode = MEMORY");
+    expect(db, SQLITE_OK, "PRAGMA synchronous = OFF; PRAGMA journal_mode = MEMORY");
     return db;
 }
 
 static const char *const ordinary_columns = "p(key TEXT PRIMARY KEY NOT NULL, value INTEGER NOT NULL) WITHOUT ROWID";
 
-/* A connection with a table t over the index of this name, and an ordinary table p. */
+/* Opens a connection with a table t made with these arguments, and an ordinary table p. */
 static sqlite3 *connect_to(const char *arguments) {
     sqlite3 *db = open_file(":memory:");
     if (run(db, "CREATE VIRTUAL TABLE t USING hot(%s)", arguments) != SQLITE_OK)
@@ -94,7 +93,7 @@ static sqlite3 *connect_to(const char *arguments) {
 /* ---- Memory that is refused ---- */
 
 static sqlite3_mem_methods memory;
-static int left = -1; /* how many allocations until one is refused; negative: none is */
+static int left = -1; /* the number of allocations before one is refused; negative if none is */
 
 static int is_refused(void) {
     return left >= 0 && left-- == 0;
@@ -118,7 +117,7 @@ static void make_memory_scarce(void) {
         fail("memory", "SQLite had some before");
 }
 
-/* Where libhot takes its memory from. */
+/* libhot asks these for memory. */
 void *__wrap_malloc(size_t size) {
     return is_refused() ? NULL : malloc(size);
 }
@@ -131,18 +130,18 @@ void *__wrap_realloc(void *at, size_t size) {
     return is_refused() ? NULL : realloc(at, size);
 }
 
-/* Refuses each allocation of these statements in turn: the rows are as they were, and the status tells it. */
+/* Refuses each allocation of these statements in turn: the rows stay as they were, and the status is SQLITE_NOMEM. */
 static void refused_memory(const char *sql) {
     for (int at = 0, is_done = 0; !is_done; at++) {
         sqlite3 *db = connect_to("keys=100, connections=2");
         char *rows;
         int code;
-        want(db, SQLITE_OK, "INSERT INTO t VALUES ('a', 1), ('b', 2)");
+        expect(db, SQLITE_OK, "INSERT INTO t VALUES ('a', 1), ('b', 2)");
         left = at;
         code = sqlite3_exec(db, sql, NULL, NULL, NULL);
         is_done = left >= 0;
         left = -1;
-        /* SQLite does without some of it. */
+        /* SQLite goes on without some allocations. */
         if (code != SQLITE_NOMEM && code != SQLITE_OK)
             fail(sql, sqlite3_errmsg(db));
         run(db, "ROLLBACK");
@@ -154,14 +153,14 @@ static void refused_memory(const char *sql) {
     }
 }
 
-/* Refuses each allocation of a statement within a transaction in turn: if it goes on, then with what it had before. */
+/* Refuses each allocation of a statement within a transaction in turn: if the transaction goes on, it still has its earlier changes. */
 static void refused_statement(const char *before) {
     for (int at = 0, is_done = 0; !is_done; at++) {
         sqlite3 *db = connect_to("keys=100");
         int code;
-        want(db, SQLITE_OK, "CREATE VIRTUAL TABLE u USING hot(keys=100); INSERT INTO t VALUES ('a', 1); BEGIN");
-        want(db, SQLITE_OK, before);
-        want(db, SQLITE_OK, "INSERT INTO u VALUES ('b', 2); INSERT INTO t VALUES ('c', 3)");
+        expect(db, SQLITE_OK, "CREATE VIRTUAL TABLE u USING hot(keys=100); INSERT INTO t VALUES ('a', 1); BEGIN");
+        expect(db, SQLITE_OK, before);
+        expect(db, SQLITE_OK, "INSERT INTO u VALUES ('b', 2); INSERT INTO t VALUES ('c', 3)");
         left = at;
         code = sqlite3_exec(db, "INSERT INTO t VALUES ('d', 4), ('e', 5)", NULL, NULL, NULL);
         is_done = left >= 0;
@@ -183,7 +182,7 @@ static unsigned draw(unsigned *seed, unsigned below) {
     return (*seed >> 8) % below;
 }
 
-/* A word of few letters, behind a beginning. */
+/* Writes a beginning, and a random word of few letters after it. */
 static void draw_key(unsigned *seed, const char *begin, char *key) {
     size_t length = strlen(begin), end = length + draw(seed, 4);
     memcpy(key, begin, length);
@@ -192,7 +191,7 @@ static void draw_key(unsigned *seed, const char *begin, char *key) {
     key[end] = '\0';
 }
 
-/* A statement that changes the table that it is given. */
+/* Draws a change, as a format for the table and two keys. */
 static void draw_change(unsigned *seed, const char *begin, const char **form, char *one, char *two) {
     static const char *const forms[] = {
         "INSERT INTO %s VALUES ('%s', 1)",
@@ -212,7 +211,7 @@ static void draw_change(unsigned *seed, const char *begin, const char **form, ch
     *form = forms[draw(seed, sizeof forms / sizeof *forms)];
 }
 
-/* Both tables give the same rows. */
+/* Compares the rows of both tables for a random query. */
 static void compare(sqlite3 *db, unsigned *seed, const char *begin) {
     static const char *const forms[] = {
         "key >= '%s' AND key <= '%s' ORDER BY key",
@@ -242,7 +241,7 @@ static void compare(sqlite3 *db, unsigned *seed, const char *begin) {
     sqlite3_free(others);
 }
 
-/* Savepoints, and transactions within which they are: now and then one is begun, ended or taken back. */
+/* Begins, ends or rolls back a transaction or a savepoint. */
 static void draw_transaction(sqlite3 *db, unsigned *seed) {
     static const char *const forms[] = {
         "BEGIN",       "BEGIN",     "COMMIT",    "ROLLBACK",      "SAVEPOINT a",
@@ -255,7 +254,7 @@ static void random_statements(void) {
     sqlite3 *db = connect_to("name=random, keys=10000");
     unsigned seed = 1;
     /* A second table over the index. */
-    want(db, SQLITE_OK, "CREATE VIRTUAL TABLE u USING hot(name=random)");
+    expect(db, SQLITE_OK, "CREATE VIRTUAL TABLE u USING hot(name=random)");
     for (int turn = 0; turn < STATEMENTS; turn++) {
         char one[16], two[16];
         const char *form;
@@ -281,7 +280,7 @@ static void every(sqlite3_context *to, int count, sqlite3_value **values) {
     sqlite3_result_int(to, ++*calls % sqlite3_value_int(values[0]) == 0);
 }
 
-/* How many columns of the table a query may read of each row. */
+/* The number of the table's columns that a query may read. */
 static int columns_read(sqlite3 *db, const char *sql) {
     sqlite3_stmt *query;
     char *text = sqlite3_mprintf("EXPLAIN %s", sql);
@@ -295,7 +294,7 @@ static int columns_read(sqlite3 *db, const char *sql) {
     return columns;
 }
 
-/* Both tables answer a query that passes rows without reading them. */
+/* Compares the answers of both tables to a query that passes rows without reading them. */
 static void compare_counts(sqlite3 *db, unsigned *seed, int *calls) {
     static const char *const forms[] = {
         "SELECT count(*) FROM %s",
@@ -330,19 +329,19 @@ static void compare_counts(sqlite3 *db, unsigned *seed, int *calls) {
     sqlite3_free(others);
 }
 
-/* Reads the key of a row that was counted, and that another connection has removed then: the query is refused, and changes nothing. */
+/* A query reads the key of a counted row that another connection has removed since: it is refused, and changes nothing. */
 static void counted_row_that_goes(void) {
     sqlite3 *db = connect_to("name=counted, keys=4000"), *other = connect_to("name=counted, keys=4000");
     sqlite3_stmt *query;
     int calls = 0;
-    want(db, SQLITE_OK, "INSERT INTO t WITH c(n) AS (SELECT 1 UNION ALL SELECT n + 1 FROM c WHERE n < 2000) SELECT 'k' || n, n FROM c");
+    expect(db, SQLITE_OK, "INSERT INTO t WITH c(n) AS (SELECT 1 UNION ALL SELECT n + 1 FROM c WHERE n < 2000) SELECT 'k' || n, n FROM c");
     if (sqlite3_create_function(db, "every", 1, SQLITE_UTF8, &calls, every, NULL, NULL) != SQLITE_OK ||
         sqlite3_prepare_v2(db, "SELECT CASE WHEN every(1001) THEN key END FROM t", -1, &query, NULL) != SQLITE_OK)
         fail("every", sqlite3_errmsg(db));
     for (int row = 0; row < 1000; row++)
         if (sqlite3_step(query) != SQLITE_ROW || sqlite3_column_type(query, 0) != SQLITE_NULL)
             fail("a counted row", sqlite3_errmsg(db));
-    want(other, SQLITE_OK, "DELETE FROM t");
+    expect(other, SQLITE_OK, "DELETE FROM t");
     if (sqlite3_step(query) != SQLITE_BUSY)
         fail("a counted row that is gone", sqlite3_errmsg(db));
     sqlite3_finalize(query);
@@ -363,9 +362,9 @@ static void counted_rows(void) {
     int calls = 0;
     if (sqlite3_create_function(db, "every", 1, SQLITE_UTF8, &calls, every, NULL, NULL) != SQLITE_OK)
         fail("every", sqlite3_errmsg(db));
-    want(db, SQLITE_OK, "INSERT INTO p WITH a(x) AS (VALUES (''), ('a'), ('b'), ('A'), ('z'), ('_'), ('~')), c(n) AS (SELECT 1 UNION "
+    expect(db, SQLITE_OK, "INSERT INTO p WITH a(x) AS (VALUES (''), ('a'), ('b'), ('A'), ('z'), ('_'), ('~')), c(n) AS (SELECT 1 UNION "
                         "ALL SELECT n + 1 FROM c WHERE n < 7) SELECT DISTINCT o.x || i.x || e.x || n || u.x, n FROM a o, a i, a e, a u, c WHERE n <> 3");
-    want(db, SQLITE_OK, "DELETE FROM p WHERE length(key) > 3 AND value > 2; INSERT INTO t SELECT * FROM p");
+    expect(db, SQLITE_OK, "DELETE FROM p WHERE length(key) > 3 AND value > 2; INSERT INTO t SELECT * FROM p");
     if (number(db, "SELECT count(*) FROM p") < 3000)
         fail("counted_rows", "few rows");
     for (int at = 0; at < (sqlite3_libversion_number() < 3038000 ? 1 : 3); at++)
@@ -373,14 +372,14 @@ static void counted_rows(void) {
             fail(unread[at], "it reads rows");
     for (int turn = 0; turn < 1000; turn++)
         compare_counts(db, &seed, &calls);
-    /* Most pages have removed rows alone. */
-    want(db, SQLITE_OK, "BEGIN; DELETE FROM t WHERE value > 1 AND key <> 'b2'; DELETE FROM p WHERE value > 1 AND key <> 'b2'");
+    /* Most pages consist of removed rows. */
+    expect(db, SQLITE_OK, "BEGIN; DELETE FROM t WHERE value > 1 AND key <> 'b2'; DELETE FROM p WHERE value > 1 AND key <> 'b2'");
     for (int turn = 0; turn < 300; turn++)
         compare_counts(db, &seed, &calls);
-    want(db, SQLITE_OK, "DELETE FROM t WHERE key > 'b' AND key < 'z'; DELETE FROM p WHERE key > 'b' AND key < 'z'");
+    expect(db, SQLITE_OK, "DELETE FROM t WHERE key > 'b' AND key < 'z'; DELETE FROM p WHERE key > 'b' AND key < 'z'");
     for (int turn = 0; turn < 600; turn++) {
         if (turn == 300)
-            want(db, SQLITE_OK, "ROLLBACK");
+            expect(db, SQLITE_OK, "ROLLBACK");
         compare_counts(db, &seed, &calls);
     }
     sqlite3_close(db);
@@ -391,7 +390,7 @@ static void counted_rows(void) {
 
 static const char *const all_rows = "SELECT group_concat(key || ' ' || value) FROM (SELECT * FROM t WHERE key < 'm' ORDER BY key)";
 
-/* How many keys could be inserted, one by one, until there were so many or the index was full. */
+/* Inserts keys one by one until there are `most`, or the index is full. Returns the number of insertions. */
 static int fill(sqlite3 *db, const char *begin, int most) {
     int count = 0, code = SQLITE_OK;
     while (count < most && (code = run(db, "INSERT INTO t VALUES ('%s%06d', %d)", begin, count, count)) == SQLITE_OK)
@@ -401,26 +400,26 @@ static int fill(sqlite3 *db, const char *begin, int most) {
     return count;
 }
 
-static void wants_rows(sqlite3 *db, const char *rows) {
+static void expect_rows(sqlite3 *db, const char *rows) {
     char *found = answer(db, "%s", all_rows);
     if (strcmp(found, rows) != 0)
         fail("after a transaction", found);
     sqlite3_free(found);
 }
 
-/* What a transaction removes keeps its room until COMMIT, so that no connection takes it, and ROLLBACK has all rows back. */
+/* Removed rows keep their room until COMMIT: no connection can take it, and ROLLBACK restores all rows. */
 static void room_of_removed_rows(const char *end) {
     sqlite3 *one = connect_to("name=rollback, keys=0, longest=24, grow=0"), *other = connect_to("name=rollback");
     int count = fill(one, "a", INT_MAX), is_kept = strcmp(end, "COMMIT") == 0;
     char *rows = answer(one, "%s", all_rows);
-    want(one, SQLITE_OK, "BEGIN; UPDATE t SET value = -1; SAVEPOINT s; DELETE FROM t; INSERT INTO t VALUES ('a000003', 5); DELETE FROM t");
+    expect(one, SQLITE_OK, "BEGIN; UPDATE t SET value = -1; SAVEPOINT s; DELETE FROM t; INSERT INTO t VALUES ('a000003', 5); DELETE FROM t");
     if (number(one, "SELECT count(*) FROM t") != 0 || number(other, "SELECT count(*) FROM t") != count)
         fail("removed rows", "their connection lists them, or another one doesn't");
     if (fill(other, "z", INT_MAX) != 0)
         fail("removed rows", "another connection has taken their room");
-    want(one, SQLITE_OK, end);
-    wants_rows(one, is_kept ? "" : rows);
-    wants_rows(other, is_kept ? "" : rows);
+    expect(one, SQLITE_OK, end);
+    expect_rows(one, is_kept ? "" : rows);
+    expect_rows(other, is_kept ? "" : rows);
     if (is_kept && fill(other, "z", INT_MAX) < count / 2)
         fail("removed rows", "they keep their room");
     sqlite3_free(rows);
@@ -428,62 +427,62 @@ static void room_of_removed_rows(const char *end) {
     sqlite3_close(other);
 }
 
-/* A row for which there is no room until COMMIT is refused at once, and nothing is lost. */
+/* A row that has no room until COMMIT is refused at once, and nothing is lost. */
 static void no_room_until_commit(void) {
-    static const char *const changes[] = {"INSERT INTO t VALUES ('z', 1)", "UPDATE t SET key = 'z' || key", "INSERT INTO t VALUES ('a000000', 1), ('z', 2)"};
+    static const char *const changes[] = {"INSERT INTO t VALUES ('z', 1)", "UPDATE t SET key = 'z' || key",
+                                          "INSERT INTO t VALUES ('a000000', 1), ('z', 2)"};
     sqlite3 *db = connect_to("keys=0, longest=24, grow=0");
     char *rows;
     int count = fill(db, "a", INT_MAX);
     rows = answer(db, "%s", all_rows);
     for (size_t at = 0; at < sizeof changes / sizeof *changes; at++) {
-        want(db, SQLITE_OK, "BEGIN; DELETE FROM t WHERE key < 'a000005'");
-        want(db, SQLITE_FULL, changes[at]);
+        expect(db, SQLITE_OK, "BEGIN; DELETE FROM t WHERE key < 'a000005'");
+        expect(db, SQLITE_FULL, changes[at]);
         if (!strstr(sqlite3_errmsg(db), "until COMMIT"))
             fail(changes[at], sqlite3_errmsg(db));
         run(db, "ROLLBACK");
-        wants_rows(db, rows);
+        expect_rows(db, rows);
     }
-    want(db, SQLITE_OK, "DELETE FROM t WHERE key < 'a000005'");
+    expect(db, SQLITE_OK, "DELETE FROM t WHERE key < 'a000005'");
     if (fill(db, "z", INT_MAX) < 1 || number(db, "SELECT count(*) FROM t WHERE key < 'm'") != count - 5)
         fail("room", "removed rows keep it after their transaction");
     sqlite3_free(rows);
     sqlite3_close(db);
 }
 
-/* A rollback leaves what other connections have changed since. */
+/* A rollback keeps what other connections have changed since. */
 static void rollback_beside_others(void) {
     sqlite3 *one = connect_to("name=beside"), *other = connect_to("name=beside");
-    want(one, SQLITE_OK, "INSERT INTO t VALUES ('a', 1), ('b', 2), ('c', 3), ('d', 4)");
-    want(one, SQLITE_OK, "BEGIN; UPDATE t SET value = value + 10; DELETE FROM t WHERE key >= 'c'; INSERT INTO t VALUES ('d', 40)");
-    want(other, SQLITE_OK, "UPDATE t SET value = 20 WHERE key = 'a'; DELETE FROM t WHERE key = 'b'; UPDATE t SET value = 30 WHERE key = 'c'");
-    want(one, SQLITE_OK, "ROLLBACK");
-    wants_rows(one, "a 20,c 30,d 4");
-    want(one, SQLITE_OK, "BEGIN; DELETE FROM t WHERE key = 'a'");
-    want(other, SQLITE_CONSTRAINT, "INSERT INTO t VALUES ('a', 5)");
-    want(other, SQLITE_OK, "DELETE FROM t WHERE key <> 'd'");
-    want(one, SQLITE_OK, "ROLLBACK");
-    wants_rows(other, "d 4");
+    expect(one, SQLITE_OK, "INSERT INTO t VALUES ('a', 1), ('b', 2), ('c', 3), ('d', 4)");
+    expect(one, SQLITE_OK, "BEGIN; UPDATE t SET value = value + 10; DELETE FROM t WHERE key >= 'c'; INSERT INTO t VALUES ('d', 40)");
+    expect(other, SQLITE_OK, "UPDATE t SET value = 20 WHERE key = 'a'; DELETE FROM t WHERE key = 'b'; UPDATE t SET value = 30 WHERE key = 'c'");
+    expect(one, SQLITE_OK, "ROLLBACK");
+    expect_rows(one, "a 20,c 30,d 4");
+    expect(one, SQLITE_OK, "BEGIN; DELETE FROM t WHERE key = 'a'");
+    expect(other, SQLITE_CONSTRAINT, "INSERT INTO t VALUES ('a', 5)");
+    expect(other, SQLITE_OK, "DELETE FROM t WHERE key <> 'd'");
+    expect(one, SQLITE_OK, "ROLLBACK");
+    expect_rows(other, "d 4");
     sqlite3_close(one);
     sqlite3_close(other);
 }
 
 /* ---- Threads ---- */
 
-/* What a thread of those at once has: its letter, and what the table is made with. */
+/* The first letter of a thread's keys, and the arguments of its table. */
 typedef struct one_thread {
     char begin[2];
     const char *arguments;
 } one_thread;
 
-/* Transactions of changes to keys that begin with the thread's letter: those of the ordinary table are the same, whatever is
- * refused. */
+/* Makes transactions that change keys with the thread's letter. Both tables have the same of these rows, whatever is refused. */
 static void *work(void *argument) {
     const char *begin = ((one_thread *)argument)->begin;
     sqlite3 *db = connect_to(((one_thread *)argument)->arguments);
     unsigned seed = (unsigned char)*begin;
     for (int round = 0; round < ROUNDS; round++) {
         int is_full = 0;
-        want(db, SQLITE_OK, "BEGIN");
+        expect(db, SQLITE_OK, "BEGIN");
         for (unsigned left = 1 + draw(&seed, 30); left > 0 && !is_full; left--) {
             char one[16], two[16];
             const char *form;
@@ -502,7 +501,7 @@ static void *work(void *argument) {
     return NULL;
 }
 
-/* A key that all threads want is there, and keys come and go that fill the index, or have it grow to so many. */
+/* Threads make transactions while other keys fill the index, or grow it to `most` more, and go again. */
 static void threads_at_once(const char *arguments, int most) {
     sqlite3 *db = connect_to(arguments);
     pthread_t threads[THREADS];
@@ -514,17 +513,17 @@ static void threads_at_once(const char *arguments, int most) {
     }
     for (int round = 0; round < 8; round++) {
         int count = fill(db, "z", most);
-        want(db, SQLITE_OK, "BEGIN; DELETE FROM t WHERE key > 'm'; ROLLBACK");
+        expect(db, SQLITE_OK, "BEGIN; DELETE FROM t WHERE key > 'm'; ROLLBACK");
         if (number(db, "SELECT count(*) FROM t WHERE key > 'm'") != count)
             fail("threads", "a rollback did not put all back");
-        want(db, SQLITE_OK, "DELETE FROM t WHERE key > 'm'");
+        expect(db, SQLITE_OK, "DELETE FROM t WHERE key > 'm'");
     }
     for (int at = 0; at < THREADS; at++)
         pthread_join(threads[at], NULL);
     sqlite3_close(db);
 }
 
-/* Where the room is tight, and where it grows. */
+/* In an index that is full again and again, and in one that grows. */
 static void all_threads(void) {
     threads_at_once("name=threads, keys=0, longest=24, connections=5, grow=0", INT_MAX);
     threads_at_once("name=threads, keys=0, longest=24, connections=5", 3000);
@@ -538,7 +537,7 @@ static void new_scratch(void) {
     remove(scratch);
 }
 
-/* What a connection sees in both tables: whether they are there, and their rows. */
+/* Compares what a connection sees of both tables: whether they exist, and their rows. */
 static void compare_tables(sqlite3 *db, const char *after) {
     static const char *const form =
         "SELECT count(*) || ' ' || ifnull(group_concat(key || value, ' '), '') FROM (SELECT * FROM %s ORDER BY key)";
@@ -558,7 +557,7 @@ static void compare_tables(sqlite3 *db, const char *after) {
     sqlite3_free(other);
 }
 
-/* Runs a statement for each table: both have the same status. It says it. */
+/* Runs a statement for each table, and compares and returns their statuses. */
 static int run_both(sqlite3 *db, const char *mine, const char *others) {
     int code = run(db, "%s", mine), other = run(db, "%s", others);
     if (code != other)
@@ -566,7 +565,7 @@ static int run_both(sqlite3 *db, const char *mine, const char *others) {
     return code;
 }
 
-/* What else a connection may do: none of it shows in the two tables, except that a change of temp_store drops those that are in temp. */
+/* Makes another change: it leaves both tables as they are, or changes both. */
 static void change_others(sqlite3 *db, unsigned *seed) {
     static const char *const forms[] = {
         "CREATE TABLE other(x)",
@@ -616,11 +615,11 @@ static void change_tables(sqlite3 *db, const char *schema, unsigned *seed) {
     sqlite3_free(others);
 }
 
-/* Tables of a schema that are created, changed and dropped by connections to a file, one of which may be in a transaction. They come and go. */
+/* Connections to a file create, change and drop tables in a schema, open and close. At most one of them is in a transaction. */
 static void random_tables(const char *schema, int connections) {
     sqlite3 *all[READERS] = {NULL};
     unsigned seed = 1;
-    int within = -1; /* the connection that is in a transaction */
+    int within = -1; /* the connection in a transaction */
     new_scratch();
     for (int turn = 0; turn < CHANGES_OF_TABLES; turn++) {
         int at = within >= 0 ? within : (int)draw(&seed, (unsigned)connections);
@@ -644,7 +643,7 @@ static void random_tables(const char *schema, int connections) {
         sqlite3_close(all[at]);
 }
 
-/* What a transaction leaves in the table, which has the row a1; or "none". */
+/* The rows of the table after statements, if it had the row a1 before; or "none" if there is no table. */
 static const struct transaction {
     const char *statements, *rows;
 } transactions[] = {
@@ -681,80 +680,80 @@ static const struct transaction {
     {"ALTER TABLE t RENAME TO u; CREATE VIRTUAL TABLE t USING hot; INSERT INTO t VALUES ('b', 2); DROP TABLE u", "b2"},
 };
 
-static void wants_in_t(sqlite3 *db, const struct transaction *it) {
+static void expect_in_t(sqlite3 *db, const struct transaction *transaction) {
     char *found = run(db, "SELECT 1 FROM t") != SQLITE_OK ? sqlite3_mprintf("none")
                                                           : answer(db, "SELECT ifnull(group_concat(key || value, ' '), '') FROM t");
-    if (strcmp(found, it->rows) != 0)
-        fail(it->statements, found);
+    if (strcmp(found, transaction->rows) != 0)
+        fail(transaction->statements, found);
     sqlite3_free(found);
 }
 
 static void listed_transactions(const char *schema, const char *arguments) {
     for (size_t at = 0; at < sizeof transactions / sizeof *transactions; at++) {
-        const struct transaction *it = &transactions[at];
+        const struct transaction *each = &transactions[at];
         sqlite3 *db;
         new_scratch();
         db = open_file(scratch);
         if (run(db, "CREATE VIRTUAL TABLE %s.t USING hot(%s)", schema, arguments) != SQLITE_OK)
             fail(arguments, sqlite3_errmsg(db));
-        want(db, SQLITE_OK, "INSERT INTO t VALUES ('a', 1)");
-        run(db, "%s", it->statements);
+        expect(db, SQLITE_OK, "INSERT INTO t VALUES ('a', 1)");
+        run(db, "%s", each->statements);
         run(db, "COMMIT");
-        wants_in_t(db, it);
+        expect_in_t(db, each);
         if (number(db, "SELECT count(*) FROM temp.sqlite_schema WHERE name NOT IN ('t', 'u')") != 0)
-            fail(it->statements, "it leaves a table in temp");
+            fail(each->statements, "it leaves a table in temp");
         sqlite3_close(db);
     }
 }
 
-/* A DROP TABLE that fails at its end, since another connection reads, has dropped nothing. */
+/* A DROP TABLE that fails to commit, since another connection reads, drops nothing. */
 static void drop_that_fails(void) {
     sqlite3 *db, *other;
     sqlite3_stmt *query;
     new_scratch();
     db = open_file(scratch);
     other = open_file(scratch);
-    want(db, SQLITE_OK,
+    expect(db, SQLITE_OK,
          "CREATE TABLE x(y); INSERT INTO x VALUES (1), (2); CREATE VIRTUAL TABLE t USING hot(name=fails); INSERT INTO t VALUES ('a', 1)");
     if (sqlite3_prepare_v2(other, "SELECT y FROM x", -1, &query, NULL) != SQLITE_OK || sqlite3_step(query) != SQLITE_ROW)
         fail("a reader", sqlite3_errmsg(other));
-    want(db, SQLITE_BUSY, "DROP TABLE t");
+    expect(db, SQLITE_BUSY, "DROP TABLE t");
     if (number(db, "SELECT count(*) FROM t") != 1 || number(other, "SELECT count(*) FROM t") != 1)
         fail("DROP TABLE", "a table that was not dropped lost its rows");
     sqlite3_finalize(query);
-    want(db, SQLITE_OK, "DROP TABLE t");
-    want(other, SQLITE_ERROR, "SELECT * FROM t");
+    expect(db, SQLITE_OK, "DROP TABLE t");
+    expect(other, SQLITE_ERROR, "SELECT * FROM t");
     sqlite3_close(db);
     sqlite3_close(other);
 }
 
-/* A connection without the library changes a table's definition, as another process may: it has none of the rows from before. */
+/* A connection without the library changes a table's definition, as another process may. The new table has no rows. */
 static void definition_from_outside(void) {
     sqlite3 *db, *outside;
     new_scratch();
     db = open_file(scratch);
-    want(db, SQLITE_OK, "CREATE VIRTUAL TABLE t USING hot(keys=5); INSERT INTO t VALUES ('a', 1)");
+    expect(db, SQLITE_OK, "CREATE VIRTUAL TABLE t USING hot(keys=5); INSERT INTO t VALUES ('a', 1)");
     if (sqlite3_open(scratch, &outside) != SQLITE_OK)
         fail("open", sqlite3_errmsg(outside));
-    want(outside, SQLITE_OK, "PRAGMA writable_schema = 1; UPDATE sqlite_schema SET sql = replace(sql, '=5', '=6'); CREATE TABLE x(y)");
+    expect(outside, SQLITE_OK, "PRAGMA writable_schema = 1; UPDATE sqlite_schema SET sql = replace(sql, '=5', '=6'); CREATE TABLE x(y)");
     if (number(db, "SELECT count(*) FROM t") != 0)
         fail("a definition from outside", "the table has the rows of the one before");
-    want(db, SQLITE_OK, "INSERT INTO t VALUES ('b', 2)");
-    want(outside, SQLITE_OK, "UPDATE sqlite_schema SET sql = replace(sql, 'keys=6', 'name=outside'); CREATE TABLE y(z)");
+    expect(db, SQLITE_OK, "INSERT INTO t VALUES ('b', 2)");
+    expect(outside, SQLITE_OK, "UPDATE sqlite_schema SET sql = replace(sql, 'keys=6', 'name=outside'); CREATE TABLE y(z)");
     if (number(db, "SELECT count(*) FROM t") != 0)
         fail("a definition from outside", "a name has the rows of the table before");
     sqlite3_close(outside);
     sqlite3_close(db);
 }
 
-/* A table that is created or dropped is no row that is changed. */
+/* CREATE and DROP count no changes. */
 static void counts_of_changes(void) {
     static const char *const counts = "SELECT total_changes() || ' ' || last_insert_rowid()";
     sqlite3 *db = connect_to("keys=100");
     char *before, *after;
-    want(db, SQLITE_OK, "CREATE TABLE x(y); INSERT INTO x VALUES (1), (2), (3)");
+    expect(db, SQLITE_OK, "CREATE TABLE x(y); INSERT INTO x VALUES (1), (2), (3)");
     before = answer(db, counts);
-    want(db, SQLITE_OK, "CREATE VIRTUAL TABLE u USING hot(keys=5); DROP TABLE u; BEGIN; DROP TABLE t; ROLLBACK");
+    expect(db, SQLITE_OK, "CREATE VIRTUAL TABLE u USING hot(keys=5); DROP TABLE u; BEGIN; DROP TABLE t; ROLLBACK");
     after = answer(db, counts);
     if (strcmp(before, after) != 0)
         fail("changes are counted", after);
@@ -763,70 +762,70 @@ static void counts_of_changes(void) {
     sqlite3_close(db);
 }
 
-/* Tables of one name= in two connections, of which each may drop its own. */
+/* Two connections have tables of one name=, and each drops its own. */
 static void tables_of_a_name(void) {
     sqlite3 *db = connect_to("name=shared, connections=2"), *other = connect_to("name=shared"), *third;
-    want(db, SQLITE_OK, "BEGIN; INSERT INTO t VALUES ('a', 1); DROP TABLE t; ROLLBACK");
+    expect(db, SQLITE_OK, "BEGIN; INSERT INTO t VALUES ('a', 1); DROP TABLE t; ROLLBACK");
     if (number(other, "SELECT count(*) FROM t") != 0)
         fail("a name", "an insertion was not taken back with its table");
-    want(db, SQLITE_OK, "BEGIN; INSERT INTO t VALUES ('a', 1); DROP TABLE t; COMMIT");
+    expect(db, SQLITE_OK, "BEGIN; INSERT INTO t VALUES ('a', 1); DROP TABLE t; COMMIT");
     if (number(other, "SELECT count(*) FROM t") != 1)
         fail("a name", "an insertion was lost with its table");
-    /* Two tables, of which the schema was read anew. */
-    want(db, SQLITE_OK, "CREATE VIRTUAL TABLE t USING hot(name=shared); CREATE VIRTUAL TABLE u USING hot(name=shared)");
-    want(db, SQLITE_OK,
+    /* Two tables, whose schema is read again. */
+    expect(db, SQLITE_OK, "CREATE VIRTUAL TABLE t USING hot(name=shared); CREATE VIRTUAL TABLE u USING hot(name=shared)");
+    expect(db, SQLITE_OK,
          "BEGIN; CREATE TABLE gone(x); ROLLBACK; DROP TABLE u; BEGIN; ALTER TABLE t RENAME TO r; ROLLBACK; ALTER TABLE t RENAME TO "
          "v");
     third = open_file(":memory:");
-    want(third, SQLITE_BUSY, "CREATE VIRTUAL TABLE t USING hot(name=shared)");
+    expect(third, SQLITE_BUSY, "CREATE VIRTUAL TABLE t USING hot(name=shared)");
     sqlite3_close(other);
-    want(third, SQLITE_OK, "CREATE VIRTUAL TABLE t USING hot(name=shared)");
+    expect(third, SQLITE_OK, "CREATE VIRTUAL TABLE t USING hot(name=shared)");
     if (number(db, "SELECT value FROM v") != 1 || number(third, "SELECT count(*) FROM t") != 1)
         fail("a name", "the rows went with one of two tables");
-    /* Once none of its tables is left, the name is free for an index of another size. */
-    want(third, SQLITE_ERROR, "CREATE VIRTUAL TABLE w USING hot(name=shared, keys=7)");
-    want(third, SQLITE_OK, "DROP TABLE t");
-    want(db, SQLITE_OK, "DROP TABLE v");
-    want(third, SQLITE_OK, "CREATE VIRTUAL TABLE w USING hot(name=shared, keys=7)");
+    /* Once no table of the name is left, it may get an index of another size. */
+    expect(third, SQLITE_ERROR, "CREATE VIRTUAL TABLE w USING hot(name=shared, keys=7)");
+    expect(third, SQLITE_OK, "DROP TABLE t");
+    expect(db, SQLITE_OK, "DROP TABLE v");
+    expect(third, SQLITE_OK, "CREATE VIRTUAL TABLE w USING hot(name=shared, keys=7)");
     sqlite3_close(third);
     sqlite3_close(db);
 }
 
-/* A connection may load the library again, also while a transaction is open, and tables stay what they are. */
+/* A connection may load the library again, even in a transaction. Its tables stay as they are. */
 static void loaded_twice(void) {
     sqlite3 *db = connect_to("name=twice");
-    want(db, SQLITE_OK,
+    expect(db, SQLITE_OK,
          "INSERT INTO t VALUES ('a', 1); BEGIN; INSERT INTO t VALUES ('b', 2); CREATE VIRTUAL TABLE u USING hot(name=twice)");
     if (sqlite3_load_extension(db, library, NULL, NULL) != SQLITE_OK)
         fail("loaded twice", sqlite3_errmsg(db));
-    want(db, SQLITE_OK, "CREATE VIRTUAL TABLE v USING hot(name=twice); UPDATE v SET value = 5; UPDATE t SET value = 6; ROLLBACK");
-    want(db, SQLITE_OK, "CREATE VIRTUAL TABLE v USING hot(name=twice)");
+    expect(db, SQLITE_OK, "CREATE VIRTUAL TABLE v USING hot(name=twice); UPDATE v SET value = 5; UPDATE t SET value = 6; ROLLBACK");
+    expect(db, SQLITE_OK, "CREATE VIRTUAL TABLE v USING hot(name=twice)");
     if (number(db, "SELECT sum(value) FROM v") != 1)
         fail("loaded twice", "a rollback is not as it was");
     sqlite3_close(db);
 }
 
-/* A name of a table in memory whose database is gone is free, and a table whose connection comes and goes takes no handles. */
+/* A table's name is free once its database in memory was detached. A table that SQLite connects again and again uses one handle. */
 static void names_and_handles(void) {
     sqlite3 *db = connect_to("connections=1");
-    want(db, SQLITE_OK, "ATTACH ':memory:' AS m; CREATE VIRTUAL TABLE m.x USING hot; INSERT INTO m.x VALUES ('a', 1); DETACH m");
-    want(db, SQLITE_OK, "ATTACH ':memory:' AS m; CREATE VIRTUAL TABLE m.x USING hot(type=blob, keys=5)");
+    expect(db, SQLITE_OK, "ATTACH ':memory:' AS m; CREATE VIRTUAL TABLE m.x USING hot; INSERT INTO m.x VALUES ('a', 1); DETACH m");
+    expect(db, SQLITE_OK, "ATTACH ':memory:' AS m; CREATE VIRTUAL TABLE m.x USING hot(type=blob, keys=5)");
     if (number(db, "SELECT count(*) FROM m.x") != 0)
         fail("DETACH", "a table has the rows of one that is gone");
-    want(db, SQLITE_OK, "DROP TABLE m.x; CREATE VIRTUAL TABLE m.x USING hot(name=gone, keys=5); DETACH m; ATTACH ':memory:' AS m");
-    want(db, SQLITE_OK, "CREATE VIRTUAL TABLE m.x USING hot; CREATE VIRTUAL TABLE m.y USING hot(name=gone, keys=7)");
-    want(db, SQLITE_OK, "BEGIN");
+    expect(db, SQLITE_OK, "DROP TABLE m.x; CREATE VIRTUAL TABLE m.x USING hot(name=gone, keys=5); DETACH m; ATTACH ':memory:' AS m");
+    expect(db, SQLITE_OK, "CREATE VIRTUAL TABLE m.x USING hot; CREATE VIRTUAL TABLE m.y USING hot(name=gone, keys=7)");
+    expect(db, SQLITE_OK, "BEGIN");
     for (int turn = 0; turn < 20; turn++)
-        want(db, SQLITE_OK,
+        expect(db, SQLITE_OK,
              "SAVEPOINT s; CREATE TABLE gone(x); INSERT INTO t VALUES ('a', 1); ROLLBACK TO s; INSERT INTO t VALUES ('b', 2); "
              "DELETE FROM t");
-    want(db, SQLITE_OK, "COMMIT");
+    expect(db, SQLITE_OK, "COMMIT");
     sqlite3_close(db);
 }
 
 /* ---- Full ---- */
 
-/* Inserts keys until the index is full: how many went in. */
+/* Inserts keys until the index is full. Returns their number. */
 static int fill_with_blobs(sqlite3 *db) {
     int count = 0, code;
     while ((code = run(db, "INSERT INTO t VALUES (x'%08x%08x', %d)", count / 32, 1u << count % 32, count)) == SQLITE_OK)
@@ -836,20 +835,20 @@ static int fill_with_blobs(sqlite3 *db) {
     return count;
 }
 
-/* A full table takes new values of its rows, and can be emptied and filled again. A row's new key is refused, and no row is lost. */
+/* The rows of a full table take new values. New keys are refused, and no row is lost. The table can be emptied and filled again. */
 static void full_tables(void) {
     static const int keys[] = {0, 1, 100, 1000};
     for (size_t at = 0; at < sizeof keys / sizeof *keys; at++) {
         char *arguments = sqlite3_mprintf("type=blob, longest=8, grow=0, keys=%d", keys[at]);
         sqlite3 *db = connect_to(arguments);
         int count = fill_with_blobs(db);
-        want(db, SQLITE_OK, "UPDATE t SET value = value + 1; BEGIN; DELETE FROM t; ROLLBACK");
+        expect(db, SQLITE_OK, "UPDATE t SET value = value + 1; BEGIN; DELETE FROM t; ROLLBACK");
         if (number(db, "SELECT count(*) FROM t") != count || number(db, "SELECT sum(value) FROM t") != count * (count + 1) / 2)
             fail(arguments, "a rollback did not put all back");
-        want(db, SQLITE_FULL, "UPDATE t SET key = CAST(x'ff' || substr(key, 2) AS BLOB)");
+        expect(db, SQLITE_FULL, "UPDATE t SET key = CAST(x'ff' || substr(key, 2) AS BLOB)");
         if (number(db, "SELECT sum(value) FROM t WHERE key < x'fe'") != count * (count + 1) / 2)
             fail(arguments, "a row has not its old key");
-        want(db, SQLITE_OK, "DELETE FROM t");
+        expect(db, SQLITE_OK, "DELETE FROM t");
         if (number(db, "SELECT count(*) FROM t") != 0 || fill_with_blobs(db) != count)
             fail(arguments, "it is not as empty as it was");
         sqlite3_close(db);
@@ -857,15 +856,15 @@ static void full_tables(void) {
     }
 }
 
-/* A table has room for more and longer keys than it was made for; a rollback takes them back. */
+/* A table takes more and longer keys than it was made for. A rollback removes them. */
 static void grown_tables(void) {
     static const char *const numbers = "WITH RECURSIVE n(x) AS (SELECT 1 UNION ALL SELECT x + 1 FROM n LIMIT 20000)";
     sqlite3 *db = connect_to("keys=0, longest=8");
     for (int is_kept = 0; is_kept < 2; is_kept++) {
-        want(db, SQLITE_OK, "BEGIN");
+        expect(db, SQLITE_OK, "BEGIN");
         if (run(db, "%s INSERT INTO t SELECT printf('%%0*d', 1 + x %% 240, x), x FROM n WHERE length(x) <= 1 + x %% 240", numbers) != SQLITE_OK)
             fail("a table that grows", sqlite3_errmsg(db));
-        want(db, SQLITE_OK, is_kept ? "COMMIT" : "ROLLBACK");
+        expect(db, SQLITE_OK, is_kept ? "COMMIT" : "ROLLBACK");
         if ((number(db, "SELECT count(*) FROM t") > 19000) != is_kept)
             fail("a table that grows", "it has other rows");
     }
@@ -876,7 +875,7 @@ static void grown_tables(void) {
 
 /* ---- Comparisons ---- */
 
-/* A term is `key COLLATE collation operator literal`, or another one. */
+/* A term is `key COLLATE collation operator literal`, or one of other_terms. */
 static const char *const operators[] = {"<", "<=", "=", ">=", ">"};
 static const char *const collations[] = {"BINARY", "NOCASE", "RTRIM"};
 static const char *const literals[] = {"''", "'a'", "'B'", "'b '", "'Ab'", "'aC'", "5", "x'41'", "x'62'", "NULL"};
@@ -907,7 +906,7 @@ enum {
     TERMS = FORMS * LITERALS + sizeof other_terms / sizeof *other_terms
 };
 
-/* A form with a value, which is to be freed. */
+/* A term of this form and value, which the caller frees. */
 static char *form_with(int form, const char *value) {
     return sqlite3_mprintf("key COLLATE %s %s %s", collations[form % COLLATIONS], operators[form / COLLATIONS], value);
 }
@@ -917,7 +916,7 @@ static char *term_of(int at) {
     return form < FORMS ? form_with(form, literals[at % LITERALS]) : sqlite3_mprintf("%s", other_terms[at - FORMS * LITERALS]);
 }
 
-/* A query that says whether both tables have the same rows for two terms, which it frees: in any order, by the key, or downwards. */
+/* A query whether both tables have the same rows for two terms: in any order, by the key, or by the falling key in turn. It frees the terms. */
 static sqlite3_stmt *same_rows(sqlite3 *db, char *one, char *two) {
     static const char *const forms[] = {
         "SELECT (SELECT sum(value) FROM t WHERE %s AND %s) IS (SELECT sum(value) FROM p WHERE %s AND %s)",
@@ -937,24 +936,24 @@ static sqlite3_stmt *same_rows(sqlite3 *db, char *one, char *two) {
     return query;
 }
 
-static void want_same(sqlite3_stmt *query) {
+static void expect_same(sqlite3_stmt *query) {
     if (sqlite3_step(query) != SQLITE_ROW || !sqlite3_column_int(query, 0))
         fail("differs", sqlite3_expanded_sql(query));
     sqlite3_reset(query);
 }
 
-/* Values that SQLite doesn't know when it makes the plan. */
+/* Compares terms whose values SQLite doesn't know when it plans the query. */
 static void compare_bound(sqlite3 *db, sqlite3_stmt *values, int one, int two) {
     sqlite3_stmt *query = same_rows(db, form_with(one, "?1"), form_with(two, "?2"));
     for (int at = 0; at < LITERALS * LITERALS; at++) {
         sqlite3_bind_value(query, 1, sqlite3_column_value(values, at / LITERALS));
         sqlite3_bind_value(query, 2, sqlite3_column_value(values, at % LITERALS));
-        want_same(query);
+        expect_same(query);
     }
     sqlite3_finalize(query);
 }
 
-/* A query that has all literals. */
+/* A query whose row has all literals. */
 static sqlite3_stmt *all_literals(sqlite3 *db) {
     sqlite3_stmt *query;
     char *sql = sqlite3_mprintf("SELECT %s", literals[0]);
@@ -966,23 +965,23 @@ static sqlite3_stmt *all_literals(sqlite3 *db) {
     return query;
 }
 
-/* Each two terms have the same rows in both tables. */
+/* Each pair of terms selects the same rows of both tables. */
 static void comparisons(const char *type) {
     char *arguments = sqlite3_mprintf("keys=100, type=%s", type);
     sqlite3 *db = connect_to(arguments);
     sqlite3_stmt *values = all_literals(db);
-    want(db, SQLITE_OK, "DROP TABLE p");
+    expect(db, SQLITE_OK, "DROP TABLE p");
     if (run(db, "CREATE TABLE p(key %s PRIMARY KEY NOT NULL, value INTEGER NOT NULL) WITHOUT ROWID", type) != SQLITE_OK ||
         run(db,
             "INSERT INTO p SELECT CAST(column1 AS %s), 1 << row_number() OVER () FROM (VALUES (''), ('5'), ('@'), ('A'), ('AB'), ('Ab'), ('B'), "
             "('B '), ('Z'), ('['), ('`'), ('a'), ('a '), ('aB'), ('ab'), ('abc'), ('ac'), ('b'), ('b '), ('bb'), ('z'), ('zz'), ('{'), ('~'))",
             type) != SQLITE_OK)
         fail(type, sqlite3_errmsg(db));
-    want(db, SQLITE_OK, "INSERT INTO t SELECT * FROM p");
+    expect(db, SQLITE_OK, "INSERT INTO t SELECT * FROM p");
     for (int one = 0; one < TERMS; one++)
         for (int two = 0; two <= one; two++) {
             sqlite3_stmt *query = same_rows(db, term_of(one), term_of(two));
-            want_same(query);
+            expect_same(query);
             sqlite3_finalize(query);
         }
     for (int one = 0; one < FORMS; one++)
@@ -995,7 +994,7 @@ static void comparisons(const char *type) {
 
 /* ---- Plans ---- */
 
-/* A line of a query plan in words that tables of both kinds have: "t key>?" or "t all keys". It is to be freed. */
+/* A line of a query plan, in the same words for both kinds of table: "t key>?" or "t all keys". The caller frees it. */
 static char *plan_line(const char *line) {
     static const char *const ordinary = " USING PRIMARY KEY (";
     const char *name = strchr(line, ' ') + 1, *end = strstr(line, " VIRTUAL TABLE INDEX "), *words;
@@ -1008,7 +1007,7 @@ static char *plan_line(const char *line) {
     return strncmp(line, "SCAN", 4) == 0 ? sqlite3_mprintf("%s all keys", name) : sqlite3_mprintf("%s", line);
 }
 
-/* The lines of a query's plan, which are to be freed. */
+/* The lines of a query's plan, which the caller frees. */
 static char *plan_of(sqlite3 *db, const char *sql) {
     sqlite3_stmt *query;
     char *text = sqlite3_mprintf("EXPLAIN QUERY PLAN %s", sql), *plan = sqlite3_mprintf("");
@@ -1024,7 +1023,7 @@ static char *plan_of(sqlite3 *db, const char *sql) {
     return plan;
 }
 
-/* Queries have the plans that they have with an ordinary table, of which SQLite guesses that it has a million rows. */
+/* Queries have the plans that they have with an ordinary table, for which SQLite guesses a million rows. */
 static void plans(void) {
     static const char *const queries[] = {
         "SELECT who, count(*) FROM a JOIN t ON key BETWEEN sym || '1' AND sym || '2' GROUP BY who",
@@ -1052,10 +1051,10 @@ static void plans(void) {
     };
     static const char *const a = "CREATE TABLE a(id INTEGER PRIMARY KEY, who TEXT, sym TEXT)";
     sqlite3 *db = open_file(":memory:"), *other = open_file(":memory:");
-    want(db, SQLITE_OK, "CREATE VIRTUAL TABLE t USING hot(keys=1000000)");
-    want(other, SQLITE_OK, "CREATE TABLE t(key TEXT PRIMARY KEY NOT NULL, value INTEGER NOT NULL) WITHOUT ROWID");
-    want(db, SQLITE_OK, a);
-    want(other, SQLITE_OK, a);
+    expect(db, SQLITE_OK, "CREATE VIRTUAL TABLE t USING hot(keys=1000000)");
+    expect(other, SQLITE_OK, "CREATE TABLE t(key TEXT PRIMARY KEY NOT NULL, value INTEGER NOT NULL) WITHOUT ROWID");
+    expect(db, SQLITE_OK, a);
+    expect(other, SQLITE_OK, a);
     for (size_t at = 0; at < sizeof queries / sizeof *queries; at++) {
         char *mine = plan_of(db, queries[at]), *others = plan_of(other, queries[at]);
         if (strcmp(mine, others) != 0) {
@@ -1071,7 +1070,7 @@ static void plans(void) {
 
 /* ---- The application's own functions ---- */
 
-/* Is true of all keys but those that begin with the pattern's first letter. */
+/* Matches keys that don't begin with the pattern's first letter. */
 static void other_like(sqlite3_context *to, int count, sqlite3_value **values) {
     const char *pattern = (const char *)sqlite3_value_text(values[0]), *key = (const char *)sqlite3_value_text(values[1]);
     (void)count;
@@ -1082,7 +1081,7 @@ static void own_functions(void) {
     static const char *const queries[] = {"key LIKE 'a%'", "key LIKE 'a%' AND key > 'b'", "key GLOB 'a*'",
                                           "key LIKE 'b%' ORDER BY key DESC"};
     sqlite3 *db = connect_to("keys=100");
-    want(db, SQLITE_OK, "INSERT INTO t VALUES ('a', 1), ('A', 2), ('ab', 3), ('b', 4), ('c', 5); INSERT INTO p SELECT * FROM t");
+    expect(db, SQLITE_OK, "INSERT INTO t VALUES ('a', 1), ('A', 2), ('ab', 3), ('b', 4), ('c', 5); INSERT INTO p SELECT * FROM t");
     for (int is_own = 0; is_own < 2; is_own++) {
         for (size_t at = 0; at < sizeof queries / sizeof *queries; at++) {
             char *mine = answer(db, "SELECT ifnull(group_concat(key), '') FROM (SELECT key FROM t WHERE %s)", queries[at]);
@@ -1098,7 +1097,7 @@ static void own_functions(void) {
     sqlite3_close(db);
 }
 
-/* The name alone says which rows a table has: connections to different files share them, until the last one is closed. */
+/* Connections to different files share the rows of a name, until the last one is closed. */
 static void one_name(void) {
     char *beside = sqlite3_mprintf("%s.beside", scratch);
     new_scratch();
@@ -1106,12 +1105,12 @@ static void one_name(void) {
     for (int turn = 0; turn < 2; turn++) {
         sqlite3 *both[2] = {open_file(scratch), open_file(beside)};
         for (int at = 0; at < 2 && turn == 0; at++)
-            want(both[at], SQLITE_OK, "CREATE VIRTUAL TABLE t USING hot(name=one); CREATE VIRTUAL TABLE u USING hot(name=other)");
+            expect(both[at], SQLITE_OK, "CREATE VIRTUAL TABLE t USING hot(name=one); CREATE VIRTUAL TABLE u USING hot(name=other)");
         if (number(both[1], "SELECT count(*) FROM t") != 0)
             fail("a name", "the index is older than its connections");
-        want(both[0], SQLITE_OK, "INSERT INTO t VALUES ('a', 1); BEGIN; INSERT INTO t VALUES ('b', 2)");
-        want(both[1], SQLITE_OK, "INSERT INTO t VALUES ('c', 3)");
-        want(both[0], SQLITE_OK, "ROLLBACK");
+        expect(both[0], SQLITE_OK, "INSERT INTO t VALUES ('a', 1); BEGIN; INSERT INTO t VALUES ('b', 2)");
+        expect(both[1], SQLITE_OK, "INSERT INTO t VALUES ('c', 3)");
+        expect(both[0], SQLITE_OK, "ROLLBACK");
         if (number(both[1], "SELECT sum(value) FROM t") != 4 || number(both[0], "SELECT count(*) FROM u") != 0)
             fail("a name", "a rollback takes back another connection's row, or another name has it");
         sqlite3_close(both[0]);
@@ -1123,21 +1122,21 @@ static void one_name(void) {
     sqlite3_free(beside);
 }
 
-/* Without a name each connection to a file has rows of its own, which stay when the schema is read anew. */
+/* Without a name each connection to a file has its own rows. They stay when the schema is read again. */
 static void own_rows(void) {
     sqlite3 *both[2];
     new_scratch();
     for (int at = 0; at < 2; at++)
         both[at] = open_file(scratch);
-    want(both[0], SQLITE_OK, "CREATE VIRTUAL TABLE t USING hot(keys=100); INSERT INTO t VALUES ('a', 1)");
-    want(both[1], SQLITE_OK, "INSERT INTO t VALUES ('b', 2), ('c', 3); CREATE TABLE x(y)");
+    expect(both[0], SQLITE_OK, "CREATE VIRTUAL TABLE t USING hot(keys=100); INSERT INTO t VALUES ('a', 1)");
+    expect(both[1], SQLITE_OK, "INSERT INTO t VALUES ('b', 2), ('c', 3); CREATE TABLE x(y)");
     if (number(both[0], "SELECT sum(value) FROM t") != 1 || number(both[1], "SELECT sum(value) FROM t") != 5)
         fail("a table without a name", "two connections share rows");
     for (int at = 0; at < 2; at++)
         sqlite3_close(both[at]);
 }
 
-/* Two files have one schema's name in turn, and tables of one name: each has its rows as long as the connection is there. */
+/* Two files are attached in turn by one schema name, with tables of one name. Each table keeps its rows while the connection is open. */
 static void files_in_turn(const char *arguments) {
     char *files[2] = {sqlite3_mprintf("%s", scratch), sqlite3_mprintf("%s.beside", scratch)};
     sqlite3 *db = open_file(":memory:");
@@ -1151,7 +1150,7 @@ static void files_in_turn(const char *arguments) {
             fail(arguments, sqlite3_errmsg(db));
         if (number(db, "SELECT count(*) FROM a.t") != 1 || number(db, "SELECT value FROM a.t") != at)
             fail(arguments, "a file has not the rows that it had");
-        want(db, SQLITE_OK, "DETACH a");
+        expect(db, SQLITE_OK, "DETACH a");
     }
     sqlite3_close(db);
     for (int at = 0; at < 2; at++) {
@@ -1160,7 +1159,7 @@ static void files_in_turn(const char *arguments) {
     }
 }
 
-/* An application may have its own mutexes while it uses tables. */
+/* An application may hold its own mutexes while it uses tables. */
 static void mutexes_of_applications(void) {
     static const int kinds[] = {SQLITE_MUTEX_STATIC_APP1, SQLITE_MUTEX_STATIC_APP2, SQLITE_MUTEX_STATIC_APP3};
     for (int at = 0; at < 3; at++)
