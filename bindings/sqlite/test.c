@@ -1159,6 +1159,27 @@ static void files_in_turn(const char *arguments) {
     }
 }
 
+/* A table in temp is created and dropped beside a main database that another connection is writing. In a transaction that is refused. */
+static void main_that_is_locked(void) {
+    sqlite3 *db, *other;
+    new_scratch();
+    db = open_file(scratch);
+    other = open_file(scratch);
+    expect(other, SQLITE_OK, "CREATE TABLE x(y); BEGIN IMMEDIATE");
+    expect(db, SQLITE_OK, "CREATE VIRTUAL TABLE temp.t USING hot; INSERT INTO t VALUES ('a', 1)");
+    expect(db, SQLITE_OK, "ALTER TABLE t RENAME TO u; ALTER TABLE u RENAME TO t; BEGIN; INSERT INTO t VALUES ('b', 2)");
+    expect(db, SQLITE_BUSY, "DROP TABLE t");
+    expect(db, SQLITE_BUSY, "CREATE VIRTUAL TABLE temp.u USING hot");
+    expect(db, SQLITE_OK, "ROLLBACK");
+    if (number(db, "SELECT count(*) FROM t") != 1)
+        fail("a locked database", "the table has other rows");
+    expect(db, SQLITE_OK, "DROP TABLE t; CREATE VIRTUAL TABLE temp.t USING hot");
+    if (number(db, "SELECT count(*) FROM t") != 0)
+        fail("a locked database", "a new table has rows");
+    sqlite3_close(other);
+    sqlite3_close(db);
+}
+
 /* An application may hold its own mutexes while it uses tables. */
 static void mutexes_of_applications(void) {
     static const int kinds[] = {SQLITE_MUTEX_STATIC_APP1, SQLITE_MUTEX_STATIC_APP2, SQLITE_MUTEX_STATIC_APP3};
@@ -1201,6 +1222,7 @@ int main(int count, char **words) {
     own_rows();
     files_in_turn("keys=10");
     files_in_turn("name=turn");
+    main_that_is_locked();
     mutexes_of_applications();
     plans();
     listed_transactions("main", "keys=100");
