@@ -26,24 +26,28 @@ static pthread_mutex_t connections_mutex = PTHREAD_MUTEX_INITIALIZER;
 
 /* ---- What a connection has ---- */
 
-static void free_held(struct connection *connection, struct held *held) {
-    struct held **place = &connection->all;
-    while (*place != held)
-        place = &(*place)->next;
-    *place = held->next;
-    part_leave(&held->part);
-    shared_end_use(held->part.shared);
-    sqlite3_free(held);
+/* Frees parts without a definition. While the log has changes, it may name these parts: then they stay until the transaction ends. */
+static void free_unused(struct connection *connection) {
+    struct held **place = &connection->all, *held;
+    while (!connection->log.last && (held = *place) != NULL) {
+        if (held->definitions) {
+            place = &held->next;
+            continue;
+        }
+        *place = held->next;
+        part_leave(&held->part);
+        shared_end_use(held->part.shared);
+        sqlite3_free(held);
+    }
 }
 
-/* Frees a definition that is neither listed nor has a table, and then a part without a definition. While the log may name the part, that waits
- * until the transaction ends. */
+/* Frees a definition that is neither listed nor has a table. */
 static void let_go(struct connection *connection, struct definition *definition) {
     if (definition->is_listed || definition->tables)
         return;
-    if (--definition->has->definitions == 0 && !connection->log.last)
-        free_held(connection, definition->has);
+    definition->has->definitions--;
     sqlite3_free(definition);
+    free_unused(connection);
 }
 
 static void unlist(struct connection *connection, struct definition **place) {
@@ -133,12 +137,7 @@ static void take_back(struct connection *connection, int point) {
 }
 
 static int end_transaction(struct connection *connection) {
-    struct held *held = connection->all, *next;
-    for (; held; held = next) {
-        next = held->next;
-        if (!held->definitions)
-            free_held(connection, held);
-    }
+    free_unused(connection);
     connection->hears = 0;
     return SQLITE_OK;
 }
@@ -291,8 +290,7 @@ static struct definition *define(struct connection *connection, const char *wher
     const size_t size = strlen(where) + 1;
     struct definition *definition = sqlite3_malloc64(sizeof *definition + size + strlen(table) + 1);
     if (!definition) {
-        if (!has->definitions)
-            free_held(connection, has);
+        free_unused(connection);
         return NULL;
     }
     memset(definition, 0, sizeof *definition);
