@@ -32,7 +32,7 @@
 //!
 //! An attempt that was refused as full asks for a round that may be spared ([`collect_if_risen`]). In an index of several passes it begins
 //! as a full round does, and visits no record if its bound is no higher than that of the last such round of the pass. That one left no
-//! record retired below its bound, and none can be later. So while a pass stays pinned, each further full attempt costs no second sweep.
+//! record retired below its bound, and none can be later. So while a pass stays pinned, the round of each further full attempt visits none.
 //!
 //! The limbo list and this bound promise nothing: before a record is given back, its state is loaded and exchanged.
 //!
