@@ -1,9 +1,12 @@
 -- Rounds, which give retired records back: which steps they make.
-use Rattle.std.specs.Prelude.{◌≡◌, ◌≢◌, ℕ, ◌<◌, ◌≤◌, ◌+◌, List, [], ◌∷◌, ◌++◌, Bool, true, false, nat_eq, nat_lt, if◌then◌else◌, count_by, length}
-use Rattle.record_words.specs.declared.TheConstants.{EPOCHS}
+use Rattle.std.specs.Prelude.{◌≡◌, ◌≢◌, ◌⊎◌, ℕ, ◌<◌, ◌≤◌, ◌+◌, List, [], ◌∷◌, ◌++◌, Bool, true, false, nat_eq, nat_lt, if◌then◌else◌, count_by, get_or, length, min}
+use Rattle.std.specs.List.{range_with_len}
+use Rattle.record_words.specs.Layout.{uncommitted_in}
+use Rattle.record_words.specs.declared.TheConstants.{EPOCHS, LEAF_CLASSES, RECORD_KINDS}
+use Rattle.record_words.specs.declared.layout.Layout.{Layout}
 use Rattle.record_words.specs.declared.state.Tag.TheVariants.{Obsolete}
 use Rattle.record_words.specs.State.{state_word}
-use Rattle.versions.specs.Core.{has_seen}
+use Rattle.versions.specs.Core.{Free, has_seen}
 use Rattle.record_words.specs.declared.records.Rec.{Rec}
 use Rattle.record_words.specs.declared.records.Rec.TheVariants.{Node as a_node, Leaf as a_leaf}
 use Rattle.rowex_core.specs.declared.event.Act.{Act}
@@ -11,7 +14,8 @@ use Rattle.rowex_core.specs.declared.event.Event.{Event}
 use Rattle.rowex_core.specs.declared.event.Act.TheVariants.{LoadEpoch, Advance, LoadPin, LoadState, GiveBack}
 use Rattle.rowex_core.specs.declared.known.Known.{Known}
 use Rattle.rowex_table.specs.Runs.{Does, InTurn}
-use Rattle.rowex_table.specs.Seats.{TableView, SeatView}
+use Rattle.rowex_table.specs.Committed.{AtMost, IsCommitted, TakenAreCommitted, count_from, record_kind}
+use Rattle.rowex_table.specs.Seats.{HasFoundBounds, TableView, SeatView}
 use Rattle.epochs.specs.Runs.{collecting, paced}
 use Rattle.epochs.specs.declared.limbo.Visited.{Visited}
 use Rattle.epochs.specs.declared.limbo.Visited.TheVariants.{Given}
@@ -37,26 +41,50 @@ abbrev pub VisitEach : (bound : ℕ) → (recs : List Rec) → (acts : List Act)
 VisitEach bound [] acts = acts ≡ []
 VisitEach bound (rec ∷ recs) acts = (first : List Act) × (rest : List Act) × Visits bound rec first × VisitEach bound recs rest × (acts ≡ first ++ rest)
 
+-- the record is uncommitted: no fewer of its kind are than stand from this one on
+abbrev pub IsUncommitted : Layout → (uncommitted : ℕ → ℕ) → Rec → Type 0
+IsUncommitted layout uncommitted rec = count_from layout rec ≤ uncommitted (record_kind layout rec)
+
+-- What a round does at a record, where so many of each kind are uncommitted: if the record is committed, the acts are those of a visit. Else
+-- there is none.
+abbrev pub VisitsCommitted : (layout : Layout) → (uncommitted : ℕ → ℕ) → (bound : ℕ) → (rec : Rec) → (acts : List Act) → Type 0
+VisitsCommitted layout uncommitted bound rec acts =
+    (IsCommitted layout uncommitted rec × Visits bound rec acts) ⊎ (IsUncommitted layout uncommitted rec × (acts ≡ []))
+
+-- how many of the first `count` records of one kind are committed, where so many of each kind are uncommitted
+abbrev pub committed_below : (layout : Layout) → (uncommitted : ℕ → ℕ) → (kind : ℕ → Rec) → (count : ℕ) → ℕ
+committed_below layout uncommitted kind count =
+    count_by (λ number. nat_lt (uncommitted (record_kind layout (kind number))) (count_from layout (kind number))) (range_with_len 0 count)
+
+-- how many records of the table are committed, where so many of each kind are uncommitted
+abbrev pub committed_records : (layout : Layout) → (uncommitted : ℕ → ℕ) → ℕ
+committed_records layout uncommitted = committed_below layout uncommitted a_node layout.nodes + committed_below layout uncommitted a_leaf layout.leaves
+
 -- whether the act gives a record back: it is an exchange to that end, and found the state that it expected
 abbrev pub has_given : Act → Bool
 has_given (GiveBack rec epoch found) = nat_eq found (state_word (Obsolete epoch))
 has_given act = false
 
 -- A round. The pass loads the epoch and, unless that is the last one, tries to raise it by one. Then it loads the epoch again, and each
--- pin. The bound is the least of the epoch loaded last and of the pins that are set. Then the pass visits each record of the table once,
--- nodes first. It gives `given_nodes` nodes and `given_leaves` leaves back.
+-- pin. The bound is the least of the epoch loaded last and of the pins that are set. Then the pass visits each committed record of the table
+-- once, nodes first. It gives `given_nodes` nodes and `given_leaves` leaves back. `uncommitted` says how many records of each kind it found
+-- uncommitted: no more than it knew before, and no fewer than it knows then. Each of these was free at the round's first step (`rest`).
 pub record IsRound {G : Type 0} (table : TableView) (becomes : G → Event → G → Type 0) (old new : SeatView × G)
     (given_nodes given_leaves : ℕ) : Type 0 where
   pub epoch : ℕ
   pub found : ℕ
   pub next : ℕ
+  pub uncommitted : ℕ → ℕ
   pub pins : List Act
   pub nodes : List Act
   pub leaves : List Act
   pub does : Does table becomes collecting (LoadEpoch epoch ∷ advance_steps epoch found ++ LoadEpoch next ∷ pins ++ nodes ++ leaves) old new
+  pub few : AtMost uncommitted (uncommitted_in old.0.bounds)
+  pub least : AtMost (uncommitted_in new.0.bounds) uncommitted
+  pub rest : (rec : Rec) → IsUncommitted table.layout uncommitted rec → does.steps.1.event.core.fate rec ≡ Free
   pub loads_pins : InTurn LoadsPin table.layout.passes pins
-  pub visits_nodes : InTurn (λ number. Visits new.0.known.round.bound (a_node number)) table.layout.nodes nodes
-  pub visits_leaves : InTurn (λ number. Visits new.0.known.round.bound (a_leaf number)) table.layout.leaves leaves
+  pub visits_nodes : InTurn (λ number. VisitsCommitted table.layout uncommitted new.0.known.round.bound (a_node number)) table.layout.nodes nodes
+  pub visits_leaves : InTurn (λ number. VisitsCommitted table.layout uncommitted new.0.known.round.bound (a_leaf number)) table.layout.leaves leaves
   pub nodes_given : given_nodes ≡ count_by has_given nodes
   pub leaves_given : given_leaves ≡ count_by has_given leaves
 
@@ -115,27 +143,43 @@ abbrev pub VisitsOne : {G : Type 0} → (table : TableView) → (becomes : G →
 VisitsOne table becomes bound rec given old new =
     (acts : List Act) × Visits bound rec acts × Does table becomes collecting acts old new × (count_by has_given acts ≡ if given then 1 else 0)
 
--- the pass visits the first `count` records of the kind, in the order of their numbers, and gives `given` of them back
-abbrev pub VisitsFirst : {G : Type 0} → (table : TableView) → (becomes : G → Event → G → Type 0) → (bound : ℕ) → (kind : ℕ → Rec) →
-    (count given : ℕ) → (old new : SeatView × G) → Type 0
-VisitsFirst table becomes bound kind count given old new =
-    (acts : List Act) × InTurn (λ number. Visits bound (kind number)) count acts × Does table becomes collecting acts old new ×
-    (given ≡ count_by has_given acts)
+-- the count of a kind in a list of the counts of all kinds
+abbrev pub count_of_kind : (counts : List ℕ) → (kind : ℕ) → ℕ
+count_of_kind counts kind = get_or counts (min kind LEAF_CLASSES) 0
 
--- the pass visits each record of the table, nodes first; it gives `given_nodes` nodes and `given_leaves` leaves back
-abbrev pub VisitsTable : {G : Type 0} → (table : TableView) → (becomes : G → Event → G → Type 0) → (bound given_nodes given_leaves : ℕ) →
-    (old new : SeatView × G) → Type 0
-VisitsTable {G = G} table becomes bound given_nodes given_leaves old new =
-    (middle : SeatView × G) × VisitsFirst table becomes bound a_node table.layout.nodes given_nodes old middle ×
-    VisitsFirst table becomes bound a_leaf table.layout.leaves given_leaves middle new
+-- The pass has loaded how many records of each of the first `kinds` kinds are uncommitted, and found these counts. That is no step: of what
+-- is seen of its seat only its bounds have changed. No step of which it knows has taken one of these records.
+pub record LoadsUncommitted (layout : Layout) (kinds : ℕ) (counts : List ℕ) (old new : SeatView) : Type 0 where
+  pub found : HasFoundBounds old new
+  pub few : (kind : ℕ) → kind < kinds → count_of_kind counts kind ≤ uncommitted_in old.bounds kind
+  pub least : (kind : ℕ) → kind < kinds → uncommitted_in new.bounds kind ≤ count_of_kind counts kind
+  pub taken : (kind : ℕ) → kind < kinds → TakenAreCommitted layout old.trace kind (count_of_kind counts kind)
+
+-- the pass visits those of the first `count` records of the kind that are committed, in the order of their numbers, and gives `given` back
+abbrev pub VisitsFirst : {G : Type 0} → (table : TableView) → (becomes : G → Event → G → Type 0) → (uncommitted : ℕ → ℕ) → (bound : ℕ) →
+    (kind : ℕ → Rec) → (count given : ℕ) → (old new : SeatView × G) → Type 0
+VisitsFirst table becomes uncommitted bound kind count given old new =
+    (acts : List Act) × InTurn (λ number. VisitsCommitted table.layout uncommitted bound (kind number)) count acts ×
+    Does table becomes collecting acts old new × (given ≡ count_by has_given acts)
+
+-- The pass loads how many records of each kind are uncommitted. Then it visits each committed record of the table, nodes first. It gives
+-- `given_nodes` nodes and `given_leaves` leaves back.
+pub record VisitsTable {G : Type 0} (table : TableView) (becomes : G → Event → G → Type 0) (bound given_nodes given_leaves : ℕ)
+    (old new : SeatView × G) : Type 0 where
+  pub counts : List ℕ
+  pub begun : SeatView
+  pub loads : LoadsUncommitted table.layout RECORD_KINDS counts old.0 begun
+  pub middle : SeatView × G
+  pub nodes : VisitsFirst table becomes (count_of_kind counts) bound a_node table.layout.nodes given_nodes (begun, old.1) middle
+  pub leaves : VisitsFirst table becomes (count_of_kind counts) bound a_leaf table.layout.leaves given_leaves middle new
 
 -- From `old` to `new` the pass goes on with its visits. Take any start from which it had visited the first `before.0` records of the kind
 -- and given `before.1` of them back. From there it has now visited the first `after.0`, and given `after.1` of these back.
-abbrev pub GoesOnVisiting : {G : Type 0} → (table : TableView) → (becomes : G → Event → G → Type 0) → (bound : ℕ) → (kind : ℕ → Rec) →
-    (before after : ℕ × ℕ) → (old new : SeatView × G) → Type 0
-GoesOnVisiting {G = G} table becomes bound kind before after old new =
-    (first : SeatView × G) → VisitsFirst table becomes bound kind before.0 before.1 first old →
-    VisitsFirst table becomes bound kind after.0 after.1 first new
+abbrev pub GoesOnVisiting : {G : Type 0} → (table : TableView) → (becomes : G → Event → G → Type 0) → (uncommitted : ℕ → ℕ) → (bound : ℕ) →
+    (kind : ℕ → Rec) → (before after : ℕ × ℕ) → (old new : SeatView × G) → Type 0
+GoesOnVisiting {G = G} table becomes uncommitted bound kind before after old new =
+    (first : SeatView × G) → VisitsFirst table becomes uncommitted bound kind before.0 before.1 first old →
+    VisitsFirst table becomes uncommitted bound kind after.0 after.1 first new
 
 -- the pass visits some records, at most `most`; which they are, this doesn't say
 abbrev pub VisitsSome : {G : Type 0} → (table : TableView) → (becomes : G → Event → G → Type 0) → (bound most : ℕ) →

@@ -1,20 +1,21 @@
 //! Rounds of collection: records that no pinned pass can reach are given back.
 
-ghost use Rattle.std.specs.Prelude.{◌≡◌, ◌≢◌, ℕ, ◌+◌, ◌^◌, ◌<◌, ◌≤◌, None, true, false, min, if◌then◌else◌, IfSome, MatchOption};
+ghost use Rattle.std.specs.Prelude.{◌≡◌, ◌≢◌, ℕ, ◌+◌, ◌-◌, ◌^◌, ◌<◌, ◌≤◌, None, true, false, min, if◌then◌else◌, IfSome, MatchOption};
 ghost use Rattle.record_words.specs.declared.state.Tag.TheVariants.{Free as FreeTag, Obsolete};
 ghost use Rattle.record_words.specs.Layout.{leaf_size};
 ghost use Rattle.record_words.specs.State.{state_word};
-ghost use Rattle.record_words.specs.declared.TheConstants.{NO_PIN};
+ghost use Rattle.record_words.specs.declared.TheConstants.{NO_PIN, RECORD_KINDS};
 ghost use Rattle.record_words.specs.declared.records.Rec.TheVariants.{Node as a_node, Leaf as a_leaf};
 ghost use Rattle.rowex_core.specs.Cores.{HasRecord};
+ghost use Rattle.rowex_table.specs.Committed.{IsCommitted, count_from, record_kind};
 ghost use Rattle.rowex_table.specs.Rule.{IsStartOf};
 ghost use Rattle.rowex_table.specs.Seats.{IsSeatOf};
-ghost use Rattle.epochs.specs.Rounds.{AdvancesEpoch, BeginsRound, FindsBound, HasBound, IsRound, IsSmallRound, IsSparedRound, VisitsFirst, GoesOnVisiting, VisitsOne, VisitsSome, VisitsTable, is_given};
+ghost use Rattle.epochs.specs.Rounds.{AdvancesEpoch, BeginsRound, FindsBound, HasBound, IsRound, IsSmallRound, IsSparedRound, LoadsUncommitted, VisitsFirst, GoesOnVisiting, VisitsOne, VisitsSome, VisitsTable, count_of_kind, is_given};
 ghost use Rattle.epochs.specs.declared.limbo.Visited.TheVariants.{Free, Waits};
 
 use crate::limbo::{Limbo, MOST_VISITED, Sweep, Visited};
 use record_words::{
-    EPOCHS, LEAST_OBSOLETE, Layout, NO_PIN, Tag, read_obsolete_epoch, unpack_state,
+    EPOCHS, LEAST_OBSOLETE, Layout, NO_PIN, RECORD_KINDS, Tag, read_obsolete_epoch, unpack_state,
 };
 use rowex_core::{Gate, Rec};
 use rowex_table::{HotTable, RecordAt, TableSeat};
@@ -51,9 +52,9 @@ const NO_VISITS: Tally = Tally {
     found_free: false,
 };
 
-/// Makes a full round: tries to raise the epoch by one, and visits each record. It gives back a retired record whose epoch is below the
-/// epoch then loaded and below each set pin. A record that another pass has given back meanwhile doesn't count. Returns how many it gave
-/// back, and whether other records were free already. The pass has no pin, before and after.
+/// Makes a full round: tries to raise the epoch by one, and visits each committed record. It gives back a retired record whose epoch is
+/// below the epoch then loaded and below each set pin. A record that another pass has given back meanwhile doesn't count. Returns how many
+/// it gave back, and whether other records were free already. The pass has no pin, before and after.
 ///
 /// At the last epoch, 2^60 - 1, the epoch stays, and what is below it is still given back.
 pub fn collect_round<G: Gate>(table: &HotTable, seat: &mut TableSeat, gate: &mut G) -> Collected
@@ -66,9 +67,9 @@ pub fn collect_round<G: Gate>(table: &HotTable, seat: &mut TableSeat, gate: &mut
     visit_records(table, seat, gate, bound)
 }
 
-/// Makes a full round, in which each record is visited, unless that could give nothing back. Then it only begins one, and returns `None`.
-/// That is so in an index of several passes, if the round's bound is no higher than `limbo.swept`: the bound of the last full round that
-/// this function made for the pass. A full round sets `limbo.swept` to its bound. The pass has no pin, before and after.
+/// Makes a full round, in which each committed record is visited, unless that could give nothing back. Then it only begins one, and returns
+/// `None`. That is so in an index of several passes, if the round's bound is no higher than `limbo.swept`: the bound of the last full round
+/// that this function made for the pass. A full round sets `limbo.swept` to its bound. The pass has no pin, before and after.
 ///
 /// That last full round left no record below its bound retired, and none is retired below it later. A pass marks what it retires while it
 /// is pinned, with an epoch that it loads under this pin. If the round has seen the pin, the pin was no lower than the bound. Otherwise the
@@ -175,8 +176,8 @@ fn bound_with_pin(bound: u64, word: u64) -> u64
     }
 }
 
-/// Visits each record of the table, nodes first. Returns how many of each kind it gave back, and whether others were free. `bound` is the
-/// bound of the round. The pass's pin and round stay.
+/// Visits each committed record of the table, nodes first. Returns how many of each kind it gave back, and whether others were free. `bound`
+/// is the bound of the round. The pass's pin and round stay.
 fn visit_records<G: Gate>(
     table: &HotTable,
     seat: &mut TableSeat,
@@ -188,8 +189,9 @@ fn visit_records<G: Gate>(
     ensures same { (seat.new.known.pin ≡ seat.old.known.pin) × (seat.new.known.round ≡ seat.old.known.round) }
     ensures steps { VisitsTable table.now G.becomes bound result.given.nodes result.given.leaves (seat.old, gate.old) (seat.new, gate.new) }
 {
-    let nodes = visit_node_records(table, seat, gate, bound);
-    let leaves = visit_leaf_records(table, seat, gate, bound);
+    let uncommitted = load_uncommitted_counts(table, seat);
+    let nodes = visit_node_records(table, seat, gate, bound, &uncommitted);
+    let leaves = visit_leaf_records(table, seat, gate, bound, &uncommitted);
     Collected {
         given: Given {
             nodes: nodes.given,
@@ -200,21 +202,48 @@ fn visit_records<G: Gate>(
     }
 }
 
-/// Visits each node record, in the order of their numbers. Returns how many it gave back, and whether one was free already. `bound` is the
-/// bound of the round. The pass's pin and round stay.
+/// Loads how many records of each kind are uncommitted, and returns these counts. What the pass knows and its trace stay.
+fn load_uncommitted_counts(table: &HotTable, seat: &mut TableSeat) -> [u64; RECORD_KINDS]
+    requires own { IsSeatOf table.now seat.old }
+    ensures { LoadsUncommitted table.now.layout RECORD_KINDS result seat.old seat.new }
+{
+    let mut counts = [0; RECORD_KINDS];
+    for kind in 0..RECORD_KINDS {
+        counts[kind] = table.load_uncommitted(seat, kind as u8);
+    }
+    counts
+}
+
+/// Returns how many of `count` records are committed if the last `uncommitted` of them are not.
+fn count_committed(count: u32, uncommitted: u64) -> u32
+    ensures { result ≡ count - uncommitted }
+{
+    let count = u64::from(count);
+    if uncommitted < count {
+        (count - uncommitted) as u32
+    } else {
+        0
+    }
+}
+
+/// Visits each committed node record, in the order of their numbers. Returns how many it gave back, and whether one was free already.
+/// `bound` is the bound of the round, and `uncommitted` has the count of each kind. The pass's pin and round stay.
 fn visit_node_records<G: Gate>(
     table: &HotTable,
     seat: &mut TableSeat,
     gate: &mut G,
     bound: u64,
+    uncommitted: &[u64; RECORD_KINDS],
 ) -> Tally
     requires own { IsSeatOf table.now seat.old }
     requires bound { HasBound table.now.layout.passes bound seat.old.known }
     ensures same { (seat.new.known.pin ≡ seat.old.known.pin) × (seat.new.known.round ≡ seat.old.known.round) }
-    ensures steps { VisitsFirst table.now G.becomes bound a_node table.now.layout.nodes result.given (seat.old, gate.old) (seat.new, gate.new) }
+    ensures steps { VisitsFirst table.now G.becomes (count_of_kind uncommitted.now) bound a_node table.now.layout.nodes result.given
+        (seat.old, gate.old) (seat.new, gate.new) }
 {
     let mut tally = NO_VISITS;
-    for number in 0..table.layout().nodes {
+    let end = count_committed(table.layout().nodes, uncommitted[0]);
+    for number in 0..end {
         let node = table.locate(Rec::Node(number));
         let seen = visit_record(table, seat, gate, node, bound);
         tally = count_visit(tally, seen);
@@ -222,28 +251,62 @@ fn visit_node_records<G: Gate>(
     tally
 }
 
-/// Visits each leaf record, in the order of their numbers. Returns how many it gave back, and whether one was free already. `bound` is the
-/// bound of the round. The pass's pin and round stay.
+/// Visits each committed leaf record, in the order of their numbers. Returns how many it gave back, and whether one was free already.
+/// `bound` is the bound of the round, and `uncommitted` has the count of each kind. The pass's pin and round stay.
 fn visit_leaf_records<G: Gate>(
     table: &HotTable,
     seat: &mut TableSeat,
     gate: &mut G,
     bound: u64,
+    uncommitted: &[u64; RECORD_KINDS],
 ) -> Tally
     requires own { IsSeatOf table.now seat.old }
     requires bound { HasBound table.now.layout.passes bound seat.old.known }
     ensures same { (seat.new.known.pin ≡ seat.old.known.pin) × (seat.new.known.round ≡ seat.old.known.round) }
-    ensures steps { VisitsFirst table.now G.becomes bound a_leaf table.now.layout.leaves result.given (seat.old, gate.old) (seat.new, gate.new) }
+    ensures steps { VisitsFirst table.now G.becomes (count_of_kind uncommitted.now) bound a_leaf table.now.layout.leaves result.given
+        (seat.old, gate.old) (seat.new, gate.new) }
 {
     let mut tally = NO_VISITS;
     let layout = table.layout();
     let mut first = 0;
     while first < layout.leaves {
-        let end = layout.class_end(first);
+        let class = class_at(&layout, first);
+        let end = first + count_committed(class.count, uncommitted[class.kind]);
         tally = visit_class(table, seat, gate, bound, first..end, tally);
-        first = end;
+        first += class.count;
     }
     tally
+}
+
+/// A class of leaf records, from one of its records on.
+#[derive(Clone, Copy)]
+struct ClassRest {
+    /// The kind of its records.
+    kind: usize,
+    /// How many of its records stand from that one on.
+    count: u32,
+}
+
+/// Returns the class of the leaf record `number`, from there on.
+fn class_at(layout: &Layout, number: u32) -> ClassRest
+    requires { number < layout.now.leaves }
+    ensures kind { result.kind ≡ record_kind layout.now (a_leaf number) }
+    ensures count { result.count ≡ count_from layout.now (a_leaf number) }
+    ensures some { (result.kind < RECORD_KINDS) × (0 < result.count) × (number + result.count ≤ layout.now.leaves) }
+{
+    let (kind, end) = if number < layout.medium_from {
+        (1, layout.medium_from)
+    } else if number < layout.large_from {
+        (2, layout.large_from)
+    } else if number < layout.wide_from {
+        (3, layout.wide_from)
+    } else if number < layout.long_from {
+        (4, layout.long_from)
+    } else {
+        (5, layout.leaves)
+    };
+    let count = end - number;
+    ClassRest { kind, count }
 }
 
 /// Visits the leaf records of `numbers`, all of one class, so that each begins equally far behind the one before. Returns the tally
@@ -263,7 +326,8 @@ fn visit_class<G: Gate>(
     requires few { before.given ≤ numbers.start }
     ensures same { (seat.new.known.pin ≡ seat.old.known.pin) × (seat.new.known.round ≡ seat.old.known.round) }
     ensures few { result.given ≤ numbers.end }
-    ensures steps { GoesOnVisiting table.now G.becomes bound a_leaf (numbers.start, before.given) (numbers.end, result.given)
+    ensures steps { (uncommitted : ℕ → ℕ) → ((q : ℕ) → numbers.start ≤ q → q < numbers.end → IsCommitted table.now.layout uncommitted (a_leaf q)) →
+        GoesOnVisiting table.now G.becomes uncommitted bound a_leaf (numbers.start, before.given) (numbers.end, result.given)
         (seat.old, gate.old) (seat.new, gate.new) }
 {
     let layout = table.layout();

@@ -21,7 +21,8 @@
 //!
 //! # Rounds
 //!
-//! A full round ([`collect_round`]) visits each record of the table, so its cost grows with the table. A small round
+//! A full round ([`collect_round`]) visits each committed record of the table, so its cost grows with these. It loads how many are
+//! uncommitted once it has begun. No pass has claimed one of these before, so none waits to be given back. A small round
 //! ([`collect_small_round`]) visits the records that the pass has retired itself. These stand in its limbo list ([`Limbo`]), oldest
 //! first. A call that changes the index begins with a small round once the pass has retired 32 records since its last one, or up
 //! to 96 if there are many passes, whose pins it loads. So each retired record is visited soon, and a full round is left for an attempt

@@ -265,12 +265,12 @@ impl Index {
     }
 
     /// Makes one round of collection. It tries once to raise the epoch, which another pass may do instead, and loads it. At the last epoch,
-    /// 2^60 - 1, it doesn't try. Then it visits each record of the index once. It gives back each that was retired in an epoch below the
-    /// loaded one and below each pin that is set: no running call can reach it. Returns how many node records and leaf records it gave
-    /// back.
+    /// 2^60 - 1, it doesn't try. Then it visits each committed record of the index once. It gives back each that was retired in an epoch
+    /// below the loaded one and below each pin that is set: no running call can reach it. Returns how many node records and leaf records it
+    /// gave back.
     ///
     /// It takes no lock, allocates nothing and never blocks. It makes at most 3 atomic steps, one more for each pass, and two more for each
-    /// record. It asks nothing of the map: the pass has seen no further change, and its completed calls are the same.
+    /// committed record. It asks nothing of the map: the pass has seen no further change, and its completed calls are the same.
     pub fn collect(&self, pass: &mut Pass) -> Given
         requires { Owns self.now pass.old }
         ensures own { Owns self.now pass.new }

@@ -1,5 +1,5 @@
 -- What an attempt to change the map leaves: it is noted where it was answered, and has changed nothing where it was refused.
-use Rattle.hot_index_calls.proofs.Common.{◌≡◌, ◌≢◌, ◌⊎◌, inl, inr, ⊎_elim, ℕ, ◌+◌, ◌*◌, ◌-◌, ◌<◌, ◌≤◌, List, [], ◌∷◌, ◌++◌, length, take, Bool, true, false, Option, Some, None, IsSome, Result, Ok, Err, refl, sym, ap, subst, ◌∙◌, arith, le_trans, length-append, All, IfOk, IfErr, MatchResult, is_some, MAX_BYTES, All-head, All-tail, Call, Insert, Upsert, Exchange, Add, Get, Remove, RemoveIf, Change, Note, Reply, Exchanged, Removed, LegalCalls, change_of, effect_of, BeginsWith, LegalFront, OthersGoOn, map_of, Map, key_of, reply_of, step_if, step_where, value_at, begins_on, legal_front_part, legal_change, legal_longer, Layout, Key, Rec, a_node, a_leaf, Act, ClearPin, Event, Target, Failed, Known, Core, IsLawful, IsEvent, IsPinnedSince, Recalls, Runs, StepsWith, MakesNoAside, SeatView, TableView, event_recalls, act_leaves, runs_same, HasMissed, IsAnothers, Pins, KeepsSpare, HasAnswered, HasRefused, IsChangeOf, LacksNoLeaf, HasLoadedRoot, HasChanged, LacksLeaves, LacksNodes, HasMetLock, HasMetTaken, HasTried, IsOfAttempt, nodes_among, Full, OfNodes, OfLeaves, TryFault, Busy, FullNodes, FullLeaves, lacks_so, of_attempt_pin, runs_begin, IsHindered, RunBeginsWith, run_begins_on}
+use Rattle.hot_index_calls.proofs.Common.{◌≡◌, ◌≢◌, ◌⊎◌, inl, inr, ⊎_elim, ℕ, ◌+◌, ◌*◌, ◌-◌, ◌<◌, ◌≤◌, List, [], ◌∷◌, ◌++◌, length, take, Bool, true, false, Option, Some, None, IsSome, Result, Ok, Err, refl, sym, ap, subst, ◌∙◌, arith, le_trans, length-append, All, IfOk, IfErr, MatchResult, is_some, MAX_BYTES, All-head, All-tail, Call, Insert, Upsert, Exchange, Add, Get, Remove, RemoveIf, Change, Note, Reply, Exchanged, Removed, LegalCalls, change_of, effect_of, BeginsWith, LegalFront, OthersGoOn, map_of, Map, key_of, reply_of, step_if, step_where, value_at, begins_on, legal_front_part, legal_change, legal_longer, Layout, Key, Rec, a_leaf, Act, ClearPin, Event, Target, Failed, Known, Core, IsLawful, IsEvent, IsPinnedSince, Recalls, Runs, StepsWith, MakesNoAside, SeatView, TableView, event_recalls, act_leaves, runs_same, HasMissed, IsAnothers, Pins, KeepsSpare, HasAnswered, HasRefused, IsChangeOf, LacksNoLeaf, HasLoadedRoot, HasChanged, LacksLeaves, LacksNodes, HasMetLock, HasMetTaken, HasTried, IsOfAttempt, nodes_among, Full, OfNodes, OfLeaves, TryFault, Busy, FullNodes, FullLeaves, lacks_so, of_attempt_pin, runs_begin, IsHindered, RunBeginsWith, run_begins_on}
 use Rattle.std.specs.Prelude.{nat_eq}
 use Rattle.std.specs.Option.{option_map}
 use Rattle.finite_map.specs.declared.Kind.{Kind}

@@ -1,5 +1,5 @@
 -- What hindered an attempt, by the run of the table.
-use Rattle.hot_index_calls.proofs.Common.{◌≡◌, ◌≢◌, ◌⊎◌, inl, inr, ℕ, ◌<◌, ◌≤◌, List, [], ◌∷◌, length, get_or, Some, refl, sym, ap, subst, ◌∙◌, arith, length-append, slice_get-get_or, Change, Added, Note, OthersGoOn, Layout, Pin, Act, ClearPin, LoadEpoch, SetPin, Event, Known, Core, after, version_of, opening, Does, Ends, Steps, StepsWith, SeatView, TableView, RunBeginsWith, led_more, next_begins, Pins, NoChangeFrom, HasMetOther, IsHindered, met_between, no_change_from_later, runs_begin}
+use Rattle.hot_index_calls.proofs.Common.{◌≡◌, inl, inr, ◌<◌, List, [], ◌∷◌, length, get_or, Some, refl, sym, ap, subst, ◌∙◌, arith, length-append, slice_get-get_or, Change, Added, Note, OthersGoOn, Layout, Pin, Act, ClearPin, LoadEpoch, SetPin, Event, Known, Core, after, version_of, opening, Does, Ends, Steps, StepsWith, SeatView, TableView, RunBeginsWith, led_more, next_begins, Pins, NoChangeFrom, HasMetOther, IsHindered, met_between, no_change_from_later, runs_begin}
 use Rattle.std.proofs.Common.{append-nil}
 use Rattle.rowex_core.specs.Runs.{EventsLead}
 use Rattle.rowex_table.proofs.Onward.{begins_on, others_begin}

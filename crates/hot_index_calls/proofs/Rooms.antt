@@ -1,5 +1,8 @@
 -- In a table with one pass a round of collection leaves a node record free, if one stood in no tree.
-use Rattle.hot_index_calls.proofs.Common.{◌≡◌, ◌≢◌, ◌⊎◌, inl, inr, ⊎_elim, ℕ, zero, suc, ◌+◌, ◌*◌, ◌<◌, ◌≤◌, List, [], ◌∷◌, ◌++◌, Bool, true, false, nat_eq, nat_lt, if◌then◌else◌, Option, Some, None, length, refl, sym, ap, subst, ◌∙◌, arith, ap₂, length-append, cases_lt, eq-eqb, lt-ltb, All-append, All-cons, All-head, All-nil, All-tail, All, IsRound, IsSmallRound, LoadsPin, VisitEach, Visits, advance_steps, Pins, Note, IsBack, lead_layout, lead_same, one_of, runs_back, runs_free, runs_spare, step_back, step_knows, step_lawful, unused_free, HasRoom, HasSpare, KeepsSpare, IsLone, IsOut, LeavesTree, IsUnused, state_word, EPOCHS, Layout, Tag, Obsolete, knows_all, Core, HasRecord, IsLawful, holder_of, after, given_back, Knows, opening, Share, lock_of, tag_of, Advance, ClearPin, GiveBack, LoadEpoch, LoadPin, LoadState, Mark, SetPin, Act, Event, UnlinkedBy, Known, act_leaves, InTurn, Runs, Steps, StepsWith, silent, SeatView, TableView, LeavesRound, runs_split, step_lone, same_rec_refl, Fate, Free, Held, Ready, InTree, Unlinked, Marked, lowered, with_epoch, IsOneOf, a_node, a_leaf, Rec}
+use Rattle.hot_index_calls.proofs.Common.{◌≡◌, ◌≢◌, ◌⊎◌, inl, inr, ℕ, zero, suc, ◌+◌, ◌<◌, ◌≤◌, List, [], ◌∷◌, ◌++◌, Bool, true, false, nat_eq, nat_lt, if◌then◌else◌, None, length, refl, sym, ap, subst, ◌∙◌, arith, ap₂, length-append, cases_lt, eq-eqb, lt-ltb, All-append, All-cons, All-head, All-nil, All-tail, All, IsRound, IsSmallRound, LoadsPin, VisitEach, Visits, advance_steps, Pins, Note, lead_layout, lead_same, one_of, runs_back, runs_free, runs_spare, step_back, step_knows, step_lawful, unused_free, HasRoom, HasSpare, KeepsSpare, IsLone, IsOut, LeavesTree, IsUnused, state_word, EPOCHS, Layout, Tag, Obsolete, knows_all, Core, HasRecord, IsLawful, holder_of, after, given_back, Knows, opening, Share, lock_of, tag_of, Advance, ClearPin, GiveBack, LoadEpoch, LoadPin, LoadState, Mark, SetPin, Act, Event, UnlinkedBy, Known, act_leaves, InTurn, Runs, Steps, StepsWith, silent, SeatView, TableView, LeavesRound, runs_split, step_lone, same_rec_refl, Fate, Free, Held, Ready, InTree, Unlinked, Marked, lowered, with_epoch, IsOneOf, a_node, a_leaf, Rec}
+use Rattle.epochs.proofs.Rounds.{taken_committed, visit_committed, visit_or_none}
+use Rattle.epochs.specs.Rounds.{VisitsCommitted}
+use Rattle.rowex_table.specs.Committed.{IsCommitted}
 use Rattle.hot_index_calls.specs.Census.{FoundTags, loads_in, loads_of}
 use Rattle.hot_index_calls.specs.Rooms.{HasNoneRetired, IsUnretired, IsUnretiredAt}
 use Rattle.hot_index_calls.specs.Traces.{Collects, HasEnded}
@@ -43,18 +46,25 @@ visit_plain bound r _ (Visits.passes word not) = All-cons LeavesTree (LoadState 
 visit_plain bound r _ (Visits.tries epoch found low below) =
     All-cons LeavesTree (LoadState r (state_word (Obsolete epoch))) (GiveBack r epoch found ∷ []) tt (All-cons LeavesTree (GiveBack r epoch found) [] tt (All-nil LeavesTree))
 
-visits_plain : (bound : ℕ) (kind : ℕ → Rec) (n : ℕ) (acts : List Act) → InTurn (λ m. Visits bound (kind m)) n acts → All LeavesTree acts
-visits_plain bound kind zero acts none = subst (All LeavesTree) (sym none) (All-nil LeavesTree)
-visits_plain bound kind (suc n) acts (before, last, first, visit, all) = subst (All LeavesTree) (sym all) (All-append LeavesTree before last (visits_plain bound kind n before first) (visit_plain bound (kind n) last visit))
+-- so all that a round does at a record, and at all of a kind
+committed_plain : (layout : Layout) (uncommitted : ℕ → ℕ) (bound : ℕ) (r : Rec) (acts : List Act) → VisitsCommitted layout uncommitted bound r acts → All LeavesTree acts
+committed_plain layout uncommitted bound r acts = visit_or_none (All LeavesTree) layout uncommitted bound r acts (All-nil LeavesTree) (visit_plain bound r acts)
+
+visits_plain : (layout : Layout) (uncommitted : ℕ → ℕ) (bound : ℕ) (kind : ℕ → Rec) (n : ℕ) (acts : List Act) → InTurn (λ m. VisitsCommitted layout uncommitted bound (kind m)) n acts → All LeavesTree acts
+visits_plain layout uncommitted bound kind zero acts none = subst (All LeavesTree) (sym none) (All-nil LeavesTree)
+visits_plain layout uncommitted bound kind (suc n) acts (before, last, first, visit, all) =
+    subst (All LeavesTree) (sym all) (All-append LeavesTree before last (visits_plain layout uncommitted bound kind n before first) (committed_plain layout uncommitted bound (kind n) last visit))
 
 visit_leaves : (bound : ℕ) (r : Rec) (acts : List Act) → Visits bound r acts → All LeavesRound acts
 visit_leaves bound r _ (Visits.passes word not) = All-cons LeavesRound (LoadState r word) [] tt (All-nil LeavesRound)
 visit_leaves bound r _ (Visits.tries epoch found low below) =
     All-cons LeavesRound (LoadState r (state_word (Obsolete epoch))) (GiveBack r epoch found ∷ []) tt (All-cons LeavesRound (GiveBack r epoch found) [] tt (All-nil LeavesRound))
 
-visits_leave : (bound : ℕ) (kind : ℕ → Rec) (n : ℕ) (acts : List Act) → InTurn (λ m. Visits bound (kind m)) n acts → All LeavesRound acts
-visits_leave bound kind zero acts none = subst (All LeavesRound) (sym none) (All-nil LeavesRound)
-visits_leave bound kind (suc n) acts (before, last, first, visit, all) = subst (All LeavesRound) (sym all) (All-append LeavesRound before last (visits_leave bound kind n before first) (visit_leaves bound (kind n) last visit))
+visits_leave : (layout : Layout) (uncommitted : ℕ → ℕ) (bound : ℕ) (kind : ℕ → Rec) (n : ℕ) (acts : List Act) → InTurn (λ m. VisitsCommitted layout uncommitted bound (kind m)) n acts → All LeavesRound acts
+visits_leave layout uncommitted bound kind zero acts none = subst (All LeavesRound) (sym none) (All-nil LeavesRound)
+visits_leave layout uncommitted bound kind (suc n) acts (before, last, first, visit, all) =
+    subst (All LeavesRound) (sym all) (All-append LeavesRound before last (visits_leave layout uncommitted bound kind n before first)
+    (visit_or_none (All LeavesRound) layout uncommitted bound (kind n) last (All-nil LeavesRound) (visit_leaves bound (kind n) last) visit))
 
 module _ {G : Type 0} (table : TableView) (becomes : G → Event → G → Type 0) where
   -- back from a core to the one before these steps, where what waits still does or is unused
@@ -91,20 +101,22 @@ module _ {G : Type 0} (table : TableView) (becomes : G → Event → G → Type 
             (subst (λ (f : Rec → Fate). IsWaiting e (f r)) (sym same) was)),
       )
 
-  visits_free : (kind : ℕ → Rec) (e bound n m : ℕ) (acts : List Act) (a b : SeatView × G) → 1 ≤ e → e < bound → n < m → InTurn (λ i. Visits bound (kind i)) m acts → Runs table becomes acts a b → (d : Core) → IsLone table.layout b.0 d →
+  -- a committed record that waits is given back by the visits of its kind
+  visits_free : (uncommitted : ℕ → ℕ) (kind : ℕ → Rec) (e bound n m : ℕ) (acts : List Act) (a b : SeatView × G) → IsCommitted table.layout uncommitted (kind n) → 1 ≤ e → e < bound → n < m →
+      InTurn (λ i. VisitsCommitted table.layout uncommitted bound (kind i)) m acts → Runs table becomes acts a b → (d : Core) → IsLone table.layout b.0 d →
       (c : Core) × IsLone table.layout a.0 c × (IsWaiting e (c.fate (kind n)) → IsUnused (d.fate (kind n)))
-  visits_free kind e bound n zero acts a b some low under in_turn run d lone = absurd (omega arith)
-  visits_free kind e bound n (suc m) acts a b some low under (before, last, first, visit, is) run d lone =
+  visits_free uncommitted kind e bound n zero acts a b committed some low under in_turn run d lone = absurd (omega arith)
+  visits_free uncommitted kind e bound n (suc m) acts a b committed some low under (before, last, first, visit, is) run d lone =
       let (o, one, two) = runs_split table becomes before last a b (subst (λ l. Runs table becomes l a b) is run) in
       elim (cases_lt n m) [
         | inl older ↦
-            let back = runs_back table becomes last o b (visit_plain bound (kind m) last visit) two d lone in
-            let (c, there, frees) = visits_free kind e bound n m before a o some low older first one back.core back.lone in
+            let back = runs_back table becomes last o b (committed_plain table.layout uncommitted bound (kind m) last visit) two d lone in
+            let (c, there, frees) = visits_free uncommitted kind e bound n m before a o committed some low older first one back.core back.lone in
             (c, there, λ was. back.unused (kind n) (frees was))
         | inr newest ↦
             let same : m ≡ n = omega arith in
-            let (i, behind, frees) = visit_frees e bound (kind m) last o b some low visit two d lone in
-            let (c, there, waits) = runs_wait e before a o (visits_plain bound kind m before first) one i behind in
+            let (i, behind, frees) = visit_frees e bound (kind m) last o b some low (visit_committed table.layout uncommitted bound (kind m) last (subst (λ z. IsCommitted table.layout uncommitted (kind z)) (sym same) committed) visit) two d lone in
+            let (c, there, waits) = runs_wait e before a o (visits_plain table.layout uncommitted bound kind m before first) one i behind in
             (c, there, λ was. subst (λ z. IsUnused (d.fate (kind z))) same (frees (subst (λ z. IsWaiting e (i.fate (kind z))) (sym same) (waits (kind n) was))))
       ]
 
@@ -207,6 +219,12 @@ module _ {G : Type 0} (table : TableView) (becomes : G → Event → G → Type 
         All-cons LeavesTree (LoadEpoch r.epoch) (Advance r.epoch r.found ∷ LoadEpoch r.next ∷ LoadPin 0 word ∷ []) tt (All-cons LeavesTree (Advance r.epoch r.found) (LoadEpoch r.next ∷ LoadPin 0 word ∷ []) tt
         (All-cons LeavesTree (LoadEpoch r.next) (LoadPin 0 word ∷ []) tt (All-cons LeavesTree (LoadPin 0 word) [] tt (All-nil LeavesTree))))
 
+    -- what was retired when it began is committed
+    marked_committed : (c : Core) → IsLone table.layout a.0 c → (x : Rec) (since last m : ℕ) → c.fate x ≡ Marked since last m → IsCommitted table.layout r.uncommitted x
+    marked_committed c lone x since last m is =
+        let same : r.does.steps.1.event.core ≡ c = lone_same a.0 c r.does.steps.1.event.core lone (step_here (LoadEpoch r.epoch) a r.does.steps.0 r.does.steps.1) in
+        taken_committed table becomes a b r x (λ free. let e : Free ≡ Marked since last m = sym free ∙ (ap (λ (z : Core). z.fate x) same ∙ is) in absurd cc)
+
     -- the bound of the round is the next epoch
     bound_is : (s : SeatView × G) → Runs table becomes four a s → (c : Core) → IsLone table.layout a.0 c → s.0.known.round.bound ≡ c.epoch + 1
     bound_is s (s1, st1, (s2, st2, (s3, st3, (s4, st4, end)))) c lone =
@@ -238,8 +256,8 @@ module _ {G : Type 0} (table : TableView) (becomes : G → Event → G → Type 
         let as_four : beginning ≡ four = ap₂ (λ xs ys. (LoadEpoch r.epoch ∷ xs) ++ LoadEpoch r.next ∷ ys) again pins_are in
         let bound : b.0.known.round.bound ≡ c.epoch + 1 =
         ap (λ (z : Round). z.bound)
-        (runs_round table becomes r.leaves s5 b (visits_leave b.0.known.round.bound a_leaf table.layout.leaves r.leaves r.visits_leaves) leaves ∙
-        runs_round table becomes r.nodes s4 s5 (visits_leave b.0.known.round.bound a_node table.layout.nodes r.nodes r.visits_nodes) nodes) ∙
+        (runs_round table becomes r.leaves s5 b (visits_leave table.layout r.uncommitted b.0.known.round.bound a_leaf table.layout.leaves r.leaves r.visits_leaves) leaves ∙
+        runs_round table becomes r.nodes s4 s5 (visits_leave table.layout r.uncommitted b.0.known.round.bound a_node table.layout.nodes r.nodes r.visits_nodes) nodes) ∙
         bound_is s4 (subst (λ l. Runs table becomes l a s4) as_four begin) c lone in
         let begin_plain : All LeavesTree beginning = subst (All LeavesTree) (sym as_four) four_plain in
         let unlinked : (since last q : ℕ) → c.fate (a_node n) ≢ Unlinked since last q = λ since last q is.
@@ -248,12 +266,12 @@ module _ {G : Type 0} (table : TableView) (becomes : G → Event → G → Type 
         let unused : (d : Core) → IsLone table.layout b.0 d → IsUnused (d.fate (a_node n)) = λ d there. elim (out_is c.epoch (c.fate (a_node n)) out unlinked (marks (a_node n))) [
           | inl idle ↦
               let back = runs_back table becomes ((beginning ++ r.nodes) ++ r.leaves) a b
-              (All-append LeavesTree (beginning ++ r.nodes) r.leaves (All-append LeavesTree beginning r.nodes begin_plain (visits_plain b.0.known.round.bound a_node table.layout.nodes r.nodes r.visits_nodes))
-              (visits_plain b.0.known.round.bound a_leaf table.layout.leaves r.leaves r.visits_leaves)) r.does.steps d there in
+              (All-append LeavesTree (beginning ++ r.nodes) r.leaves (All-append LeavesTree beginning r.nodes begin_plain (visits_plain table.layout r.uncommitted b.0.known.round.bound a_node table.layout.nodes r.nodes r.visits_nodes))
+              (visits_plain table.layout r.uncommitted b.0.known.round.bound a_leaf table.layout.leaves r.leaves r.visits_leaves)) r.does.steps d there in
               back.unused (a_node n) (subst (λ (z : Core). IsUnused (z.fate (a_node n))) (sym (lone_same a.0 c back.core lone back.lone)) idle)
           | inr (since, last, m, is, old) ↦
-              let back = runs_back table becomes r.leaves s5 b (visits_plain b.0.known.round.bound a_leaf table.layout.leaves r.leaves r.visits_leaves) leaves d there in
-              let (i, at4, frees) = visits_free table becomes a_node m b.0.known.round.bound n table.layout.nodes r.nodes s4 s5 (st1.event.lawful.epochs.marked (a_node n) since last m is).0 (omega (arith, bound, old)) low r.visits_nodes nodes back.core back.lone in
+              let back = runs_back table becomes r.leaves s5 b (visits_plain table.layout r.uncommitted b.0.known.round.bound a_leaf table.layout.leaves r.leaves r.visits_leaves) leaves d there in
+              let (i, at4, frees) = visits_free table becomes r.uncommitted a_node m b.0.known.round.bound n table.layout.nodes r.nodes s4 s5 (marked_committed c lone (a_node n) since last m is) (st1.event.lawful.epochs.marked (a_node n) since last m is).0 (omega (arith, bound, old)) low r.visits_nodes nodes back.core back.lone in
               let (o, at0, waits) = runs_wait table becomes m beginning a s4 begin_plain begin i at4 in
               back.unused (a_node n) (frees (waits (a_node n) (subst (λ (z : Core). IsWaiting m (z.fate (a_node n))) (sym (lone_same a.0 c o lone at0)) (subst (IsWaiting m) (sym is) refl))))
         ] in (
@@ -279,17 +297,17 @@ module _ {G : Type 0} (table : TableView) (becomes : G → Event → G → Type 
         let (s4, begin, nodes) = runs_split table becomes beginning r.nodes a s5 top in
         let as_four : beginning ≡ four = ap₂ (λ xs ys. (LoadEpoch r.epoch ∷ xs) ++ LoadEpoch r.next ∷ ys) again pins_are in (
           ap (λ (z : Round). z.bound)
-              (runs_round table becomes r.leaves s5 b (visits_leave b.0.known.round.bound a_leaf table.layout.leaves r.leaves r.visits_leaves) leaves ∙
-              runs_round table becomes r.nodes s4 s5 (visits_leave b.0.known.round.bound a_node table.layout.nodes r.nodes r.visits_nodes) nodes) ∙
+              (runs_round table becomes r.leaves s5 b (visits_leave table.layout r.uncommitted b.0.known.round.bound a_leaf table.layout.leaves r.leaves r.visits_leaves) leaves ∙
+              runs_round table becomes r.nodes s4 s5 (visits_leave table.layout r.uncommitted b.0.known.round.bound a_node table.layout.nodes r.nodes r.visits_nodes) nodes) ∙
               bound_is s4 (subst (λ l. Runs table becomes l a s4) as_four begin) c lone,
           subst (All LeavesTree) (sym as_four) four_plain,
         )
 
     -- what was retired when it began is given back by visits of its kind
     visits_give : (kind : ℕ → Rec) (n count : ℕ) (before acts : List Act) (s t : SeatView × G) (c e : Core) → IsLone table.layout a.0 c → IsLone table.layout t.0 e → n < count → All LeavesTree before → Runs table becomes before a s →
-        InTurn (λ i. Visits b.0.known.round.bound (kind i)) count acts → Runs table becomes acts s t → (since last m : ℕ) → c.fate (kind n) ≡ Marked since last m → 1 ≤ m → m < b.0.known.round.bound → IsUnused (e.fate (kind n))
+        InTurn (λ i. VisitsCommitted table.layout r.uncommitted b.0.known.round.bound (kind i)) count acts → Runs table becomes acts s t → (since last m : ℕ) → c.fate (kind n) ≡ Marked since last m → 1 ≤ m → m < b.0.known.round.bound → IsUnused (e.fate (kind n))
     visits_give kind n count before acts s t c e lone at low plain first visits run since last m is some below =
-        let (i, at4, frees) = visits_free table becomes kind m b.0.known.round.bound n count acts s t some below low visits run e at in
+        let (i, at4, frees) = visits_free table becomes r.uncommitted kind m b.0.known.round.bound n count acts s t (marked_committed c lone (kind n) since last m is) some below low visits run e at in
         let (o, at0, waits) = runs_wait table becomes m before a s plain first i at4 in
         frees (waits (kind n) (subst (λ (z : Core). IsWaiting m (z.fate (kind n))) (sym (lone_same a.0 c o lone at0)) (subst (IsWaiting m) (sym is) refl)))
 
@@ -298,12 +316,12 @@ module _ {G : Type 0} (table : TableView) (becomes : G → Event → G → Type 
         let (bound, plain) = round_begins c lone in
         let (s5, top, leaves) = runs_split table becomes (beginning ++ r.nodes) r.leaves a b r.does.steps in
         let (s4, begin, nodes) = runs_split table becomes beginning r.nodes a s5 top in
-        let back = runs_back table becomes r.leaves s5 b (visits_plain b.0.known.round.bound a_leaf table.layout.leaves r.leaves r.visits_leaves) leaves d there in
+        let back = runs_back table becomes r.leaves s5 b (visits_plain table.layout r.uncommitted b.0.known.round.bound a_leaf table.layout.leaves r.leaves r.visits_leaves) leaves d there in
         back.unused (a_node n) (visits_give a_node n table.layout.nodes beginning r.nodes s4 s5 c back.core lone back.lone low plain begin r.visits_nodes nodes since last m is some (omega (arith, bound, old)))
     round_gives (a_leaf n) low c d lone there since last m is some old =
         let (bound, plain) = round_begins c lone in
         let (s5, top, leaves) = runs_split table becomes (beginning ++ r.nodes) r.leaves a b r.does.steps in
-        let before = All-append LeavesTree beginning r.nodes plain (visits_plain b.0.known.round.bound a_node table.layout.nodes r.nodes r.visits_nodes) in
+        let before = All-append LeavesTree beginning r.nodes plain (visits_plain table.layout r.uncommitted b.0.known.round.bound a_node table.layout.nodes r.nodes r.visits_nodes) in
         visits_give a_leaf n table.layout.leaves (beginning ++ r.nodes) r.leaves s5 b c d lone there low before top r.visits_leaves leaves since last m is some (omega (arith, bound, old))
 
     -- so no record is retired after it
@@ -315,8 +333,8 @@ module _ {G : Type 0} (table : TableView) (becomes : G → Event → G → Type 
         let (marks, few) = run_timely (opening table.layout) a.0.trace c (opening_is_lawful table.layout).0 lone.led (λ z. tt) in
         let (bound, plain) = round_begins c lone in
         let acts_plain = All-append LeavesTree (beginning ++ r.nodes) r.leaves
-        (All-append LeavesTree beginning r.nodes plain (visits_plain b.0.known.round.bound a_node table.layout.nodes r.nodes r.visits_nodes))
-        (visits_plain b.0.known.round.bound a_leaf table.layout.leaves r.leaves r.visits_leaves) in
+        (All-append LeavesTree beginning r.nodes plain (visits_plain table.layout r.uncommitted b.0.known.round.bound a_node table.layout.nodes r.nodes r.visits_nodes))
+        (visits_plain table.layout r.uncommitted b.0.known.round.bound a_leaf table.layout.leaves r.leaves r.visits_leaves) in
         let unlinked : (since last q : ℕ) → c.fate x ≢ Unlinked since last q = λ since last q is.
         (let p : q ≡ a.0.known.pass = (let there = st1.event.lawful.records.holders x q (ap holder_of is) in let mine = st1.event.knows.pass in let lay = ap (λ (l : Layout). l.passes) st1.event.layout_is in omega (arith, there, mine, lay, one)) in
         let owned = one_of a.0.known.own _ ((knows_all c a.0.known st1.event.knows).all_own x (UnlinkedBy since last) (is ∙ ap (Unlinked since last) p)) in subst (IsOneOf _) own owned) in
@@ -360,8 +378,8 @@ module _ {G : Type 0} (table : TableView) (becomes : G → Event → G → Type 
       let bound = b.0.known.round.bound in
       let front = (LoadEpoch r.epoch ∷ advance_steps r.epoch r.found) ++ LoadEpoch r.next ∷ r.pins in
       runs_spare table becomes ((front ++ r.nodes) ++ r.leaves) a b
-      (All-append LeavesTree (front ++ r.nodes) r.leaves (All-append LeavesTree front r.nodes (begin_plain r.epoch r.found r.next table.layout.passes r.pins r.loads_pins) (visits_plain bound a_node table.layout.nodes r.nodes r.visits_nodes))
-      (visits_plain bound a_leaf table.layout.leaves r.leaves r.visits_leaves)) r.does.steps
+      (All-append LeavesTree (front ++ r.nodes) r.leaves (All-append LeavesTree front r.nodes (begin_plain r.epoch r.found r.next table.layout.passes r.pins r.loads_pins) (visits_plain table.layout r.uncommitted bound a_node table.layout.nodes r.nodes r.visits_nodes))
+      (visits_plain table.layout r.uncommitted bound a_leaf table.layout.leaves r.leaves r.visits_leaves)) r.does.steps
 
   pub small_spare : {most : ℕ} (a b : SeatView × G) → IsSmallRound table becomes most a b → KeepsSpare table.layout a.0 b.0
   small_spare a b r =

@@ -4,6 +4,7 @@ use Rattle.rowex_table.proofs.Seats.Seeing.{ends_see, runs_after, runs_see, sees
 use Rattle.rowex_reading.proofs.Counting.{looks_count}
 use Rattle.rowex_reading.proofs.Touching.{ends_touch, root_still, runs_touch}
 use Rattle.rowex_scanning.specs.Counts.{Scans, scan_entries}
+use Rattle.record_words.specs.Layout.{uncommitted_in}
 use Rattle.hot_index_calls.specs.Answers.{IsRefusedFor, fault_of}
 use Rattle.hot_index_calls.specs.Counts.{try_steps}
 use Rattle.hot_index_calls.specs.Many.{HasMadeGetManySteps}
@@ -194,7 +195,7 @@ module _ {G : Type 0} (table : TableView) (becomes : G → Event → G → Type 
   -- or it was refused as full; and there follow a round of collection and an attempt more
   pub ended_again : (call : Call) (r : Result Reply TryFault) (full : Full) (a b c d : SeatView × G) → HasEnded table becomes (IsAttempt table.layout) silent a b →
       IsRefusedFor table.layout call (pass_of a.0) (pass_of b.0) (fault_of full) → (round : AreBetween table becomes b c) → HasEnded table becomes (IsAttempt table.layout) (change_notes call r) c d →
-      StandsSince table.layout call r c.0 d.0 ⊎ GiveNoneBetween table.layout full (round.first ∷ round.rest) →
+      StandsSince table.layout call r c.0 d.0 ⊎ GiveNoneBetween table.layout (uncommitted_in b.0.bounds) full (round.first ∷ round.rest) →
       HasEnded table becomes (AreTries table becomes call r a d) (change_notes call r) a d
   ended_again call r full a b c d (acts, tries, (m, steps, last)) lacked round (more, tries_again, (n, rest, end)) stands =
       let between = round.first ∷ round.rest in

@@ -5,6 +5,8 @@ use Rattle.rowex_core.proofs.Sharing.{at_record}
 use Rattle.rowex_core.specs.declared.event.Target.TheVariants.{Anchor, Node as NodeTarget}
 use Rattle.rowex_core.specs.declared.known.FailedAct.{FailedAct}
 use Rattle.rowex_core.specs.declared.known.FailedAct.TheVariants.{Claim as a_claim, Lock as a_lock, LoadState as a_load}
+use Rattle.epochs.proofs.Rounds.{visit_or_none}
+use Rattle.epochs.specs.Rounds.{VisitsCommitted}
 use Rattle.hot_index_calls.specs.Lacking.{IsUsed, IsUsedAt}
 use Rattle.hot_index_calls.specs.Traces.{CollectsNone, HasEnded, IsAttempt}
 use Rattle.hot_index_calls.proofs.Noting.{All-behind}
@@ -317,6 +319,9 @@ visit_spares i r bound _ apart (Visits.passes word waits) = All-cons (SparesReco
 visit_spares i r bound _ apart (Visits.tries epoch found low below) =
     All-cons (SparesRecord i) (LoadState r (state_word (Obsolete epoch))) (GiveBack r epoch found ∷ []) tt (All-cons (SparesRecord i) (GiveBack r epoch found) [] (inl apart) (All-nil (SparesRecord i)))
 
+committed_spares : (i r : Rec) (layout : Layout) (uncommitted : ℕ → ℕ) (bound : ℕ) (acts : List Act) → same_rec i r ≡ false → VisitsCommitted layout uncommitted bound r acts → All (SparesRecord i) acts
+committed_spares i r layout uncommitted bound acts apart = visit_or_none (All (SparesRecord i)) layout uncommitted bound r acts (All-nil (SparesRecord i)) (visit_spares i r bound acts apart)
+
 -- steps that give none back
 none_given : (i : Rec) (acts : List Act) → count_by has_given acts ≡ 0 → All (SparesRecord i) acts
 none_given i [] none = All-nil (SparesRecord i)
@@ -348,11 +353,11 @@ module _ {G : Type 0} (table : TableView) (becomes : G → Event → G → Type 
   pub none_used_node : (n : ℕ) → CollectsNone table becomes Nodes a b → IsUsedAt table.layout a.0 (a_node n) → IsUsedAt table.layout b.0 (a_node n)
   none_used_node n (inl (nodes, leaves, r, none)) was =
       let i = a_node n in let bound = b.0.known.round.bound in
-      round_used i r (none_given i r.nodes (sym r.nodes_given ∙ none)) (in_turn_spares i (λ m. Visits bound (a_leaf m)) (λ m acts. visit_spares i (a_leaf m) bound acts refl) table.layout.leaves r.leaves r.visits_leaves) was
+      round_used i r (none_given i r.nodes (sym r.nodes_given ∙ none)) (in_turn_spares i (λ m. VisitsCommitted table.layout r.uncommitted bound (a_leaf m)) (λ m acts. committed_spares i (a_leaf m) table.layout r.uncommitted bound acts refl) table.layout.leaves r.leaves r.visits_leaves) was
   none_used_node n (inr (several, r)) was = absurd (omega (arith, several, one))
 
   pub none_used_leaf : (n : ℕ) → CollectsNone table becomes Leaves a b → IsUsedAt table.layout a.0 (a_leaf n) → IsUsedAt table.layout b.0 (a_leaf n)
   none_used_leaf n (inl (nodes, leaves, r, none)) was =
       let i = a_leaf n in let bound = b.0.known.round.bound in
-      round_used i r (in_turn_spares i (λ m. Visits bound (a_node m)) (λ m acts. visit_spares i (a_node m) bound acts refl) table.layout.nodes r.nodes r.visits_nodes) (none_given i r.leaves (sym r.leaves_given ∙ none)) was
+      round_used i r (in_turn_spares i (λ m. VisitsCommitted table.layout r.uncommitted bound (a_node m)) (λ m acts. committed_spares i (a_node m) table.layout r.uncommitted bound acts refl) table.layout.nodes r.nodes r.visits_nodes) (none_given i r.leaves (sym r.leaves_given ∙ none)) was
   none_used_leaf n (inr (several, r)) was = absurd (omega (arith, several, one))

@@ -6,10 +6,14 @@ use Rattle.record_words.specs.declared.layout.Layout.{Layout}
 use Rattle.rowex_scanning.specs.Counts.{scan_loads}
 use Rattle.rowex_writing.specs.plan.Counts.{most_steps_of}
 
--- how many steps a round of collection makes at most: three on the epoch, one for each pin, and two for each record, a load of its state
--- and an exchange
+-- how many steps a round of collection makes at most that visits this many records: three on the epoch, one for each pin, and two for each
+-- record, a load of its state and an exchange
+abbrev pub visiting_steps : (layout : Layout) (count : ℕ) → ℕ
+visiting_steps layout count = 3 + layout.passes + 2 * count
+
+-- how many steps a round of collection makes at most, in whatever table of the layout: no more are committed than all records
 abbrev pub round_steps : Layout → ℕ
-round_steps layout = 3 + layout.passes + 2 * (layout.nodes + layout.leaves)
+round_steps layout = visiting_steps layout (layout.nodes + layout.leaves)
 
 -- how many steps an attempt at this call makes at most: two that load the epoch and set the pin, one that clears it, and the others
 abbrev pub once_steps : (call : Call) (layout : Layout) → ℕ
@@ -26,9 +30,9 @@ twice_steps call layout = 2 * once_steps call layout + round_steps layout
 abbrev pub most_visited : ℕ
 most_visited = 128
 
--- how many steps a small round makes at most: three on the epoch, one for each pin, and two for each record that it may visit
+-- how many steps a small round makes at most
 abbrev pub small_steps : Layout → ℕ
-small_steps layout = 3 + layout.passes + 2 * most_visited
+small_steps layout = visiting_steps layout most_visited
 
 -- how many steps a call that doesn't wait makes at most: those of a small round before it, and of its attempts with a round between
 abbrev pub try_steps : (call : Call) (layout : Layout) → ℕ

@@ -4,6 +4,7 @@ use Rattle.key_bits.specs.declared.TheConstants.{MAX_BYTES}
 use Rattle.finite_map.specs.declared.Call.{Call}
 use Rattle.finite_map.specs.declared.Note.{Note}
 use Rattle.finite_map.specs.declared.Reply.{Reply}
+use Rattle.record_words.specs.Layout.{uncommitted_in}
 use Rattle.record_words.specs.declared.layout.Layout.{Layout}
 use Rattle.record_words.specs.declared.records.Rec.{Rec}
 use Rattle.record_words.specs.declared.records.Rec.TheVariants.{Node as a_node, Leaf as a_leaf}
@@ -12,19 +13,20 @@ use Rattle.rowex_core.specs.declared.event.Act.TheVariants.{LoadEpoch, SetPin, L
 use Rattle.rowex_core.specs.declared.event.Event.{Event}
 use Rattle.rowex_core.specs.declared.event.Spot.TheVariants.{Root}
 use Rattle.rowex_core.specs.declared.known.Known.{Known}
+use Rattle.rowex_table.specs.Committed.{AtMost}
 use Rattle.rowex_table.specs.Runs.{Ends, InTurn, IsTold, Runs, SeesAllOfRun, entry_touches, events_of, silent}
 use Rattle.rowex_table.specs.Seats.{TableView, SeatView}
 use Rattle.rowex_reading.specs.Lookups.{search_touches}
 use Rattle.rowex_reading.specs.Reads.{IsBelowRoot, entries_in}
 use Rattle.rowex_scanning.specs.Counts.{scan_entries}
-use Rattle.epochs.specs.Rounds.{IsRound, IsSmallRound, IsSparedRound, LoadsPin, VisitEach, Visits, advance_steps, has_given}
+use Rattle.epochs.specs.Rounds.{IsRound, IsSmallRound, IsSparedRound, LoadsPin, VisitEach, VisitsCommitted, advance_steps, committed_records, has_given}
 use Rattle.rowex_writing.specs.attempts.Attempts.{AreAttemptSteps}
 use Rattle.rowex_writing.specs.declared.attempts.TryFault.{TryFault}
 use Rattle.rowex_writing.specs.declared.attempts.TryFault.TheVariants.{Busy, FullNodes, FullLeaves}
 use Rattle.rowex_writing.specs.declared.plan.Full.{Full}
 use Rattle.rowex_writing.specs.declared.plan.Full.TheVariants.{Nodes, Leaves}
 use Rattle.hot_index_calls.specs.Answers.{IsNoted, IsRefusedFor, fault_of}
-use Rattle.hot_index_calls.specs.Counts.{most_visited, round_steps, try_steps}
+use Rattle.hot_index_calls.specs.Counts.{most_visited, try_steps, visiting_steps}
 use Rattle.hot_index_calls.specs.Noting.{change_notes}
 use Rattle.hot_index_calls.specs.Passes.{PassView, pass_of}
 
@@ -78,20 +80,22 @@ pub record IsAttempt (layout : Layout) (acts : List Act) : Type 0 where
   pub steps : AreAttemptSteps layout rest
 
 -- The acts of a round of collection. It loads the epoch, tries once to raise it, unless it is the last, loads it again, and loads each pin.
--- Then it visits each record, nodes first: for one that is marked below `bound`, an exchange is to give it back. That `bound` is the least
--- of what the round loaded is not said here.
-pub record AreRoundSteps (layout : Layout) (acts : List Act) : Type 0 where
+-- Then it visits each committed record, nodes first: for one that is marked below `bound`, an exchange is to give it back. That `bound` is
+-- the least of what the round loaded is not said here. Of each kind no more are uncommitted than `most` says.
+pub record AreRoundSteps (layout : Layout) (most : ℕ → ℕ) (acts : List Act) : Type 0 where
   pub epoch : ℕ
   pub found : ℕ
   pub next : ℕ
   pub bound : ℕ
+  pub uncommitted : ℕ → ℕ
   pub pins : List Act
   pub nodes : List Act
   pub leaves : List Act
   pub acts_are : acts ≡ LoadEpoch epoch ∷ advance_steps epoch found ++ LoadEpoch next ∷ pins ++ nodes ++ leaves
+  pub few : AtMost uncommitted most
   pub loads_pins : InTurn LoadsPin layout.passes pins
-  pub visits_nodes : InTurn (λ number. Visits bound (a_node number)) layout.nodes nodes
-  pub visits_leaves : InTurn (λ number. Visits bound (a_leaf number)) layout.leaves leaves
+  pub visits_nodes : InTurn (λ number. VisitsCommitted layout uncommitted bound (a_node number)) layout.nodes nodes
+  pub visits_leaves : InTurn (λ number. VisitsCommitted layout uncommitted bound (a_leaf number)) layout.leaves leaves
 
 -- The acts of a small round of collection. It begins as a whole round does (`AreRoundSteps`), and then visits at most `most` records.
 pub record AreSmallSteps (layout : Layout) (most : ℕ) (acts : List Act) : Type 0 where
@@ -108,9 +112,9 @@ pub record AreSmallSteps (layout : Layout) (most : ℕ) (acts : List Act) : Type
   pub few : length recs ≤ most
 
 -- The acts between two attempts at a change: those of a round of collection. With several passes the round may be spared: it begins as one,
--- and visits no record.
-abbrev pub AreStepsBetween : (layout : Layout) (acts : List Act) → Type 0
-AreStepsBetween layout acts = AreRoundSteps layout acts ⊎ ((1 < layout.passes) × AreSmallSteps layout 0 acts)
+-- and visits no record. Of each kind no more are uncommitted than `most` says.
+abbrev pub AreStepsBetween : (layout : Layout) (most : ℕ → ℕ) (acts : List Act) → Type 0
+AreStepsBetween layout most acts = AreRoundSteps layout most acts ⊎ ((1 < layout.passes) × AreSmallSteps layout 0 acts)
 
 -- the number of this kind: `nodes` for nodes, `leaves` for leaves
 abbrev pub of_kind : Full → (nodes leaves : ℕ) → ℕ
@@ -118,9 +122,9 @@ of_kind Nodes nodes leaves = nodes
 of_kind Leaves nodes leaves = leaves
 
 -- The acts are those between two attempts, and give back no record of this kind. A spared round gives back none at all.
-abbrev pub GiveNoneBetween : (layout : Layout) (kind : Full) (acts : List Act) → Type 0
-GiveNoneBetween layout kind acts =
-    ((round : AreRoundSteps layout acts) × (of_kind kind (count_by has_given round.nodes) (count_by has_given round.leaves) ≡ 0)) ⊎
+abbrev pub GiveNoneBetween : (layout : Layout) (most : ℕ → ℕ) (kind : Full) (acts : List Act) → Type 0
+GiveNoneBetween layout most kind acts =
+    ((round : AreRoundSteps layout most acts) × (of_kind kind (count_by has_given round.nodes) (count_by has_given round.leaves) ≡ 0)) ⊎
     ((1 < layout.passes) × AreSmallSteps layout 0 acts)
 
 -- The call's result follows from what its pass did from the seat `old` to the seat `new`. If the call was answered, it is noted. If it was
@@ -142,17 +146,18 @@ pub record AreTwoAttempts {G : Type 0} (table : TableView) (becomes : G → Even
   pub between : List Act
   pub second : List Act
   pub acts_are : acts ≡ first ++ (ClearPin ∷ between ++ second)
-  pub tries : IsAttempt table.layout first
-  pub round : AreStepsBetween table.layout between
-  pub tries_again : IsAttempt table.layout second
   pub refused : SeatView × G
+  pub tries : IsAttempt table.layout first
+  pub round : AreStepsBetween table.layout (uncommitted_in refused.0.bounds) between
+  pub tries_again : IsAttempt table.layout second
   pub tried : Ends table becomes first ClearPin silent old refused
   pub full : Full
   pub lacked : IsRefusedFor table.layout call (pass_of old.0) (pass_of refused.0) (fault_of full)
   pub rounded : SeatView × G
   pub collected : Runs table becomes between refused rounded
   pub goes_on : Ends table becomes second ClearPin (change_notes call result) rounded new
-  pub stands : StandsSince table.layout call result rounded.0 new.0 ⊎ GiveNoneBetween table.layout full between
+  pub stands : StandsSince table.layout call result rounded.0 new.0 ⊎
+      GiveNoneBetween table.layout (uncommitted_in refused.0.bounds) full between
 
 -- whether the call was refused as full, for want of a node or of a leaf record
 abbrev pub is_full : Result Reply TryFault → Bool
@@ -233,10 +238,10 @@ pub record HasMadeCallSteps {G : Type 0} (index : TableView) (becomes : G → Ev
   pub told : IsTold becomes (events_of old.0.number (acts ++ last ∷ [])) old.1 new.1
 
 -- The pass makes one whole round of collection, which gives back `nodes` node records and `leaves` leaf records. The front stays the same.
--- The gate is told each step, and their number is bounded by `round_steps`.
+-- The gate is told each step. Their number is bounded by that of the records that are committed by what the pass knows then.
 pub record HasCollected {G : Type 0} (index : TableView) (becomes : G → Event → G → Type 0) (old new : PassView × G) (nodes leaves : ℕ) : Type 0 where
   pub begins : old.0 ≡ pass_of old.0.seat
   pub ends : new.0 ≡ pass_of new.0.seat
   pub round : IsRound index becomes (old.0.seat, old.1) (new.0.seat, new.1) nodes leaves
   pub front : new.0.front ≡ old.0.front
-  pub few : new.0.steps ≤ old.0.steps + round_steps index.layout
+  pub few : new.0.steps ≤ old.0.steps + visiting_steps index.layout (committed_records index.layout (uncommitted_in new.0.seat.bounds))

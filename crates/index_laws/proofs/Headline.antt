@@ -1,5 +1,5 @@
 -- The promises of the headline, one by one.
-use Rattle.index_laws.proofs.Common.{◌≡◌, ◌≢◌, inl, inr, ⊎_elim, ℕ, Bool, true, false, cond, length, ◌+◌, ◌*◌, ◌<◌, ◌≤◌, List, [], ◌∷◌, ◌++◌, Option, map, suc, refl, sym, ap, subst, ◌∙◌, arith, append-nil, le_refl, le_trans, All, Result, All-head, All-nil, sum_by-cons, Call, Reply, Add, Exchange, Insert, Remove, RemoveIf, Change, Note, Inserted, LegalCalls, StandsIn, changes_of, own_changes, LegalHistory, answered, calls_of, weave, weave-legal, woven-in_order_two, Act, Known, loaded_tree, entries_in_reach, in_reach, Layout, TableView, Item, Tree, pin_version, IsReach, a_leaf, added_notes, items_of, IsCause, MayRefuse, PassView, HasMadeChangeSteps, untold, counts_add_up, Happening, IsWholeRun, Configuration}
+use Rattle.index_laws.proofs.Common.{a_node, ◌≡◌, ◌≢◌, inl, inr, ⊎_elim, ℕ, Bool, true, false, cond, length, ◌+◌, ◌*◌, ◌<◌, ◌≤◌, List, [], ◌∷◌, ◌++◌, Option, map, suc, refl, sym, ap, subst, ◌∙◌, arith, append-nil, le_refl, le_trans, All, Result, All-head, All-nil, sum_by-cons, Call, Reply, Add, Exchange, Insert, Remove, RemoveIf, Change, Note, Inserted, LegalCalls, StandsIn, changes_of, own_changes, LegalHistory, answered, calls_of, weave, weave-legal, woven-in_order_two, Act, Known, loaded_tree, entries_in_reach, in_reach, Layout, TableView, Item, Tree, pin_version, IsReach, a_leaf, added_notes, items_of, IsCause, MayRefuse, PassView, HasMadeChangeSteps, untold, counts_add_up, Happening, IsWholeRun, Configuration}
 use Rattle.key_bits.specs.declared.TheConstants.{MAX_BYTES}
 use Rattle.finite_map.specs.declared.Scan.{Scan}
 use Rattle.finite_map.specs.Maps.{Map, key_of}
@@ -15,6 +15,8 @@ use Rattle.rowex_writing.specs.declared.attempts.TryFault.TheVariants.{Busy, Ful
 use Rattle.version_laws.specs.Directions.{ScanLaw}
 use Rattle.versions.proofs.State.{reach_later}
 use Rattle.versions.proofs.Told.{content_in_order}
+use Rattle.record_words.specs.Layout.{uncommitted_in}
+use Rattle.epochs.proofs.Rounds.{committed_few}
 use Rattle.hot_index_calls.specs.Counts.{try_steps}
 use Rattle.hot_index.proofs.Statements.Alone.{one_pass_full_means_taken, one_pass_is_never_busy}
 use Rattle.hot_index.proofs.Statements.Held.{absent_is_never_full, held_is_never_full, one_pass_refuses_only_new_keys}
@@ -143,7 +145,11 @@ steps = record {
   get_many = λ index count k j h. few_entries j.steps k.steps count _ (count * (9 * MAX_BYTES)) h.few h.depth;
   change = λ index call result k j h. h.few;
   scan = λ index limit k j h. (let most = h.most in let few = h.few in omega (arith, most, few));
-  collect = λ index nodes leaves k j h. h.few;
+  collect = λ index nodes leaves k j h.
+      (let few = h.few in
+      let nodes_few = committed_few index.layout (uncommitted_in j.seat.bounds) a_node index.layout.nodes in
+      let leaves_few = committed_few index.layout (uncommitted_in j.seat.bounds) a_leaf index.layout.leaves in omega (arith, few, nodes_few, leaves_few));
+  collect_committed = λ index nodes leaves k j h. h.few;
   count = λ index counts k j h. (let many = h.many in omega (arith, many));
 }
 

@@ -1,9 +1,10 @@
 -- An index whose passes are idle: from the traces of its passes to the core, and the laws of a round and of a count made there.
-use Rattle.index_laws.proofs.Common.{rules, ◌≡◌, ◌≢◌, inl, inr, ⊎_elim, ℕ, ◌+◌, ◌<◌, List, [], ◌∷◌, ◌++◌, if◌then◌else◌, nat_eq, Option, Some, None, length, refl, sym, ap, subst, ◌∙◌, arith, le_refl, append_assoc, append-nil, All, cases_eq, eq-eqb, ne_eqb, append_cancel_left, All-cons, All-head, All-nil, All-tail, All-weaker, Change, Note, map_of, EPOCHS, Layout, Rec, a_node, a_leaf, Fate, Free, Held, Ready, InTree, Unlinked, Marked, IsOneOf, Round, Act, LoadEpoch, Event, Known, Core, HasRecord, IsLawful, holder_of, Legal, after, Knows, opening, EventsLead, opening_is_lawful, runs_stay_lawful, InTurn, Runs, StepsWith, silent, opening_of, IsNewSeatOf, SeatView, TableView, IsTableRun, OthersStepOn, own_acts, lead_rest, own_acts-append, own_acts-others, steps_are_in_one_run, others_none, others_on, runs_same, run_timely, IsRound, Visits, FoundTags, HasCounted, OneForEach, counts_in, loads_in, IsSettled, PassView, HasCollected, Happening, Configuration, runs_stay_sound}
+use Rattle.index_laws.proofs.Common.{rules, ◌≡◌, ◌≢◌, inl, inr, ⊎_elim, ℕ, ◌+◌, ◌<◌, List, [], ◌∷◌, ◌++◌, if◌then◌else◌, nat_eq, Option, Some, None, length, refl, sym, ap, subst, ◌∙◌, arith, le_refl, append_assoc, append-nil, All, cases_eq, eq-eqb, ne_eqb, append_cancel_left, All-cons, All-head, All-nil, All-tail, All-weaker, Change, Note, map_of, EPOCHS, Layout, Rec, a_node, a_leaf, Fate, Free, Held, Ready, InTree, Unlinked, Marked, IsOneOf, Round, Act, LoadEpoch, Event, Known, Core, HasRecord, IsLawful, holder_of, Legal, after, Knows, opening, EventsLead, opening_is_lawful, runs_stay_lawful, InTurn, Runs, StepsWith, silent, opening_of, IsNewSeatOf, SeatView, TableView, IsTableRun, OthersStepOn, own_acts, lead_rest, own_acts-append, own_acts-others, steps_are_in_one_run, others_none, others_on, runs_same, run_timely, IsRound, FoundTags, HasCounted, OneForEach, counts_in, loads_in, IsSettled, PassView, HasCollected, Happening, Configuration, runs_stay_sound, state_word, Tag, LoadState, loads_of}
 use Rattle.versions.specs.declared.Pin.{Pin}
 use Rattle.rowex_core.specs.declared.known.Holding.TheVariants.{Held as HeldBy, Ready as ReadyBy, Unlinked as UnlinkedBy}
 use Rattle.rowex_core.proofs.Sharing.Owning.{knows_all, pin_is, round_is}
-use Rattle.publish_laws.proofs.Lone.{lead_layout, lead_split, one_of, step_knows}
+use Rattle.epochs.specs.Rounds.{IsUncommitted, VisitsCommitted}
+use Rattle.publish_laws.proofs.Lone.{lead_layout, lead_same, lead_split, one_of, step_knows}
 use Rattle.rowex_writing.specs.locks.Others.{HoldsLock}
 use Rattle.hot_index_calls.specs.declared.census.RecordCounts.{RecordCounts}
 use Rattle.hot_index_calls.proofs.Rooms.{round_acts, step_here}
@@ -170,6 +171,27 @@ own_lead q c (x ∷ xs) d own (legal, rest) =
       own_lead q (after c q x.act) xs d (All-tail (λ y. y.pass ≡ q) x xs own) (subst (λ p. EventsLead (after c p x.act) xs d) e rest),
     )
 
+abbrev head_of : Event → List Event → Event
+head_of d [] = d
+head_of d (x ∷ xs) = x
+
+abbrev tail_of : List Event → List Event
+tail_of [] = []
+tail_of (x ∷ xs) = xs
+
+-- Two lists have the same steps of others before the first step of a pass, if behind those of the second all steps are the pass's.
+same_others : (q : ℕ) (os bs : List Event) (x : Event) (xs more : List Event) → All (λ y. y.pass ≢ q) os → All (λ y. y.pass ≢ q) bs → x.pass ≡ q → All (λ y. y.pass ≡ q) more →
+    os ++ x ∷ xs ≡ bs ++ more → os ≡ bs
+same_others q [] [] x xs more none others own alone is = refl
+same_others q [] (b ∷ bs) x xs more none others own alone is =
+    let e : x ≡ b = ap (head_of x) is in absurd (All-head (λ y. y.pass ≢ q) b bs others (ap (λ (y : Event). y.pass) (sym e) ∙ own))
+same_others q (o ∷ os) [] x xs more none others own alone is =
+    absurd (All-head (λ y. y.pass ≢ q) o os none (All-head (λ y. y.pass ≡ q) o (os ++ x ∷ xs) (subst (All (λ y. y.pass ≡ q)) (sym is) alone)))
+same_others q (o ∷ os) (b ∷ bs) x xs more none others own alone is =
+    let head : o ≡ b = ap (head_of o) is in
+    let tail : os ≡ bs = same_others q os bs x xs more (All-tail (λ y. y.pass ≢ q) o os none) (All-tail (λ y. y.pass ≢ q) b bs others) own alone (ap tail_of is) in
+    ap (λ y. y ∷ os) head ∙ ap (λ l. b ∷ l) tail
+
 module _ {G : Type 0} (table : TableView) (becomes : G → Event → G → Type 0) where
   -- what a pass knows after its last step is true there
   step_true : (act : Act) (said : Known → List Note) (a b : SeatView × G) → StepsWith table becomes act said a b →
@@ -207,6 +229,25 @@ module _ {G : Type 0} (table : TableView) (becomes : G → Event → G → Type 
       let on : EventsLead c more d = lead_rest start run c more d (subst (λ l. EventsLead start l d) is led) there in
       subst (λ l. ActsLead q c l d) mine (own_lead q c more d own on)
 
+  -- the first of them is made in that core
+  first_core : (act : Act) (acts : List Act) (a b : SeatView × G) (run : List Event) (runs : Runs table becomes (act ∷ acts) a b) → OthersStepOn a.0.known.pass a.0.trace run →
+      StepsAlone a.0.known.pass run b.0.trace → (c : Core) → EventsLead (opening table.layout) run c → runs.1.event.core ≡ c
+  first_core act acts a b run runs (between, run_is, others) (more, is, own) c there =
+      let q : ℕ = a.0.known.pass in
+      let start = opening table.layout in
+      let next = runs.1.next in
+      let x : Event = record { pass = q; act = act } in
+      let later = steps_are_in_one_run becomes table acts runs.0 b runs.2 in
+      let whole : a.0.trace ++ (next.others.0 ++ x ∷ later.steps) ≡ b.0.trace =
+      sym (later.trace ∙ (ap (λ l. l ++ later.steps) (next.next_is ∙ ap (λ l. l ++ x ∷ []) next.others.1) ∙
+      (append_assoc (a.0.trace ++ next.others.0) (x ∷ []) later.steps ∙ append_assoc a.0.trace next.others.0 (x ∷ later.steps)))) in
+      let same : next.others.0 ≡ between =
+      same_others q next.others.0 between x later.steps more next.others.2 others refl own
+      (append_cancel_left a.0.trace (next.others.0 ++ x ∷ later.steps) (between ++ more)
+      (whole ∙ (is ∙ (ap (λ l. l ++ more) run_is ∙ append_assoc a.0.trace between more)))) in
+      let before : next.before ≡ run = next.others.1 ∙ (ap (λ l. a.0.trace ++ l) same ∙ sym run_is) in
+      lead_same start run c runs.1.event.core there (subst (λ l. EventsLead start l runs.1.event.core) before next.led)
+
   -- ---- a round and a count
   module _ (a b : SeatView × G) (run : List Event) (behind : OthersStepOn a.0.known.pass a.0.trace run) (alone : StepsAlone a.0.known.pass run b.0.trace)
       (c d : Core)
@@ -223,11 +264,13 @@ module _ {G : Type 0} (table : TableView) (becomes : G → Event → G → Type 
         let bound : b.0.known.round.bound ≡ (d.rounds q).bound =
         ap (λ (z : Round). z.bound) (sym (round_is d b.0.known knows)) ∙ ap (λ p. (d.rounds p).bound) (runs_same table becomes acts a b r.does.steps).2 in
         let (marked, few) = run_timely start run c (opening_is_lawful table.layout).0 there (λ z. tt) in
-        let placed = round_places q r.epoch r.found r.next b.0.known.round.bound r.pins r.nodes r.leaves c d
-        (runs_stay_lawful table.layout run c there) idle marked
-        (omega (arith, few, early)) table.layout.passes r.loads_pins
-        (subst (λ (l : Layout). InTurn (λ n. Visits b.0.known.round.bound (a_node n)) l.nodes r.nodes) (sym lay_c) r.visits_nodes)
-        (subst (λ (l : Layout). InTurn (λ n. Visits b.0.known.round.bound (a_leaf n)) l.leaves r.leaves) (sym lay_c) r.visits_leaves)
+        let at_first : r.does.steps.1.event.core ≡ c = first_core (LoadEpoch r.epoch) _ a b run r.does.steps behind alone c there in
+        let placed = round_places q r.epoch r.found r.next b.0.known.round.bound r.uncommitted r.pins r.nodes r.leaves c d
+        (runs_stay_lawful table.layout run c there) idle marked (omega (arith, few, early))
+        (λ i beyond. ap (λ (z : Core). z.fate i) (sym at_first) ∙ r.rest i (subst (λ l. IsUncommitted l r.uncommitted i) lay_c beyond))
+        table.layout.passes r.loads_pins
+        (subst (λ (l : Layout). InTurn (λ n. VisitsCommitted l r.uncommitted b.0.known.round.bound (a_node n)) l.nodes r.nodes) (sym lay_c) r.visits_nodes)
+        (subst (λ (l : Layout). InTurn (λ n. VisitsCommitted l r.uncommitted b.0.known.round.bound (a_leaf n)) l.leaves r.leaves) (sym lay_c) r.visits_leaves)
         bound (alone_lead acts a b run r.does.steps behind alone c d there led) in
         elim (lawful.records.used x) [
           | inl free ↦ subst IsPlaced (sym free) tt

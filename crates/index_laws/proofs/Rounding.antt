@@ -1,5 +1,9 @@
 -- A round of collection in a core in which no pass is at work: what its steps leave retired.
 use Rattle.index_laws.proofs.Common.{◌≡◌, ◌≢◌, ⊎_elim, ℕ, zero, suc, ◌+◌, ◌*◌, ◌<◌, ◌≤◌, List, [], ◌∷◌, ◌++◌, Bool, true, false, if◌then◌else◌, nat_eq, None, refl, sym, ap, subst, ◌∙◌, arith, All, cases_lt, eq-eqb, lt-ltb, All-append, All-cons, All-head, All-nil, All-tail, state_word, EPOCHS, Rec, a_node, a_leaf, Obsolete, Fate, Shared, Free, Held, Ready, InTree, Unlinked, Marked, lowered, same_rec, with_epoch, with_fate, Round, same_rec_refl, Core, HasRecord, IsLawful, holder_of, Legal, after, given_back, lock_of, state_at, tag_of, Act, Advance, GiveBack, LoadEpoch, LoadPin, LoadState, stays_lawful, InTurn, LoadsPin, Visits, advance_steps, IsMarkedBy}
+use Rattle.record_words.specs.declared.layout.Layout.{Layout}
+use Rattle.rowex_table.specs.Committed.{IsCommitted, count_from, record_kind}
+use Rattle.epochs.specs.Rounds.{IsUncommitted, VisitsCommitted}
+use Rattle.epochs.proofs.Rounds.{visit_committed, visit_or_none}
 use Rattle.index_laws.specs.Rest.{HasNoneAtWork}
 
 -- ---- steps of one pass, one after the other
@@ -85,10 +89,15 @@ visit_plain bound r _ (Visits.tries epoch found low below) =
     All-cons IsOfRound (LoadState r (state_word (Obsolete epoch))) (GiveBack r epoch found ∷ []) tt
     (All-cons IsOfRound (GiveBack r epoch found) [] tt (All-nil IsOfRound))
 
-visits_plain : (bound : ℕ) (kind : ℕ → Rec) (n : ℕ) (acts : List Act) → InTurn (λ m. Visits bound (kind m)) n acts → All IsOfRound acts
-visits_plain bound kind zero acts none = subst (All IsOfRound) (sym none) (All-nil IsOfRound)
-visits_plain bound kind (suc n) acts (before, last, first, visit, all) =
-    subst (All IsOfRound) (sym all) (All-append IsOfRound before last (visits_plain bound kind n before first) (visit_plain bound (kind n) last visit))
+committed_plain : (layout : Layout) (uncommitted : ℕ → ℕ) (bound : ℕ) (r : Rec) (acts : List Act) → VisitsCommitted layout uncommitted bound r acts → All IsOfRound acts
+committed_plain layout uncommitted bound r acts = visit_or_none (All IsOfRound) layout uncommitted bound r acts (All-nil IsOfRound) (visit_plain bound r acts)
+
+visits_plain : (layout : Layout) (uncommitted : ℕ → ℕ) (bound : ℕ) (kind : ℕ → Rec) (n : ℕ) (acts : List Act) →
+    InTurn (λ m. VisitsCommitted layout uncommitted bound (kind m)) n acts → All IsOfRound acts
+visits_plain layout uncommitted bound kind zero acts none = subst (All IsOfRound) (sym none) (All-nil IsOfRound)
+visits_plain layout uncommitted bound kind (suc n) acts (before, last, first, visit, all) =
+    subst (All IsOfRound) (sym all) (All-append IsOfRound before last (visits_plain layout uncommitted bound kind n before first)
+    (committed_plain layout uncommitted bound (kind n) last visit))
 
 -- where the state was loaded that is not obsolete below the bound
 passed : (c : Core) (r : Rec) (e bound word : ℕ) (f : Fate) → IsLawful c → c.fate r ≡ f → e < bound → word ≡ state_at c r →
@@ -122,20 +131,23 @@ module _ (e bound : ℕ) (low : e < bound) (q : ℕ) where
   visit_places r _ c d law (Visits.tries epoch found some below) (look, (give, is)) by =
       subst (λ (z : Core). IsPlaced (z.fate r)) (sym is) (gives c r e epoch (c.fate r) refl look.1.1 by)
 
-  -- each of them was visited
-  pub visits_place : (kind : ℕ → Rec) (n : ℕ) (acts : List Act) (c d : Core) → IsLawful c → InTurn (λ m. Visits bound (kind m)) n acts → ActsLead q c acts d →
-      (i : ℕ) → i < n → IsPlacedOrBy e (c.fate (kind i)) → IsPlaced (d.fate (kind i))
-  visits_place kind zero acts c d law visits lead i few by = absurd (omega (arith, few))
-  visits_place kind (suc n) acts c d law (before, last, first, visit, all) lead i few by =
+  -- each of them that is committed was visited
+  pub visits_place : (layout : Layout) (uncommitted : ℕ → ℕ) (kind : ℕ → Rec) (n : ℕ) (acts : List Act) (c d : Core) → IsLawful c →
+      InTurn (λ m. VisitsCommitted layout uncommitted bound (kind m)) n acts → ActsLead q c acts d →
+      (i : ℕ) → i < n → IsCommitted layout uncommitted (kind i) → IsPlacedOrBy e (c.fate (kind i)) → IsPlaced (d.fate (kind i))
+  visits_place layout uncommitted kind zero acts c d law visits lead i few committed by = absurd (omega (arith, few))
+  visits_place layout uncommitted kind (suc n) acts c d law (before, last, first, visit, all) lead i few committed by =
       let (m, one, two) = acts_split q c before last d (subst (λ l. ActsLead q c l d) all lead) in
       ⊎_elim
-      (λ (older : i < n). acts_kept IsPlaced tt q m last d (visit_plain bound (kind n) last visit) two (kind i)
-      (visits_place kind n before c m law first one i older by))
+      (λ (older : i < n). acts_kept IsPlaced tt q m last d (committed_plain layout uncommitted bound (kind n) last visit) two (kind i)
+      (visits_place layout uncommitted kind n before c m law first one i older committed by))
       (λ (newest : n ≤ i).
       let same : i ≡ n = omega (arith, few, newest) in
-      let waits : IsPlacedOrBy e (m.fate (kind i)) = acts_kept (IsPlacedOrBy e) tt q c before m (visits_plain bound kind n before first) one (kind i) by in
+      let waits : IsPlacedOrBy e (m.fate (kind i)) =
+      acts_kept (IsPlacedOrBy e) tt q c before m (visits_plain layout uncommitted bound kind n before first) one (kind i) by in
+      let visited = visit_committed layout uncommitted bound (kind n) last (subst (λ z. IsCommitted layout uncommitted (kind z)) same committed) visit in
       subst (λ z. IsPlaced (d.fate (kind z))) (sym same)
-      (visit_places (kind n) last m d (acts_lawful q c before m law one) visit two (subst (λ z. IsPlacedOrBy e (m.fate (kind z))) same waits)))
+      (visit_places (kind n) last m d (acts_lawful q c before m law one) visited two (subst (λ z. IsPlacedOrBy e (m.fate (kind z))) same waits)))
       (cases_lt i n)
 
 -- ---- how a round begins
@@ -169,10 +181,12 @@ visit_visits bound r _ (Visits.tries epoch found low below) =
     All-cons IsOfVisit (LoadState r (state_word (Obsolete epoch))) (GiveBack r epoch found ∷ []) tt
     (All-cons IsOfVisit (GiveBack r epoch found) [] tt (All-nil IsOfVisit))
 
-visits_visit : (bound : ℕ) (kind : ℕ → Rec) (n : ℕ) (acts : List Act) → InTurn (λ m. Visits bound (kind m)) n acts → All IsOfVisit acts
-visits_visit bound kind zero acts none = subst (All IsOfVisit) (sym none) (All-nil IsOfVisit)
-visits_visit bound kind (suc n) acts (before, last, first, visit, all) =
-    subst (All IsOfVisit) (sym all) (All-append IsOfVisit before last (visits_visit bound kind n before first) (visit_visits bound (kind n) last visit))
+visits_visit : (layout : Layout) (uncommitted : ℕ → ℕ) (bound : ℕ) (kind : ℕ → Rec) (n : ℕ) (acts : List Act) →
+    InTurn (λ m. VisitsCommitted layout uncommitted bound (kind m)) n acts → All IsOfVisit acts
+visits_visit layout uncommitted bound kind zero acts none = subst (All IsOfVisit) (sym none) (All-nil IsOfVisit)
+visits_visit layout uncommitted bound kind (suc n) acts (before, last, first, visit, all) =
+    subst (All IsOfVisit) (sym all) (All-append IsOfVisit before last (visits_visit layout uncommitted bound kind n before first)
+    (visit_or_none (All IsOfVisit) layout uncommitted bound (kind n) last (All-nil IsOfVisit) (visit_visits bound (kind n) last) visit))
 
 own_round : (b : Bool) (o s : Round) → b ≡ true → (if b then o else s) ≡ o
 own_round true o s is = refl
@@ -244,14 +258,15 @@ begins q epoch found next n pins c d early free loads (legal, lead) =
     )
 
 -- ---- the round
--- It leaves each record free, or in the tree.
-pub round_places : (q epoch found next bound : ℕ) (pins nodes leaves : List Act) (c d : Core) → IsLawful c → HasNoneAtWork c →
-    ((r : Rec) → IsMarkedBy c.epoch (c.fate r)) → c.epoch + 1 < EPOCHS → (passes : ℕ) → InTurn LoadsPin passes pins →
-    InTurn (λ n. Visits bound (a_node n)) c.layout.nodes nodes →
-    InTurn (λ n. Visits bound (a_leaf n)) c.layout.leaves leaves → bound ≡ bound_of d q →
+-- It leaves each record free, or in the tree, if those that it doesn't visit are free.
+pub round_places : (q epoch found next bound : ℕ) (uncommitted : ℕ → ℕ) (pins nodes leaves : List Act) (c d : Core) → IsLawful c → HasNoneAtWork c →
+    ((r : Rec) → IsMarkedBy c.epoch (c.fate r)) → c.epoch + 1 < EPOCHS → ((r : Rec) → IsUncommitted c.layout uncommitted r → c.fate r ≡ Free) →
+    (passes : ℕ) → InTurn LoadsPin passes pins →
+    InTurn (λ n. VisitsCommitted c.layout uncommitted bound (a_node n)) c.layout.nodes nodes →
+    InTurn (λ n. VisitsCommitted c.layout uncommitted bound (a_leaf n)) c.layout.leaves leaves → bound ≡ bound_of d q →
     ActsLead q c ((beginning epoch found next pins ++ nodes) ++ leaves) d →
     (r : Rec) → HasRecord c.layout r → IsPlaced (d.fate r)
-round_places q epoch found next bound pins nodes leaves c d law idle marked early passes loads visits_nodes visits_leaves bound_is lead = of_record
+round_places q epoch found next bound uncommitted pins nodes leaves c d law idle marked early rest passes loads visits_nodes visits_leaves bound_is lead = of_record
   where
     e : ℕ
     e = c.epoch
@@ -271,8 +286,8 @@ round_places q epoch found next bound pins nodes leaves c d law idle marked earl
     low : e < bound
     low =
         let same : d.rounds ≡ first.0.rounds =
-        acts_rounds q last.0 leaves d (visits_visit bound a_leaf c.layout.leaves leaves visits_leaves) last.2 ∙
-        acts_rounds q first.0 nodes last.0 (visits_visit bound a_node c.layout.nodes nodes visits_nodes) first.2 in
+        acts_rounds q last.0 leaves d (visits_visit c.layout uncommitted bound a_leaf c.layout.leaves leaves visits_leaves) last.2 ∙
+        acts_rounds q first.0 nodes last.0 (visits_visit c.layout uncommitted bound a_node c.layout.nodes nodes visits_nodes) first.2 in
         let is = ap (λ (o : ℕ → Round). (o q).bound) same in
         omega (arith, bound_is, is, begun.0)
 
@@ -282,11 +297,24 @@ round_places q epoch found next bound pins nodes leaves c d law idle marked earl
     waits : (r : Rec) → IsPlacedOrBy e (first.0.fate r)
     waits r = acts_kept (IsPlacedOrBy e) tt q c begin first.0 begun.1 first.1 r (unowned_is e (c.fate r) (idle.unowned r) (marked r))
 
+    nodes_plain : All IsOfRound nodes
+    nodes_plain = visits_plain c.layout uncommitted bound a_node c.layout.nodes nodes visits_nodes
+
+    leaves_plain : All IsOfRound leaves
+    leaves_plain = visits_plain c.layout uncommitted bound a_leaf c.layout.leaves leaves visits_leaves
+
+    of_committed : (r : Rec) → HasRecord c.layout r → IsCommitted c.layout uncommitted r → IsPlaced (d.fate r)
+    of_committed (a_node n) has committed =
+        acts_kept IsPlaced tt q last.0 leaves d leaves_plain last.2 (a_node n)
+        (visits_place e bound low q c.layout uncommitted a_node c.layout.nodes nodes first.0 last.0 lawful visits_nodes first.2 n has committed (waits (a_node n)))
+    of_committed (a_leaf n) has committed =
+        visits_place e bound low q c.layout uncommitted a_leaf c.layout.leaves leaves last.0 d (acts_lawful q first.0 nodes last.0 lawful first.2) visits_leaves
+        last.2 n has committed (acts_kept (IsPlacedOrBy e) tt q first.0 nodes last.0 nodes_plain first.2 (a_leaf n) (waits (a_leaf n)))
+
     of_record : (r : Rec) → HasRecord c.layout r → IsPlaced (d.fate r)
-    of_record (a_node n) has =
-        acts_kept IsPlaced tt q last.0 leaves d (visits_plain bound a_leaf c.layout.leaves leaves visits_leaves) last.2 (a_node n)
-        (visits_place e bound low q a_node c.layout.nodes nodes first.0 last.0 lawful visits_nodes first.2 n has (waits (a_node n)))
-    of_record (a_leaf n) has =
-        visits_place e bound low q a_leaf c.layout.leaves leaves last.0 d (acts_lawful q first.0 nodes last.0 lawful first.2) visits_leaves last.2 n has
-        (acts_kept (IsPlacedOrBy e) tt q first.0 nodes last.0 (visits_plain bound a_node c.layout.nodes nodes visits_nodes) first.2 (a_leaf n)
-        (waits (a_leaf n)))
+    of_record r has = ⊎_elim
+        (λ (committed : IsCommitted c.layout uncommitted r). of_committed r has committed)
+        (λ (beyond : IsUncommitted c.layout uncommitted r). acts_kept IsPlaced tt q c ((begin ++ nodes) ++ leaves) d
+        (All-append IsOfRound (begin ++ nodes) leaves (All-append IsOfRound begin nodes begun.1 nodes_plain) leaves_plain) lead r
+        (subst IsPlaced (sym (rest r beyond)) tt))
+        (cases_lt (uncommitted (record_kind c.layout r)) (count_from c.layout r))

@@ -21,7 +21,9 @@ use Rattle.finite_map.specs.Reverse.{IsDownToLast, IsLawfulReverseScan}
 use Rattle.finite_map.specs.Scans.{IsLawfulScan, IsUpToLast}
 use Rattle.finite_map.specs.Weaves.{LegalHistory, answered, calls_of, weave}
 use Rattle.plain_index.specs.Orders.{AreWoven, calls_in}
+use Rattle.record_words.specs.Layout.{uncommitted_in}
 use Rattle.record_words.specs.declared.layout.Layout.{Layout}
+use Rattle.epochs.specs.Rounds.{committed_records}
 use Rattle.record_words.specs.declared.TheConstants.{VALUE_OFFSET}
 use Rattle.rowex_core.specs.Cores.{Core, IsLawful}
 use Rattle.rowex_core.specs.Events.{IsLoad, loaded_tree}
@@ -41,7 +43,7 @@ use Rattle.record_words.specs.declared.records.Rec.TheVariants.{Leaf as a_leaf}
 use Rattle.hot_index_calls.specs.Answers.{HaveMet, IsCause, IsListedBy, IsNoted, IsRefusedFor, IsScannedBy, MayRefuse, range_from}
 use Rattle.hot_index_calls.specs.declared.census.RecordCounts.{RecordCounts}
 use Rattle.hot_index_calls.specs.Census.{HasCounted, all_uncommitted}
-use Rattle.hot_index_calls.specs.Counts.{round_steps, try_steps}
+use Rattle.hot_index_calls.specs.Counts.{round_steps, try_steps, visiting_steps}
 use Rattle.hot_index_calls.specs.Many.{HasMadeGetManySteps}
 use Rattle.hot_index_calls.specs.Passes.{PassView, pass_of}
 use Rattle.hot_index_calls.specs.Traces.{HasCollected, HasMadeGetSteps, HasMadeScanSteps, HasMadeChangeSteps, untold}
@@ -135,8 +137,8 @@ FaultsByCall =
     (fault ≢ Busy → (expected value : ℕ) → call ≢ Exchange key expected value) × (fault ≢ Busy → (delta : ℕ) → call ≢ Add key delta)
 
 -- Bounds on the atomic steps of each call that waits for no other pass: gets, tries of changes, scans, rounds of collection, and counts of
--- all committed records. A key's path has at most `9 * MAX_BYTES` nodes, since each node has a fork at a further bit of the key. At each node a
--- search makes at most 26 steps.
+-- all committed records. A round makes two at most for each record that is committed by what its pass knows then. A key's path has at most
+-- `9 * MAX_BYTES` nodes, since each node has a fork at a further bit of the key. At each node a search makes at most 26 steps.
 pub record BoundedSteps : Type 0 where
   pub get : (index : TableView) (old new : PassView) → HasMadeGetSteps index untold (old, tt) (new, tt) →
       new.steps ≤ old.steps + 36 + 26 * (9 * MAX_BYTES)
@@ -149,6 +151,8 @@ pub record BoundedSteps : Type 0 where
       new.steps ≤ old.steps + 101 + 26 * scan_entries limit + 8 * limit
   pub collect : (index : TableView) (nodes leaves : ℕ) (old new : PassView) → HasCollected index untold (old, tt) (new, tt) nodes leaves →
       new.steps ≤ old.steps + round_steps index.layout
+  pub collect_committed : (index : TableView) (nodes leaves : ℕ) (old new : PassView) → HasCollected index untold (old, tt) (new, tt) nodes leaves →
+      new.steps ≤ old.steps + visiting_steps index.layout (committed_records index.layout (uncommitted_in new.seat.bounds))
   pub count : (index : TableView) (counts : RecordCounts) (old new : PassView) → HasCounted index untold (old, tt) (new, tt) counts →
       new.steps + all_uncommitted counts ≤ old.steps + (index.layout.nodes + index.layout.leaves)
 

@@ -2,7 +2,10 @@
 use Rattle.hot_index_calls.proofs.Common.{◌≡◌, ℕ, zero, suc, inl, inr, refl, ◌+◌, ◌*◌, ◌<◌, ◌≤◌, List, [], ◌∷◌, ◌++◌, length, nat_lt, true, false, Bool, if◌then◌else◌, None, sym, ap, subst, ◌∙◌, arith, length-append, append-nil, EPOCHS, Rec, a_node, a_leaf, Act, Advance, LoadEpoch, Event, Known, Does, InTurn, TableView, SeatView, LegalCalls, BeginsWith, IsRound, IsSmallRound, LoadsPin, VisitEach, Visits, advance_steps, collecting, Full}
 use Rattle.hot_index_calls.specs.Answers.{IsUnnoted}
 use Rattle.hot_index_calls.specs.Asked.{IsIdle}
-use Rattle.hot_index_calls.specs.Counts.{round_steps}
+use Rattle.hot_index_calls.specs.Counts.{round_steps, visiting_steps}
+use Rattle.epochs.proofs.Rounds.{committed_few, committed_rise, few_visits}
+use Rattle.epochs.specs.Rounds.{committed_records}
+use Rattle.record_words.specs.Layout.{uncommitted_in}
 use Rattle.hot_index_calls.specs.Passes.{AreByPasses, IsSettled, pass_of}
 use Rattle.hot_index_calls.specs.Traces.{AreSmallSteps, AreStepsBetween, Collects, CollectsNone, GiveNoneBetween, of_kind}
 use Rattle.hot_index_calls.proofs.Noting.{event_makers}
@@ -31,12 +34,6 @@ pins_few (suc n) acts (before, last, first, (word, is), all) =
 visit_few : (bound : ℕ) (r : Rec) (acts : List Act) → Visits bound r acts → length acts ≤ 2
 visit_few bound r _ (Visits.passes word not) = omega arith
 visit_few bound r _ (Visits.tries epoch found low below) = omega arith
-
-visits_few : (bound : ℕ) (kind : ℕ → Rec) (n : ℕ) (acts : List Act) → InTurn (λ m. Visits bound (kind m)) n acts → length acts ≤ 2 * n
-visits_few bound kind zero acts none = let z : length acts ≡ 0 = ap (λ (l : List Act). length l) none in omega (arith, z)
-visits_few bound kind (suc n) acts (before, last, first, visit, all) =
-    let z : length acts ≡ length (before ++ last) = ap (λ (l : List Act). length l) all in
-    omega (arith, z, length-append before last, visit_few bound (kind n) last visit, visits_few bound kind n before first)
 
 each_few : (bound : ℕ) (recs : List Rec) (acts : List Act) → VisitEach bound recs acts → length acts ≤ 2 * length recs
 each_few bound [] acts none = let z : length acts ≡ 0 = ap (λ (l : List Act). length l) none in omega (arith, z)
@@ -81,8 +78,8 @@ module _ {G : Type 0} {table : TableView} {becomes : G → Event → G → Type 
   pub round_unnoted : IsSettled a.0.known → IsUnnoted table.layout (pass_of a.0) (pass_of b.0)
   round_unnoted = does_unnoted r.does
 
-  -- the epoch twice and its exchange, each pin, and each record in at most two steps
-  pub round_few : b.0.known.steps ≤ a.0.known.steps + round_steps table.layout
+  -- the epoch twice and its exchange, each pin, and each record that is committed by what the pass knows then, in at most two steps
+  pub round_few : b.0.known.steps ≤ a.0.known.steps + visiting_steps table.layout (committed_records table.layout (uncommitted_in b.0.bounds))
   round_few =
       let count : b.0.known.steps ≡ a.0.known.steps + (2 + length (advance_steps r.epoch r.found) + length r.pins + length r.nodes + length r.leaves) =
       ap (λ (z : Known). z.steps) r.does.rest ∙ ap (λ n. a.0.known.steps + n) (parts_count (LoadEpoch r.epoch) (LoadEpoch r.next) (advance_steps r.epoch r.found) r.pins r.nodes r.leaves) in
@@ -91,9 +88,16 @@ module _ {G : Type 0} {table : TableView} {becomes : G → Event → G → Type 
         count,
         advance_few r.epoch r.found,
         pins_few table.layout.passes r.pins r.loads_pins,
-        visits_few b.0.known.round.bound a_node table.layout.nodes r.nodes r.visits_nodes,
-        visits_few b.0.known.round.bound a_leaf table.layout.leaves r.leaves r.visits_leaves,
+        few_visits table.layout r.uncommitted b.0.known.round.bound a_node table.layout.nodes r.nodes r.visits_nodes,
+        few_visits table.layout r.uncommitted b.0.known.round.bound a_leaf table.layout.leaves r.leaves r.visits_leaves,
+        committed_rise table.layout (uncommitted_in b.0.bounds) r.uncommitted a_node table.layout.nodes r.least,
+        committed_rise table.layout (uncommitted_in b.0.bounds) r.uncommitted a_leaf table.layout.leaves r.least,
       )
+
+  -- that is no more than of all records
+  pub round_most : b.0.known.steps ≤ a.0.known.steps + round_steps table.layout
+  round_most =
+      omega (arith, round_few, committed_few table.layout (uncommitted_in b.0.bounds) a_node table.layout.nodes, committed_few table.layout (uncommitted_in b.0.bounds) a_leaf table.layout.leaves)
 
 module _ {G : Type 0} {table : TableView} {becomes : G → Event → G → Type 0} {most : ℕ} {a b : SeatView × G} (r : IsSmallRound table becomes most a b) where
   pub small_unnoted : IsSettled a.0.known → IsUnnoted table.layout (pass_of a.0) (pass_of b.0)
@@ -140,23 +144,25 @@ pub record AreBetween {G : Type 0} (table : TableView) (becomes : G → Event �
   pub rest : List Act
   pub does : Does table becomes collecting (first ∷ rest) a b
   pub few : b.0.known.steps ≤ a.0.known.steps + round_steps table.layout
-  pub are : AreStepsBetween table.layout (first ∷ rest)
+  pub are : AreStepsBetween table.layout (uncommitted_in a.0.bounds) (first ∷ rest)
 
 pub between : {G : Type 0} {table : TableView} {becomes : G → Event → G → Type 0} {a b : SeatView × G} → Collects table becomes a b → AreBetween table becomes a b
 between {b = b} (inl (nodes, leaves, r)) = record {
   first = LoadEpoch r.epoch;
   rest = advance_steps r.epoch r.found ++ LoadEpoch r.next ∷ r.pins ++ r.nodes ++ r.leaves;
   does = r.does;
-  few = round_few r;
+  few = round_most r;
   are = inl (record {
     epoch = r.epoch;
     found = r.found;
     next = r.next;
     bound = b.0.known.round.bound;
+    uncommitted = r.uncommitted;
     pins = r.pins;
     nodes = r.nodes;
     leaves = r.leaves;
     acts_are = refl;
+    few = r.few;
     loads_pins = r.loads_pins;
     visits_nodes = r.visits_nodes;
     visits_leaves = r.visits_leaves;
@@ -175,7 +181,7 @@ none_of_kind : (kind : Full) (n l m k : ℕ) → n ≡ m → l ≡ k → of_kind
 none_of_kind kind n l m k nodes leaves none = subst (λ z. of_kind kind z k ≡ 0) nodes (subst (λ z. of_kind kind n z ≡ 0) leaves none)
 
 pub none_between : {G : Type 0} {table : TableView} {becomes : G → Event → G → Type 0} {a b : SeatView × G} (kind : Full) → CollectsNone table becomes kind a b →
-    (round : AreBetween table becomes a b) × GiveNoneBetween table.layout kind (round.first ∷ round.rest)
+    (round : AreBetween table becomes a b) × GiveNoneBetween table.layout (uncommitted_in a.0.bounds) kind (round.first ∷ round.rest)
 unfolding between
 none_between {b = b} kind (inl (nodes, leaves, r, none)) = (
   between (inl (nodes, leaves, r)),
@@ -185,10 +191,12 @@ none_between {b = b} kind (inl (nodes, leaves, r, none)) = (
       found = r.found;
       next = r.next;
       bound = b.0.known.round.bound;
+      uncommitted = r.uncommitted;
       pins = r.pins;
       nodes = r.nodes;
       leaves = r.leaves;
       acts_are = refl;
+      few = r.few;
       loads_pins = r.loads_pins;
       visits_nodes = r.visits_nodes;
       visits_leaves = r.visits_leaves;

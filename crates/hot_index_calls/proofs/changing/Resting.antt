@@ -1,5 +1,5 @@
 -- An attempt that does nothing, and what the one before it was refused for.
-use Rattle.hot_index_calls.proofs.Common.{◌≡◌, ℕ, ◌+◌, List, [], ◌∷◌, Option, None, Err, true, refl, sym, ap, subst, ◌∙◌, arith, Contains, false≢true, append-nil, All-nil, Note, LegalCalls, BeginsWith, ClearPin, Event, Layout, Key, Rec, a_node, a_leaf, Failed, Known, word_of, StepsWith, silent, TableView, SeatView, IsOfAttempt, Pins, HasMissedSince, IsAnothers, LacksLeaves, LacksNodes, AreAttemptSteps, IsOfSearch, TryFault, Busy, FullNodes, FullLeaves, Full, Nodes, Leaves, lacks_so, run_failed}
+use Rattle.hot_index_calls.proofs.Common.{◌≡◌, ℕ, ◌+◌, List, [], ◌∷◌, Option, None, Err, true, refl, sym, ap, subst, ◌∙◌, arith, Contains, false≢true, append-nil, All-nil, Note, LegalCalls, BeginsWith, ClearPin, Event, Layout, Key, Rec, a_leaf, Failed, Known, word_of, StepsWith, silent, TableView, SeatView, IsOfAttempt, Pins, HasMissedSince, IsAnothers, LacksLeaves, LacksNodes, AreAttemptSteps, IsOfSearch, TryFault, Busy, FullNodes, FullLeaves, Full, Nodes, Leaves, lacks_so, run_failed}
 use Rattle.hot_index_calls.specs.Answers.{IsCause, IsUnnoted, fault_of}
 use Rattle.hot_index_calls.specs.Passes.{AreByPasses, IsSettled, PassView, pass_of}
 use Rattle.hot_index_calls.specs.Traces.{HasEnded, IsAttempt, is_full}
