@@ -2,6 +2,8 @@
 use Rattle.hot_index.proofs.Common.{◌≡◌, ◌⊎◌, inl, inr, true, false, ℕ, zero, suc, ◌<◌, ◌≤◌, List, [], ◌∷◌, ◌++◌, length, map, take, Option, refl, sym, ap, ◌∙◌, subst, arith, le_refl, take_all, length-map, Insert, Change, Note, Inserted, map_of, Layout, Item, pairs, IsLinked, a_node, is_linked, Core, fields_in, heap_of, IsLoad, after, loaded_root, loaded_tree, opening, EventsLead, Known, load_of, load_trace, loader_of, IsLoaderSeat, IsNewSeatOf, SeatView, TableView, HasSpare, IsOut, IsSettled, Owns, pass_of}
 use mathlib.Core.Option.{some}
 use lib.ListN.{get_elem?}
+use Rattle.record_words.specs.Layout.{uncommitted_in}
+use Rattle.rowex_table.specs.Seats.{HasAllCommitted}
 use Rattle.hot_index.specs.KeyCounts.{CountsReply, IsCountOf}
 use Rattle.hot_index.specs.declared.key_counts.KeyCount.{KeyCount}
 use Rattle.tries.specs.Tree.{Tree}
@@ -122,3 +124,8 @@ module _ (table : TableView) (words : List ℕ) (seats : List SeatView) (items :
       let is = first s e in
       (is.0, subst (λ (xs : List Item). IsLoaderPass table (pairs xs) (pass_of s)) of.are (loader_pass table words of.load s is of.spare.0 of.spare.1 of.spare.2))
   pass_of_load (suc q) s e = new_pass table (suc q) s (others (suc q) s (omega arith) e)
+
+-- the seats of a loaded table, of which all is committed, know that
+pub loaded_all_committed : (seats : List SeatView) (words : List ℕ) → ((kind : ℕ) → uncommitted_in words kind ≡ 0) →
+    ((q : ℕ) (s : SeatView) → get_elem? seats q ≡ some s → s.bounds ≡ words) → (q : ℕ) (s : SeatView) → get_elem? seats q ≡ some s → HasAllCommitted s
+loaded_all_committed seats words none bounds q s at kind = ap (λ ws. uncommitted_in ws kind) (bounds q s at) ∙ none kind

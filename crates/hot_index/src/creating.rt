@@ -4,6 +4,7 @@ ghost use Rattle.std.specs.Prelude.{◌≡◌, ◌↔◌, ℕ, Some, Ok, Err, If
 ghost use Rattle.record_words.specs.Layout.{HasStock, leaves_of};
 ghost use Rattle.record_words.specs.Limits.{IsPassCount, IsStockPassCount, IsNodeCount, IsLeafCount, IsRecordCount};
 ghost use Rattle.record_words.specs.declared.layout.Layout.{Layout as LayoutView};
+ghost use Rattle.rowex_table.specs.Seats.{HasAllCommitted};
 ghost use Rattle.hot_index.specs.Kept.{HasOneKept, kept_stock, with_one_kept};
 ghost use Rattle.hot_index_calls.specs.Passes.{PassView, Owns, IsNewPass, pass_of};
 ghost use Rattle.hot_index.specs.Passes.{AreSettled};
@@ -33,7 +34,7 @@ pub enum IndexFault {
 /// range, with the first such of the three. It is `Memory` if all are in range and memory is refused.
 ///
 /// The index has one node record more, for removals: with one pass insertions leave it free. All leaf records are long. So a call that
-/// lacks one has found each of them taken (`laws::all_long_full_means_none_free`).
+/// lacks one has found each of them taken (`laws::all_long_full_means_none_free`). All records are committed.
 pub fn create(
     alloc: Global,
     passes: u32,
@@ -44,6 +45,7 @@ pub fn create(
         × (made.0.layout.leaves ≡ leaves) × (made.0.layout.long_from ≡ 0)) }
     ensures count { IfOk result (λ made. length made.1.items ≡ passes) }
     ensures each { IfOk result (λ made. (q : ℕ) (p : PassView) → slice_get made.1.items q ≡ Some p → Owns made.0 p × IsNewPass q p) }
+    ensures committed { IfOk result (λ made. (q : ℕ) (p : PassView) → slice_get made.1.items q ≡ Some p → HasAllCommitted p.seat) }
     ensures passes { (result ≡ Err (IndexFault.Layout LayoutFault.Passes)) ↔ ¬ IsPassCount passes }
     ensures nodes { (result ≡ Err (IndexFault.Layout LayoutFault.Nodes)) ↔ (IsPassCount passes × ¬ IsNodeCount nodes) }
     ensures leaves { (result ≡ Err (IndexFault.Layout LayoutFault.Leaves)) ↔ (IsPassCount passes × IsNodeCount nodes × ¬ IsLeafCount leaves) }
@@ -68,6 +70,7 @@ pub fn create_with(
     ensures layout { IfOk result (λ made. (made.0.layout.passes ≡ passes) × HasStock made.0.layout (kept_stock stock)) }
     ensures count { IfOk result (λ made. length made.1.items ≡ passes) }
     ensures each { IfOk result (λ made. (q : ℕ) (p : PassView) → slice_get made.1.items q ≡ Some p → Owns made.0 p × IsNewPass q p) }
+    ensures committed { IfOk result (λ made. (q : ℕ) (p : PassView) → slice_get made.1.items q ≡ Some p → HasAllCommitted p.seat) }
     ensures passes { (result ≡ Err (IndexFault.Layout LayoutFault.Passes)) ↔ ¬ IsStockPassCount passes }
     ensures nodes { (result ≡ Err (IndexFault.Layout LayoutFault.Nodes)) ↔ (IsStockPassCount passes × ¬ IsRecordCount stock.nodes) }
     ensures leaves { (result ≡ Err (IndexFault.Layout LayoutFault.Leaves)) ↔ (IsStockPassCount passes × IsRecordCount stock.nodes × ¬ IsRecordCount (leaves_of stock)) }
@@ -87,6 +90,7 @@ pub fn create_closed(
     ensures layout { IfOk result (λ made. (made.0.layout.passes ≡ passes) × HasStock made.0.layout (kept_stock stock)) }
     ensures count { IfOk result (λ made. length made.1.items ≡ passes) }
     ensures each { IfOk result (λ made. (q : ℕ) (p : PassView) → slice_get made.1.items q ≡ Some p → Owns made.0 p × IsNewPass q p) }
+    ensures committed { IfOk result (λ made. (q : ℕ) (p : PassView) → slice_get made.1.items q ≡ Some p → HasAllCommitted p.seat) }
     ensures passes { (result ≡ Err (IndexFault.Layout LayoutFault.Passes)) ↔ ¬ IsStockPassCount passes }
     ensures nodes { (result ≡ Err (IndexFault.Layout LayoutFault.Nodes)) ↔ (IsStockPassCount passes × ¬ IsRecordCount stock.nodes) }
     ensures leaves { (result ≡ Err (IndexFault.Layout LayoutFault.Leaves)) ↔ (IsStockPassCount passes × IsRecordCount stock.nodes × ¬ IsRecordCount (leaves_of stock)) }
@@ -104,6 +108,7 @@ fn make_index_with_open_passes(
     ensures layout { IfOk result (λ made. (asked : LayoutView) × (found ≡ Ok asked) × HasOneKept asked made.0.layout) }
     ensures count { IfOk result (λ made. length made.1.items ≡ made.0.layout.passes) }
     ensures each { IfOk result (λ made. (q : ℕ) (p : PassView) → slice_get made.1.items q ≡ Some p → Owns made.0 p × IsNewPass q p) }
+    ensures committed { IfOk result (λ made. (q : ℕ) (p : PassView) → slice_get made.1.items q ≡ Some p → HasAllCommitted p.seat) }
     ensures fault { (fault : LayoutFault) → (result ≡ Err (IndexFault.Layout fault)) ↔ (found ≡ Err fault) }
     ensures memory { result ≡ Err IndexFault.Memory → IsOk found }
 {
@@ -142,6 +147,7 @@ fn make_index_with_closed_passes(
     ensures layout { IfOk result (λ made. (asked : LayoutView) × (found ≡ Ok asked) × HasOneKept asked made.0.layout) }
     ensures count { IfOk result (λ made. length made.1.items ≡ made.0.layout.passes) }
     ensures each { IfOk result (λ made. (q : ℕ) (p : PassView) → slice_get made.1.items q ≡ Some p → Owns made.0 p × IsNewPass q p) }
+    ensures committed { IfOk result (λ made. (q : ℕ) (p : PassView) → slice_get made.1.items q ≡ Some p → HasAllCommitted p.seat) }
     ensures fault { (fault : LayoutFault) → (result ≡ Err (IndexFault.Layout fault)) ↔ (found ≡ Err fault) }
     ensures memory { result ≡ Err IndexFault.Memory → IsOk found }
 {
@@ -175,6 +181,7 @@ fn make_index(alloc: Global, layout: Layout) -> Result<(Index, Vec<ClosedPass>),
     ensures layout { IfOk result (λ made. made.0.layout ≡ layout) }
     ensures count { IfOk result (λ made. length made.1.items ≡ layout.passes) }
     ensures each { IfOk result (λ made. (q : ℕ) (p : PassView) → slice_get made.1.items q ≡ Some p → Owns made.0 p × IsNewPass q p) }
+    ensures committed { IfOk result (λ made. (q : ℕ) (p : PassView) → slice_get made.1.items q ≡ Some p → HasAllCommitted p.seat) }
 {
     let (table, seats) = HotTable::new(alloc, layout)?;
     let count = KeyCount::new();

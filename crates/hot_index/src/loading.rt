@@ -5,6 +5,7 @@ ghost use Rattle.bulk_load.specs.Views.{HasNoRoomFor, IsAboveLast};
 ghost use Rattle.record_words.specs.Layout.{HasStock, leaf_size, leaves_of};
 ghost use Rattle.record_words.specs.Leaf.{words_for};
 ghost use Rattle.record_words.specs.Limits.{IsRecordCount, IsStockPassCount};
+ghost use Rattle.rowex_table.specs.Seats.{HasAllCommitted};
 ghost use Rattle.tries.specs.Content.{pairs};
 ghost use Rattle.hot_index.specs.Kept.{kept_stock};
 ghost use Rattle.hot_index.specs.Loads.{HasNoLeafFor, HasTakenPair, IsPassOfLoad};
@@ -110,11 +111,12 @@ impl Load {
 
     /// Makes the index of the pairs that were pushed, with the layout of the load. Returns it with its passes, closed, in their order, from
     /// 0 on. Pass 0 has inserted each pair in the order of the keys, and its `count` is their number. All others are new. Some node record
-    /// stands in no tree, so that a removal finds one. `AllocError` if memory is refused.
+    /// stands in no tree, so that a removal finds one. All records are committed. `AllocError` if memory is refused.
     pub fn finish(self, alloc: Global) -> Result<(Index, Vec<ClosedPass>), AllocError>
         ensures layout { IfOk result (λ made. made.0.layout ≡ self.layout) }
         ensures count { IfOk result (λ made. length made.1.items ≡ self.layout.passes) }
         ensures each { IfOk result (λ made. (q : ℕ) (p : PassView) → slice_get made.1.items q ≡ Some p → Owns made.0 p × IsPassOfLoad made.0 (pairs self.items) q p) }
+        ensures committed { IfOk result (λ made. (q : ℕ) (p : PassView) → slice_get made.1.items q ≡ Some p → HasAllCommitted p.seat) }
     {
         let Load {
             layout,

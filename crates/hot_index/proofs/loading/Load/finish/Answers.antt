@@ -7,7 +7,8 @@ use Rattle.rowex_table.specs.Committed.{IsCommitted}
 use Rattle.rowex_table.proofs.Committed.{all_committed}
 use Rattle.hot_index.specs.Loads.{IsPassOfLoad}
 use Rattle.hot_index.proofs.Passes.{passes_of}
-use Rattle.hot_index.proofs.Loads.{loaded_settled, pass_of_load, words_for_table}
+use Rattle.rowex_table.specs.Seats.{HasAllCommitted}
+use Rattle.hot_index.proofs.Loads.{loaded_all_committed, loaded_settled, pass_of_load, words_for_table}
 use Rattle.hot_index.proofs.loading.Load.finish.Goals as goal
 
 pub new_loaded-requires-clause-committed : goal.new_loaded-requires-clause-committed
@@ -31,3 +32,9 @@ returns-clause-each c =
     (subst (λ (ps : List PassView). (q : ℕ) (p : PassView) → slice_get ps q ≡ Some p → Owns table p × IsPassOfLoad table (pairs loader.items) q p) (sym c.in_ok-passes.ensures)
     (passes_of (λ q p. Owns table p × IsPassOfLoad table (pairs loader.items) q p) c.in_ok-table.seats.items
     (pass_of_load table c.finish-words.result.items c.in_ok-table.seats.items loader.items of made.first made.others)))
+
+pub returns-clause-committed : goal.returns-clause-committed
+returns-clause-committed c =
+    subst (λ (ps : List PassView). (q : ℕ) (p : PassView) → slice_get ps q ≡ Some p → HasAllCommitted p.seat) (sym c.in_ok-passes.ensures)
+    (passes_of (λ q p. HasAllCommitted p.seat) c.in_ok-table.seats.items
+    (loaded_all_committed c.in_ok-table.seats.items c.finish-words.result.items c.finish-words.ensures.committed c.in_ok-table.ensures.bounds))
