@@ -13,3 +13,4 @@ pub mod Losing
 pub mod Counting
 pub mod LeftOut
 pub mod Resting
+pub mod Alone

@@ -6,6 +6,7 @@ use Rattle.rowex_core.proofs.Sharing.Owning.{knows_all, pin_is, round_is}
 use Rattle.epochs.specs.Rounds.{IsUncommitted, VisitsCommitted}
 use Rattle.publish_laws.proofs.Lone.{lead_layout, lead_same, lead_split, one_of, step_knows}
 use Rattle.rowex_writing.specs.locks.Others.{HoldsLock}
+use Rattle.hot_index_calls.specs.Alone.{RunsAlone}
 use Rattle.hot_index_calls.specs.declared.census.RecordCounts.{RecordCounts}
 use Rattle.hot_index_calls.proofs.Rooms.{round_acts, step_here}
 use Rattle.hot_index.proofs.Unhindered.{no_lock}
@@ -72,18 +73,21 @@ module _ (table : TableView) (run : List Event) (seat : ℕ → SeatView) (rest 
       none_at_work c (runs_stay_lawful table.layout run c led) (λ q. (seat q).known)
       (λ q low. (let few : q < table.layout.passes = omega (arith, low, passes) in (true_there q few, named_by (rest.ended.each q few), rest.settled q few)))
 
--- so where one of idle passes goes on alone, its calls are alone
-pub idle_passes_leave_alone : IdlePassesLeaveAlone
-idle_passes_leave_alone index run s e on = record {
-  before = run;
-  others = subst (λ (z : SeatView). OthersStepOn s.known.pass z.trace run) on.seat_is (on.idle.ended.others s.known.pass on.pass);
-  core = on.idle.ended.led.0;
-  led = on.idle.ended.led.1;
-  none = λ o low another. record { locks = unlocked o low; own = λ r held. none_some o (sym (free.unowned r) ∙ held) };
-  own = on.alone.0;
-  until = on.alone.1;
-  each = on.alone.2;
-}
+-- so where one of idle passes goes on alone, its calls are alone behind the run
+pub alone_behind_run : (index : TableView) (run : List Event) (s e : SeatView) → GoesOnAlone index run s e → (alone : RunsAlone index.layout s.known.pass s e) × (alone.before ≡ run)
+alone_behind_run index run s e on = (
+  record {
+    before = run;
+    others = subst (λ (z : SeatView). OthersStepOn s.known.pass z.trace run) on.seat_is (on.idle.ended.others s.known.pass on.pass);
+    core = on.idle.ended.led.0;
+    led = on.idle.ended.led.1;
+    none = λ o low another. record { locks = unlocked o low; own = λ r held. none_some o (sym (free.unowned r) ∙ held) };
+    own = on.alone.0;
+    until = on.alone.1;
+    each = on.alone.2;
+  },
+  refl,
+)
   where
     c : Core
     c = on.idle.ended.led.0
@@ -100,6 +104,9 @@ idle_passes_leave_alone index run s e on = record {
         let settled = on.idle.settled o low in
         subst (λ z. ¬ (HoldsLock c z)) (named_by (on.idle.ended.each o low))
         (no_lock c known (runs_stay_lawful index.layout run c on.idle.ended.led.1) (true_there index run on.seat on.idle c on.idle.ended.led.1 o low) settled.own settled.locks settled.anchor)
+
+pub idle_passes_leave_alone : IdlePassesLeaveAlone
+idle_passes_leave_alone index run s e on = (alone_behind_run index run s e on).0
 
 -- new passes have done nothing
 new_idle : (index : TableView) (seat : ℕ → SeatView) → ((q : ℕ) → q < index.layout.passes → IsNewSeatOf index q (seat q)) → AreAllIdle index [] seat

@@ -6,4 +6,5 @@ pub mod Statements
 pub mod Lives
 pub mod Joined
 pub mod Rest
+pub mod Alone
 pub mod Headline

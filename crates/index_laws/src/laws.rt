@@ -1,4 +1,5 @@
 //! Laws of the index over whole runs. The functions do nothing: their contracts are the laws.
+ghost use Rattle.index_laws.specs.Alone.{IdleChangesEnd};
 ghost use Rattle.index_laws.specs.Headline.{Headline};
 ghost use Rattle.index_laws.specs.Joined.{AnInsertIsFound, HandlesAreLinearizable, LoadedHaveEnded, OneRunIsAnExecution, SeeingIsDone, ShownHaveEnded, SilentStepsEnd, StepsNeedNoGate, TwoThatMeetHaveEnded};
 ghost use Rattle.index_laws.specs.Rest.{CountLeavesNoneOut, IdlePassesLeaveAlone, NoRecordIsLost, OnePassLosesNone};
@@ -91,6 +92,13 @@ pub fn an_insert_is_found()
 /// `alone_calls_end` of `hot_index` speaks of them.
 pub fn idle_passes_leave_alone()
     ensures { IdlePassesLeaveAlone }
+{}
+
+/// Let all passes of an index be idle, and let one change the index while no other makes a step. It gets its reply in one try, where enough
+/// records are free: 4,322 node records, or two thirds of them and one, and a leaf record with room for its key. So it is after a
+/// `collect`, while the index has 4,322 node records more than keys, or three for each key and two, and more leaf records than keys.
+pub fn idle_changes_end<G: Gate>()
+    ensures { IdleChangesEnd G.becomes }
 {}
 
 /// Steps of which a gate is told are steps with no gate, too. So laws that know no gate hold of calls with one.
