@@ -11,7 +11,7 @@ use Rattle.rowex_table.specs.Traces.{IsTableRun}
 use Rattle.rowex_table.proofs.Onward.{led_more}
 use Rattle.tries.specs.Keys.{Key}
 use Rattle.index_laws.specs.Executions.{insertion_notes}
-use Rattle.index_laws.specs.Joined.{HasRested, caught_up, idle}
+use Rattle.index_laws.specs.Joined.{MadeNoLaterStep, caught_up, idle}
 use Rattle.rowex_core.specs.declared.event.Event.{Event}
 use Rattle.hot_c.specs.Calls.{Answers, FitsInKey, StaysOpen, TellsOutcome}
 use Rattle.hot_c.specs.Histories.{AreNotesOf, AsksNothing, CallsAreLinearizable, HasSeenAnother, HasToldAll, HaveTold, IsAt, asked, followed, loaded, loaded_each, looked_up, more, none, answered_notes, opened, rested, saw, steps_known, told_of, told_of_each, was_seen, went_on}
@@ -245,7 +245,7 @@ told_so : {index : TableView} {run : List Event} {q : ℕ} {told : List (List (C
 told_so (rested has others) = has
 told_so (followed has begun seen leads) = has
 
-rests : {index : TableView} {run : List Event} {q : ℕ} {told : List (List (Call × Reply))} {h : HandleView} → HasToldAll index run q told h → HasRested q run h
+rests : {index : TableView} {run : List Event} {q : ℕ} {told : List (List (Call × Reply))} {h : HandleView} → HasToldAll index run q told h → MadeNoLaterStep q run h
 rests (rested has others) = idle others
 rests (followed {now = now} {leader = leader} {led = led} has begun seen leads) = caught_up now.handle leader.handle led.handle begun (leader_seen seen) leads
 

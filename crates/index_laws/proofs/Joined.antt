@@ -10,7 +10,7 @@ use Rattle.hot_index.specs.Handles.{HandleView}
 use Rattle.hot_index.specs.Stamps.{HasCaughtUp, HasStamped}
 use Rattle.linearizability.specs.Histories.{PendingEndOrChangeAsAsked}
 use Rattle.hot_index_calls.proofs.Traces.{ends_untold, runs_untold}
-use Rattle.index_laws.specs.Joined.{HandleHasDone, HandlesAreLinearizable, HasGoneThrough, HasRested, HasSeenLeader, LoadedHaveEnded, OneRunIsAnExecution, SeeingIsDone, ShownHaveEnded, SilentStepsEnd, StepsNeedNoGate, TwoThatMeetHaveEnded, caught_up, idle, load_call, loader, new, of_two, shown as is_shown, stamped as has_stamped}
+use Rattle.index_laws.specs.Joined.{HandleHasDone, HandlesAreLinearizable, HasGoneThrough, MadeNoLaterStep, HasSeenLeader, LoadedHaveEnded, OneRunIsAnExecution, SeeingIsDone, ShownHaveEnded, SilentStepsEnd, StepsNeedNoGate, TwoThatMeetHaveEnded, caught_up, idle, load_call, loader, new, of_two, shown as is_shown, stamped as has_stamped}
 use Rattle.index_laws.specs.Traced.{configuration_of}
 use Rattle.index_laws.proofs.Joined.Interleaving.{named_by, one_execution}
 use Rattle.index_laws.proofs.Joined.Placing.{others_between}
@@ -74,7 +74,7 @@ saw_others : (index : TableView) (q : ℕ) (run : List Event) (done : List Happe
 saw_others index q run done was now leader led (here, is_seat, gone) begun seen leads =
     others_shown index q run done was.pass.seat now.pass.seat gone begun (caught_at here seen).shown (begins_on run leader.pass.seat.trace now.pass.seat.trace leads seen.traced)
 
-rested_others : (index : TableView) (q : ℕ) (run : List Event) (done : List Happening) (was : HandleView) → HandleHasDone index q done was → HasRested q run was → OthersStepOn q was.pass.seat.trace run
+rested_others : (index : TableView) (q : ℕ) (run : List Event) (done : List Happening) (was : HandleView) → HandleHasDone index q done was → MadeNoLaterStep q run was → OthersStepOn q was.pass.seat.trace run
 rested_others index q run done was does (idle others) = others
 rested_others index q run done was does (caught_up now leader led begun seen leads) = saw_others index q run done was now leader led does begun seen leads
 

@@ -189,10 +189,10 @@ SeeingIsDone =
 -- The pass of this handle made no step of the run after those that it knew. `idle`: the run goes on by steps of other passes alone. So it is
 -- with a handle that was never opened, or is closed, or makes no call. `caught_up`: the run begins with the steps that the pass knew,
 -- and the handle then saw a leader that knew the whole run. So the handle itself shows that it made no other step.
-pub data HasRested (pass : ℕ) (run : List Event) (was : HandleView) : Type 0 where
-  idle : OthersStepOn pass was.pass.seat.trace run → HasRested pass run was
+pub data MadeNoLaterStep (pass : ℕ) (run : List Event) (was : HandleView) : Type 0 where
+  idle : OthersStepOn pass was.pass.seat.trace run → MadeNoLaterStep pass run was
   caught_up : (now leader led : HandleView) → RunBeginsWith run was.pass.seat.trace → HasSeenLeader was now leader led →
-      RunBeginsWith leader.pass.seat.trace run → HasRested pass run was
+      RunBeginsWith leader.pass.seat.trace run → MadeNoLaterStep pass run was
 
 -- Let each pass of an index have a handle, open or closed, and have done what `done` gives. Let a run of the table have no other step of any
 -- pass. What the passes have done is one execution, which is linearizable: there is one order of look-ups and changes in which a map could
@@ -201,7 +201,7 @@ abbrev pub HandlesAreLinearizable : Type 0
 HandlesAreLinearizable =
     (index : TableView) (run : List Event) (done : ℕ → List Happening) (was : ℕ → HandleView) → IsTableRun index.layout run →
     ((pass : ℕ) → pass < index.layout.passes → HandleHasDone index pass (done pass) (was pass)) →
-    ((pass : ℕ) → pass < index.layout.passes → HasRested pass run (was pass)) →
+    ((pass : ℕ) → pass < index.layout.passes → MadeNoLaterStep pass run (was pass)) →
     (last : ℕ) × (at : ℕ → Instant) × (happens : ℕ → Happening) ×
     IsExecutionOf index run done (λ pass. (was pass).pass.seat) last at happens ×
     IsLinearizable index.layout last (λ time. configuration_of index.layout (at time)) happens
