@@ -21,13 +21,14 @@
  * While hot.c lends a room, blocks come from there, as far as they fit: so a call asks for no memory. */
 #define _GNU_SOURCE
 #include "heap.h"
+#include "processor.h"
 #include <stdint.h>
 #include <stdlib.h>
 #include <string.h>
 #include <sys/mman.h>
 
-/* A table of so many bytes has pages of its own. */
-enum { PAGE = 4096, HUGE_PAGE = 2 << 20, LEAST_TABLE = 1 << 20 };
+/* A table of so many bytes has pages of its own. A small page has so many at least. */
+enum { LEAST_PAGE = 4096, HUGE_PAGE = 2 << 20, LEAST_TABLE = 1 << 20 };
 
 /* A long list has at least so many bytes. */
 enum { LEAST_LIST = 16 << 10 };
@@ -79,7 +80,7 @@ static heap_pages *pages_of(void *block) {
  * if that isn't allowed. */
 static heap_pages *map_table(const heap_table *of) {
     int flags = MAP_PRIVATE | MAP_ANONYMOUS | (of->may_exceed_memory ? MAP_NORESERVE : 0);
-    size_t size = (IN_PAGES + of->bytes + PAGE - 1) / PAGE * PAGE;
+    size_t size = (IN_PAGES + of->bytes + page_size() - 1) / page_size() * page_size();
     heap_pages *made = mmap(NULL, size, PROT_READ | PROT_WRITE, flags, -1, 0);
     if (made == MAP_FAILED)
         return NULL;
@@ -261,7 +262,7 @@ size_t heap_asked(void) {
 
 /* The beginning of the page in which a place of the table stands. */
 static char *page_at(const heap_pages *table, size_t place) {
-    return (char *)table + (IN_PAGES + place) / PAGE * PAGE;
+    return (char *)table + (IN_PAGES + place) / page_size() * page_size();
 }
 
 /* A table has a range for each kind and handle, of the records that the handle has of its own, and one before them for each kind, of those that all
@@ -287,17 +288,17 @@ static char *first_piece(const heap_pages *table, size_t range) {
 /* How many bytes take memory of those between two pages; all, if the system doesn't tell. From a third place on the pages fill one after the
  * other: so behind 2 MiB without any there is none. */
 static size_t held_of(char *page, const char *end, const char *filling) {
-    unsigned char there[HUGE_PAGE / PAGE];
+    unsigned char there[HUGE_PAGE / LEAST_PAGE];
     size_t held = 0, part, its, at;
     for (; page < end; page += part) {
         part = (size_t)(end - page) < HUGE_PAGE ? (size_t)(end - page) : HUGE_PAGE;
         if (mincore(page, part, there) != 0)
             return held + (size_t)(end - page);
-        for (its = at = 0; at < (part + PAGE - 1) / PAGE; at++)
+        for (its = at = 0; at < (part + page_size() - 1) / page_size(); at++)
             its += there[at] & 1;
         if (its == 0 && page >= filling)
             break;
-        held += its * PAGE;
+        held += its * page_size();
     }
     return held;
 }
@@ -306,7 +307,7 @@ static size_t held_of(char *page, const char *end, const char *filling) {
  * Other threads may write there. */
 static int is_used(char *page) {
     const uint64_t *word = (const uint64_t *)page, *end = word + LONGEST_RECORD / sizeof *word;
-    if (held_of(page, page + PAGE, page) == 0)
+    if (held_of(page, page + page_size(), page) == 0)
         return 0;
     while (word < end && __atomic_load_n(word, __ATOMIC_RELAXED) == 0)
         word++;
@@ -315,7 +316,7 @@ static int is_used(char *page) {
 
 /* Whether nearly all pages of a piece are there, and some that were looked at have been used. The last one mostly comes last. */
 static int is_filled(char *piece) {
-    char *end = piece + HUGE_PAGE, *page = end - PAGE;
+    char *end = piece + HUGE_PAGE, *page = end - page_size();
     while (page > piece && is_used(page))
         page -= HUGE_PAGE / LOOKS_AT_A_PIECE;
     return page < piece && held_of(piece, end, end) >= HUGE_PAGE - MOST_MISSING;

@@ -50,16 +50,6 @@ const char *hot_status_text(hot_status status) {
     }
 }
 
-/* The level of x86-64 for which the proved calls are compiled, which c/object tells; 0, for a test, is one that no processor has. */
-#ifndef HOT_LEVEL
-#define HOT_LEVEL 2
-#endif
-
-/* Whether the processor and the system have what x86-64-v3 has and x86-64-v2 may lack, if that is asked for. */
-static int is_processor_new(void) {
-    return HOT_LEVEL == 2 || (HOT_LEVEL != 0 && __builtin_cpu_supports("x86-64-v3"));
-}
-
 static const hot_stock no_stock = {0, 0, 0, 0, 0, 0};
 
 void hot_stock_for_keys(uint32_t keys, size_t longest, hot_stock *stock) {
@@ -334,7 +324,7 @@ static __attribute__((cold, noinline)) void rest(hot_waits *so_far, long nanosec
 /* Lets the processor pause so many times. */
 static void pause_for(unsigned times) {
     while (times-- > 0)
-        __builtin_ia32_pause();
+        pause_once();
 }
 
 /* How often a call that finds another in its way pauses, and how often it yields, before it sleeps. */

@@ -4,6 +4,7 @@
 
 #include "heap.h"
 #include "hot.h"
+#include "processor.h"
 
 /* The proved calls of which c/object changes the names: there `had` is never NULL, and a handle is closed for good. Two of them are used
  * here alone: one opens a handle of a new index, which keeps the passes of the others, and one opens the next of these. */
@@ -245,7 +246,7 @@ static __inline__ void begins(growing_place *place, uint64_t *count) {
     __atomic_store_n(count, *count + 1, __ATOMIC_RELAXED);
     __atomic_signal_fence(__ATOMIC_SEQ_CST);
     if (__atomic_load_n(&place->of->is_fenced, __ATOMIC_RELAXED))
-        __atomic_exchange_n(count, *count, __ATOMIC_SEQ_CST);
+        fence_after(count);
     __atomic_signal_fence(__ATOMIC_SEQ_CST);
 }
 

@@ -4,6 +4,7 @@
 #define _GNU_SOURCE
 #include "hot.h"
 #include "check.h"
+#include "../processor.h"
 #include <errno.h>
 #include <linux/filter.h>
 #include <linux/seccomp.h>
@@ -284,7 +285,7 @@ static volatile int barriers_refused;
 
 static void refuse_barrier(int number, siginfo_t *why, void *context) {
     (void)number, (void)why;
-    ((ucontext_t *)context)->uc_mcontext.gregs[REG_RAX] = -EPERM;
+    RETURNED_TO((ucontext_t *)context) = -EPERM;
     barriers_refused++;
 }
 
@@ -733,7 +734,7 @@ typedef struct meeting {
 
 static void pause_for(unsigned times) {
     while (times-- > 0)
-        __builtin_ia32_pause();
+        pause_once();
 }
 
 /* Changes each key once. */

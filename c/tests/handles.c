@@ -218,12 +218,15 @@ static void *call_all(void *given) {
     return NULL;
 }
 
+/* With the stack that hot.h says, or the least that a thread may have. */
 static void test_stack(void) {
+    enum { STACK = 48 << 10 };
+    size_t least = (size_t)sysconf(_SC_THREAD_STACK_MIN);
     hot_handle handles[2] = {HOT_HANDLE, HOT_HANDLE};
     pthread_attr_t small;
     pthread_t thread;
     CHECK(hot_create(3000, 3000, &handles[0], 1) == HOT_DONE && hot_create(3000, 3000, &handles[1], 1) == HOT_DONE);
-    CHECK(pthread_attr_init(&small) == 0 && pthread_attr_setstacksize(&small, 48 << 10) == 0);
+    CHECK(pthread_attr_init(&small) == 0 && pthread_attr_setstacksize(&small, least < STACK ? STACK : least) == 0);
     CHECK(pthread_create(&thread, &small, call_all, handles) == 0 && pthread_join(thread, NULL) == 0);
     CHECK(pthread_attr_destroy(&small) == 0);
     CHECK(hot_destroy(&handles[0]) == HOT_DONE && hot_destroy(&handles[1]) == HOT_DONE);
@@ -235,7 +238,8 @@ static void test_memory(void) {
     hot_stock stock;
     hot_index *index = NULL;
     struct rlimit all;
-    limit_addresses(64 << 20, &all);
+    if (!limit_addresses(64 << 20, &all))
+        return;
     CHECK(hot_create(65535, 262143, &handle, 1) == HOT_NO_MEMORY);
     hot_stock_for_keys(1000000, 240, &stock);
     CHECK(hot_open_index(&stock, 1, &index) == HOT_NO_MEMORY && index == NULL);

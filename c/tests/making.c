@@ -5,7 +5,10 @@
 
 #include "check.h"
 
-enum { BYTES = 64 << 20, WORDS = BYTES / 8, FIRST = 5, BEHIND = PAGE, MOST_WRITTEN = 3 * PAGE };
+enum { BYTES = 64 << 20, WORDS = BYTES / 8, FIRST = 5 };
+#define PAGE page_size()
+#define BEHIND PAGE
+#define MOST_WRITTEN (3 * PAGE)
 
 /* What is done in another way. */
 typedef enum way { AS_MADE, FROM_ONE_BLOCK, NOT_SET, NOT_COPIED, PART_COPIED, ZEROS_KEPT, TABLE_MOVED, TABLE_FREED, THREE_BLOCKS, WAYS } way;

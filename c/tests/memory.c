@@ -452,7 +452,8 @@ static void test_addresses(void) {
     size_t count;
     memset(&most, 0xff, sizeof most);
     most.medium_leaves = most.large_leaves = most.wide_leaves = most.long_leaves = 0;
-    limit_addresses((rlim_t)1 << 40, &before);
+    if (!limit_addresses((rlim_t)1 << 40, &before))
+        return;
     CHECK(hot_open_index(&most, 1, &index) == HOT_NO_MEMORY && index == NULL);
     CHECK(hot_create_with(&most, &handle, 1) == HOT_NO_MEMORY);
     CHECK(hot_load(&most, 1, next_number, &all, &index, &count) == HOT_NO_MEMORY && index == NULL && all.next == 0);
