@@ -10,7 +10,7 @@ from pathlib import Path
 
 from hot import Codec, SortedMap, key_of, values_of
 
-EXAMPLES = Path(__file__).parents[2] / "keys.txt"
+EXAMPLES = Path(__file__).parents[1] / "keys.txt"
 
 
 def value_of(kind, text):

@@ -48,7 +48,7 @@ fn part(of: &str, text: &str, key: &mut Vec<u8>) {
 
 #[test]
 fn examples() {
-    let text = fs::read_to_string(concat!(env!("CARGO_MANIFEST_DIR"), "/../keys.txt")).unwrap();
+    let text = fs::read_to_string(concat!(env!("CARGO_MANIFEST_DIR"), "/keys.txt")).unwrap();
     let (mut of_last, mut last, mut count) = (String::new(), Vec::new(), 0);
     for line in text.lines().filter(|line| !line.starts_with('#')) {
         let words: Vec<_> = line.split(' ').collect();
