@@ -122,8 +122,23 @@ row_map *row_new(hot_source *next, void *context) {
 }
 
 row_map *row_copy(const row_map *of) {
-    blocks_reader from = {of->blocks, of->blocks + of->count, {0}};
-    return row_new(next_of_blocks, &from);
+    row_map *made = RedisModule_TryAlloc(sizeof *made);
+    size_t room = 0, at;
+    if (made == NULL)
+        return NULL;
+    memset(made, 0, sizeof *made);
+    made->form = ROW;
+    made->pairs = of->pairs;
+    made->bytes = of->bytes;
+    for (at = 0; at < of->count; at++) {
+        small_map *block = block_make(of->blocks[at]->bytes, of->blocks[at]->used, of->blocks[at]->count);
+        if (block == NULL || !put_block(&made->blocks, &made->count, &room, at, block)) {
+            RedisModule_Free(block);
+            row_free(made);
+            return NULL;
+        }
+    }
+    return made;
 }
 
 void row_free(row_map *of) {
