@@ -3,8 +3,8 @@
 its own on loopback, and ends them.
 
 What a command takes is the time of a processor that the server's main thread was at it, with a client that has 64 commands under way. Fields have 15
-bytes, values are whole numbers of up to 9 digits, and a ZSET has the fields alone. What memory takes is what is resident, but used_memory of maps of
-10 fields. It prints a line for each figure, which bench/room.py reads.
+bytes, values are whole numbers of up to 9 digits, and a ZSET has the fields alone. `bytes a pair` are resident, and others used_memory. It prints a
+line for each figure, which bench/room.py reads.
 """
 import argparse
 import os
@@ -21,7 +21,8 @@ sys.path.insert(0, str(Path(__file__).resolve().parent.parent / "bindings/redis/
 from plain import Plain, packed
 
 FIELDS = "fields of 15 bytes"
-SHORTER = "fields of 14 bytes"
+# How many pairs maps have whose memory is measured, and how long their fields are.
+SIZES, LENGTHS = (300, 1_000, 10_000, 1_000_000), (8, 14, 40)
 KINDS = {"map": "map", "HASH": "hash", "ZSET": "zset"}
 SET = {"map": b"OM.SET", "HASH": b"HSET", "ZSET": b"ZADD"}
 GET = {"map": b"OM.GET", "HASH": b"HGET", "ZSET": b"ZSCORE"}
@@ -121,26 +122,45 @@ def measure_small(module: str) -> None:
             tell(f"map of 10 fields, bytes: {kind}", maps, (server.figure("used_memory") - before) / maps)
 
 
-def measure_first_index(module: str) -> None:
-    """What maps take on both sides of the size from which they have an index."""
-    maps = 400
-    for fields in (256, 257):
-        for kind in KINDS:
-            with Server(module) as server:
-                before = server.resident()
-                for of in range(maps):
-                    pairs = [word for at in range(fields) for word in pair_of(kind, of * fields + at)]
-                    server.client.run(SET[kind], b"t:%d" % of, *pairs)
-                tell(f"map of {fields} fields, bytes: {kind}", maps, (server.resident() - before) / maps)
+def measure_sizes(module: str, most: int) -> None:
+    """What a pair takes in maps of several sizes, which are filled in another order than that of their fields."""
+    for length in LENGTHS:
+        for size in (it for it in SIZES if it <= most):
+            order = list(range(size))
+            random.Random(size).shuffle(order)
+            maps = max(1, min(200, 100_000 // size))
+            for kind in KINDS:
+                with Server(module) as server:
+                    before = server.figure("used_memory")
+                    for of in range(maps):
+                        server.client.run_all(sets_of(kind, b"t:%d" % of, order, length))
+                    time.sleep(1)
+                    tell(f"used bytes a pair: {kind}", size, (server.figure("used_memory") - before) / maps / size, f"fields of {length} bytes")
 
 
-def measure_shorter(module: str, count: int) -> None:
-    """What a pair of a HASH takes whose field has a byte less: the server's allocator has a smaller block for it."""
+def sets_of(kind: str, name: bytes, order: "list[int]", length: int) -> "list[bytes]":
+    """Commands that fill a map with fields of a length, 100 a command."""
+    made = []
+    for begin in range(0, len(order), 100):
+        words = []
+        for at in order[begin : begin + 100]:
+            field = (b"%08d" % (at * 7919 % 10**8)).rjust(length, b"u")
+            words += [b"0", field] if kind == "ZSET" else [field, value_of(at)]
+        made.append(packed(SET[kind], name, *words))
+    return made
+
+
+def measure_life(module: str) -> None:
+    """What the main thread takes to make a map of 300 pairs and to drop it: by one command that sets them, and as a copy."""
+    maps, size = 1_000, 300
     with Server(module) as server:
-        before = server.resident()
-        server.client.run_all(packed(b"HSET", b"hash", field_of(at)[1:], value_of(at)) for at in range(count))
-        time.sleep(2)
-        tell("bytes a pair: HASH", count, (server.resident() - before) / count, SHORTER)
+        for kind in KINDS:
+            fills = [packed(SET[kind], b"t", *[word for at in range(size) for word in pair_of(kind, at)]), packed(b"DEL", b"t")]
+            tell(f"map of {size} fields set and dropped, us: {kind}", maps, 2 * server.timed(fills * maps) / 1000)
+            server.client.run_all(fills[:1])
+            copies = [packed(b"COPY", b"t", b"u"), packed(b"DEL", b"u")]
+            tell(f"map of {size} fields copied and dropped, us: {kind}", maps, 2 * server.timed(copies * maps) / 1000)
+            server.client.run(b"DEL", b"t")
 
 
 def measure_large(module: str, count: int) -> None:
@@ -193,35 +213,76 @@ def tell_latencies(what: str, count: int, made: "list[float]") -> None:
     tell(f"set {what}, longest us", count, made[-1])
 
 
+# What another client does again and again, while sets, pings and ranges are watched.
+WORKS: "dict[str, list[list[bytes]]]" = {
+    "alone": [],
+    "beside whole ranges": [WHOLE["map"]],
+    "beside removals": [[b"COPY", b"map", b"other"], [b"OM.DELRANGE", b"other", b"-", b"(v"]],
+    "beside COPY and DEL": [[b"COPY", b"map", b"other"], [b"DEL", b"other"]],
+}
+
+
+def watched(server: Server, command: bytes, seconds: float) -> "list[float]":
+    """The microseconds of a command that a client makes again and again."""
+    made, end = [], time.monotonic() + seconds
+    while time.monotonic() < end or len(made) < 100:
+        began = time.perf_counter()
+        server.client.run_one(command)
+        made.append((time.perf_counter() - began) * 1e6)
+    return sorted(made)
+
+
+def beside(server: Server, works: "list[list[bytes]]", clients: int = 1) -> "list[subprocess.Popen[bytes]]":
+    """Starts clients that do works again and again."""
+    words = [b" ".join(work).decode() for work in works]
+    made = [subprocess.Popen([sys.executable, "-B", __file__, "--beside", str(server.port), *words]) for _ in range(clients if works else 0)]
+    time.sleep(0.5)
+    return made
+
+
+def end(clients: "list[subprocess.Popen[bytes]]") -> None:
+    for client in clients:
+        client.terminate()
+        client.wait()
+
+
 def measure_waits(server: Server, count: int, seconds: float) -> None:
-    """How long sets take beside another client that lists the whole map again and again."""
-    for turn in ("", "once more, "):
-        tell_latencies(f"{turn}alone", count, latencies(server, count, seconds))
-        scanner = subprocess.Popen([sys.executable, "-B", __file__, "--scan", str(server.port), "-"])
-        time.sleep(0.3)
-        tell_latencies(f"{turn}beside whole ranges", count, latencies(server, count, seconds))
-        scanner.terminate()
-        scanner.wait()
+    """How long sets and pings take beside another client, and ranges of 1,100 beside twelve that count."""
+    for how, works in WORKS.items():
+        others = beside(server, works)
+        tell_latencies(how, count, latencies(server, count, seconds))
+        pings = watched(server, packed(b"PING"), seconds)
+        tell(f"PING {how}, p99 us", count, pings[len(pings) * 99 // 100])
+        tell(f"PING {how}, longest us", count, pings[-1])
+        end(others)
+    others = beside(server, [[b"OM.COUNT", b"map", b"-", b"+"]], 12)
+    made = watched(server, packed(b"OM.RANGE", b"map", b"-", b"+", b"LIMIT", b"0", b"1100"), seconds)
+    end(others)
+    tell("range of 1,100 beside 12 counts, median us", count, made[len(made) // 2])
+    tell("range of 1,100 beside 12 counts, p99 us", count, made[len(made) * 99 // 100])
 
 
-def scan(port: int) -> None:
+def work_on(port: int, works: "list[str]") -> None:
     client = Plain(port)
     while True:
-        client.run(*WHOLE["map"])
+        for work in works:
+            client.run(*work.encode().split(b" "))
 
 
 def main() -> None:
+    if sys.argv[1:2] == ["--beside"]:
+        work_on(int(sys.argv[2]), sys.argv[3:])
     words = argparse.ArgumentParser(description=__doc__)
     words.add_argument("module", type=os.path.abspath, help="the module")
     words.add_argument("count", type=int, nargs="?", default=1_000_000)
     words.add_argument("--seconds", type=float, default=10, help="how long sets are watched beside whole ranges; 0 is not at all, for a busy machine")
-    words.add_argument("--scan", type=int, metavar="PORT", help=argparse.SUPPRESS)
+    words.add_argument("--memory", action="store_true", help="what maps of several sizes take, alone")
     given = words.parse_args()
-    if given.scan:
-        scan(given.scan)
+    measure_sizes(given.module, given.count)
+    if given.memory:
+        return
     measure_small(given.module)
-    measure_first_index(given.module)
-    measure_shorter(given.module, given.count)
+    measure_life(given.module)
     measure_large(given.module, given.count)
     with Server(given.module) as server:
         for kind in KINDS:

@@ -32,7 +32,7 @@ def digest(server: Server) -> object:
 class Files(unittest.TestCase):
     def test_files(self) -> None:
         """The digest is the same after a file of either kind, and the changes behind a rewrite are there."""
-        pairs = some_pairs(100_000 if IS_LONG else 5_000)
+        pairs = some_pairs(100_000 if IS_LONG else 10_000)
         with Server() as server:
             fill(server, "large", pairs)
             fill(server, "small", dict(list(pairs.items())[:100]))
@@ -105,7 +105,7 @@ class Files(unittest.TestCase):
         where it has hashes alone. Nor has DEBUG LOADAOF what the server could not write.
         """
         with Server("--appendonly", "yes") as server:
-            fill(server, "m", some_pairs(5_000))
+            fill(server, "m", some_pairs(10_000))
             server.limit_files(1_000 + max(file.stat().st_size for file in server.folder.glob("appendonlydir/*.incr.aof")))
             with self.assertRaisesRegex(redis.ResponseError, "Errors writing to the AOF"):
                 for at in range(10_000):
@@ -152,7 +152,7 @@ class Files(unittest.TestCase):
 
 class Copies(unittest.TestCase):
     def test_replica(self) -> None:
-        pairs = some_pairs(100_000 if IS_LONG else 5_000)
+        pairs = some_pairs(100_000 if IS_LONG else 10_000)
         with Server() as server, Server() as replica:
             fill(server, "m", pairs)
             replica.client.replicaof("127.0.0.1", server.port)
@@ -187,7 +187,7 @@ class Copies(unittest.TestCase):
         slot = servers[0].run("CLUSTER KEYSLOT", "m")
         source = next(server for server, (first, last) in zip(servers, parts) if first <= slot <= last)
         target = servers[(servers.index(source) + 1) % 3]
-        fill(source, "m", some_pairs(50_000 if IS_LONG else 5_000))
+        fill(source, "m", some_pairs(50_000 if IS_LONG else 10_000))
         before = source.run("DEBUG", "DIGEST-VALUE", "m")
         names = {server: server.run("CLUSTER MYID") for server in servers}
         target.run("CLUSTER SETSLOT", slot, "IMPORTING", names[source])

@@ -38,8 +38,8 @@ class Refused(unittest.TestCase):
         return self.server.run("OM.RANGE", "m", "-", "+", "WITHVALUES")
 
     def test_first_index(self) -> None:
-        """A small map can't become a large one."""
-        pairs = numbers(256)
+        """A row can't become an index."""
+        pairs = numbers(8_192)
         fill(self.server, "m", pairs)
         self.switch.touch()
         self.assertIn("no more memory", self.refused("OM.SET", "m", "a", "1", "more", "2"))
@@ -51,10 +51,10 @@ class Refused(unittest.TestCase):
 
     def test_growth(self) -> None:
         """A table that is full doesn't grow: commands with several pairs set none of them."""
-        pairs = numbers(2_000)
+        pairs = numbers(9_000)
         fill(self.server, "m", pairs)
         self.switch.touch()
-        said, at = "", 2_000
+        said, at = "", 9_000
         while not said:
             more = numbers(7, at) | {b"f0000000": b"changed %d" % at, b"f0000001": b"%d" % at}
             try:
@@ -71,7 +71,7 @@ class Refused(unittest.TestCase):
         self.assertEqual(self.server.run("OM.LEN", "m"), len(pairs) + 10_000)
 
     def test_reads(self) -> None:
-        fill(self.server, "m", numbers(5_000))
+        fill(self.server, "m", numbers(10_000))
         before = self.server.run("DEBUG", "DIGEST-VALUE", "m")
         payload = self.server.client.dump("m")
         self.server.stop()
@@ -90,7 +90,7 @@ class Refused(unittest.TestCase):
 
     def test_child(self) -> None:
         """A child to which memory is refused ends, and the server says so and keeps its file."""
-        fill(self.server, "m", numbers(5_000))
+        fill(self.server, "m", numbers(10_000))
         self.server.client.save()
         # A handle keeps memory of a scan for the next one: so the map is loaded anew.
         self.server.stop()
