@@ -1,6 +1,7 @@
 -- The words of a finished load show its tree from the root.
-use Rattle.bulk_load.proofs.Common.{◌≡◌, ◌⊎◌, inl, inr, ℕ, zero, suc, ◌+◌, ◌*◌, ◌^◌, ◌<◌, ◌≤◌, Bool, nat_lt, if◌then◌else◌, List, [], Option, Some, None, get_or, length, refl, ap, sym, subst, ◌∙◌, arith, All, set, cases_lt, le-ltb, lt-ltb, get_or-set_same, get_or-set_other, length-set, none-some, All-from_get_or, trie_if_local, some_injective, Entry, Leaf, Node, MAX_BYTES, Place, size, size_pos, EPOCH_WORD, ROOT_WORD, ANCHOR_WORD, FIRST_PIN, LINE_WORDS, Layout, Epoch, Root, Anchor, PinOf, NodeWord, LeafWord, HasEntryWord, entry_word, node_start, leaf_start, leaf_size, address, IsInTable, state_word, size_fits, Item, items, IsLocal, Tree, leaf, node, fork, subtrie, IsTrie, IsBuilt, lower_positive, Rec, a_node, a_leaf, Heap, IsShown, IsLinked, IsTop, items_of, linked_cases, Core, heap_of, fields_in, HasRecord, FitsIn, IsLoad, after, loaded_root, loaded_tree, tree_of, opening, IsPacked, node_words_of, leaf_of, word_at, tag_of, entry_of_word}
-use Rattle.record_words.specs.Layout.{uncommitted_word}
+use Rattle.bulk_load.proofs.Common.{◌≡◌, ◌≢◌, ◌⊎◌, inl, inr, ℕ, zero, suc, ◌+◌, ◌-◌, ◌*◌, ◌^◌, ◌<◌, ◌≤◌, Bool, nat_lt, if◌then◌else◌, List, [], Option, Some, None, get_or, length, refl, ap, sym, subst, ◌∙◌, arith, All, cases_lt, le-ltb, lt-ltb, none-some, All-from_get_or, trie_if_local, some_injective, Entry, Leaf, Node, MAX_BYTES, Place, size, size_pos, EPOCH_WORD, ROOT_WORD, ANCHOR_WORD, FIRST_PIN, LINE_WORDS, Layout, Epoch, Root, Anchor, PinOf, NodeWord, LeafWord, HasEntryWord, entry_word, node_start, leaf_start, leaf_size, address, IsInTable, state_word, size_fits, Item, items, IsLocal, Tree, leaf, node, fork, subtrie, IsTrie, IsBuilt, lower_positive, Rec, a_node, a_leaf, Heap, IsShown, IsLinked, IsTop, items_of, linked_cases, Core, heap_of, fields_in, HasRecord, FitsIn, IsLoad, after, loaded_root, loaded_tree, tree_of, opening, IsPacked, node_words_of, leaf_of, word_at, tag_of, entry_of_word}
+use Rattle.record_words.specs.declared.TheConstants.{LEAF_CLASSES}
+use Rattle.record_words.specs.Layout.{uncommitted_in}
 use Rattle.bulk_load.specs.declared.builder.Builder.{Builder}
 use Rattle.bulk_load.specs.declared.tips.Tip.{Tip}
 use Rattle.bulk_load.specs.Loading.{IsOnePiece, IsPiece, IsTreeOf, MayTakePlaceOf}
@@ -12,8 +13,9 @@ use Rattle.versions.specs.Core.{Free, InTree}
 use Rattle.versions.specs.Steps.{is_linked}
 use Rattle.record_words.specs.Decoding.{entry_of}
 use Rattle.rowex_core.proofs.Cores.Valuing.{tree_read}
-use Rattle.bulk_load.specs.Finished.{IsFinished}
-use Rattle.bulk_load.specs.Tables.{HoldsTree, state_in}
+use Rattle.bulk_load.specs.Finished.{HasHeader, IsFinished, IsNoCount, LinksCommitted}
+use Rattle.bulk_load.specs.Tables.{HoldsTree, end_of_class, leaf_class, state_in}
+use Rattle.bulk_load.proofs.Tables.{below_end, few_classes}
 use Rattle.bulk_load.specs.Views.{load_act}
 use Rattle.bulk_load.proofs.records.Fields.{node_field, leaf_field}
 use Rattle.bulk_load.proofs.Tables.Putting.{node_stays, leaf_stays, shown_by}
@@ -42,10 +44,10 @@ one_entry (fork p a b) one = absurd (omega (arith, one, size_pos (subtrie a), si
 
 module _ (layout : Layout) (old new : List ℕ) (t : Option Tree) (e : Option Entry) (h : HoldsTree layout old t) (top : IsTop (heap_of (fields_in layout old)) e t)
     (lawful : (u : Tree) → t ≡ Some u → IsTrie u × IsBuilt u) (entry : HasEntryWord e) (small : All (λ w. w < 2 ^ 64) new) (long : length new ≡ length old)
-    (root : get_or new ROOT_WORD 0 ≡ entry_word e) (others : (k : ℕ) → (k < ROOT_WORD) ⊎ (ROOT_WORD < k) → get_or new k 0 ≡ get_or old k 0) where
+    (root : get_or new ROOT_WORD 0 ≡ entry_word e) (others : (k : ℕ) → IsNoCount k → k ≢ ROOT_WORD → get_or new k 0 ≡ get_or old k 0) where
   fields_same : (r : Rec) → fields_in layout new r ≡ fields_in layout old r
-  fields_same (a_node n) = node_stays layout old new n (λ j l. others (node_start layout n + j) (inr (omega arith)))
-  fields_same (a_leaf n) = leaf_stays layout old new n (λ j l. others (leaf_start layout n + j) (inr (omega arith)))
+  fields_same (a_node n) = node_stays layout old new n (λ j l. others (node_start layout n + j) (inr (omega arith)) (λ e. omega (arith, e)))
+  fields_same (a_leaf n) = leaf_stays layout old new n (λ j l. others (leaf_start layout n + j) (inr (omega arith)) (λ e. omega (arith, e)))
 
   abbrev heap : Heap
   heap = heap_of (fields_in layout new)
@@ -62,7 +64,7 @@ module _ (layout : Layout) (old new : List ℕ) (t : Option Tree) (e : Option En
   root_is : loaded_root new ≡ e
   root_is = ap entry_of root ∙ entry_of_word e entry
 
-  tree_is : loaded_tree layout new ≡ t
+  pub tree_is : loaded_tree layout new ≡ t
   tree_is = ap (tree_of heap) root_is ∙ tree_read heap e t (top_then e t top) lawful
 
   is_load : IsLoad layout new
@@ -80,8 +82,8 @@ module _ (layout : Layout) (old new : List ℕ) (t : Option Tree) (e : Option En
   core = after (opening layout) 0 (load_act new)
 
   state_is : (r : Rec) → HasRecord layout r → state_in layout new r ≡ state_in layout old r
-  state_is (a_node n) has = others (node_start layout n) (inr (omega arith))
-  state_is (a_leaf n) has = others (leaf_start layout n) (inr (omega arith))
+  state_is (a_node n) has = others (node_start layout n) (inr (omega arith)) (λ e. omega (arith, e))
+  state_is (a_leaf n) has = others (leaf_start layout n) (inr (omega arith)) (λ e. omega (arith, e))
 
   abbrev tag_word : Bool → ℕ
   tag_word linked = state_word (tag_of None (if linked then InTree (length (items_of (loaded_tree layout new))) else Free))
@@ -93,10 +95,10 @@ module _ (layout : Layout) (old new : List ℕ) (t : Option Tree) (e : Option En
   ]
 
   word_shown : (location : Location) → IsInTable layout location → get_or new (address layout location) 0 ≡ word_at core location
-  word_shown Epoch i = others EPOCH_WORD (inl (omega arith)) ∙ h.blank.epoch
+  word_shown Epoch i = others EPOCH_WORD (inl (omega arith)) (λ e. omega (arith, e)) ∙ h.blank.epoch
   word_shown Root i = root ∙ sym (ap entry_word root_is)
-  word_shown Anchor i = others ANCHOR_WORD (inr (omega arith)) ∙ h.blank.anchor
-  word_shown (PinOf q) i = others (FIRST_PIN + LINE_WORDS * q) (inr (omega arith)) ∙ h.blank.pins q i
+  word_shown Anchor i = others ANCHOR_WORD (inr (omega arith)) (λ e. omega (arith, e)) ∙ h.blank.anchor
+  word_shown (PinOf q) i = others (FIRST_PIN + LINE_WORDS * q) (inr (omega arith)) (λ e. omega (arith, e)) ∙ h.blank.pins q i
   word_shown (NodeWord n zero) i = ap (λ k. get_or new k 0) (let z : node_start layout n + 0 ≡ node_start layout n = omega arith in z) ∙ state_shown (a_node n) i.0
   word_shown (NodeWord n (suc j)) i =
       ap (λ k. get_or new k 0) (let z : node_start layout n + suc j ≡ node_start layout n + (1 + j) = omega arith in z) ∙ sym (node_field layout new n j (let low = i.1 in omega (arith, low)))
@@ -112,7 +114,6 @@ module _ (layout : Layout) (old new : List ℕ) (t : Option Tree) (e : Option En
     shows = record { size = long ∙ h.blank.size; each = word_shown };
     items = ap items_of tree_is ∙ content;
     spare = subst (HasSpare layout) (sym tree_is) spare;
-    committed = λ kind. others (uncommitted_word kind) (inr (omega arith)) ∙ h.blank.committed kind;
   }
 
 -- ---- the root's entry
@@ -121,28 +122,36 @@ root_tip l y t one s is =
     let (e, at) = one_entry y one in let same : s ≡ tip 0 e = is ∙ ap (λ ss. get_or ss 0 s) (t.tips_are ∙ ap (tips_of 0) at) in
     at ∙ ap (λ (z : Tip). Place z.entry) (sym same)
 
--- the words with the root's entry
+-- the words with the root's entry, and the tree that they show
 written : (layout : Layout) (old new : List ℕ) (t : Option Tree) (e : Option Entry) → HoldsTree layout old t → IsTop (heap_of (fields_in layout old)) e t →
-    ((u : Tree) → t ≡ Some u → IsTrie u × IsBuilt u) → HasEntryWord e → new ≡ set old ROOT_WORD (entry_word e) → ((i : ℕ) → get_or new i 0 < 2 ^ 64) →
-    (xs : List Item) → items_of t ≡ xs → HasSpare layout t → IsFinished layout new xs
-written layout old new t e h top lawful entry is small xs content spare =
-    let inside : ROOT_WORD < length old = omega (arith, h.blank.size) in
-    finished layout old new t e h top lawful entry (All-from_get_or (λ w. w < 2 ^ 64) new 0 (λ i low. small i))
-    (ap length is ∙ length-set old ROOT_WORD (entry_word e))
-    (ap (λ ws. get_or ws ROOT_WORD 0) is ∙ get_or-set_same old ROOT_WORD (entry_word e) 0 inside)
-    (λ k o. ap (λ ws. get_or ws k 0) is ∙ get_or-set_other old ROOT_WORD k (entry_word e) 0 (λ same. elim o [ inl a ↦ omega (arith, a, same) | inr b ↦ omega (arith, b, same) ]))
-    xs content spare
+    ((u : Tree) → t ≡ Some u → IsTrie u × IsBuilt u) → HasEntryWord e → HasHeader e old new → (xs : List Item) → items_of t ≡ xs → HasSpare layout t →
+    IsFinished layout new xs × (loaded_tree layout new ≡ t)
+written layout old new t e h top lawful entry is xs content spare =
+    let small = All-from_get_or (λ w. w < 2 ^ 64) new 0 (λ i low. is.small i) in
+    (finished layout old new t e h top lawful entry small is.size is.root is.others xs content spare, tree_is layout old new t e h top lawful entry small is.size is.root is.others)
 
 pub tree_written : (layout : Layout) (old new : List ℕ) (y : Tree) (e : Entry) → HoldsTree layout old (Some y) → IsLocal y → IsBuilt y → subtrie y ≡ Place e → HasEntryWord (Some e) →
-    new ≡ set old ROOT_WORD (entry_word (Some e)) → ((i : ℕ) → get_or new i 0 < 2 ^ 64) → (xs : List Item) → items y ≡ xs →
-    HasSpare layout (Some y) → IsFinished layout new xs
-tree_written layout old new y e h ordered built at entry is small xs content spare = written layout old new (Some y) (Some e) h (at, h.shows y refl)
-    (λ u i. subst (λ v. IsTrie v × IsBuilt v) (some_injective i) (trie_if_local y ordered, built)) entry is small xs content spare
+    HasHeader (Some e) old new → (xs : List Item) → items y ≡ xs → HasSpare layout (Some y) → IsFinished layout new xs × (loaded_tree layout new ≡ Some y)
+tree_written layout old new y e h ordered built at entry is xs content spare = written layout old new (Some y) (Some e) h (at, h.shows y refl)
+    (λ u i. subst (λ v. IsTrie v × IsBuilt v) (some_injective i) (trie_if_local y ordered, built)) entry is xs content spare
 
-pub nothing_written : (layout : Layout) (old new : List ℕ) → HoldsTree layout old None → new ≡ set old ROOT_WORD (entry_word None) → ((i : ℕ) → get_or new i 0 < 2 ^ 64) →
-    (xs : List Item) → xs ≡ [] → IsFinished layout new xs
-nothing_written layout old new h is small xs none = written layout old new None None h tt (λ u i. absurd (none-some u i)) tt is small xs (sym none)
-    (0, layout.nodes_in_range.0, λ i. i)
+pub nothing_written : (layout : Layout) (old new : List ℕ) → HoldsTree layout old None → HasHeader None old new → (xs : List Item) → xs ≡ [] →
+    IsFinished layout new xs × (loaded_tree layout new ≡ None)
+nothing_written layout old new h is xs none = written layout old new None None h tt (λ u i. absurd (none-some u i)) tt is xs (sym none) (0, layout.nodes_in_range.0, λ i. i)
+
+-- ---- committed records
+-- each record of the tree is committed, where no more are uncommitted than stand after the taken ones
+pub links_committed : (layout : Layout) (words : List ℕ) (t : Option Tree) (nodes : ℕ) (cursors : List ℕ) → loaded_tree layout words ≡ t →
+    ((n : ℕ) → IsLinked t (a_node n) → (n < layout.nodes) × (n < nodes)) →
+    ((n : ℕ) → IsLinked t (a_leaf n) → (n < layout.leaves) × (n < get_or cursors (leaf_class layout n) 0)) →
+    uncommitted_in words 0 ≤ layout.nodes - nodes →
+    ((class : ℕ) → class < LEAF_CLASSES → uncommitted_in words (suc class) ≤ end_of_class layout class - get_or cursors class 0) → LinksCommitted layout words
+links_committed layout words t nodes cursors is node_low leaf_low few_nodes few_leaves = record {
+  nodes = λ n linked. let low = node_low n (subst (λ s. IsLinked s (a_node n)) is linked) in omega (arith, low.0, low.1, few_nodes);
+  leaves = λ n linked.
+      let low = leaf_low n (subst (λ s. IsLinked s (a_leaf n)) is linked) in let class = leaf_class layout n in
+      let few = few_leaves class (few_classes layout n) in let inside = below_end layout n low.0 in omega (arith, low.1, few, inside);
+}
 
 -- ---- the one piece
 pub tips_count : (l : Builder) (t : Tree) → IsTreeOf l t → length l.tips.items ≡ size (subtrie t)

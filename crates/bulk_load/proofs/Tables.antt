@@ -1,7 +1,7 @@
 -- The cursors of the classes of leaf records.
 pub mod Putting
 use Rattle.bulk_load.proofs.Common.{◌≡◌, ◌≢◌, inl, inr, ℕ, zero, suc, ◌+◌, ◌<◌, ◌≤◌, Bool, true, false, nat_lt, List, [], ◌∷◌, get_or, if◌then◌else◌, length, refl, ap, sym, subst, ◌∙◌, arith, set, cases_order, ltb-true, ltb-false, lt-ltb, le-ltb, get_or-set_same, get_or-set_other, Layout, Free, SHORT_WORDS, MEDIUM_WORDS, LARGE_WORDS, WIDE_WORDS, LEAF_WORDS, leaf_size, state_word, a_leaf, leaf_number}
-use Rattle.bulk_load.specs.Tables.{AreCursors, IsCursorOf, IsPut, leaf_class, state_in}
+use Rattle.bulk_load.specs.Tables.{AreCursors, IsCursorOf, IsPut, end_of_class, leaf_class, state_in}
 use Rattle.bulk_load.proofs.Tables.Putting.{state_stays}
 
 -- how many words a record of a class has
@@ -36,6 +36,18 @@ few_classes layout n = go (nat_lt n layout.medium_from) (nat_lt n layout.large_f
     go false false true d = omega arith
     go false false false true = omega arith
     go false false false false = omega arith
+
+-- a number is before the end of its class
+pub below_end : (layout : Layout) (n : ℕ) → n < layout.leaves → n < end_of_class layout (leaf_class layout n)
+below_end layout n low = go (nat_lt n layout.medium_from) (nat_lt n layout.large_from) (nat_lt n layout.wide_from) (nat_lt n layout.long_from) refl refl refl refl
+  where
+    go : (a b c d : Bool) → nat_lt n layout.medium_from ≡ a → nat_lt n layout.large_from ≡ b → nat_lt n layout.wide_from ≡ c → nat_lt n layout.long_from ≡ d →
+        n < end_of_class layout (if a then 0 else (if b then 1 else (if c then 2 else (if d then 3 else 4))))
+    go true b c d w x y z = ltb-true n layout.medium_from w
+    go false true c d w x y z = ltb-true n layout.large_from x
+    go false false true d w x y z = ltb-true n layout.wide_from y
+    go false false false true w x y z = ltb-true n layout.long_from z
+    go false false false false w x y z = low
 
 -- where a class begins
 abbrev pub firsts : Layout → List ℕ

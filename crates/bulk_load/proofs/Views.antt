@@ -43,7 +43,7 @@ taken_right : (n : ℕ) (xs ys : List Item) → IsTakenLeaf ys n → IsTakenLeaf
 taken_right n [] ys h = h
 taken_right n (x ∷ xs) ys h = inr (taken_right n xs ys h)
 
-taken_if_linked : (t : Tree) (n : ℕ) → Links t (a_leaf n) → IsTakenLeaf (items t) n
+pub taken_if_linked : (t : Tree) (n : ℕ) → Links t (a_leaf n) → IsTakenLeaf (items t) n
 taken_if_linked (leaf m k v) n e = inl (leaf_number e)
 taken_if_linked (node m x b) n (inl e) = absurd (leaf_node e)
 taken_if_linked (node m x b) n (inr h) = taken_if_linked b n h

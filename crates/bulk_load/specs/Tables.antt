@@ -1,5 +1,5 @@
 -- Records in the words of a table, and the tree that they show.
-use Rattle.std.specs.Prelude.{◌≡◌, ◌⊎◌, ℕ, ◌+◌, ◌*◌, ◌<◌, ◌≤◌, List, length, get_or, if◌then◌else◌, nat_lt, None, Option, Some}
+use Rattle.std.specs.Prelude.{◌≡◌, ◌⊎◌, ℕ, zero, suc, ◌+◌, ◌*◌, ◌<◌, ◌≤◌, List, length, get_or, if◌then◌else◌, nat_lt, None, Option, Some}
 use Rattle.record_words.specs.declared.TheConstants.{EPOCH_WORD, ROOT_WORD, ANCHOR_WORD, FIRST_PIN, LINE_WORDS, NO_PIN}
 use Rattle.record_words.specs.declared.layout.Layout.{Layout}
 use Rattle.record_words.specs.declared.state.Tag.TheVariants.{Free, Live}
@@ -24,6 +24,14 @@ abbrev pub leaf_class : (layout : Layout) → (number : ℕ) → ℕ
 leaf_class layout number =
     if nat_lt number layout.medium_from then 0 else (if nat_lt number layout.large_from then 1 else
     (if nat_lt number layout.wide_from then 2 else (if nat_lt number layout.long_from then 3 else 4)))
+
+-- the number after the last leaf record of a class
+abbrev pub end_of_class : (layout : Layout) → (class : ℕ) → ℕ
+end_of_class layout zero = layout.medium_from
+end_of_class layout (suc zero) = layout.large_from
+end_of_class layout (suc (suc zero)) = layout.wide_from
+end_of_class layout (suc (suc (suc zero))) = layout.long_from
+end_of_class layout (suc (suc (suc (suc class)))) = layout.leaves
 
 -- the state word of the record in the words of a table
 abbrev pub state_in : (layout : Layout) → (table : List ℕ) → (rec : Rec) → ℕ

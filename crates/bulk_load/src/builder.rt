@@ -3,16 +3,16 @@
 ghost use Rattle.std.specs.declared.cmp.Ordering.TheVariants.{Less};
 ghost use Rattle.finite_map.specs.Maps.{key_order};
 ghost use Rattle.record_words.specs.declared.state.Tag.TheVariants.{Free as FreeTag};
-ghost use Rattle.record_words.specs.declared.TheConstants.{LEAF_CLASSES};
+ghost use Rattle.record_words.specs.declared.TheConstants.{FIRST_UNCOMMITTED, LEAF_CLASSES, RECORD_KINDS};
 ghost use Rattle.record_words.specs.State.{state_word};
-ghost use Rattle.std.specs.Prelude.{ℕ, ◌≡◌, ◌≢◌, ◌↔◌, ◌+◌, ◌≤◌, ◌<◌, ◌++◌, ◌∷◌, [], if◌then◌else◌, get_or, Err, IfOk, IfSome, IsNone, IsTrue, false, List, OnOk, OnErr, Option as Maybe, Some, length};
+ghost use Rattle.std.specs.Prelude.{ℕ, suc, ◌≡◌, ◌≢◌, ◌↔◌, ◌+◌, ◌-◌, max, ◌≤◌, ◌<◌, ◌++◌, ◌∷◌, [], if◌then◌else◌, get_or, Err, IfOk, IfSome, IsNone, IsTrue, false, List, OnOk, OnErr, Option as Maybe, Some, length};
 ghost use Rattle.std.specs.Vec.{vec_len};
-ghost use Rattle.bulk_load.specs.Finished.{IsFinished};
+ghost use Rattle.bulk_load.specs.Finished.{HasHeader, IsFinished, LinksCommitted};
 ghost use Rattle.bulk_load.specs.Loading.{CanJoin, CanPart, HasCursors, HasNodesFor, HasSameFields, HasSpace, EndsInLeaf, FitsOneNode, IsOnePiece, IsJoined, IsOfLeaves, IsLoading, IsPiece, IsNextLeaf, IsStackOf, IsTreeOf, KeepsLeaves, KeepsNodes, MayTakeNext, MayTakePlaceOf};
 ghost use Rattle.bulk_load.specs.Stacks.{LeftPiece, whole_of, with_right};
-ghost use Rattle.bulk_load.specs.Tables.{IsRootless, leaf_class, state_in};
+ghost use Rattle.bulk_load.specs.Tables.{IsRootless, end_of_class, leaf_class, state_in};
 ghost use Rattle.bulk_load.specs.Views.{IsAboveLast, IsTakenLeaf};
-ghost use Rattle.record_words.specs.Layout.{leaf_size, word_count};
+ghost use Rattle.record_words.specs.Layout.{leaf_size, uncommitted_in, word_count};
 ghost use Rattle.record_words.specs.Leaf.{words_for};
 ghost use Rattle.node_tries.specs.Piece.{Place};
 ghost use Rattle.record_words.specs.Entry.{HasEntryWord};
@@ -21,12 +21,13 @@ ghost use Rattle.tries.specs.Keys.{IsParted};
 ghost use Rattle.tries.specs.Tree.{Tree, subtrie};
 ghost use Rattle.record_words.specs.declared.records.Rec.TheVariants.{Leaf as a_leaf};
 
-use crate::records::{put_leaf, put_node, put_root};
+use crate::records::{put_leaf, put_node, put_root, put_uncommitted};
 use crate::tips::{Tip, build_node, merge_tips};
 use compound_node::Entry;
 use key_bits::{Key, mismatch};
 use record_words::{
-    ANCHOR_WORD, EPOCH_WORD, LEAF_CLASSES, Layout, MAX_ENTRIES, Tag, count_leaf_words, pack_state,
+    ANCHOR_WORD, EPOCH_WORD, LEAF_CLASSES, Layout, MAX_ENTRIES, RECORD_KINDS, Tag,
+    count_leaf_words, pack_state,
 };
 use std::alloc::{AllocError, Global};
 
@@ -162,18 +163,81 @@ impl Builder {
         self.add_leaf(next_leaf.fork_position, next_leaf.record_number, key, value);
     }
 
-    /// Makes one tree of all pieces, if there are any, and writes the root's entry. After this the words are finished: they show a tree of
-    /// the taken leaves, or none, and at least one node record is in no tree.
-    pub(crate) fn close_all(&mut self)
+    /// Makes one tree of all pieces, if there are any, and writes the root's entry. Of each kind the first records are committed, as many as
+    /// `committed` says, and those that are taken, with one node more. After this the words are finished: they show a tree of the taken
+    /// leaves, or none, and at least one node record is in no tree.
+    pub(crate) fn close_all(&mut self, committed: &[u32; RECORD_KINDS])
         requires { (xs : List Item) × IsLoading self.old xs }
         ensures finished { (xs : List Item) → IsLoading self.old xs → IsFinished self.old.layout self.new.words.items xs }
+        ensures committed { LinksCommitted self.old.layout self.new.words.items }
+        ensures all { ((kind : ℕ) → kind < RECORD_KINDS → get_or committed.now kind 0 ≡ 4294967295) → (kind : ℕ) → uncommitted_in self.new.words.items kind ≡ 0 }
     {
+        let leaves = self.leaves;
         if self.pieces.is_empty() {
-            put_root(self.words.as_mut_slice(), None);
+            self.put_header(None, &leaves, committed);
             return;
         }
         let entry = self.close_tree();
-        put_root(self.words.as_mut_slice(), Some(entry));
+        self.put_header(Some(entry), &leaves, committed);
+    }
+
+    /// Writes the root's entry, and how many records of each kind are uncommitted (`count_uncommitted`). All other words stay.
+    fn put_header(
+        &mut self,
+        entry: Option<Entry>,
+        leaves: &[u32; LEAF_CLASSES],
+        committed: &[u32; RECORD_KINDS],
+    )
+        requires room { FIRST_UNCOMMITTED + RECORD_KINDS ≤ length self.old.words.items }
+        requires entry { HasEntryWord entry }
+        ensures put { HasHeader entry self.old.words.items self.new.words.items }
+        ensures nodes { uncommitted_in self.new.words.items 0 ≤ self.old.layout.nodes - self.old.nodes }
+        ensures leaves { (class : ℕ) → class < LEAF_CLASSES →
+            uncommitted_in self.new.words.items (suc class) ≤ end_of_class self.old.layout class - get_or leaves.now class 0 }
+        ensures all { ((kind : ℕ) → kind < RECORD_KINDS → get_or committed.now kind 0 ≡ 4294967295) → (kind : ℕ) → uncommitted_in self.new.words.items kind ≡ 0 }
+    {
+        let counts = self.count_uncommitted(leaves, committed);
+        let words = self.words.as_mut_slice();
+        put_uncommitted(words, &counts);
+        put_root(words, entry);
+    }
+
+    /// Returns how many records of each kind are uncommitted, if of each kind the first records are committed, as many as `committed` says,
+    /// and those that are taken, with one node more. `leaves` has the number of the first leaf record of each class that isn't taken.
+    fn count_uncommitted(
+        &self,
+        leaves: &[u32; LEAF_CLASSES],
+        committed: &[u32; RECORD_KINDS],
+    ) -> [u32; RECORD_KINDS]
+        ensures nodes { get_or result 0 0 ≤ self.now.layout.nodes - self.now.nodes }
+        ensures leaves { (class : ℕ) → class < LEAF_CLASSES → get_or result (suc class) 0 ≤ end_of_class self.now.layout class - get_or leaves.now class 0 }
+        ensures all { (kind : ℕ) → kind < RECORD_KINDS → get_or committed.now kind 0 ≡ 4294967295 → get_or result kind 0 ≡ 0 }
+    {
+        let layout = &self.layout;
+        [
+            count_from(layout.nodes, self.nodes.saturating_add(1), committed[0]),
+            count_from(layout.medium_from, leaves[0], committed[1]),
+            count_from(
+                layout.large_from,
+                leaves[1],
+                layout.medium_from.saturating_add(committed[2]),
+            ),
+            count_from(
+                layout.wide_from,
+                leaves[2],
+                layout.large_from.saturating_add(committed[3]),
+            ),
+            count_from(
+                layout.long_from,
+                leaves[3],
+                layout.wide_from.saturating_add(committed[4]),
+            ),
+            count_from(
+                layout.leaves,
+                leaves[4],
+                layout.long_from.saturating_add(committed[5]),
+            ),
+        ]
     }
 
     /// Makes one tree of all pieces, of which there is one at least. Returns the entry that leads to it: a leaf's, or that of a node with
@@ -429,4 +493,11 @@ fn plan_join(left: StackedPiece, right: StackedPiece) -> JoinPlan
         closes_right: right.count > 1,
         height: height.saturating_add(1),
     }
+}
+
+/// Returns how many numbers below `end` are neither below `taken` nor below `committed`.
+fn count_from(end: u32, taken: u32, committed: u32) -> u32
+    ensures { result ≡ end - max taken committed }
+{
+    end.saturating_sub(taken.max(committed))
 }

@@ -2,7 +2,7 @@
 
 use crate::builder::{Builder, LoadFault};
 use key_bits::Key;
-use record_words::{LEAF_CLASSES, Layout};
+use record_words::{LEAF_CLASSES, Layout, RECORD_KINDS};
 use std::alloc::{AllocError, Global};
 use std::marker::Model;
 
@@ -35,7 +35,9 @@ impl Loader {
     ghost use Rattle.rowex_core.specs.Events.{IsLoad, after, loaded_tree};
     ghost use Rattle.rowex_core.specs.Opening.{opening};
     ghost use Rattle.rowex_core.specs.Words.{Shows};
+    ghost use Rattle.bulk_load.specs.Finished.{LinksCommitted};
     ghost use Rattle.bulk_load.specs.Tables.{leaf_class};
+    ghost use Rattle.record_words.specs.declared.TheConstants.{RECORD_KINDS};
     ghost use Rattle.bulk_load.specs.Views.{HasNoRoomFor, IsAboveLast, IsTakenLeaf, load_act, no_items, with_item};
 
     /// Returns a loader that has taken no pair, for a table of `layout`. `AllocError` if memory is refused.
@@ -97,8 +99,21 @@ impl Loader {
         ensures spare { (n : ℕ) × (n < self.layout.nodes) × ¬ IsLinked (loaded_tree self.layout result.items) (a_node n) }
         ensures committed { (kind : ℕ) → uncommitted_in result.items kind ≡ 0 }
     {
+        self.finish_reserved(&[u32::MAX; RECORD_KINDS])
+    }
+
+    /// Returns the words of the table, as `finish` does. Of each kind the first records are committed, as many as `committed` says: of nodes, and
+    /// then of each leaf class. So are those that were taken, with one node more. The others are uncommitted.
+    pub fn finish_reserved(self, committed: &[u32; RECORD_KINDS]) -> Vec<u64>
+        ensures load { IsLoad self.layout result.items }
+        ensures shows { Shows (after (opening self.layout) 0 (load_act result.items)) result.items }
+        ensures items { items_of (loaded_tree self.layout result.items) ≡ self.items }
+        ensures spare { (n : ℕ) × (n < self.layout.nodes) × ¬ IsLinked (loaded_tree self.layout result.items) (a_node n) }
+        ensures committed { LinksCommitted self.layout result.items }
+        ensures all { ((kind : ℕ) → kind < RECORD_KINDS → get_or committed.now kind 0 ≡ 4294967295) → (kind : ℕ) → uncommitted_in result.items kind ≡ 0 }
+    {
         let mut builder = self.builder;
-        builder.close_all();
+        builder.close_all(committed);
         builder.words
     }
 }

@@ -3,7 +3,7 @@
 ghost use Rattle.std.specs.Prelude.{ℕ, ◌≡◌, ◌⊎◌, ◌+◌, ◌<◌, ◌≤◌, ◌^◌, get_or, length, set};
 ghost use Rattle.bulk_load.specs.Tables.{IsPut};
 ghost use Rattle.rowex_core.specs.Cores.{fields_in};
-ghost use Rattle.record_words.specs.declared.TheConstants.{KEY_WORDS, ROOT_WORD};
+ghost use Rattle.record_words.specs.declared.TheConstants.{FIRST_UNCOMMITTED, KEY_WORDS, RECORD_KINDS, ROOT_WORD};
 ghost use Rattle.record_words.specs.Entry.{HasEntryWord, entry_word};
 ghost use Rattle.record_words.specs.Layout.{leaf_size, word_count};
 ghost use Rattle.record_words.specs.Leaf.{HasLeafWords, key_word, leaf_words, up_to_key, words_for};
@@ -15,8 +15,8 @@ ghost use Rattle.record_words.specs.declared.records.Rec.TheVariants.{Leaf as a_
 use compound_node::{Entry, Node};
 use key_bits::Key;
 use record_words::{
-    KEY_OFFSET, LENGTH_OFFSET, Layout, NODE_FIELDS, ROOT_WORD, Tag, VALUE_OFFSET, count_key_words,
-    key_word_at, pack_entry, pack_node, pack_state,
+    FIRST_UNCOMMITTED, KEY_OFFSET, LENGTH_OFFSET, Layout, NODE_FIELDS, RECORD_KINDS, ROOT_WORD,
+    Tag, VALUE_OFFSET, count_key_words, key_word_at, pack_entry, pack_node, pack_state,
 };
 
 /// Writes the state of a live record to the word `start` of `words`, and the first `count` of `fields` to the words behind it. All other
@@ -84,4 +84,17 @@ pub(crate) fn put_root(words: &mut [u64], entry: Option<Entry>)
     ensures small { (i : ℕ) → get_or words.new i 0 < 2 ^ 64 }
 {
     words[ROOT_WORD] = pack_entry(entry);
+}
+
+/// Writes to its word how many records of each kind are uncommitted. All other words stay.
+pub(crate) fn put_uncommitted(words: &mut [u64], counts: &[u32; RECORD_KINDS])
+    requires room { FIRST_UNCOMMITTED + RECORD_KINDS ≤ length words.old }
+    ensures size { length words.new ≡ length words.old }
+    ensures counts { (kind : ℕ) → kind < RECORD_KINDS → get_or words.new (FIRST_UNCOMMITTED + kind) 0 ≡ get_or counts.now kind 0 }
+    ensures others { (k : ℕ) → (k < FIRST_UNCOMMITTED) ⊎ (FIRST_UNCOMMITTED + RECORD_KINDS ≤ k) → get_or words.new k 0 ≡ get_or words.old k 0 }
+    ensures small { (i : ℕ) → get_or words.new i 0 < 2 ^ 64 }
+{
+    for kind in 0..RECORD_KINDS {
+        words[FIRST_UNCOMMITTED + kind] = u64::from(counts[kind]);
+    }
 }

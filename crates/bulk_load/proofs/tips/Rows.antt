@@ -1,5 +1,5 @@
 -- The rows of a piece: each from the one before and the fork between the two.
-use Rattle.bulk_load.proofs.Common.{Bool, List, [], ap, ap₂, arith, cond, drop, eqb, false, get_or, length, map, refl, subst, suc, sym, take, true, ℕ, ⊎_elim, ◌*◌, ◌++◌, ◌+◌, ◌-◌, ◌/◌, ◌<◌, ◌^◌, ◌||◌, ◌∙◌, ◌∷◌, ◌≡◌, ◌≤◌, div-div-eq-div-mul, pow-suc, eq-eqb, ne_eqb, or_left, or_right, drop_more, get_or-take, length-map, length-take-le, map-append, take-append-drop, div-mul-add, pow-add, pow_pos, Entry, IsPlaceOf, front_below-place, has-at, Fork, Piece, Place, RisesFrom, UsesOnly, paths, uses, Ascends, front_below, has, IsColumns, rows_of, ShowsPiece}
+use Rattle.bulk_load.proofs.Common.{Bool, List, [], ap, ap₂, arith, cond, drop, eqb, false, get_or, length, map, refl, subst, suc, sym, take, true, ℕ, ◌*◌, ◌++◌, ◌+◌, ◌-◌, ◌/◌, ◌<◌, ◌^◌, ◌||◌, ◌∙◌, ◌∷◌, ◌≡◌, ◌≤◌, div-div-eq-div-mul, pow-suc, eq-eqb, ne_eqb, or_left, or_right, drop_more, get_or-take, length-map, length-take-le, map-append, take-append-drop, div-mul-add, pow-add, pow_pos, Entry, IsPlaceOf, front_below-place, has-at, Fork, Piece, Place, RisesFrom, UsesOnly, paths, uses, Ascends, front_below, has, IsColumns, rows_of, ShowsPiece}
 use Rattle.std.proofs.Math.Bool.{or_assoc}
 use Rattle.std.proofs.lemmas.Simd.{map-map}
 use Rattle.compound_node.proofs.Beside.{front-le}

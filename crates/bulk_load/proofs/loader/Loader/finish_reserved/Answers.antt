@@ -1,8 +1,9 @@
 -- The words are those of a load of the leaves that the builder had.
 use Rattle.bulk_load.proofs.Common.{◌≡◌, ◌<◌, ℕ, subst, a_node, IsLinked, items_of, IsLoad, after, loaded_tree, opening, Shows}
+use Rattle.bulk_load.specs.Finished.{LinksCommitted}
 use Rattle.bulk_load.specs.Loading.{items_in}
 use Rattle.bulk_load.specs.Views.{LoadView, load_act}
-use Rattle.bulk_load.proofs.loader.Loader.finish.Goals as goal
+use Rattle.bulk_load.proofs.loader.Loader.finish_reserved.Goals as goal
 
 pub returns-clause-load : goal.returns-clause-load
 returns-clause-load c =
@@ -19,7 +20,8 @@ returns-clause-items c =
     subst (λ (v : LoadView). items_of (loaded_tree v.layout words) ≡ v.items) c.self.view_is (c.close_all.ensures.finished (items_in c.self.inside.builder) c.self.invariant).items
 
 pub returns-clause-committed : goal.returns-clause-committed
-returns-clause-committed c = (c.close_all.ensures.finished (items_in c.self.inside.builder) c.self.invariant).committed
+returns-clause-committed c =
+    let words = c.close_all.new.self.words.items in subst (λ (v : LoadView). LinksCommitted v.layout words) c.self.view_is c.close_all.ensures.committed
 
 pub returns-clause-spare : goal.returns-clause-spare
 returns-clause-spare c =
