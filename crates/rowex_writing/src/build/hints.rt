@@ -135,6 +135,15 @@ impl Stretch {
         }
     }
 
+    /// Lets claims go on with the number `first`, if that is after the stretch. The numbers between may be of other passes' records: they
+    /// count as part of the stretch.
+    pub fn go_on_at(&mut self, first: u32)
+        ensures end { self.new.end ≡ max self.old.end first }
+        ensures same { (self.new.first ≡ self.old.first) × (self.new.again ≡ self.old.again) × (self.new.given ≡ self.old.given) × (self.new.walked ≡ self.old.walked) }
+    {
+        self.end = self.end.max(first);
+    }
+
     /// Notes that the pass gave back a record that is not kept as spare. The record may be of another pass's stretch: other passes give
     /// back about as many of this one. The count stops at `u32::MAX`, and nothing else changes.
     pub fn note_given(&mut self)
