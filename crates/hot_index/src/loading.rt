@@ -126,6 +126,7 @@ impl Load {
         let free = FirstFree {
             node: loader.first_free_node(),
             leaves: loader.first_free_leaves(),
+            is_reserved: false,
         };
         let words = loader.finish();
         let (table, seats) = HotTable::new_loaded(alloc, layout, words)?;

@@ -7,13 +7,14 @@ use epochs::{Limbo, Sweep};
 use insert_cases::PathNode;
 use key_bits::Key;
 use record_words::{
-    LARGE_WORDS, LEAF_CLASSES, LEAF_WORDS, Layout, MEDIUM_WORDS, NODE_WORDS, SHORT_WORDS,
-    WIDE_WORDS, count_leaf_words,
+    LARGE_WORDS, LEAF_CLASSES, LEAF_WORDS, Layout, MEDIUM_WORDS, NODE_WORDS, RECORD_KINDS,
+    SHORT_WORDS, WIDE_WORDS, count_leaf_words,
 };
 use rowex_core::Rec;
 use rowex_reading::MOST_NODES;
 use rowex_writing::{Build, Full, Hint, Stretch};
 use std::alloc::{AllocError, Global};
+use std::ops::Range;
 
 /// The small part of a pass, of the records of one kind or class, has so many words at most: 128 KiB.
 const FIRST_WORDS: u32 = 16_384;
@@ -26,6 +27,8 @@ pub struct FirstFree {
     pub node: u32,
     /// The number of a leaf record of each class, the smallest first.
     pub leaves: [u32; LEAF_CLASSES],
+    /// Whether the table commits records as passes need them. Then no pass has a part of its own, but claims what it commits.
+    pub is_reserved: bool,
 }
 
 impl FirstFree {
@@ -43,6 +46,7 @@ impl FirstFree {
                 layout.wide_from,
                 layout.long_from,
             ],
+            is_reserved: false,
         }
     }
 }
@@ -94,6 +98,17 @@ impl Share {
         }
     }
 
+    /// Returns what every pass claims of a kind or class of which each pass claims what it commits. A load has taken the first `loaded`
+    /// records.
+    fn of_committed(loaded: u32) -> Share {
+        Share {
+            loaded,
+            first: 0,
+            end: u32::MAX,
+            own: 0,
+        }
+    }
+
     /// Returns a hint whose claims begin with the small part, of `records` records; `AllocError` if memory is refused.
     fn begin_claims(&self, alloc: Global, records: u32) -> Result<Hint, AllocError>
         ensures { IfOk result (λ hint. hint.spare.items ≡ []) }
@@ -137,6 +152,8 @@ pub struct Scratch {
     pub(crate) turn: usize,
     /// The class of which the last full attempt found none free; `LEAF_CLASSES` if it lacked a node.
     lacked: usize,
+    /// The number after the last record that the pass has committed: of nodes, and of each class of leaves. 0 where it has committed none.
+    ends: [u32; RECORD_KINDS],
 }
 
 impl Scratch {
@@ -257,6 +274,40 @@ impl Scratch {
         }
     }
 
+    /// Lets claims of the kind with the number `kind` go on with `numbers`, which the pass has just committed. A kind is 0 for nodes, and 1 to
+    /// 5 for leaves by their class; numbers are counted from its first record on. `build.made` and `build.gone` stay.
+    pub fn take_committed(&mut self, kind: u8, numbers: Range<u32>)
+        ensures made { self.new.build.made.items ≡ self.old.build.made.items }
+        ensures gone { self.new.build.gone.items ≡ self.old.build.gone.items }
+    {
+        let kind = kind as usize;
+        if kind >= RECORD_KINDS {
+            return;
+        }
+        self.ends[kind] = numbers.end;
+        if kind == 0 {
+            self.build.nodes.stretch.go_on_at(numbers.start);
+        } else {
+            let hint = &mut self.build.leaves[kind - 1];
+            hint.stretch.go_on_at(numbers.start);
+            hint.skips = 0;
+        }
+    }
+
+    /// Returns whether the next `count` claims of the kind with the number `kind` may go past the records that the pass has committed.
+    pub fn is_short_of(&self, kind: u8, count: u32) -> bool {
+        let kind = kind as usize;
+        if kind >= RECORD_KINDS {
+            return false;
+        }
+        let start = if kind == 0 {
+            self.build.nodes.stretch.start()
+        } else {
+            self.build.leaves[kind - 1].stretch.start()
+        };
+        start.saturating_add(count) > self.ends[kind]
+    }
+
     /// Lets claims try each class of leaf records in its turn again: after a full round each may have a free record. Claims of nodes skip
     /// nothing. `build.made` stays.
     pub fn reset_skips(&mut self)
@@ -344,7 +395,11 @@ fn share_leaves(layout: Layout, number: u16, free: FirstFree) -> [Share; LEAF_CL
             free.leaves[place].saturating_sub(from),
         );
         let most = FIRST_WORDS.checked_div(words).unwrap_or(0);
-        Share::of(number, layout.passes, records, loaded, most)
+        if free.is_reserved {
+            Share::of_committed(loaded)
+        } else {
+            Share::of(number, layout.passes, records, loaded, most)
+        }
     };
     [
         share(0, 0, layout.medium_from, SHORT_WORDS as u32),
@@ -394,13 +449,12 @@ pub fn new_scratch(
 ) -> Result<Box<Scratch>, AllocError>
     ensures { IfOk result (λ scratch. (scratch.value.way.items ≡ []) × (scratch.value.build.made.items ≡ []) × (scratch.value.build.gone.items ≡ [])) }
 {
-    let nodes = Share::of(
-        number,
-        layout.passes,
-        layout.nodes,
-        free.node,
-        FIRST_WORDS / NODE_WORDS as u32,
-    );
+    let most_nodes = FIRST_WORDS / NODE_WORDS as u32;
+    let nodes = if free.is_reserved {
+        Share::of_committed(free.node)
+    } else {
+        Share::of(number, layout.passes, layout.nodes, free.node, most_nodes)
+    };
     let leaves = share_leaves(layout, number, free);
     let scratch = Scratch {
         way: BoundedVec::new(alloc)?,
@@ -411,6 +465,7 @@ pub fn new_scratch(
         sweeps: [Sweep::of_none(), Sweep::of_none()],
         turn: 0,
         lacked: LEAF_CLASSES,
+        ends: [0; RECORD_KINDS],
     };
     Ok(Box::new(alloc, scratch)?)
 }
