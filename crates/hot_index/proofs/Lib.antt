@@ -9,3 +9,4 @@ pub mod Statements
 pub mod Loads
 pub mod Unhindered
 pub mod Enough
+pub mod Committed

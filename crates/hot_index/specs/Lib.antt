@@ -6,6 +6,7 @@ pub mod Cursors
 pub mod Stamps
 pub mod Handles
 pub mod Kept
+pub mod Committing
 pub mod Loads
 pub mod Statements
 pub mod Alone

@@ -4,7 +4,8 @@ ghost use Rattle.std.specs.Prelude.{◌≡◌, ◌↔◌, ℕ, Some, Ok, Err, If
 ghost use Rattle.record_words.specs.Layout.{HasStock, leaves_of};
 ghost use Rattle.record_words.specs.Limits.{IsPassCount, IsStockPassCount, IsNodeCount, IsLeafCount, IsRecordCount};
 ghost use Rattle.record_words.specs.declared.layout.Layout.{Layout as LayoutView};
-ghost use Rattle.rowex_table.specs.Seats.{HasAllCommitted};
+ghost use Rattle.rowex_table.specs.Seats.{HasAllCommitted, HasUncommitted};
+ghost use Rattle.hot_index.specs.Committing.{uncommitted_of};
 ghost use Rattle.hot_index.specs.Kept.{HasOneKept, kept_stock, with_one_kept};
 ghost use Rattle.hot_index_calls.specs.Passes.{PassView, Owns, IsNewPass, pass_of};
 ghost use Rattle.hot_index.specs.Passes.{AreSettled};
@@ -13,7 +14,7 @@ use crate::closed::ClosedPass;
 use crate::index::{Index, Pass};
 use crate::key_counts::KeyCount;
 use hot_index_calls::FirstFree;
-use record_words::{Layout, LayoutFault, Stock};
+use record_words::{Layout, LayoutFault, RECORD_KINDS, Stock};
 use rowex_table::{HotTable, TableSeat};
 use std::alloc::{AllocError, Global};
 use thiserror::Error;
@@ -28,6 +29,9 @@ pub enum IndexFault {
     #[error("out of memory")]
     Memory,
 }
+
+/// All records are committed: none is only reserved.
+const ALL_COMMITTED: [u64; RECORD_KINDS] = [0; RECORD_KINDS];
 
 /// Makes an empty index with `passes` passes (1 to 64), `nodes` node records (1 to 65,535) and `leaves` leaf records (1 to 262,143).
 /// Returns it with its passes, which are new, in the order of their numbers, from 0 on. The error is `Layout` exactly if a number is out of
@@ -51,7 +55,7 @@ pub fn create(
     ensures leaves { (result ≡ Err (IndexFault.Layout LayoutFault.Leaves)) ↔ (IsPassCount passes × IsNodeCount nodes × ¬ IsLeafCount leaves) }
     ensures memory { result ≡ Err IndexFault.Memory → IsPassCount passes × IsNodeCount nodes × IsLeafCount leaves }
 {
-    make_index_with_open_passes(alloc, Layout::of(passes, nodes, leaves))
+    make_index_with_open_passes(alloc, Layout::of(passes, nodes, leaves), &ALL_COMMITTED)
 }
 
 /// Makes an empty index with `passes` passes (1 to 1,024) and the records of `stock`. Returns it with its passes, which are new, in the
@@ -76,7 +80,7 @@ pub fn create_with(
     ensures leaves { (result ≡ Err (IndexFault.Layout LayoutFault.Leaves)) ↔ (IsStockPassCount passes × IsRecordCount stock.nodes × ¬ IsRecordCount (leaves_of stock)) }
     ensures memory { result ≡ Err IndexFault.Memory → IsStockPassCount passes × IsRecordCount stock.nodes × IsRecordCount (leaves_of stock) }
 {
-    make_index_with_open_passes(alloc, Layout::with_stock(passes, stock))
+    make_index_with_open_passes(alloc, Layout::with_stock(passes, stock), &ALL_COMMITTED)
 }
 
 /// Makes an empty index with `passes` passes, the records of `stock` and one node record more, as `create_with` does, with its bounds and
@@ -96,7 +100,48 @@ pub fn create_closed(
     ensures leaves { (result ≡ Err (IndexFault.Layout LayoutFault.Leaves)) ↔ (IsStockPassCount passes × IsRecordCount stock.nodes × ¬ IsRecordCount (leaves_of stock)) }
     ensures memory { result ≡ Err IndexFault.Memory → IsStockPassCount passes × IsRecordCount stock.nodes × IsRecordCount (leaves_of stock) }
 {
-    make_index_with_closed_passes(alloc, Layout::with_stock(passes, stock))
+    make_index_with_closed_passes(alloc, Layout::with_stock(passes, stock), &ALL_COMMITTED)
+}
+
+/// Makes an empty index with `passes` passes that reserves the records of `stock`, and one node record more, as `create_closed` does, with
+/// its bounds and errors. Of each kind the first records are committed, as many as `committed` has, or all if it has more. The node record
+/// that is kept is committed, too, and of each class of leaves that the stock has one at least. Calls use committed records alone, and
+/// `Index::commit` commits more. Returns the index with its passes, new and closed, in the order of their numbers, from 0 on.
+///
+/// It stores a word for each word of the table, which is 0 but for a few. Where memory is 0 and comes as it is used, these stores can be
+/// left out: then the time doesn't depend on the stock.
+pub fn create_reserved(
+    alloc: Global,
+    passes: u32,
+    stock: Stock,
+    committed: Stock,
+) -> Result<(Index, Vec<ClosedPass>), IndexFault>
+    ensures layout { IfOk result (λ made. (made.0.layout.passes ≡ passes) × HasStock made.0.layout (kept_stock stock)) }
+    ensures count { IfOk result (λ made. length made.1.items ≡ passes) }
+    ensures each { IfOk result (λ made. (q : ℕ) (p : PassView) → slice_get made.1.items q ≡ Some p → Owns made.0 p × IsNewPass q p) }
+    ensures reserved { IfOk result (λ made. (q : ℕ) (p : PassView) → slice_get made.1.items q ≡ Some p → HasUncommitted (uncommitted_of stock committed) p.seat) }
+    ensures passes { (result ≡ Err (IndexFault.Layout LayoutFault.Passes)) ↔ ¬ IsStockPassCount passes }
+    ensures nodes { (result ≡ Err (IndexFault.Layout LayoutFault.Nodes)) ↔ (IsStockPassCount passes × ¬ IsRecordCount stock.nodes) }
+    ensures leaves { (result ≡ Err (IndexFault.Layout LayoutFault.Leaves)) ↔ (IsStockPassCount passes × IsRecordCount stock.nodes × ¬ IsRecordCount (leaves_of stock)) }
+    ensures memory { result ≡ Err IndexFault.Memory → IsStockPassCount passes × IsRecordCount stock.nodes × IsRecordCount (leaves_of stock) }
+{
+    let uncommitted = count_uncommitted(stock, committed);
+    make_index_with_closed_passes(alloc, Layout::with_stock(passes, stock), &uncommitted)
+}
+
+/// Returns how many records of each kind are uncommitted where those of `stock` are reserved and those of `committed` are committed, with
+/// one at least of each class of leaves that the stock has.
+fn count_uncommitted(stock: Stock, committed: Stock) -> [u64; RECORD_KINDS]
+    ensures { result ≡ uncommitted_of stock committed }
+{
+    [
+        u64::from(stock.nodes.saturating_sub(committed.nodes)),
+        u64::from(stock.short.saturating_sub(committed.short.max(1))),
+        u64::from(stock.medium.saturating_sub(committed.medium.max(1))),
+        u64::from(stock.large.saturating_sub(committed.large.max(1))),
+        u64::from(stock.wide.saturating_sub(committed.wide.max(1))),
+        u64::from(stock.long.saturating_sub(committed.long.max(1))),
+    ]
 }
 
 /// Makes an index of the layout `found`, with one node record more (`keep_one_node`). Returns it with its new passes, open, in the order of
@@ -104,15 +149,16 @@ pub fn create_closed(
 fn make_index_with_open_passes(
     alloc: Global,
     found: Result<Layout, LayoutFault>,
+    uncommitted: &[u64; RECORD_KINDS],
 ) -> Result<(Index, Vec<Pass>), IndexFault>
     ensures layout { IfOk result (λ made. (asked : LayoutView) × (found ≡ Ok asked) × HasOneKept asked made.0.layout) }
     ensures count { IfOk result (λ made. length made.1.items ≡ made.0.layout.passes) }
     ensures each { IfOk result (λ made. (q : ℕ) (p : PassView) → slice_get made.1.items q ≡ Some p → Owns made.0 p × IsNewPass q p) }
-    ensures committed { IfOk result (λ made. (q : ℕ) (p : PassView) → slice_get made.1.items q ≡ Some p → HasAllCommitted p.seat) }
+    ensures reserved { IfOk result (λ made. (q : ℕ) (p : PassView) → slice_get made.1.items q ≡ Some p → HasUncommitted uncommitted.now p.seat) }
     ensures fault { (fault : LayoutFault) → (result ≡ Err (IndexFault.Layout fault)) ↔ (found ≡ Err fault) }
     ensures memory { result ≡ Err IndexFault.Memory → IsOk found }
 {
-    let (index, closed) = match make_index_with_closed_passes(alloc, found) {
+    let (index, closed) = match make_index_with_closed_passes(alloc, found, uncommitted) {
         Ok(made) => made,
         Err(fault) => return Err(fault),
     };
@@ -143,16 +189,17 @@ fn open_passes(
 fn make_index_with_closed_passes(
     alloc: Global,
     found: Result<Layout, LayoutFault>,
+    uncommitted: &[u64; RECORD_KINDS],
 ) -> Result<(Index, Vec<ClosedPass>), IndexFault>
     ensures layout { IfOk result (λ made. (asked : LayoutView) × (found ≡ Ok asked) × HasOneKept asked made.0.layout) }
     ensures count { IfOk result (λ made. length made.1.items ≡ made.0.layout.passes) }
     ensures each { IfOk result (λ made. (q : ℕ) (p : PassView) → slice_get made.1.items q ≡ Some p → Owns made.0 p × IsNewPass q p) }
-    ensures committed { IfOk result (λ made. (q : ℕ) (p : PassView) → slice_get made.1.items q ≡ Some p → HasAllCommitted p.seat) }
+    ensures reserved { IfOk result (λ made. (q : ℕ) (p : PassView) → slice_get made.1.items q ≡ Some p → HasUncommitted uncommitted.now p.seat) }
     ensures fault { (fault : LayoutFault) → (result ≡ Err (IndexFault.Layout fault)) ↔ (found ≡ Err fault) }
     ensures memory { result ≡ Err IndexFault.Memory → IsOk found }
 {
     match found {
-        Ok(asked) => match make_index(alloc, keep_one_node(asked)) {
+        Ok(asked) => match make_index(alloc, keep_one_node(asked), uncommitted) {
             Ok(made) => Ok(made),
             Err(_) => Err(IndexFault::Memory),
         },
@@ -177,16 +224,23 @@ pub fn keep_one_node(layout: Layout) -> Layout
 }
 
 /// Makes the index of just `layout`, with its new passes, closed, in the order of their numbers; `AllocError` if memory is refused.
-fn make_index(alloc: Global, layout: Layout) -> Result<(Index, Vec<ClosedPass>), AllocError>
+fn make_index(
+    alloc: Global,
+    layout: Layout,
+    uncommitted: &[u64; RECORD_KINDS],
+) -> Result<(Index, Vec<ClosedPass>), AllocError>
     ensures layout { IfOk result (λ made. made.0.layout ≡ layout) }
     ensures count { IfOk result (λ made. length made.1.items ≡ layout.passes) }
     ensures each { IfOk result (λ made. (q : ℕ) (p : PassView) → slice_get made.1.items q ≡ Some p → Owns made.0 p × IsNewPass q p) }
-    ensures committed { IfOk result (λ made. (q : ℕ) (p : PassView) → slice_get made.1.items q ≡ Some p → HasAllCommitted p.seat) }
+    ensures reserved { IfOk result (λ made. (q : ℕ) (p : PassView) → slice_get made.1.items q ≡ Some p → HasUncommitted uncommitted.now p.seat) }
 {
-    let (table, seats) = HotTable::new(alloc, layout)?;
+    let (table, seats) = HotTable::new_reserved(alloc, layout, uncommitted)?;
     let count = KeyCount::new();
     let passes = make_closed_passes(alloc, seats, count)?;
-    let free = FirstFree::of(layout);
+    let free = FirstFree {
+        is_reserved: uncommitted.iter().any(|count| *count > 0),
+        ..FirstFree::of(layout)
+    };
     Ok((Index { table, free }, passes))
 }
 

@@ -11,6 +11,7 @@ ghost use Rattle.hot_index_calls.specs.Answers.{HaveMet, IsNoted, IsUnnoted, May
 ghost use Rattle.hot_index_calls.specs.Calls.{GetsOrCounts, GetsOrMakes, HasCause, IsOutcome, IsTried, IsWaitedFor};
 ghost use Rattle.hot_index_calls.specs.Calls.{IsCountRead, IsListRead, IsListReadBy, IsRangeRead, IsScanRead, IsScanReadBy, IsValuesRead};
 ghost use Rattle.hot_index_calls.specs.Census.{HasCounted};
+ghost use Rattle.hot_index.specs.Committing.{FindsUncommitted, HasFallen};
 ghost use Rattle.hot_index.specs.Handles.{Stays, handle_at};
 ghost use Rattle.hot_index_calls.specs.Many.{AreNoted, HasMadeGetManySteps, gets};
 ghost use Rattle.hot_index_calls.specs.Passes.{Owns};
@@ -23,6 +24,7 @@ ghost use Rattle.key_ranges.specs.Ranges.{last_with};
 ghost use Rattle.rowex_scanning.specs.Scanning.{asked_range};
 ghost use Rattle.version_laws.specs.Directions.{IsLawfulBy};
 
+use crate::committing::Kind;
 use crate::index::{Index, Pass};
 use crate::key_counts::KeyCount;
 use epochs::Given;
@@ -427,6 +429,26 @@ impl<I: ShowsIndex> Handle<I> {
         ensures made { Stays (λ index k j. HasCounted index untold (k, tt) (j, tt) result) self.old self.new }
     {
         self.index.show().census(&mut self.pass)
+    }
+
+    /// Returns how many records of `kind` are reserved and not committed, as `Index::uncommitted` does.
+    pub fn uncommitted(&mut self, kind: Kind) -> u64
+        ensures { Stays (λ index k j. FindsUncommitted kind result k j) self.old self.new }
+    {
+        self.index.show().uncommitted(&mut self.pass, kind)
+    }
+
+    /// Commits the next `count` records of `kind`, and returns how many of the kind are uncommitted then, as `Index::commit` does.
+    pub fn commit(&mut self, kind: Kind, count: u64) -> u64
+        ensures found { Stays (λ index k j. FindsUncommitted kind result k j) self.old self.new }
+        ensures falls { 0 < count → HasFallen kind result self.old.pass }
+    {
+        self.index.show().commit(&mut self.pass, kind, count)
+    }
+
+    /// Returns whether the next `count` claims of `kind` may go past the records that the pass has committed, as `Index::is_short_of` does.
+    pub fn is_short_of(&self, kind: Kind, count: u32) -> bool {
+        self.index.show().is_short_of(&self.pass, kind, count)
     }
 
     /// Lets the pass meet the pass of `other`, which must be a handle at the same index, as `Index::meet` does. Both passes have then seen

@@ -4,7 +4,8 @@
 //! # Parts
 //!
 //! An [`Index`] is a table of words of a fixed size. [`create`] makes one with leaf records for the longest keys,
-//! [`create_with`] by a [`Stock`]: how many node records, and how many leaf records of each size. Each thread works through
+//! [`create_with`] by a [`Stock`]: how many node records, and how many leaf records of each size. [`create_reserved`] makes one that reserves
+//! a stock: calls use its first records alone, which are committed, and `Index::commit` commits more. Each thread works through
 //! a pass of its own: a [`Pass`] with the index beside it, or a [`Handle`], which has both. There are as many passes as the index was
 //! made with. A call takes its pass by `&mut`, so each pass makes one call at a time. A pass has buffers of some 310 KB. One that waits
 //! for its thread needs none as a [`ClosedPass`] or [`ClosedHandle`], which [`create_closed`] makes. A [`Load`] takes sorted pairs, and
@@ -49,6 +50,7 @@
 mod adding;
 mod calls;
 mod closed;
+mod committing;
 mod creating;
 mod cursor;
 mod expecting;
@@ -66,7 +68,10 @@ mod stamp;
 
 pub use bulk_load::LoadFault;
 pub use closed::{ClosedHandle, ClosedPass};
-pub use creating::{IndexFault, create, create_closed, create_with, keep_one_node};
+pub use committing::Kind;
+pub use creating::{
+    IndexFault, create, create_closed, create_reserved, create_with, keep_one_node,
+};
 pub use cursor::{Cursor, Rest};
 pub use epochs::Given;
 pub use finite_map::{Call, Reply, Scan};

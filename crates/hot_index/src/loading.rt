@@ -1,10 +1,11 @@
 //! How an index is made of sorted pairs: a bulk load.
 
-ghost use Rattle.std.specs.Prelude.{◌≡◌, ◌≤◌, ◌<◌, ◌↔◌, ℕ, [], Some, Err, IfOk, IsTrue, OnErr, OnOk, length, slice_get};
+ghost use Rattle.std.specs.Prelude.{◌≡◌, ◌≤◌, ◌<◌, ◌↔◌, ℕ, [], Some, Err, IfOk, IsTrue, OnErr, OnOk, get_or, length, slice_get};
 ghost use Rattle.bulk_load.specs.Views.{HasNoRoomFor, IsAboveLast};
 ghost use Rattle.record_words.specs.Layout.{HasStock, leaf_size, leaves_of};
 ghost use Rattle.record_words.specs.Leaf.{words_for};
 ghost use Rattle.record_words.specs.Limits.{IsRecordCount, IsStockPassCount};
+ghost use Rattle.record_words.specs.declared.TheConstants.{RECORD_KINDS};
 ghost use Rattle.rowex_table.specs.Seats.{HasAllCommitted};
 ghost use Rattle.tries.specs.Content.{pairs};
 ghost use Rattle.hot_index.specs.Kept.{kept_stock};
@@ -19,7 +20,7 @@ use bulk_load::{LoadFault, Loader};
 use finite_map::Reply;
 use hot_index_calls::FirstFree;
 use key_bits::Key;
-use record_words::{Layout, LayoutFault, Stock, count_leaf_words};
+use record_words::{FIRST_UNCOMMITTED, Layout, LayoutFault, RECORD_KINDS, Stock, count_leaf_words};
 use rowex_table::HotTable;
 use std::alloc::{AllocError, Global};
 use std::marker::Model;
@@ -118,17 +119,67 @@ impl Load {
         ensures each { IfOk result (λ made. (q : ℕ) (p : PassView) → slice_get made.1.items q ≡ Some p → Owns made.0 p × IsPassOfLoad made.0 (pairs self.items) q p) }
         ensures committed { IfOk result (λ made. (q : ℕ) (p : PassView) → slice_get made.1.items q ≡ Some p → HasAllCommitted p.seat) }
     {
+        self.finish_committed(alloc, &[u32::MAX; RECORD_KINDS])
+    }
+
+    /// Makes the index of the pairs that were pushed, as `finish` does. Of each kind the first records are committed: as many as `committed`
+    /// has, and those that the pairs have taken, each with one node more. Of each class of leaves that the stock has one at least is.
+    /// `Index::commit` commits more.
+    pub fn finish_reserved(
+        self,
+        alloc: Global,
+        committed: Stock,
+    ) -> Result<(Index, Vec<ClosedPass>), AllocError>
+        ensures layout { IfOk result (λ made. made.0.layout ≡ self.layout) }
+        ensures count { IfOk result (λ made. length made.1.items ≡ self.layout.passes) }
+        ensures each { IfOk result (λ made. (q : ℕ) (p : PassView) → slice_get made.1.items q ≡ Some p → Owns made.0 p × IsPassOfLoad made.0 (pairs self.items) q p) }
+    {
+        let Stock {
+            nodes,
+            short,
+            medium,
+            large,
+            wide,
+            long,
+        } = committed;
+        let committed = [
+            nodes.saturating_add(1),
+            short.max(1),
+            medium.max(1),
+            large.max(1),
+            wide.max(1),
+            long.max(1),
+        ];
+        self.finish_committed(alloc, &committed)
+    }
+
+    /// Makes the index of the pairs that were pushed, as `finish_reserved` does. `committed` has how many of the first records of each kind are
+    /// committed: of nodes, and then of each leaf class.
+    fn finish_committed(
+        self,
+        alloc: Global,
+        committed: &[u32; RECORD_KINDS],
+    ) -> Result<(Index, Vec<ClosedPass>), AllocError>
+        ensures layout { IfOk result (λ made. made.0.layout ≡ self.layout) }
+        ensures count { IfOk result (λ made. length made.1.items ≡ self.layout.passes) }
+        ensures each { IfOk result (λ made. (q : ℕ) (p : PassView) → slice_get made.1.items q ≡ Some p → Owns made.0 p × IsPassOfLoad made.0 (pairs self.items) q p) }
+        ensures all { ((kind : ℕ) → kind < RECORD_KINDS → get_or committed.now kind 0 ≡ 4294967295) →
+            IfOk result (λ made. (q : ℕ) (p : PassView) → slice_get made.1.items q ≡ Some p → HasAllCommitted p.seat) }
+    {
         let Load {
             layout,
             loader,
             count,
         } = self;
+        let node = loader.first_free_node();
+        let leaves = loader.first_free_leaves();
+        let words = loader.finish_reserved(committed);
+        let mut uncommitted = words.iter().skip(FIRST_UNCOMMITTED).take(RECORD_KINDS);
         let free = FirstFree {
-            node: loader.first_free_node(),
-            leaves: loader.first_free_leaves(),
-            is_reserved: false,
+            node,
+            leaves,
+            is_reserved: uncommitted.any(|count| *count > 0),
         };
-        let words = loader.finish();
         let (table, seats) = HotTable::new_loaded(alloc, layout, words)?;
         let passes = make_closed_passes(alloc, seats, count)?;
         Ok((Index { table, free }, passes))

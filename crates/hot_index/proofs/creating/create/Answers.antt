@@ -3,6 +3,7 @@ use Rattle.std.specs.Prelude.{IsOk}
 use Rattle.record_words.specs.Limits.{IsLeafCount, IsNodeCount, IsPassCount}
 use Rattle.hot_index.proofs.Common.{rules, LayoutFault, ◌≡◌, ◌↔◌, ◌∙◌, ℕ, Err, Result, ap, Layout}
 use Rattle.hot_index.specs.Kept.{with_one_kept}
+use Rattle.hot_index.proofs.Committed.{passes_all_committed}
 use Rattle.hot_index.proofs.Passes.{made_kept, told_as_found}
 use Rattle.hot_index.proofs.creating.create.Goals as goal
 
@@ -30,3 +31,6 @@ returns-clause-layout c = made_kept (λ made. made.0.layout) c.of.result c.make_
 pub returns-clause-memory : goal.returns-clause-memory
 returns-clause-memory c = λ refused. let found = c.of.ensures in
     in_range c.args.passes c.args.nodes c.args.leaves c.of.result (c.make_index_with_open_passes.ensures.memory refused) found.passes found.nodes found.leaves
+
+pub returns-clause-committed : goal.returns-clause-committed
+returns-clause-committed c = passes_all_committed c.make_index_with_open_passes.result (λ made. made.1.items) c.make_index_with_open_passes.ensures.reserved

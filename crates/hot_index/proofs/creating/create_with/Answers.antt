@@ -1,6 +1,7 @@
 -- What is told of the numbers is what was found of them.
 use Rattle.hot_index.proofs.Common.{LayoutFault, ◌≡◌, ◌∙◌, HasStock, Layout}
 use Rattle.hot_index.specs.Kept.{kept_stock}
+use Rattle.hot_index.proofs.Committed.{passes_all_committed}
 use Rattle.hot_index.proofs.Passes.{kept_has, made_kept, told_as_found}
 use Rattle.hot_index.proofs.creating.create_with.Goals as goal
 
@@ -16,3 +17,6 @@ returns-clause-leaves c = told_as_found (c.make_index_with_open_passes.ensures.f
 pub returns-clause-layout : goal.returns-clause-layout
 returns-clause-layout c = made_kept (λ made. made.0.layout) c.with_stock.result c.make_index_with_open_passes.result (λ (l : Layout). (l.passes ≡ c.args.passes) × HasStock l c.args.stock) (λ (l : Layout). (l.passes ≡ c.args.passes) × HasStock l (kept_stock c.args.stock))
     c.with_stock.ensures.ok c.make_index_with_open_passes.ensures.layout (λ a b asked kept. (kept.passes ∙ asked.0, kept_has a b c.args.stock kept asked.1))
+
+pub returns-clause-committed : goal.returns-clause-committed
+returns-clause-committed c = passes_all_committed c.make_index_with_open_passes.result (λ made. made.1.items) c.make_index_with_open_passes.ensures.reserved
