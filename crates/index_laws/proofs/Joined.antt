@@ -57,7 +57,7 @@ seeing_is_done index p q ours theirs was now leader led (here, is_seat, gone) (t
       (
         x.stamped.index ∙ there,
         stamp is_too x.stamped.pass,
-        has_stamped went (ap (λ (k : PassView). k.seat) x.stamped.pass),
+        has_stamped went (ap (λ (k : PassView). k.seat.known) x.stamped.pass) (ap (λ (k : PassView). k.seat.trace) x.stamped.pass),
       ),
       (caught.shown.run.core, caught.shown.run.led),
       x.traced,

@@ -3,7 +3,7 @@ use Rattle.index_laws.proofs.Common.{◌≡◌, ◌≢◌, ℕ, suc, List, [], �
 use Rattle.finite_map.specs.Weaves.{Event}
 use Rattle.plain_index.specs.Orders.{AreWoven, CallsAreWoven}
 use Rattle.index_laws.proofs.Executions.Loaded.{loader_legal}
-use Rattle.index_laws.specs.Lives.{AreLives, HasLived, PassLife, LivesAreWoven, OneHistoryOfAll, called, loaded, looked_up, new, scanned, went_on}
+use Rattle.index_laws.specs.Lives.{AreLives, HasLived, PassLife, LivesAreWoven, OneHistoryOfAll, called, loaded, looked_up, new, rested, scanned, went_on}
 
 -- the calls of notes, with their replies
 abbrev asked_in : List Note → List (Call × Reply)
@@ -53,6 +53,8 @@ lived (looked_up {calls = calls} {asked = asked} {before = k} {after = j} h note
 }
 lived (went_on {calls = calls} {before = k} {after = j} h unnoted) = stays calls k j (lived h) unnoted.notes unnoted.legal
 lived (scanned {calls = calls} {before = k} {after = j} h on same legal) = stays calls k j (lived h) same legal
+lived (rested {calls = calls} {before = k} {after = j} h number front notes) = stays calls k j (lived h) notes
+    (subst (λ n. LegalCalls j.front n j.notes) (sym number) (subst (λ f. LegalCalls f k.number j.notes) (sym front) (subst (LegalCalls k.front k.number) (sym notes) (lived h).legal)))
 
 abbrev pass_in : PassLife → ℕ × List Note
 pass_in life = (life.1.number, life.1.notes)

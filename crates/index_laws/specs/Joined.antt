@@ -72,7 +72,7 @@ load_call layout pass words =
 -- pass 0 has made the bulk load of the table. `called`: it has made one call more, whose steps contracts name (`HasRead`,
 -- `HasMadeChangeSteps`, `HasMadeCallSteps`), and which has ended (`HasEndedAs`). `shown`: it has met another pass or followed a stamp
 -- (`HasSeenMore`, `HasCaughtUp`). Of what it knows only the front and the trace have grown. `stamped`: it has made a stamp (`HasStamped`),
--- which shows its own front.
+-- or found how many records are uncommitted (`FindsUncommitted`), which shows its own front.
 pub data HasGoneThrough (table : TableView) (pass : ℕ) : List Happening → SeatView → Type 0 where
   new : {start : SeatView} → IsNewSeatOf table pass start → HasGoneThrough table pass [] start
   loader : {start : SeatView} → pass ≡ 0 → (words : List ℕ) → IsLoad table.layout words → IsLoaderSeat table words start →
@@ -84,7 +84,7 @@ pub data HasGoneThrough (table : TableView) (pass : ℕ) : List Happening → Se
   shown : {done : List Happening} {start end : SeatView} → HasGoneThrough table pass done start →
       IsShownAll table.layout start end → BeginsWith end.known.front start.known.front →
       end.known ≡ with_front end.known.front start.known → HasGoneThrough table pass (done ++ shows pass end.known.front ∷ []) end
-  stamped : {done : List Happening} {start end : SeatView} → HasGoneThrough table pass done start → end ≡ record start { asides = suc start.asides } →
+  stamped : {done : List Happening} {start end : SeatView} → HasGoneThrough table pass done start → end.known ≡ start.known → end.trace ≡ start.trace →
       HasGoneThrough table pass (done ++ shows pass start.known.front ∷ []) end
 
 -- What all passes have done

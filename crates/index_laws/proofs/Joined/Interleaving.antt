@@ -287,9 +287,9 @@ life_of {table} {q} low (called {done = done} {start = s} {end = m} before_it ca
 life_of {table} {q} low (shown {done = done} {start = s} {end = m} before_it all more known) hs e l =
     subst (λ z. IsLife table q z e) (sym (append_assoc done (shows q m.known.front ∷ []) hs)) (life_of low before_it (shows q m.known.front ∷ hs) e (sees m.known.front
     (inl (all, more, known)) l))
-life_of {table} {q} low (stamped {done = done} {start = s} {end = m} before_it is) hs e l =
+life_of {table} {q} low (stamped {done = done} {start = s} {end = m} before_it known trace) hs e l =
     subst (λ z. IsLife table q z e) (sym (append_assoc done (shows q s.known.front ∷ []) hs))
-    (life_of low before_it (shows q s.known.front ∷ hs) e (sees s.known.front (inr (ap (λ (z : SeatView). z.known) is, ap (λ (z : SeatView). z.trace) is, refl)) l))
+    (life_of low before_it (shows q s.known.front ∷ hs) e (sees s.known.front (inr (known, trace, refl)) l))
 
 -- the seat at last is the pass's
 runs_named : (table : TableView) (acts : List Act) (s e : SeatView) → Runs table untold acts (s, tt) (e, tt) → e.known.pass ≡ s.known.pass
@@ -300,7 +300,7 @@ named_by (new is) = ap (λ (k : Known). k.pass) is.1
 named_by (loader first words load is) = ap (λ (k : Known). k.pass) is.1 ∙ sym first
 named_by {table} (called {start = s} before_it calls acts last said ends so) = ends.2.seat.2 ∙ (runs_named table acts s ends.0.0 ends.1 ∙ named_by before_it)
 named_by (shown before_it all more known) = all.pass ∙ named_by before_it
-named_by (stamped before_it is) = ap (λ (z : SeatView). z.known.pass) is ∙ named_by before_it
+named_by (stamped before_it known trace) = ap (λ (k : Known). k.pass) known ∙ named_by before_it
 
 -- Steps are those of passes of the table
 
