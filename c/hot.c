@@ -52,6 +52,9 @@ const char *hot_status_text(hot_status status) {
 
 static const hot_stock no_stock = {0, 0, 0, 0, 0, 0};
 
+/* At least as many as any index has. */
+static const hot_stock all_records = {UINT32_MAX, UINT32_MAX, UINT32_MAX, UINT32_MAX, UINT32_MAX, UINT32_MAX};
+
 void hot_stock_for_keys(uint32_t keys, size_t longest, hot_stock *stock) {
     if (is_processor_new())
         proved_stock_for_keys(keys, longest, stock);
@@ -829,7 +832,7 @@ hot_status hot_create_with(const hot_stock *stock, hot_handle *handles, size_t c
 /* The same as make_table, of a table that may exceed all memory or not. */
 static hot_status make_any_table(const hot_stock *stock, size_t handles, int may_exceed_memory, hot_handle *keeper, holding *holds) {
     begin_making(stock, handles, may_exceed_memory, holds);
-    return end_making(proved_create_keeping(stock, handles, keeper), keeper, 1, holds);
+    return end_making(proved_create_keeping(stock, &all_records, handles, keeper), keeper, 1, holds);
 }
 
 hot_status make_table(const hot_stock *stock, size_t handles, hot_handle *keeper, holding *holds) {
@@ -898,7 +901,7 @@ hot_status end_load(begun_load *begun, hot_handle *keeper, holding *holds) {
     hot_status status;
     heap_map_lists(&holds->long_lists, begun->handles);
     heap_go_on(&begun->table, begun->words, &holds->long_lists);
-    status = end_making(proved_end_load(&begun->load, keeper), keeper, 1, holds);
+    status = end_making(proved_end_load(&begun->load, &all_records, keeper), keeper, 1, holds);
     if (status == HOT_DONE)
         heap_end_load(holds->pages);
     return status;

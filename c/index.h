@@ -10,7 +10,7 @@
  * here alone: one opens a handle of a new index, which keeps the passes of the others, and one opens the next of these. */
 hot_status proved_create(uint32_t nodes, uint32_t leaves, hot_handle *handles, size_t count);
 hot_status proved_create_with(const hot_stock *stock, hot_handle *handles, size_t count);
-hot_status proved_create_keeping(const hot_stock *stock, size_t passes, hot_handle *keeper);
+hot_status proved_create_keeping(const hot_stock *stock, const hot_stock *committed, size_t passes, hot_handle *keeper);
 hot_status proved_open_kept(hot_handle *keeper, hot_handle *handle);
 hot_status proved_try_insert(hot_handle *handle, const uint8_t *key, size_t length, uint64_t value, uint64_t *had);
 hot_status proved_try_upsert(hot_handle *handle, const uint8_t *key, size_t length, uint64_t value, uint64_t *had);
@@ -58,6 +58,13 @@ hot_status proved_count_prefix(hot_handle *handle, const uint8_t *prefix, size_t
 hot_status proved_collect(hot_handle *handle, uint32_t *nodes, uint32_t *leaves);
 hot_status proved_census(hot_handle *handle, hot_counts *counts);
 
+/* Those of reserved records. A kind is 0 for nodes, and 1 to 5 for leaves by their size. The first writes how many of a kind are not committed, the
+ * second commits the next `count`, which the handle then claims, and writes how many are left. The third is whether the handle may soon claim
+ * others than it has committed. */
+hot_status proved_uncommitted(hot_handle *handle, uint32_t kind, uint64_t *left);
+hot_status proved_commit(hot_handle *handle, uint32_t kind, uint64_t count, uint64_t *left);
+uint32_t proved_is_short_of(hot_handle *handle, uint32_t kind, uint32_t count);
+
 /* Lets a handle see all that another has seen; both are of one index. */
 hot_status proved_see(hot_handle *handle, hot_handle *leader);
 
@@ -91,7 +98,7 @@ typedef struct loading {
  * proved_create_keeping does. It closes the load, which is given up where memory is refused, as by the last one. */
 hot_status proved_begin_load(const hot_stock *stock, size_t passes, loading *load);
 hot_status proved_load_pair(loading *load, const uint8_t *key, size_t length, uint64_t value);
-hot_status proved_end_load(loading *load, hot_handle *keeper);
+hot_status proved_end_load(loading *load, const hot_stock *committed, hot_handle *keeper);
 hot_status proved_give_up_load(loading *load);
 
 /* What a table holds of memory. */

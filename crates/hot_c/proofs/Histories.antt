@@ -14,7 +14,8 @@ use Rattle.index_laws.specs.Executions.{insertion_notes}
 use Rattle.index_laws.specs.Joined.{MadeNoLaterStep, caught_up, idle}
 use Rattle.rowex_core.specs.declared.event.Event.{Event}
 use Rattle.hot_c.specs.Calls.{Answers, FitsInKey, StaysOpen, TellsOutcome}
-use Rattle.hot_c.specs.Histories.{AreNotesOf, AsksNothing, CallsAreLinearizable, HasSeenAnother, HasToldAll, HaveTold, IsAt, asked, followed, loaded, loaded_each, looked_up, more, none, answered_notes, opened, rested, saw, steps_known, told_of, told_of_each, was_seen, went_on}
+use Rattle.hot_c.specs.Committing.{HasFound}
+use Rattle.hot_c.specs.Histories.{AreNotesOf, AsksNothing, CallsAreLinearizable, HasSeenAnother, HasToldAll, HaveTold, IsAt, asked, committed, followed, loaded, loaded_each, looked_up, more, none, answered_notes, opened, rested, saw, steps_known, told_of, told_of_each, was_seen, went_on}
 use Rattle.hot_c.specs.Lookups.{LooksUpAll, are_answered, key_in}
 use Rattle.hot_c.specs.Statuses.{value_after}
 use Rattle.hot_c.specs.declared.lookups.Lookup.{Lookup}
@@ -186,6 +187,17 @@ shown_done {q = q} {told = told} x front gone = record {
   notes = subst (AreNotesOf told) (sym (answered_notes-append x.done (shows q front ∷ []) ∙ append-nil (answered_notes x.done))) x.notes;
 }
 
+-- a call that committed records, or found how many are uncommitted
+committed_done : {index : TableView} {q : ℕ} {told : List (List (Call × Reply))} {o p : Opened} → IsDone index q told o.handle → (kind count : ℕ) →
+    StaysOpen (HasFound kind count) (Some o) (Some p) → IsDone index q told p.handle
+committed_done {o = o} {p = p} x kind count is =
+    let stays = stays_at is in let found = stays.pass.2.0 in
+    shown_done x o.handle.pass.seat.known.front (
+      stays.index ∙ x.gone.0,
+      found ∙ ap pass_of (sym (ap (λ (k : PassView). k.seat) found)),
+      stamped x.gone.2 (ap (λ (k : PassView). k.seat.known) found) (ap (λ (k : PassView). k.seat.trace) found),
+    )
+
 -- a handle that was opened
 
 new_done : {index : TableView} {q : ℕ} {h : HandleView} → IsNewPass q h.pass → IsAt index h → IsDone index q [] h
@@ -218,6 +230,7 @@ is_done (loaded first pairs is at) = loaded_done first pairs is at
 is_done (asked x key call before after status is never) = asked_done (is_done x) key call before after status is never
 is_done (looked_up x before after fit is) = looked_done (is_done x) before after fit is
 is_done (went_on x is) = went_done (is_done x) is
+is_done (committed x kind count is) = committed_done (is_done x) kind count is
 is_done {index} (saw {pass = q} {other = r} {old = o} {new = p} {leader = l} {led = m} x y seen) =
     let mine = is_done x in let other = is_done y in
     shown_done mine p.handle.pass.seat.known.front (seeing_is_done index q r mine.done other.done o.handle p.handle l.handle m.handle mine.gone other.gone (leader_seen seen)).0
@@ -238,7 +251,7 @@ gone_is_run {index} low (called x calls acts last said ends so) =
     let q : ℕ = ends.0.0.known.pass in
     subst (IsTableRun index.layout) (sym step.next.next_is) (after step.event.core q last, led_more (opening index.layout) step.next.before step.event.core q last step.next.led step.event.legal)
 gone_is_run low (shown x all front known) = (all.run.core, all.run.led)
-gone_is_run {index} low (stamped x is) = subst (IsTableRun index.layout) (sym (ap (λ (s : SeatView). s.trace) is)) (gone_is_run low x)
+gone_is_run {index} low (stamped x known trace) = subst (IsTableRun index.layout) (sym trace) (gone_is_run low x)
 
 -- what a pass has told that has told all, and that it rests
 told_so : {index : TableView} {run : List Event} {q : ℕ} {told : List (List (Call × Reply))} {h : HandleView} → HasToldAll index run q told h → HaveTold index q told h

@@ -25,6 +25,7 @@ use Rattle.index_laws.specs.Joined.{IsExecutionOf}
 use Rattle.index_laws.specs.Traced.{Instant, configuration_of}
 use Rattle.hot_c.specs.Calls.{Answers, FitsInKey, HasGivenBack, HasCountedRecords, StaysOpen}
 use Rattle.hot_c.specs.declared.census.HotCounts.{HotCounts}
+use Rattle.hot_c.specs.Committing.{HasFound}
 use Rattle.hot_c.specs.Counting.{CountsRange}
 use Rattle.hot_c.specs.Ends.{FindsFirst, FindsFirstIn, FindsLast}
 use Rattle.hot_c.specs.Following.{SeesLeader, SeesSteps}
@@ -87,7 +88,8 @@ pub record HasSeenAnother (old new leader led : Opened) : Type 0 where
 -- asked the map: what it asked, with the replies that its statuses and values tell. The entry of a refused call is empty. `opened`: the
 -- handle was opened with a new pass. `loaded`: it was opened with the pass of a load, which has inserted each pair. `asked`: a call asked
 -- for one key; `hot_get` is never told that it is busy. `looked_up`: a call looked up many keys, none of them too long. `went_on`: a call
--- asked the map nothing. `saw`: the handle has seen what another has seen. `was_seen`: another has seen what this one has seen.
+-- asked the map nothing. `committed`: a call committed records, or found how many aren't. `saw`: the handle has seen what another has seen.
+-- `was_seen`: another has seen what this one has seen.
 pub data HaveTold (index : TableView) : ℕ → List (List (Call × Reply)) → HandleView → Type 0 where
   opened : {pass : ℕ} {handle : HandleView} → IsNewPass pass handle.pass → IsAt index handle → HaveTold index pass [] handle
   loaded : {pass : ℕ} {handle : HandleView} → pass ≡ 0 → (pairs : List (Key × ℕ)) → IsLoaderPass index pairs handle.pass → IsAt index handle →
@@ -101,6 +103,8 @@ pub data HaveTold (index : TableView) : ℕ → List (List (Call × Reply)) → 
       LooksUpAll (Some old) (Some new) before after DONE → HaveTold index pass (told ++ told_of_each after ∷ []) new.handle
   went_on : {pass : ℕ} {told : List (List (Call × Reply))} {old new : Opened} → HaveTold index pass told old.handle →
       StaysOpen AsksNothing (Some old) (Some new) → HaveTold index pass told new.handle
+  committed : {pass : ℕ} {told : List (List (Call × Reply))} {old new : Opened} → HaveTold index pass told old.handle →
+      (kind count : ℕ) → StaysOpen (HasFound kind count) (Some old) (Some new) → HaveTold index pass told new.handle
   saw : {pass other : ℕ} {told others : List (List (Call × Reply))} {old new leader led : Opened} →
       HaveTold index pass told old.handle → HaveTold index other others leader.handle → HasSeenAnother old new leader led →
       HaveTold index pass told new.handle

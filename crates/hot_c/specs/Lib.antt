@@ -14,6 +14,7 @@ pub mod Values
 pub mod Packs
 pub mod Ends
 pub mod Stocks
+pub mod Committing
 pub mod Lookups
 pub mod Following
 pub mod Sections

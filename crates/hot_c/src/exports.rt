@@ -96,14 +96,16 @@ pub extern "C" fn hot_create_with(
     }
 }
 
-/// Makes an empty index with `passes` passes, the records of `stock`, and one node record more for removals. Opens `handle` with the last
-/// of its passes, and returns `DONE`. The handle keeps the others, closed, for `hot_open_kept`. Else the handle stays as it was. It returns
+/// Makes an empty index with `passes` passes, the records of `stock`, and one node record more for removals. Of each kind the first records
+/// are committed: as many as `committed` has, or all if it has more, with those that `create_reserved` adds. Opens `handle` with the last of
+/// its passes, and returns `DONE`. The handle keeps the others, closed, for `hot_open_kept`. Else the handle stays as it was. It returns
 /// `OUT_OF_RANGE` unless there are 1 to 1,024 passes, a node record, and 1 to 4,294,967,295 leaf records in all. It returns `OPEN` if these
 /// numbers are in range and the handle is open, or `NO_MEMORY`. `place` stays.
 #[unsafe(no_mangle)]
 pub extern "C" fn hot_create_keeping(
     alloc: Global,
     stock: &HotStock,
+    committed: &HotStock,
     passes: usize,
     handle: &mut IndexHandle,
 ) -> u32
@@ -120,7 +122,7 @@ pub extern "C" fn hot_create_keeping(
     if handle.is_open() {
         return OPEN;
     }
-    match make_keeper(alloc, passes as u32, records) {
+    match make_keeper(alloc, passes as u32, records, committed.to_stock()) {
         Ok(keeper) => {
             handle.open(keeper);
             DONE

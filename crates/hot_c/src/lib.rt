@@ -16,6 +16,7 @@
 mod around;
 mod cell;
 mod census;
+mod committing;
 mod counting;
 mod ends;
 mod exports;

@@ -71,13 +71,15 @@ pub extern "C" fn hot_load_pair(load: &mut LoadHandle, key: &[u8], value: u64) -
     }
 }
 
-/// Closes `load`, makes the index of its pairs, opens `handle` with the last pass, and returns `DONE`. The handle keeps the other passes,
+/// Closes `load`, makes the index of its pairs, opens `handle` with the last pass, and returns `DONE`. Of each kind the first records are
+/// committed: as many as `committed` has, or all if it has more, and those that the pairs have taken. The handle keeps the other passes,
 /// closed, for `hot_open_kept`. It returns `CLOSED` if `load` is closed, else `OPEN` if `handle` is open: then both stay as they were. With
 /// `NO_MEMORY` the load is closed, its pairs are gone, and `handle` stays. The handle's `place` stays.
 #[unsafe(no_mangle)]
 pub extern "C" fn hot_end_load(
     alloc: Global,
     load: &mut LoadHandle,
+    committed: &HotStock,
     handle: &mut IndexHandle,
 ) -> u32
     ensures closed { load.old.cell.opened ≡ None → (result ≡ CLOSED) × (load.new ≡ load.old) × (handle.new ≡ handle.old) }
@@ -92,7 +94,7 @@ pub extern "C" fn hot_end_load(
     if handle.is_open() {
         return OPEN;
     }
-    match end_load(alloc, load.close(alloc)) {
+    match end_load(alloc, load.close(alloc), committed.to_stock()) {
         Ok(keeper) => {
             handle.open(keeper);
             DONE
@@ -147,11 +149,16 @@ fn push_pair(opened: &mut OpenLoad, key: &Key, value: u64) -> u32
 }
 
 /// Makes the index of the pairs of `opened`. Returns an open handle of its last pass, with a share of the index. This handle keeps the
-/// other passes, closed. Pass 0 has inserted the pairs, and all others are new. `AllocError` if memory is refused.
-fn end_load(alloc: Global, opened: Box<OpenLoad, Global>) -> Result<Box<Opened, Global>, AllocError>
+/// other passes, closed. Pass 0 has inserted the pairs, and all others are new. `committed` has how many records are committed besides those
+/// that the pairs have taken. `AllocError` if memory is refused.
+fn end_load(
+    alloc: Global,
+    opened: Box<OpenLoad, Global>,
+    committed: Stock,
+) -> Result<Box<Opened, Global>, AllocError>
     ensures { IfOk result (λ b. KeepsLoadedPasses opened.value.load b.value) }
 {
     let OpenLoad { load } = Box::into_inner(opened);
-    let (index, passes) = load.finish(alloc)?;
+    let (index, passes) = load.finish_reserved(alloc, committed)?;
     keep_passes(alloc, index, passes)
 }

@@ -10,7 +10,7 @@ ghost use Rattle.hot_index.specs.Kept.{kept_stock};
 use crate::handle::IndexHandle;
 use crate::opened::Opened;
 use hot_index::{
-    ClosedHandle, ClosedPass, Index, IndexFault, Pass, create, create_closed, create_with,
+    ClosedHandle, ClosedPass, Index, IndexFault, Pass, create, create_reserved, create_with,
 };
 use packed_pairs::Pairs;
 use record_words::{MAX_LEAVES, MAX_NODES, MAX_PASSES, MAX_STOCK_PASSES, Stock};
@@ -97,19 +97,21 @@ pub fn make_passes_with_stock(
     share_index(alloc, index, passes).map_err(|_| IndexFault::Memory)
 }
 
-/// Makes an index with `passes` passes, the records of `stock`, and one node record more for removals. Returns an open handle of its last
-/// pass, with a share of the index. This handle keeps the other passes, closed, for handles that are opened later, the pass of the least
-/// number first. The error is `Layout` exactly if a number is out of range (`is_stock_in_range`). It is `Memory` if memory is refused.
+/// Makes an index with `passes` passes, the records of `stock`, and one node record more for removals. Of each kind the first records are
+/// committed, as many as `committed` has, as `create_reserved` does. Returns an open handle of its last pass, with a share of the index. This
+/// handle keeps the other passes, closed, for handles that are opened later, the pass of the least number first. The error is `Layout` exactly
+/// if a number is out of range (`is_stock_in_range`). It is `Memory` if memory is refused.
 pub fn make_keeper(
     alloc: Global,
     passes: u32,
     stock: Stock,
+    committed: Stock,
 ) -> Result<Box<Opened, Global>, IndexFault>
     ensures size { IsStockSize passes stock → IfErr result (λ fault. fault ≡ IndexFault.Memory) }
     ensures range { ¬ IsStockSize passes stock → IsErr result × result ≢ Err IndexFault.Memory }
     ensures made { IfOk result (λ made. IsKeeper passes (λ layout. HasStock layout (kept_stock stock)) made.value) }
 {
-    let (index, passes) = create_closed(alloc, passes, stock)?;
+    let (index, passes) = create_reserved(alloc, passes, stock, committed)?;
     keep_passes(alloc, index, passes).map_err(|_| IndexFault::Memory)
 }
 

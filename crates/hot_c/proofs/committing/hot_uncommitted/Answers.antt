@@ -1,0 +1,16 @@
+-- The handle's pass has found it.
+use Rattle.std.proofs.Common.{refl}
+use Rattle.hot_c.proofs.committing.hot_uncommitted.Goals as goal
+
+pub returns-clause-found : goal.returns-clause-found
+returns-clause-found c = λ some low. (
+  refl,
+  record {
+    before = _;
+    after = _;
+    was = c.lend.ensures.value;
+    is = refl;
+    stays = record { index = c.uncommitted.ensures.index; pass = (c.in-Some.kind, c.in-Some.ensures, c.uncommitted.ensures.pass) };
+    keeps = refl;
+  },
+)
