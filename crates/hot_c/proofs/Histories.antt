@@ -14,7 +14,7 @@ use Rattle.index_laws.specs.Executions.{insertion_notes}
 use Rattle.index_laws.specs.Joined.{MadeNoLaterStep, caught_up, idle}
 use Rattle.rowex_core.specs.declared.event.Event.{Event}
 use Rattle.hot_c.specs.Calls.{Answers, FitsInKey, StaysOpen, TellsOutcome}
-use Rattle.hot_c.specs.Committing.{HasFound}
+use Rattle.hot_c.specs.Committing.{TellsUncommitted}
 use Rattle.hot_c.specs.Histories.{AreNotesOf, AsksNothing, CallsAreLinearizable, HasSeenAnother, HasToldAll, HaveTold, IsAt, asked, committed, followed, loaded, loaded_each, looked_up, more, none, answered_notes, opened, rested, saw, steps_known, told_of, told_of_each, was_seen, went_on}
 use Rattle.hot_c.specs.Lookups.{LooksUpAll, are_answered, key_in}
 use Rattle.hot_c.specs.Statuses.{value_after}
@@ -189,7 +189,7 @@ shown_done {q = q} {told = told} x front gone = record {
 
 -- a call that committed records, or found how many are uncommitted
 committed_done : {index : TableView} {q : ℕ} {told : List (List (Call × Reply))} {o p : Opened} → IsDone index q told o.handle → (kind count : ℕ) →
-    StaysOpen (HasFound kind count) (Some o) (Some p) → IsDone index q told p.handle
+    StaysOpen (TellsUncommitted kind count) (Some o) (Some p) → IsDone index q told p.handle
 committed_done {o = o} {p = p} x kind count is =
     let stays = stays_at is in let found = stays.pass.2.0 in
     shown_done x o.handle.pass.seat.known.front (

@@ -25,7 +25,7 @@ use Rattle.index_laws.specs.Joined.{IsExecutionOf}
 use Rattle.index_laws.specs.Traced.{Instant, configuration_of}
 use Rattle.hot_c.specs.Calls.{Answers, FitsInKey, HasGivenBack, HasCountedRecords, StaysOpen}
 use Rattle.hot_c.specs.declared.census.HotCounts.{HotCounts}
-use Rattle.hot_c.specs.Committing.{HasFound}
+use Rattle.hot_c.specs.Committing.{TellsUncommitted}
 use Rattle.hot_c.specs.Counting.{CountsRange}
 use Rattle.hot_c.specs.Ends.{FindsFirst, FindsFirstIn, FindsLast}
 use Rattle.hot_c.specs.Following.{SeesLeader, SeesSteps}
@@ -104,7 +104,7 @@ pub data HaveTold (index : TableView) : ℕ → List (List (Call × Reply)) → 
   went_on : {pass : ℕ} {told : List (List (Call × Reply))} {old new : Opened} → HaveTold index pass told old.handle →
       StaysOpen AsksNothing (Some old) (Some new) → HaveTold index pass told new.handle
   committed : {pass : ℕ} {told : List (List (Call × Reply))} {old new : Opened} → HaveTold index pass told old.handle →
-      (kind count : ℕ) → StaysOpen (HasFound kind count) (Some old) (Some new) → HaveTold index pass told new.handle
+      (kind count : ℕ) → StaysOpen (TellsUncommitted kind count) (Some old) (Some new) → HaveTold index pass told new.handle
   saw : {pass other : ℕ} {told others : List (List (Call × Reply))} {old new leader led : Opened} →
       HaveTold index pass told old.handle → HaveTold index other others leader.handle → HasSeenAnother old new leader led →
       HaveTold index pass told new.handle

@@ -12,7 +12,7 @@ use Rattle.record_words.specs.Layout.{uncommitted_in, uncommitted_word}
 use Rattle.record_words.specs.declared.TheConstants.{RECORD_KINDS, LEAF_CLASSES}
 use Rattle.rowex_table.specs.Seats.{HasAllCommitted, HasUncommitted, bounded_seat}
 use Rattle.rowex_table.proofs.Committed.Chains.{bound_found, finds_bounds}
-use Rattle.hot_index.specs.Committing.{FindsUncommitted, HasFallen, number_of}
+use Rattle.hot_index.specs.Committing.{KnowsUncommitted, HasFallen, number_of_kind}
 use Rattle.hot_index.specs.declared.committing.Kind.{Kind}
 
 -- the word of a kind that no table has is that of the last one
@@ -50,8 +50,8 @@ links_are_committed layout words committed (a_leaf n) linked =
     by_class false false false false h = h
 
 -- a pass that has found how many of a kind are uncommitted, and then left fewer, knows of these
-pub found_then_left : (kind : Kind) (number found result : ℕ) (s t u : SeatView) → number ≡ number_of kind → t ≡ bounded_seat number found s → found ≤ uncommitted_in s.bounds number →
-    u ≡ bounded_seat number result t → result ≤ uncommitted_in t.bounds number → FindsUncommitted kind result (pass_of s) (pass_of u)
+pub found_then_left : (kind : Kind) (number found result : ℕ) (s t u : SeatView) → number ≡ number_of_kind kind → t ≡ bounded_seat number found s → found ≤ uncommitted_in s.bounds number →
+    u ≡ bounded_seat number result t → result ≤ uncommitted_in t.bounds number → KnowsUncommitted kind result (pass_of s) (pass_of u)
 found_then_left kind number found result s t u is first few second fewer =
     let once : u ≡ bounded_seat number result s = second ∙ (ap (bounded_seat number result) first ∙ ap (λ (words : List ℕ). record s { bounds = words }) (set-set s.bounds (uncommitted_word number) found result)) in
     let (bounds, same, at_most) = finds_bounds number found s few in
@@ -65,6 +65,6 @@ pub found_bounds : (number found : ℕ) (s t : SeatView) → t ≡ bounded_seat 
 found_bounds number found s t first = subst (λ (v : SeatView). uncommitted_in v.bounds number ≤ found) (sym first) (bound_found s.bounds number found)
 
 -- what is fewer than it has found is fewer than it knew of
-pub fewer_than_found : (kind : Kind) (number found result : ℕ) (s : SeatView) → number ≡ number_of kind → found ≤ uncommitted_in s.bounds number → (0 < result → result < found) →
+pub fewer_than_found : (kind : Kind) (number found result : ℕ) (s : SeatView) → number ≡ number_of_kind kind → found ≤ uncommitted_in s.bounds number → (0 < result → result < found) →
     HasFallen kind result (pass_of s)
 fewer_than_found kind number found result s is few fewer = λ some. let low = fewer some in subst (λ k. result < uncommitted_in s.bounds k) is (omega (arith, low, few))

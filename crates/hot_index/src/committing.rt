@@ -3,7 +3,7 @@
 ghost use Rattle.std.specs.Prelude.{◌≡◌, ◌<◌, ◌≤◌, MatchOption};
 ghost use Rattle.record_words.specs.declared.TheConstants.{RECORD_KINDS};
 ghost use Rattle.hot_index_calls.specs.Passes.{Owns};
-ghost use Rattle.hot_index.specs.Committing.{FindsUncommitted, HasFallen, number_of};
+ghost use Rattle.hot_index.specs.Committing.{KnowsUncommitted, HasFallen, number_of_kind};
 
 use crate::index::{Index, Pass};
 use record_words::{Layout, LeafClass};
@@ -18,7 +18,7 @@ pub enum Kind {
 impl Kind {
     /// Returns the kind with this number, or `None` if it is above 5.
     pub fn of(number: u32) -> Option<Kind>
-        ensures { MatchOption result (RECORD_KINDS ≤ number) (λ kind. number_of kind ≡ number) }
+        ensures { MatchOption result (RECORD_KINDS ≤ number) (λ kind. number_of_kind kind ≡ number) }
     {
         match number {
             0 => Some(Kind::Nodes),
@@ -33,7 +33,7 @@ impl Kind {
 
     /// Returns the number of the kind: 0 for nodes, and 1 to 5 for leaves, the smallest class first.
     fn number(self) -> u8
-        ensures number { result ≡ number_of self }
+        ensures number { result ≡ number_of_kind self }
         ensures few { result < RECORD_KINDS }
     {
         match self {
@@ -73,7 +73,7 @@ impl Index {
     pub fn uncommitted(&self, pass: &mut Pass, kind: Kind) -> u64
         requires { Owns self.now pass.old }
         ensures own { Owns self.now pass.new }
-        ensures found { FindsUncommitted kind result pass.old pass.new }
+        ensures found { KnowsUncommitted kind result pass.old pass.new }
     {
         self.table.load_uncommitted(&mut pass.seat, kind.number())
     }
@@ -86,7 +86,7 @@ impl Index {
     pub fn commit(&self, pass: &mut Pass, kind: Kind, count: u64) -> u64
         requires { Owns self.now pass.old }
         ensures own { Owns self.now pass.new }
-        ensures found { FindsUncommitted kind result pass.old pass.new }
+        ensures found { KnowsUncommitted kind result pass.old pass.new }
         ensures falls { 0 < count → HasFallen kind result pass.old }
     {
         let all = kind.count(&self.table.layout());

@@ -11,7 +11,7 @@ ghost use Rattle.hot_index_calls.specs.Answers.{HaveMet, IsNoted, IsUnnoted, May
 ghost use Rattle.hot_index_calls.specs.Calls.{GetsOrCounts, GetsOrMakes, HasCause, IsOutcome, IsTried, IsWaitedFor};
 ghost use Rattle.hot_index_calls.specs.Calls.{IsCountRead, IsListRead, IsListReadBy, IsRangeRead, IsScanRead, IsScanReadBy, IsValuesRead};
 ghost use Rattle.hot_index_calls.specs.Census.{HasCounted};
-ghost use Rattle.hot_index.specs.Committing.{FindsUncommitted, HasFallen};
+ghost use Rattle.hot_index.specs.Committing.{KnowsUncommitted, HasFallen};
 ghost use Rattle.hot_index.specs.Handles.{Stays, handle_at};
 ghost use Rattle.hot_index_calls.specs.Many.{AreNoted, HasMadeGetManySteps, gets};
 ghost use Rattle.hot_index_calls.specs.Passes.{Owns};
@@ -433,14 +433,14 @@ impl<I: ShowsIndex> Handle<I> {
 
     /// Returns how many records of `kind` are reserved and not committed, as `Index::uncommitted` does.
     pub fn uncommitted(&mut self, kind: Kind) -> u64
-        ensures { Stays (λ index k j. FindsUncommitted kind result k j) self.old self.new }
+        ensures { Stays (λ index k j. KnowsUncommitted kind result k j) self.old self.new }
     {
         self.index.show().uncommitted(&mut self.pass, kind)
     }
 
     /// Commits the next `count` records of `kind`, and returns how many of the kind are uncommitted then, as `Index::commit` does.
     pub fn commit(&mut self, kind: Kind, count: u64) -> u64
-        ensures found { Stays (λ index k j. FindsUncommitted kind result k j) self.old self.new }
+        ensures found { Stays (λ index k j. KnowsUncommitted kind result k j) self.old self.new }
         ensures falls { 0 < count → HasFallen kind result self.old.pass }
     {
         self.index.show().commit(&mut self.pass, kind, count)

@@ -72,7 +72,7 @@ load_call layout pass words =
 -- pass 0 has made the bulk load of the table. `called`: it has made one call more, whose steps contracts name (`HasRead`,
 -- `HasMadeChangeSteps`, `HasMadeCallSteps`), and which has ended (`HasEndedAs`). `shown`: it has met another pass or followed a stamp
 -- (`HasSeenMore`, `HasCaughtUp`). Of what it knows only the front and the trace have grown. `stamped`: it has made a stamp (`HasStamped`),
--- or found how many records are uncommitted (`FindsUncommitted`), which shows its own front.
+-- or found how many records are uncommitted (`KnowsUncommitted`), which shows its own front.
 pub data HasGoneThrough (table : TableView) (pass : ℕ) : List Happening → SeatView → Type 0 where
   new : {start : SeatView} → IsNewSeatOf table pass start → HasGoneThrough table pass [] start
   loader : {start : SeatView} → pass ≡ 0 → (words : List ℕ) → IsLoad table.layout words → IsLoaderSeat table words start →

@@ -21,7 +21,7 @@ use Rattle.versions.specs.Told.{items_of}
 -- The calls of a pass that were answered since it was new, with their replies. A new pass has none, and pass 0 of a loaded table has the
 -- insertions of the table's pairs. An answered call adds itself, and a call of many look-ups adds each, in the order of their notes. A
 -- refused call, a round of collection, a meeting, a followed stamp (`IsUnnoted`) and a scan (`IsScannedBy`, `IsListedBy`) add none. Nor does
--- a stamp that is made (`HasStamped`), or a look at what is uncommitted (`FindsUncommitted`).
+-- a stamp that is made (`HasStamped`), or a look at what is uncommitted (`KnowsUncommitted`).
 pub data HasLived : Layout → List (Call × Reply) → PassView → Type 0 where
   new : {layout : Layout} {number : ℕ} {pass : PassView} → IsNewPass number pass → HasLived layout [] pass
   loaded : {layout : Layout} {words : List ℕ} {seat : SeatView} → IsLoad layout words → seat.known ≡ loader_of layout words →

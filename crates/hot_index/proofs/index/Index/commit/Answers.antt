@@ -1,19 +1,19 @@
 -- What the exchange leaves is what the pass knows.
 use Rattle.hot_index.proofs.Common.{◌≡◌, ◌≢◌, ◌-◌, subst, arith, rules, PassView, pass_of}
-use Rattle.hot_index.specs.Committing.{FindsUncommitted, HasFallen}
+use Rattle.hot_index.specs.Committing.{KnowsUncommitted, HasFallen}
 use Rattle.hot_index.proofs.Committed.{fewer_than_found, found_bounds, found_then_left}
 use Rattle.hot_index.proofs.index.Index.commit.Goals as goal
 
 pub returns-then-seen-found-clause-found : goal.returns-then-seen-found-clause-found
 returns-then-seen-found-clause-found c =
-    subst (λ (p : PassView). FindsUncommitted c.args.kind c.commit_records-seen.result p (pass_of c.commit_records-seen.new.seat)) c.pass.view_is
+    subst (λ (p : PassView). KnowsUncommitted c.args.kind c.commit_records-seen.result p (pass_of c.commit_records-seen.new.seat)) c.pass.view_is
     (found_then_left c.args.kind c.number-kind.result c.load_uncommitted-found.result c.commit_records-seen.result c.pass.inside.seat c.load_uncommitted-found.new.seat c.commit_records-seen.new.seat
     c.number-kind.ensures.number c.load_uncommitted-found.ensures.seat c.load_uncommitted-found.ensures.few (search rules) c.commit_records-seen.ensures.few)
 
 pub returns-clause-found : goal.returns-clause-found
 returns-clause-found c =
     let left = c.saturating_sub-left.result in
-    subst (λ (p : PassView). FindsUncommitted c.args.kind left p (pass_of c.commit_records-seen.new.seat)) c.pass.view_is
+    subst (λ (p : PassView). KnowsUncommitted c.args.kind left p (pass_of c.commit_records-seen.new.seat)) c.pass.view_is
     (found_then_left c.args.kind c.number-kind.result c.load_uncommitted-found.result left c.pass.inside.seat c.load_uncommitted-found.new.seat c.commit_records-seen.new.seat
     c.number-kind.ensures.number c.load_uncommitted-found.ensures.seat c.load_uncommitted-found.ensures.few (search rules) (search rules))
 
