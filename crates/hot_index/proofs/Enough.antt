@@ -19,6 +19,9 @@ use Rattle.publish_laws.specs.Lone.{IsUnused}
 use Rattle.publish_laws.proofs.Lone.{lead_same}
 use Rattle.publish_laws.proofs.Lone.Fates.{fate_kept, unused_closed, unused_marks}
 use Rattle.rowex_writing.specs.attempts.Attempts.{LacksNoLeaf}
+use Rattle.record_words.specs.Layout.{uncommitted_in}
+use Rattle.rowex_table.specs.Committed.{IsCommitted}
+use Rattle.rowex_records.specs.Claims.{AreCommittedUpTo}
 use Rattle.rowex_writing.specs.build.Changes.{LacksNodes}
 use Rattle.hot_index_calls.specs.Alone.{HoldsNone, RunsAlone}
 use Rattle.hot_index_calls.proofs.Lacked.{without_one}
@@ -183,15 +186,16 @@ apart_both (x ∷ xs) ys (new, first) second none = (
 )
 
 -- A call that lacks nodes has no more of its own than were free.
-no_lack : (layout : Layout) (q since : ℕ) (failed : List Failed) (own : List Rec) (c : Core) → c.layout ≡ layout →
-    (free : HasFreeNodes c) (lacks : LacksNodes layout q failed since own) →
-    ((n : ℕ) → n < layout.nodes → c.fate (a_node n) ≡ Free → IsAnothers layout q own lacks.locked (a_node n) (Some q)) → ⊥
-no_lack layout q since failed own c lay free lacks its =
+no_lack : (layout : Layout) (bounds : List ℕ) (q since : ℕ) (failed : List Failed) (own : List Rec) (c : Core) → c.layout ≡ layout →
+    (free : HasFreeNodes bounds c) (lacks : LacksNodes layout bounds q failed since own) →
+    ((n : ℕ) → n < layout.nodes → IsCommitted layout (uncommitted_in bounds) (a_node n) → c.fate (a_node n) ≡ Free → IsAnothers layout q own lacks.locked (a_node n) (Some q)) → ⊥
+no_lack layout bounds q since failed own c lay free lacks its =
     let few = lacks.few in
     let most = lacks.most in
     let all = length-append free.nodes lacks.locked in
     let each : (n : ℕ) → IsOneOf n free.nodes → IsAnothers layout q own lacks.locked (a_node n) (Some q) =
-    λ n there. (let (low, is) = free.free n there in its n (subst (λ (l : Layout). n < l.nodes) lay low) is) in
+    λ n there. (let (low, is, committed) = free.free n there in
+    its n (subst (λ (l : Layout). n < l.nodes) lay low) (subst (λ (l : Layout). IsCommitted l (uncommitted_in bounds) (a_node n)) lay committed) is) in
     let mine = fits_in free.nodes own free.apart (λ n there. (each n there).1 refl) in
     let apart = apart_both free.nodes lacks.locked free.apart lacks.apart (λ n there held. (each n there).2 (map_of a_node n lacks.locked held)) in
     let within = fits_in (free.nodes ++ lacks.locked) (first_nodes layout.nodes) apart
@@ -215,7 +219,7 @@ no_removal (Add key delta) r is none = tt
 no_removal (Get key) r is none = tt
 
 module _ {G : Type 0} (index : TableView) (becomes : G → Event → G → Type 0) (call : Call) (a b : PassView × G) (legal : LegalCalls a.0.front a.0.number a.0.notes)
-    (alone : RunsAlone index.layout a.0.number a.0.seat b.0.seat) (enough : HasEnoughFree call alone.core) where
+    (alone : RunsAlone index.layout a.0.number a.0.seat b.0.seat) (enough : HasEnoughFree call a.0.seat.bounds alone.core) where
   -- a record that was free is the pass's own, where a refused call has found it not free
   free_is_own : (fault : TryFault) → IsTried call (Err fault) index becomes a b → (Whose : Rec → Option ℕ → Type 0) (r : Rec) → alone.core.fate r ≡ Free →
       HasMissedSince Whose b.0.failed r a.0.steps → Whose r (Some a.0.number)
@@ -241,14 +245,15 @@ module _ {G : Type 0} (index : TableView) (becomes : G → Event → G → Type 
   answered (Err FullNodes) tried =
       let (own, lacks) = tried.cause in
       let same = tried.call.unnoted.number in
-      absurd (no_lack index.layout b.0.number a.0.steps b.0.failed own alone.core lay enough.nodes lacks
-      (λ n low free. subst (λ q. IsAnothers index.layout b.0.number own lacks.locked (a_node n) (Some q)) (sym same)
-      (free_is_own FullNodes tried (IsAnothers index.layout b.0.number own lacks.locked) (a_node n) free (lacks.missed n low))))
+      absurd (no_lack index.layout a.0.seat.bounds b.0.number a.0.steps b.0.failed own alone.core lay enough.nodes lacks
+      (λ n low committed free. subst (λ q. IsAnothers index.layout b.0.number own lacks.locked (a_node n) (Some q)) (sym same)
+      (free_is_own FullNodes tried (IsAnothers index.layout b.0.number own lacks.locked) (a_node n) free (lacks.missed n low committed))))
   answered (Err FullLeaves) tried =
       let leaf = enough.leaf (no_removal call (Err FullLeaves) refl tried.leafless) in
       let low = subst (λ (l : Layout). leaf.number < l.leaves) lay leaf.low in
       let room = subst (λ (l : Layout). words_for (length (key_of call)) ≤ leaf_size l leaf.number) lay leaf.room in
-      let its = free_is_own FullLeaves tried (IsAnothers index.layout b.0.number [] []) (a_leaf leaf.number) leaf.free (tried.cause leaf.number low room) in
+      let upto = subst (λ (l : Layout). AreCommittedUpTo l a.0.seat.bounds (words_for (length (key_of call))) leaf.number) lay leaf.committed in
+      let its = free_is_own FullLeaves tried (IsAnothers index.layout b.0.number [] []) (a_leaf leaf.number) leaf.free (tried.cause leaf.number low room upto) in
       let has : Contains [] (a_leaf leaf.number) = its.1 (sym tried.call.unnoted.number) in
       absurd (none_there [] (a_leaf leaf.number) refl has)
 
@@ -262,9 +267,9 @@ alone_changes_end {G = G} becomes = record {
     err_not_ok fault is = absurd cc
 
     never : (index : TableView) (call : Call) (a b : PassView × G) → LegalCalls a.0.front a.0.number a.0.notes →
-        (alone : RunsAlone index.layout a.0.number a.0.seat b.0.seat) → HasEnoughFree call alone.core →
+        (alone : RunsAlone index.layout a.0.number a.0.seat b.0.seat) → HasEnoughFree call a.0.seat.bounds alone.core →
         (r : Result Reply TryFault) (m : PassView × G) → IsErr r → GoneOn index becomes m b → IsTried call r index becomes a m → ⊥
     never index call a b legal alone enough (Ok reply) m bad more tried = absurd cc
     never index call a b legal alone enough (Err fault) m bad more tried =
         let (first, same) = try_alone index becomes call (Err fault) a m b alone more tried in
-        err_not_ok fault (answered index becomes call a m legal first (subst (HasEnoughFree call) (sym same) enough) (Err fault) tried)
+        err_not_ok fault (answered index becomes call a m legal first (subst (HasEnoughFree call a.0.seat.bounds) (sym same) enough) (Err fault) tried)

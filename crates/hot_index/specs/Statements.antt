@@ -18,8 +18,8 @@ use Rattle.record_words.specs.declared.records.Rec.TheVariants.{Node as a_node, 
 use Rattle.tries.specs.Keys.{Key}
 use Rattle.publish_laws.specs.Lone.{HasSpare, KeepsSpare}
 use Rattle.rowex_core.specs.declared.event.Event.{Event}
-use Rattle.rowex_table.specs.Seats.{IsShownAll, SeatView, TableView}
-use Rattle.rowex_records.specs.Claims.{AllMissed, AllMissedFrom, HasMissedSince, IsAnothers}
+use Rattle.rowex_table.specs.Seats.{HasAllCommitted, IsShownAll, SeatView, TableView}
+use Rattle.rowex_records.specs.Claims.{AllCommittedMissed, AllMissedFrom, HasMissedSince, IsAnothers}
 use Rattle.rowex_writing.specs.plan.Counts.{most_nodes}
 use Rattle.rowex_writing.specs.build.Spare.{IsRemoval}
 use Rattle.rowex_writing.specs.declared.attempts.TryFault.{TryFault}
@@ -31,11 +31,11 @@ use Rattle.hot_index_calls.specs.Traces.{HasCollected, HasRead}
 use Rattle.hot_index_calls.specs.declared.census.RecordCounts.{RecordCounts}
 
 -- Let all leaf records be long, as in an index that `create` makes. A call that was refused for want of a leaf record has found each leaf
--- record not free when its turn came. None of them was the pass's own.
+-- record not free when its turn came, of those that its pass knew to be committed when it began. None of them was the pass's own.
 abbrev pub AllLongFullMeansNoneFree : Type 0
 AllLongFullMeansNoneFree =
     (layout : Layout) (key : Key) (old new : PassView) → layout.long_from ≡ 0 → IsKey key → IsCause layout key old new FullLeaves →
-    AllMissed (IsAnothers layout new.number [] []) a_leaf layout.leaves new.failed old.steps
+    AllCommittedMissed (IsAnothers layout new.number [] []) layout old.seat.bounds a_leaf layout.leaves new.failed old.steps
 
 -- A call of an index's only pass is never refused as busy.
 abbrev pub OnePassIsNeverBusy : Type 0
@@ -45,12 +45,12 @@ OnePassIsNeverBusy = (layout : Layout) (key : Key) (old new : PassView) → layo
 abbrev pub IsNobodys : (rec : Rec) (by : Option ℕ) → Type 0
 IsNobodys rec by = by ≡ None
 
--- Each node record was in the tree or retired when the call looked at it, but for those of `own`. These the call may have claimed itself.
--- They are at most 4,321: two for each of the 2,160 nodes that a path has at most, and one more.
+-- Each node record that the pass knew to be committed was in the tree or retired when the call looked at it, but for those of `own`. These
+-- the call may have claimed itself. They are at most 4,321: two for each of the 2,160 nodes that a path has at most, and one more.
 abbrev pub AreTakenButOwn : (layout : Layout) (old new : PassView) → Type 0
 AreTakenButOwn layout old new =
     (own : List Rec) × (length own ≤ 2 * most_nodes + 1) ×
-    AllMissed (λ rec by. IsNobodys rec by ⊎ Contains own rec) a_node layout.nodes new.failed old.steps
+    AllCommittedMissed (λ rec by. IsNobodys rec by ⊎ Contains own rec) layout old.seat.bounds a_node layout.nodes new.failed old.steps
 
 -- At least a third of the node records but one were in the tree or retired when the call looked at them. `nodes` lists their numbers, each
 -- once. All others may be the call's own: two for each of these that it had locked, and one more.
@@ -60,14 +60,15 @@ pub record ThirdIsTaken (layout : Layout) (old new : PassView) : Type 0 where
   pub many : layout.nodes ≤ 3 * length nodes + 1
   pub each : (node : ℕ) → IsOneOf node nodes → (node < layout.nodes) × HasMissedSince IsNobodys new.failed (a_node node) old.steps
 
--- Let a call of an index's only pass be refused as full. If it lacked a leaf record, each with room for its key was in the tree or retired
--- when the call looked at it. If it lacked a node record, at least a third of the node records but one were in the tree or retired
--- (`ThirdIsTaken`). So was each node record but those that the call may have claimed itself (`AreTakenButOwn`).
+-- Let a call of an index's only pass be refused as full. If it lacked a leaf record, those with room for its key were in the tree or retired
+-- when the call looked at them: each before the first that the pass didn't know to be committed when the call began. If it lacked a node
+-- record, so was each committed one but those that the call may have claimed itself (`AreTakenButOwn`). If all are committed, that is at
+-- least a third of the node records but one (`ThirdIsTaken`).
 abbrev pub OnePassFullMeansTaken : Type 0
 OnePassFullMeansTaken =
     (layout : Layout) (key : Key) (old new : PassView) → layout.passes ≡ 1 → new.number < layout.passes →
-    (IsCause layout key old new FullLeaves → AllMissedFrom IsNobodys layout (words_for (length key)) new.failed old.steps) ×
-    (IsCause layout key old new FullNodes → ThirdIsTaken layout old new × AreTakenButOwn layout old new)
+    (IsCause layout key old new FullLeaves → AllMissedFrom IsNobodys layout old.seat.bounds (words_for (length key)) new.failed old.steps) ×
+    (IsCause layout key old new FullNodes → (HasAllCommitted old.seat → ThirdIsTaken layout old new) × AreTakenButOwn layout old new)
 
 -- The call is no removal. So if it changes the map, it gives its key a value. A get is such a call, too, but is never refused.
 abbrev pub IsNoRemoval : Call → Type 0

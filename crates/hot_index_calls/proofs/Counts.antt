@@ -1,8 +1,13 @@
 -- What an attempt to change the map leaves: it is noted where it was answered, and has changed nothing where it was refused.
-use Rattle.hot_index_calls.proofs.Common.{◌≡◌, ◌≢◌, ◌⊎◌, inl, inr, ⊎_elim, ℕ, ◌+◌, ◌*◌, ◌-◌, ◌<◌, ◌≤◌, List, [], ◌∷◌, ◌++◌, length, take, Bool, true, false, Option, Some, None, IsSome, Result, Ok, Err, refl, sym, ap, subst, ◌∙◌, arith, le_trans, length-append, All, IfOk, IfErr, MatchResult, is_some, MAX_BYTES, All-head, All-tail, Call, Insert, Upsert, Exchange, Add, Get, Remove, RemoveIf, Change, Note, Reply, Exchanged, Removed, LegalCalls, change_of, effect_of, BeginsWith, LegalFront, OthersGoOn, map_of, Map, key_of, reply_of, step_if, step_where, value_at, begins_on, legal_front_part, legal_change, legal_longer, Layout, Key, Rec, a_leaf, Act, ClearPin, Event, Target, Failed, Known, Core, IsLawful, IsEvent, IsPinnedSince, Recalls, Runs, StepsWith, MakesNoAside, SeatView, TableView, event_recalls, act_leaves, runs_same, HasMissed, IsAnothers, Pins, KeepsSpare, HasAnswered, HasRefused, IsChangeOf, LacksNoLeaf, HasLoadedRoot, HasChanged, LacksLeaves, LacksNodes, HasMetLock, HasMetTaken, HasTried, IsOfAttempt, nodes_among, Full, OfNodes, OfLeaves, TryFault, Busy, FullNodes, FullLeaves, lacks_so, of_attempt_pin, runs_begin, IsHindered, RunBeginsWith, run_begins_on}
+use Rattle.hot_index_calls.proofs.Common.{le_refl, ◌≡◌, ◌≢◌, ◌⊎◌, inl, inr, ⊎_elim, ℕ, ◌+◌, ◌*◌, ◌-◌, ◌<◌, ◌≤◌, List, [], ◌∷◌, ◌++◌, length, take, Bool, true, false, Option, Some, None, IsSome, Result, Ok, Err, refl, sym, ap, subst, ◌∙◌, arith, le_trans, length-append, All, IfOk, IfErr, MatchResult, is_some, MAX_BYTES, All-head, All-tail, Call, Insert, Upsert, Exchange, Add, Get, Remove, RemoveIf, Change, Note, Reply, Exchanged, Removed, LegalCalls, change_of, effect_of, BeginsWith, LegalFront, OthersGoOn, map_of, Map, key_of, reply_of, step_if, step_where, value_at, begins_on, legal_front_part, legal_change, legal_longer, Layout, Key, Rec, a_leaf, Act, ClearPin, Event, Target, Failed, Known, Core, IsLawful, IsEvent, IsPinnedSince, Recalls, Runs, StepsWith, MakesNoAside, SeatView, TableView, event_recalls, act_leaves, runs_same, HasMissed, IsAnothers, Pins, KeepsSpare, HasAnswered, HasRefused, IsChangeOf, LacksNoLeaf, HasLoadedRoot, HasChanged, LacksLeaves, LacksNodes, HasMetLock, HasMetTaken, HasTried, IsOfAttempt, nodes_among, Full, OfNodes, OfLeaves, TryFault, Busy, FullNodes, FullLeaves, lacks_so, of_attempt_pin, runs_begin, IsHindered, RunBeginsWith, run_begins_on}
 use Rattle.std.specs.Prelude.{nat_eq}
 use Rattle.std.specs.Option.{option_map}
 use Rattle.finite_map.specs.declared.Kind.{Kind}
+use Rattle.record_words.specs.Leaf.{words_for}
+use Rattle.record_words.specs.Layout.{uncommitted_in}
+use Rattle.rowex_table.specs.Committed.{AtMost}
+use Rattle.rowex_table.proofs.Committed.{at_most_trans}
+use Rattle.rowex_records.proofs.Claims.{upto_falls}
 use Rattle.publish_laws.specs.Ending.{IsAtRest}
 use Rattle.rowex_writing.specs.plan.Asking.{reply_to}
 use Rattle.rowex_writing.specs.attempts.Attempts as tries
@@ -131,22 +136,25 @@ change_noted layout call reply s i t x was before settled gone event others fron
 
 -- Causes
 
--- what a part of a call lacks, the call lacks
-pub lacks_from_before : (layout : Layout) (p q : ℕ) (tried more : List Failed) (since later : ℕ) (own : List Rec) → since ≤ later → q ≡ p → more ≡ tried → LacksNodes layout p tried later own → LacksNodes layout q more since own
-lacks_from_before layout p q tried more since later own le number same l =
-    subst (λ z. LacksNodes layout z more since own) (sym number)
-    (lacks_so layout p tried more later since own l (λ Whose r one. (one.0, le_trans le one.1, subst (λ (z : List Failed). HasMissed Whose z r one.0) (sym same) one.2)))
+-- what a part of a call lacks, the call lacks: it knew no more to be committed when it began
+pub lacks_from_before : (layout : Layout) (few many : List ℕ) (p q : ℕ) (tried more : List Failed) (since later : ℕ) (own : List Rec) → AtMost (uncommitted_in few) (uncommitted_in many) → since ≤ later → q ≡ p → more ≡ tried → LacksNodes layout few p tried later own →
+    LacksNodes layout many q more since own
+lacks_from_before layout few many p q tried more since later own falls le number same l =
+    subst (λ z. LacksNodes layout many z more since own) (sym number)
+    (lacks_so layout few many p tried more later since own falls l (λ Whose r one. (one.0, le_trans le one.1, subst (λ (z : List Failed). HasMissed Whose z r one.0) (sym same) one.2)))
 
-pub leaves_from_before : (layout : Layout) (key : Key) (k j h i : PassView) → k.steps ≤ j.steps → i.number ≡ h.number → i.failed ≡ h.failed → LacksLeaves layout key h.number h.failed j.steps → LacksLeaves layout key i.number i.failed k.steps
-leaves_from_before layout key k j h i steps number failed all =
-    subst (λ q. LacksLeaves layout key q i.failed k.steps) (sym number)
-    (λ q low room. let one = all q low room in (one.0, le_trans steps one.1, subst (λ (z : List Failed). HasMissed (IsAnothers layout h.number [] []) z (a_leaf q) one.0) (sym failed) one.2))
+pub leaves_from_before : (layout : Layout) (few many : List ℕ) (key : Key) (k j h i : PassView) → AtMost (uncommitted_in few) (uncommitted_in many) → k.steps ≤ j.steps → i.number ≡ h.number → i.failed ≡ h.failed → LacksLeaves layout few key h.number h.failed j.steps →
+    LacksLeaves layout many key i.number i.failed k.steps
+leaves_from_before layout few many key k j h i falls steps number failed all =
+    subst (λ q. LacksLeaves layout many key q i.failed k.steps) (sym number)
+    (λ q low room upto. let one = all q low room (upto_falls layout few many (words_for (length key)) q falls upto) in
+    (one.0, le_trans steps one.1, subst (λ (z : List Failed). HasMissed (IsAnothers layout h.number [] []) z (a_leaf q) one.0) (sym failed) one.2))
 
 -- the cause of a part of a call is one of the call
-cause_from_before : (layout : Layout) (key : Key) (k j i : PassView) (fault : TryFault) → k.steps ≤ j.steps → RunBeginsWith j.seat.trace k.seat.trace → IsCause layout key j i fault → IsCause layout key k i fault
-cause_from_before layout key k j i Busy steps grown conflict = conflict_from_before layout k j i steps grown conflict
-cause_from_before layout key k j i FullNodes steps grown (own, l) = (own, lacks_from_before layout i.number i.number i.failed i.failed k.steps j.steps own steps refl refl l)
-cause_from_before layout key k j i FullLeaves steps grown all = leaves_from_before layout key k j i i steps refl refl all
+cause_from_before : (layout : Layout) (key : Key) (k j i : PassView) (fault : TryFault) → AtMost (uncommitted_in j.seat.bounds) (uncommitted_in k.seat.bounds) → k.steps ≤ j.steps → RunBeginsWith j.seat.trace k.seat.trace → IsCause layout key j i fault → IsCause layout key k i fault
+cause_from_before layout key k j i Busy falls steps grown conflict = conflict_from_before layout k j i steps grown conflict
+cause_from_before layout key k j i FullNodes falls steps grown (own, l) = (own, lacks_from_before layout j.seat.bounds k.seat.bounds i.number i.number i.failed i.failed k.steps j.steps own falls steps refl refl l)
+cause_from_before layout key k j i FullLeaves falls steps grown all = leaves_from_before layout j.seat.bounds k.seat.bounds key k j i i falls steps refl refl all
 
 -- A part of a call that was not noted, and the rest of the call
 
@@ -160,13 +168,13 @@ module _ (layout : Layout) (k j i : PassView) (first : IsUnnoted layout k j) (st
     makers = n.makers;
   }
 
-  refused_then : RunBeginsWith j.seat.trace k.seat.trace → (call : Call) (fault : TryFault) → IsRefusedFor layout call j i fault → IsRefusedFor layout call k i fault
-  refused_then grown call fault r = record {
+  refused_then : AtMost (uncommitted_in j.seat.bounds) (uncommitted_in k.seat.bounds) → RunBeginsWith j.seat.trace k.seat.trace → (call : Call) (fault : TryFault) → IsRefusedFor layout call j i fault → IsRefusedFor layout call k i fault
+  refused_then falls grown call fault r = record {
     refused = record {
       unnoted = unnoted_then r.refused.unnoted;
       full = λ full. may_take_from_before call k j i i first.front (no_further refl) refl (r.refused.full full);
     };
-    cause = cause_from_before layout (key_of call) k j i fault steps grown r.cause;
+    cause = cause_from_before layout (key_of call) k j i fault falls steps grown r.cause;
   }
 
   noted_then : (call : Call) (reply : Reply) → IsNoted layout j i call reply → IsNoted layout k i call reply
@@ -186,9 +194,9 @@ module _ (layout : Layout) (k j i : PassView) (first : IsUnnoted layout k j) (st
     legal = n.legal;
   }
 
-  pub outcome_then : RunBeginsWith j.seat.trace k.seat.trace → (call : Call) (r : Result Reply TryFault) → IfOk r (IsNoted layout j i call) → IfErr r (IsRefusedFor layout call j i) → IfOk r (IsNoted layout k i call) × IfErr r (IsRefusedFor layout call k i)
-  outcome_then grown call (Ok reply) told refused = (noted_then call reply told, tt)
-  outcome_then grown call (Err fault) told refused = (tt, refused_then grown call fault refused)
+  pub outcome_then : AtMost (uncommitted_in j.seat.bounds) (uncommitted_in k.seat.bounds) → RunBeginsWith j.seat.trace k.seat.trace → (call : Call) (r : Result Reply TryFault) → IfOk r (IsNoted layout j i call) → IfErr r (IsRefusedFor layout call j i) → IfOk r (IsNoted layout k i call) × IfErr r (IsRefusedFor layout call k i)
+  outcome_then falls grown call (Ok reply) told refused = (noted_then call reply told, tt)
+  outcome_then falls grown call (Err fault) told refused = (tt, refused_then falls grown call fault refused)
 
 -- A part that was refused, and a round of collection, together are not noted.
 module _ {G : Type 0} {table : TableView} {becomes : G → Event → G → Type 0} (k : PassView) (b c : SeatView × G) (first : IsUnnoted table.layout k (pass_of b.0)) (steps : k.steps ≤ b.0.known.steps)
@@ -204,6 +212,11 @@ pub once_asked : {G : Type 0} {table : TableView} {becomes : G → Event → G �
     HasAsked table becomes (IsOneAttempt table) call r a b → HasAsked table becomes (AreTries table becomes call r) call r a b
 once_asked {table = table} {becomes = becomes} {a = a} {b = b} call r stands once = record { replied = once.replied; ended = ended_once table becomes call r a b stands once.ended; later = once.later }
 
+-- a small round, or nothing, leaves no more uncommitted
+pub tidied_bounds : {G : Type 0} {table : TableView} {becomes : G → Event → G → Type 0} (a b : SeatView × G) → Tidies table becomes a b → AtMost (uncommitted_in b.0.bounds) (uncommitted_in a.0.bounds)
+tidied_bounds {G = G} a b (inl none) = λ kind. subst (λ (z : SeatView × G). uncommitted_in b.0.bounds kind ≤ uncommitted_in z.0.bounds kind) none (le_refl (uncommitted_in b.0.bounds kind))
+tidied_bounds a b (inr small) = small.does.seat.4
+
 -- a small round or nothing, and then the tries
 module _ {G : Type 0} {table : TableView} {becomes : G → Event → G → Type 0} (a b c : SeatView × G) (call : Call) (r : Result Reply TryFault) (settled : IsSettled a.0.known)
     (asked : HasAsked table becomes (AreTries table becomes call r) call r b c) where
@@ -217,7 +230,7 @@ module _ {G : Type 0} {table : TableView} {becomes : G → Event → G → Type 
       }
   tidied_asked (inr small) =
       let later = small_later small in
-      let both = outcome_then table.layout (pass_of a.0) (pass_of b.0) (pass_of c.0) (small_unnoted small settled) later (does_begin table becomes a b small.does) call r asked.replied.noted asked.replied.refused in
+      let both = outcome_then table.layout (pass_of a.0) (pass_of b.0) (pass_of c.0) (small_unnoted small settled) later small.does.seat.4 (does_begin table becomes a b small.does) call r asked.replied.noted asked.replied.refused in
       record {
         replied = record { idle = asked.replied.idle; noted = both.0; refused = both.1; leafless = asked.replied.leafless; loaded = le_trans later asked.replied.loaded };
         ended = ended_tidied table becomes a b c (inr small) asked.ended;
@@ -228,7 +241,7 @@ module _ {G : Type 0} {table : TableView} {becomes : G → Event → G → Type 
   pub tidied_lacks : (made : List Rec) → Tidies table becomes a b → HasLacked table made r b.0 c.0 → HasLacked table made r a.0 c.0
   tidied_lacks made (inl none) h = subst (λ (z : SeatView). HasLacked table made r z c.0) (ap (λ (z : SeatView × G). z.0) none) h
   tidied_lacks made (inr small) h = λ is.
-      lacks_from_before table.layout c.0.known.pass c.0.known.pass c.0.known.failed c.0.known.failed a.0.known.steps b.0.known.steps (nodes_among made) (small_later small) refl refl (h is)
+      lacks_from_before table.layout b.0.bounds a.0.bounds c.0.known.pass c.0.known.pass c.0.known.failed c.0.known.failed a.0.known.steps b.0.known.steps (nodes_among made) small.does.seat.4 (small_later small) refl refl (h is)
 
   -- the small round is bounded, too
   pub tidied_few : Tidies table becomes a b → c.0.known.steps ≤ b.0.known.steps + twice_steps call table.layout → c.0.known.steps ≤ a.0.known.steps + try_steps call table.layout
@@ -272,14 +285,20 @@ full_fault OfLeaves = tt
 
 -- a call has not tried yet, or each try was refused
 abbrev pub HasWaited : Layout → PassView → PassView → Type 0
-HasWaited layout k j = (j ≡ k) ⊎ (IsUnnoted layout k j × (k.steps ≤ j.steps) × RunBeginsWith j.seat.trace k.seat.trace)
+HasWaited layout k j =
+    (j ≡ k) ⊎ (IsUnnoted layout k j × (k.steps ≤ j.steps) × AtMost (uncommitted_in j.seat.bounds) (uncommitted_in k.seat.bounds) × RunBeginsWith j.seat.trace k.seat.trace)
 
 -- it has been refused once more
-pub waited_from_before : (layout : Layout) (k j i : PassView) → HasWaited layout k j → IsUnnoted layout j i → j.steps ≤ i.steps → RunBeginsWith i.seat.trace j.seat.trace → HasWaited layout k i
-waited_from_before layout k j i (inl none) next steps grown =
-    inr (subst (λ (z : PassView). IsUnnoted layout z i × (z.steps ≤ i.steps) × RunBeginsWith i.seat.trace z.seat.trace) none (next, steps, grown))
-waited_from_before layout k j i (inr some) next steps grown =
-    inr (unnoted_then layout k j i some.0 some.1 next, le_trans some.1 steps, run_begins_on k.seat.trace j.seat.trace i.seat.trace some.2 grown)
+pub waited_from_before : (layout : Layout) (k j i : PassView) → HasWaited layout k j → IsUnnoted layout j i → j.steps ≤ i.steps → AtMost (uncommitted_in i.seat.bounds) (uncommitted_in j.seat.bounds) → RunBeginsWith i.seat.trace j.seat.trace → HasWaited layout k i
+waited_from_before layout k j i (inl none) next steps falls grown =
+    inr (subst (λ (z : PassView). IsUnnoted layout z i × (z.steps ≤ i.steps) × AtMost (uncommitted_in i.seat.bounds) (uncommitted_in z.seat.bounds) × RunBeginsWith i.seat.trace z.seat.trace) none (next, steps, falls, grown))
+waited_from_before layout k j i (inr (unnoted, early, fell, began)) next steps falls grown =
+    inr (
+      unnoted_then layout k j i unnoted early next,
+      le_trans early steps,
+      at_most_trans (uncommitted_in i.seat.bounds) (uncommitted_in j.seat.bounds) (uncommitted_in k.seat.bounds) falls fell,
+      run_begins_on k.seat.trace j.seat.trace i.seat.trace began grown,
+    )
 
 -- the outcome of the last try is that of the call
 pub waited_out : (table : TableView) (s m t : SeatView) (call : Call) (r : Result Reply TryFault) → HasWaited table.layout (pass_of s) (pass_of m) → HasReplied table call r m t → HasReplied table call r s t
@@ -291,7 +310,7 @@ waited_out table s m t call r (inl none) last = record {
   loaded = subst (λ (z : PassView). z.steps ≤ t.known.fresh.step) none last.loaded;
 }
 waited_out table s m t call r (inr some) last =
-    let both = outcome_then table.layout (pass_of s) (pass_of m) (pass_of t) some.0 some.1 some.2 call r last.noted last.refused in record { idle = last.idle; noted = both.0; refused = both.1; leafless = last.leafless; loaded = le_trans some.1 last.loaded }
+    let both = outcome_then table.layout (pass_of s) (pass_of m) (pass_of t) some.0 some.1 some.2 some.3 call r last.noted last.refused in record { idle = last.idle; noted = both.0; refused = both.1; leafless = last.leafless; loaded = le_trans some.1 last.loaded }
 
 -- An attempt
 
@@ -377,11 +396,11 @@ module _ {G : Type 0} {table : TableView} {becomes : G → Event → G → Type 
 
   -- the cause of an attempt is one by what contracts see
   cause_seen : (key : Key) (made : List Rec) (fault : TryFault) {said : Known → List Note} → StepsWith table becomes ClearPin said c d → OthersGoOn b.0.known.pass b.0.known.front c.0.known.front →
-      (fault ≡ Busy → IsHindered table.layout b.0 c.0) → tries.IsAttemptCause table.layout key b.0.known c.0.known made fault → IsCause table.layout key (pass_of a.0) (pass_of d.0) fault
+      (fault ≡ Busy → IsHindered table.layout b.0 c.0) → tries.IsAttemptCause table.layout b.0.bounds key b.0.known c.0.known made fault → IsCause table.layout key (pass_of a.0) (pass_of d.0) fault
   cause_seen key made FullNodes step others hindered h =
-      (nodes_among made, lacks_from_before table.layout c.0.known.pass d.0.known.pass c.0.known.failed d.0.known.failed a.0.known.steps b.0.known.steps (nodes_among made) counted step.seat.2 (ap (λ (z : Known). z.failed) step.event.learned_is) h)
+      (nodes_among made, lacks_from_before table.layout b.0.bounds a.0.bounds c.0.known.pass d.0.known.pass c.0.known.failed d.0.known.failed a.0.known.steps b.0.known.steps (nodes_among made) pins.1.seat.4 counted step.seat.2 (ap (λ (z : Known). z.failed) step.event.learned_is) h)
   cause_seen key made FullLeaves step others hindered h =
-      leaves_from_before table.layout key (pass_of a.0) (pass_of b.0) (pass_of c.0) (pass_of d.0) counted step.seat.2 (ap (λ (z : Known). z.failed) step.event.learned_is) h
+      leaves_from_before table.layout b.0.bounds a.0.bounds key (pass_of a.0) (pass_of b.0) (pass_of c.0) (pass_of d.0) pins.1.seat.4 counted step.seat.2 (ap (λ (z : Known). z.failed) step.event.learned_is) h
   cause_seen key made Busy step others hindered h = record {
     pass = subst (λ q. q < table.layout.passes) (sym step.seat.2) (subst (λ (z : Layout). c.0.known.pass < z.passes) step.event.layout_is step.event.knows.pass);
     met = met_from_before table.layout (pass_of a.0) (pass_of b.0) (pass_of c.0) (pass_of d.0) counted step.seat.2 (ap (λ (z : Known). z.failed) step.event.learned_is)
@@ -429,7 +448,7 @@ module _ {G : Type 0} {table : TableView} {becomes : G → Event → G → Type 
   may_take_seen (RemoveIf key expected) event met = held_seen key expected event met
 
   -- it was refused
-  when_refused : (call : Call) (made : List Rec) (fault : TryFault) → HasRefused table.layout (key_of call) b.0.known c.0.known made fault → tries.IsFullOnlyIfWanting c.0.known call fault →
+  when_refused : (call : Call) (made : List Rec) (fault : TryFault) → HasRefused table.layout b.0.bounds (key_of call) b.0.known c.0.known made fault → tries.IsFullOnlyIfWanting c.0.known call fault →
       (fault ≡ Busy → IsHindered table.layout b.0 c.0) → StepsWith table becomes ClearPin (change_notes call (Err fault)) c d → Leaves call (Err fault)
   when_refused call made fault h new hindered step = (
     (
@@ -443,19 +462,19 @@ module _ {G : Type 0} {table : TableView} {becomes : G → Event → G → Type 
   )
 
   -- whatever came of it
-  pub tried : (call : Call) (made : List Rec) (r : Result Reply TryFault) → IfOk r (HasAnswered b.0.known c.0.known call) → IfErr r (HasRefused table.layout (key_of call) b.0.known c.0.known made) →
+  pub tried : (call : Call) (made : List Rec) (r : Result Reply TryFault) → IfOk r (HasAnswered b.0.known c.0.known call) → IfErr r (HasRefused table.layout b.0.bounds (key_of call) b.0.known c.0.known made) →
       IfErr r (tries.IsFullOnlyIfWanting c.0.known call) → IfErr r (λ fault. fault ≡ Busy → IsHindered table.layout b.0 c.0) → StepsWith table becomes ClearPin (change_notes call r) c d → Leaves call r
   tried call made (Ok reply) (inl looked) refused new hindered step = when_looked call reply looked.0 looked.1 step.event
   tried call made (Ok reply) (inr (x, was, is, changed)) refused new hindered step = when_changed call reply x was is changed step.event
   tried call made (Err fault) answered refused new hindered step = when_refused call made fault refused new hindered step
 
   -- and what it lacked
-  pub tried_lacks : {said : Known → List Note} (key : Key) (made : List Rec) (r : Result Reply TryFault) → IfErr r (HasRefused table.layout key b.0.known c.0.known made) → StepsWith table becomes ClearPin said c d → HasLacked table made r a.0 d.0
+  pub tried_lacks : {said : Known → List Note} (key : Key) (made : List Rec) (r : Result Reply TryFault) → IfErr r (HasRefused table.layout b.0.bounds key b.0.known c.0.known made) → StepsWith table becomes ClearPin said c d → HasLacked table made r a.0 d.0
   tried_lacks key made (Ok reply) refused step = λ is. absurd (cc)
   tried_lacks key made (Err Busy) refused step = λ is. absurd (cc)
   tried_lacks key made (Err FullLeaves) refused step = λ is. absurd (cc)
   tried_lacks key made (Err FullNodes) refused step = λ is.
-      lacks_from_before table.layout c.0.known.pass d.0.known.pass c.0.known.failed d.0.known.failed a.0.known.steps b.0.known.steps (nodes_among made) counted
+      lacks_from_before table.layout b.0.bounds a.0.bounds c.0.known.pass d.0.known.pass c.0.known.failed d.0.known.failed a.0.known.steps b.0.known.steps (nodes_among made) pins.1.seat.4 counted
       (ap (λ (z : Known). z.pass) step.event.learned_is) (ap (λ (z : Known). z.failed) step.event.learned_is) refused.cause
 
   -- it has loaded the root

@@ -1,7 +1,10 @@
 -- What hindered an attempt, by the run of the table.
-use Rattle.hot_index_calls.proofs.Common.{◌≡◌, inl, inr, ◌<◌, List, [], ◌∷◌, length, get_or, Some, refl, sym, ap, subst, ◌∙◌, arith, length-append, slice_get-get_or, Change, Added, Note, OthersGoOn, Layout, Pin, Act, ClearPin, LoadEpoch, SetPin, Event, Known, Core, after, version_of, opening, Does, Ends, Steps, StepsWith, SeatView, TableView, RunBeginsWith, led_more, next_begins, Pins, NoChangeFrom, HasMetOther, IsHindered, met_between, no_change_from_later, runs_begin}
+use Rattle.hot_index_calls.proofs.Common.{runs_same, ◌≡◌, inl, inr, ◌<◌, List, [], ◌∷◌, length, get_or, Some, refl, sym, ap, subst, ◌∙◌, arith, length-append, slice_get-get_or, Change, Added, Note, OthersGoOn, Layout, Pin, Act, ClearPin, LoadEpoch, SetPin, Event, Known, Core, after, version_of, opening, Does, Ends, Steps, StepsWith, SeatView, TableView, RunBeginsWith, led_more, next_begins, Pins, NoChangeFrom, HasMetOther, IsHindered, met_between, no_change_from_later, runs_begin}
 use Rattle.std.proofs.Common.{append-nil}
 use Rattle.rowex_core.specs.Runs.{EventsLead}
+use Rattle.record_words.specs.Layout.{uncommitted_in}
+use Rattle.rowex_table.specs.Committed.{AtMost}
+use Rattle.rowex_table.proofs.Committed.{at_most_trans}
 use Rattle.rowex_table.proofs.Onward.{begins_on, others_begin}
 use Rattle.hot_index_calls.specs.Alone.{HasBeenHindered}
 use Rattle.hot_index_calls.specs.Traces.{HasEnded, HasStepped}
@@ -21,6 +24,16 @@ module _ {G : Type 0} (table : TableView) (becomes : G → Event → G → Type 
 
   pub stepped_begin : {said : Known → List Note} (a b : SeatView × G) → HasStepped table becomes said a b → RunBeginsWith b.0.trace a.0.trace
   stepped_begin {said = said} a b (acts, last, ends) = ends_begin acts last said a b ends
+
+  -- no more is uncommitted than before
+  ends_bounds : (acts : List Act) (last : Act) (said : Known → List Note) (a b : SeatView × G) → Ends table becomes acts last said a b → AtMost (uncommitted_in b.0.bounds) (uncommitted_in a.0.bounds)
+  ends_bounds acts last said a b (m, run, step) = at_most_trans (uncommitted_in b.0.bounds) (uncommitted_in m.0.bounds) (uncommitted_in a.0.bounds) step.seat.4 (runs_same table becomes acts a m run).4
+
+  pub ended_bounds : {Are : List Act → Type 0} {said : Known → List Note} (a b : SeatView × G) → HasEnded table becomes Are said a b → AtMost (uncommitted_in b.0.bounds) (uncommitted_in a.0.bounds)
+  ended_bounds {said = said} a b (acts, are, ends) = ends_bounds acts ClearPin said a b ends
+
+  pub stepped_bounds : {said : Known → List Note} (a b : SeatView × G) → HasStepped table becomes said a b → AtMost (uncommitted_in b.0.bounds) (uncommitted_in a.0.bounds)
+  stepped_bounds {said = said} a b (acts, last, ends) = ends_bounds acts last said a b ends
 
 -- ---- an attempt
 -- A pass has loaded the epoch and set its pin.

@@ -3,6 +3,10 @@
 use Rattle.hot_index_calls.proofs.Common.{◌≡◌, ◌≢◌, ◌⊎◌, inl, inr, ℕ, zero, suc, ◌+◌, ◌<◌, ◌≤◌, List, [], ◌∷◌, ◌++◌, Bool, true, false, if◌then◌else◌, Option, Some, None, Result, Err, length, refl, sym, ap, subst, ◌∙◌, arith, All, Contains, IfErr, count_by, cases_Bool, false≢true, All-cons, All-nil, Call, Note, Reply, key_of, leaf_size, state_word, LARGE_WORDS, LEAF_WORDS, MEDIUM_WORDS, SHORT_WORDS, WIDE_WORDS, MAX_BYTES, Layout, Rec, a_node, a_leaf, Tag, FreeTag, HeldTag, Live, Locked, Obsolete, Key, Fate, Free, Held, Ready, InTree, Unlinked, Marked, same_rec, same_rec_refl, same_rec_true, lock_of, tag_of, LoadState, Event, Known, Runs, SeatView, TableView, IsAnothers, nodes_among, TryFault, FullNodes, FullLeaves, Full, Nodes, Leaves, runs_split}
 use Rattle.record_words.proofs.Runs.{IsClass, large_class, long_class, medium_class, short_class, wide_class}
 use Rattle.record_words.specs.Leaf.{words_for}
+use Rattle.record_words.specs.Layout.{uncommitted_in}
+use Rattle.rowex_table.specs.Committed.{AtMost}
+use Rattle.rowex_table.specs.Seats.{HasAllCommitted}
+use Rattle.rowex_table.proofs.Committed.{all_committed}
 use Rattle.hot_index_calls.specs.Answers.{IsRefusedFor, fault_of}
 use Rattle.hot_index_calls.specs.Asked.{HasLacked}
 use Rattle.hot_index_calls.specs.Census.{FoundTags, OneForEach, counts_in, is_free, loads_in, loads_of}
@@ -19,16 +23,17 @@ use Rattle.hot_index_calls.proofs.Used.{SparesRecord, attempt_missed, attempt_us
 module _ {G : Type 0} (table : TableView) (becomes : G → Event → G → Type 0) where
   -- after an attempt
   pub attempt_leaves : (call : Call) (made : List Rec) (r : Result Reply TryFault) {said : Known → List Note} (a b : SeatView × G) → HasEnded table becomes (IsAttempt table.layout) said a b → HasLacked table made r a.0 b.0 →
-      IfErr r (IsRefusedFor table.layout call (pass_of a.0) (pass_of b.0)) → LeavesUsed table.layout (key_of call) (nodes_among made) r b.0
+      IfErr r (IsRefusedFor table.layout call (pass_of a.0) (pass_of b.0)) → LeavesUsed table.layout (key_of call) (nodes_among made) r a.0 b.0
   attempt_leaves call made r {said} a b ended lacked refused = record {
-    nodes = λ one is n low other.
+    nodes = λ one none is n low other.
         let l = lacked is in
         attempt_missed table becomes (a_node n) (IsAnothers table.layout b.0.known.pass (nodes_among made) l.locked)
-        (λ p fits its. other (its.1 (no_other table.layout.passes b.0.known.pass p one mine fits))) a b ended (l.missed n low);
-    leaves = λ one is n low room.
+        (λ p fits its. other (its.1 (no_other table.layout.passes b.0.known.pass p one mine fits))) a b ended (l.missed n low (all_committed table.layout (uncommitted_in a.0.bounds) (a_node n) none low));
+    leaves = λ one none is n low room.
         let cause = (subst (λ (z : Result Reply TryFault). IfErr z (IsRefusedFor table.layout call (pass_of a.0) (pass_of b.0))) is refused).cause in
         attempt_missed table becomes (a_leaf n) (IsAnothers table.layout b.0.known.pass [] [])
-        (λ p fits its. let has : Contains [] (a_leaf n) = its.1 (no_other table.layout.passes b.0.known.pass p one mine fits) in let none = has.1 in omega (arith, none)) a b ended (cause n low room);
+        (λ p fits its. let has : Contains [] (a_leaf n) = its.1 (no_other table.layout.passes b.0.known.pass p one mine fits) in let no = has.1 in omega (arith, no)) a b ended
+        (cause n low room (λ q upto fits. all_committed table.layout (uncommitted_in a.0.bounds) (a_leaf q) none (omega (arith, low, upto))));
   }
     where
       mine : b.0.known.pass < table.layout.passes
@@ -37,28 +42,35 @@ module _ {G : Type 0} (table : TableView) (becomes : G → Event → G → Type 
           let low = last.event.knows.pass in let lay = ap (λ (l : Layout). l.passes) last.event.layout_is in let same = ap (λ (z : Known). z.pass) last.event.learned_is in omega (arith, low, lay, same)
 
   -- after a round that gives none back of the kind, and an attempt that does nothing
-  pub rested_leaves : (key : Key) (own : List Rec) (lacks : Full) (r : Result Reply TryFault) {said : Known → List Note} (b c d : SeatView × G) → r ≡ Err (fault_of lacks) → CollectsNone table becomes lacks b c →
-      HasEnded table becomes (IsAttempt table.layout) said c d → LeavesUsed table.layout key own r b.0 → LeavesUsed table.layout key own r d.0
-  rested_leaves key own Nodes r b c d is none ended left = record {
-    nodes = λ one same n low other. attempt_used table becomes (a_node n) c d ended (none_used_node table becomes one b c n none (left.nodes one same n low other));
-    leaves = λ one same n low room. absurd (nodes_not (sym is ∙ same));
+  pub rested_leaves : (key : Key) (own : List Rec) (lacks : Full) (r : Result Reply TryFault) {said : Known → List Note} (a : SeatView) (b c d : SeatView × G) → r ≡ Err (fault_of lacks) → CollectsNone table becomes lacks b c →
+      HasEnded table becomes (IsAttempt table.layout) said c d → LeavesUsed table.layout key own r a b.0 → LeavesUsed table.layout key own r a d.0
+  rested_leaves key own Nodes r a b c d is none ended left = record {
+    nodes = λ one all same n low other. attempt_used table becomes (a_node n) c d ended (none_used_node table becomes one b c n none (left.nodes one all same n low other));
+    leaves = λ one all same n low room. absurd (nodes_not (sym is ∙ same));
   }
     where
       nodes_not : (let x : Result Reply TryFault = Err FullNodes in x) ≡ Err FullLeaves → ⊥
       nodes_not e = cc
-  rested_leaves key own Leaves r b c d is none ended left = record {
-    nodes = λ one same n low other. absurd (leaves_not (sym is ∙ same));
-    leaves = λ one same n low room. attempt_used table becomes (a_leaf n) c d ended (none_used_leaf table becomes one b c n none (left.leaves one same n low room));
+  rested_leaves key own Leaves r a b c d is none ended left = record {
+    nodes = λ one all same n low other. absurd (leaves_not (sym is ∙ same));
+    leaves = λ one all same n low room. attempt_used table becomes (a_leaf n) c d ended (none_used_leaf table becomes one b c n none (left.leaves one all same n low room));
   }
     where
       leaves_not : (let x : Result Reply TryFault = Err FullLeaves in x) ≡ Err FullNodes → ⊥
       leaves_not e = cc
 
+-- what is so where all was committed later is so where all was before
+pub used_since : (layout : Layout) (key : Key) (own : List Rec) (r : Result Reply TryFault) (a b t : SeatView) → AtMost (uncommitted_in b.bounds) (uncommitted_in a.bounds) → LeavesUsed layout key own r b t → LeavesUsed layout key own r a t
+used_since layout key own r a b t falls left = record { nodes = λ one all. left.nodes one (later all); leaves = λ one all. left.leaves one (later all) }
+  where
+    later : HasAllCommitted a → HasAllCommitted b
+    later all kind = let few = falls kind in let none = all kind in omega (arith, few, none)
+
 -- a call that isn't refused as full
-pub none_lacked : (layout : Layout) (key : Key) (own : List Rec) (r : Result Reply TryFault) (t : SeatView) → is_full r ≡ false → LeavesUsed layout key own r t
-none_lacked layout key own r t not = record {
-  nodes = λ one is n low other. absurd (false≢true (sym not ∙ ap is_full is));
-  leaves = λ one is n low room. absurd (false≢true (sym not ∙ ap is_full is));
+pub none_lacked : (layout : Layout) (key : Key) (own : List Rec) (r : Result Reply TryFault) (s t : SeatView) → is_full r ≡ false → LeavesUsed layout key own r s t
+none_lacked layout key own r s t not = record {
+  nodes = λ one all is n low other. absurd (false≢true (sym not ∙ ap is_full is));
+  leaves = λ one all is n low room. absurd (false≢true (sym not ∙ ap is_full is));
 }
 
 -- ---- lists of records
@@ -158,9 +170,9 @@ module _ {G : Type 0} (table : TableView) (becomes : G → Event → G → Type 
       (λ n from below no. used n (let within = class.within in omega (arith, below, are, within)) (let sized = class.sized n from (omega (arith, below, are)) in omega (arith, sized, fits))) in omega (arith, none)
 
   -- A count of all finds fewer free than are needed, where what was lacked is used.
-  pub counts_short : (uncommitted : ℕ → ℕ) (tags : FoundTags) (a b : SeatView × G) → OneForEach table.layout uncommitted tags → Runs table becomes (loads_in table.layout tags) a b → (key : Key) → length key ≤ MAX_BYTES → (own : List Rec) (lacks : Full) →
-      LeavesUsed table.layout key own (Err (fault_of lacks)) a.0 → AreAllAtRest (counts_in table.layout tags) → (needs : ℕ) → needs ≡ length own + 1 → IsShortOf lacks needs (length key) (counts_in table.layout tags)
-  counts_short uncommitted tags a b each run key short own lacks left rest needs is =
+  pub counts_short : (uncommitted : ℕ → ℕ) (tags : FoundTags) (s : SeatView) → HasAllCommitted s → (a b : SeatView × G) → OneForEach table.layout uncommitted tags → Runs table becomes (loads_in table.layout tags) a b → (key : Key) → length key ≤ MAX_BYTES → (own : List Rec) (lacks : Full) →
+      LeavesUsed table.layout key own (Err (fault_of lacks)) s a.0 → AreAllAtRest (counts_in table.layout tags) → (needs : ℕ) → needs ≡ length own + 1 → IsShortOf lacks needs (length key) (counts_in table.layout tags)
+  counts_short uncommitted tags s all a b each run key short own lacks left rest needs is =
       let l = table.layout in
       let (s5, run5, of_long) = runs_split table becomes (loads_of a_node 0 tags.nodes ++ loads_of a_leaf 0 tags.short ++ loads_of a_leaf l.medium_from tags.medium ++ loads_of a_leaf l.large_from tags.large ++ loads_of a_leaf l.wide_from tags.wide) (loads_of a_leaf l.long_from tags.long) a b run in
       let (s4, run4, of_wide) = runs_split table becomes (loads_of a_node 0 tags.nodes ++ loads_of a_leaf 0 tags.short ++ loads_of a_leaf l.medium_from tags.medium ++ loads_of a_leaf l.large_from tags.large) (loads_of a_leaf l.wide_from tags.wide) a s5 run5 in
@@ -169,15 +181,15 @@ module _ {G : Type 0} (table : TableView) (becomes : G → Event → G → Type 
       let (s1, of_nodes, of_short) = runs_split table becomes (loads_of a_node 0 tags.nodes) (loads_of a_leaf 0 tags.short) a s2 run2 in
       of lacks left s1 s2 s3 s4 s5 of_nodes of_short of_medium of_large of_wide of_long
     where
-      of : (lacks : Full) → LeavesUsed table.layout key own (Err (fault_of lacks)) a.0 → (s1 s2 s3 s4 s5 : SeatView × G) → Runs table becomes (loads_of a_node 0 tags.nodes) a s1 → Runs table becomes (loads_of a_leaf 0 tags.short) s1 s2 →
+      of : (lacks : Full) → LeavesUsed table.layout key own (Err (fault_of lacks)) s a.0 → (s1 s2 s3 s4 s5 : SeatView × G) → Runs table becomes (loads_of a_node 0 tags.nodes) a s1 → Runs table becomes (loads_of a_leaf 0 tags.short) s1 s2 →
           Runs table becomes (loads_of a_leaf table.layout.medium_from tags.medium) s2 s3 → Runs table becomes (loads_of a_leaf table.layout.large_from tags.large) s3 s4 → Runs table becomes (loads_of a_leaf table.layout.wide_from tags.wide) s4 s5 →
           Runs table becomes (loads_of a_leaf table.layout.long_from tags.long) s5 b → IsShortOf lacks needs (length key) (counts_in table.layout tags)
       of Nodes left s1 s2 s3 s4 s5 of_nodes of_short of_medium of_large of_wide of_long =
-          let few = loads_few a_node (λ n m e. let same : n ≡ m = cc in same) 0 tags.nodes a s1 of_nodes own (λ n from below none. left.nodes one refl n (let many = each.nodes in let some = table.layout.nodes_in_range in omega (arith, below, many, some)) none) in
+          let few = loads_few a_node (λ n m e. let same : n ≡ m = cc in same) 0 tags.nodes a s1 of_nodes own (λ n from below none. left.nodes one all refl n (let many = each.nodes in let some = table.layout.nodes_in_range in omega (arith, below, many, some)) none) in
           record { free = omega (arith, few, is); held = rest.nodes.held; obsolete = rest.nodes.obsolete }
       of Leaves left s1 s2 s3 s4 s5 of_nodes of_short of_medium of_large of_wide of_long =
           let l = table.layout in let words = words_for (length key) in let order = l.classes_in_order in
-          let u : HasRoomUsed words a.0 = λ n low room. left.leaves one refl n low room in
+          let u : HasRoomUsed words a.0 = λ n low room. left.leaves one all refl n low room in
           let u1 : HasRoomUsed words s1.0 = λ n low room. loads_used (a_leaf n) a_node 0 tags.nodes a s1 of_nodes (u n low room) in
           let u2 : HasRoomUsed words s2.0 = λ n low room. loads_used (a_leaf n) a_leaf 0 tags.short s1 s2 of_short (u1 n low room) in
           let u3 : HasRoomUsed words s3.0 = λ n low room. loads_used (a_leaf n) a_leaf l.medium_from tags.medium s2 s3 of_medium (u2 n low room) in

@@ -1,5 +1,7 @@
 -- A count of all records, after a try that found none free.
-use Rattle.hot_index_calls.proofs.Common.{◌≡◌, ℕ, zero, suc, take, get_or, ◌+◌, ◌<◌, ◌≤◌, List, [], ◌∷◌, ◌++◌, length, Err, inl, inr, ⊎_elim, refl, sym, ap, subst, ◌∙◌, arith, Call, key_of, Layout, Key, Rec, a_node, a_leaf, Act, Event, Failed, Fresh, Known, word_of, Does, Ends, Runs, silent, SeatView, TableView, runs_append, runs_one, collecting, HasMissedSince, IsAnothers, LacksLeaves, LacksNodes, Full, Nodes, Leaves, nodes_among, lacks_so, run_failed, HasMetTaken}
+use Rattle.hot_index_calls.proofs.Common.{le_refl, ◌≡◌, ℕ, zero, suc, take, get_or, ◌+◌, ◌<◌, ◌≤◌, List, [], ◌∷◌, ◌++◌, length, Err, inl, inr, ⊎_elim, refl, sym, ap, subst, ◌∙◌, arith, Call, key_of, Layout, Key, Rec, a_node, a_leaf, Act, Event, Failed, Fresh, Known, word_of, Does, Ends, Runs, silent, SeatView, TableView, runs_append, runs_one, collecting, HasMissedSince, IsAnothers, LacksLeaves, LacksNodes, Full, Nodes, Leaves, nodes_among, lacks_so, run_failed, HasMetTaken}
+use Rattle.record_words.specs.Layout.{uncommitted_in}
+use Rattle.rowex_table.specs.Seats.{HasAllCommitted}
 use Rattle.hot_index_calls.specs.Answers.{HasConflict, IsCause, IsOvertaken, fault_of}
 use Rattle.hot_index_calls.specs.Asked.{HasLacked, HasReplied}
 use Rattle.hot_index_calls.specs.Calls.{IsTriedAndCounted}
@@ -45,11 +47,11 @@ module _ {G : Type 0} {table : TableView} {becomes : G → Event → G → Type 
   pub cause_counted : (fault : Full) → IsCause table.layout key k (pass_of b.0) (fault_of fault) → IsCause table.layout key k (pass_of d.0) (fault_of fault)
   cause_counted Nodes (own, l) = (
     own,
-    subst (λ q. LacksNodes table.layout q d.0.known.failed k.steps own) (sym same)
-        (lacks_so table.layout b.0.known.pass b.0.known.failed d.0.known.failed k.steps k.steps own l missed_still),
+    subst (λ q. LacksNodes table.layout k.seat.bounds q d.0.known.failed k.steps own) (sym same)
+        (lacks_so table.layout k.seat.bounds k.seat.bounds b.0.known.pass b.0.known.failed d.0.known.failed k.steps k.steps own (λ kind. le_refl (uncommitted_in k.seat.bounds kind)) l missed_still),
   )
   cause_counted Leaves all =
-      subst (λ q. LacksLeaves table.layout key q d.0.known.failed k.steps) (sym same) (λ q low room. missed_still (IsAnothers table.layout b.0.known.pass [] []) (a_leaf q) (all q low room))
+      subst (λ q. LacksLeaves table.layout k.seat.bounds key q d.0.known.failed k.steps) (sym same) (λ q low room upto. missed_still (IsAnothers table.layout b.0.known.pass [] []) (a_leaf q) (all q low room upto))
 
 -- ---- the call has ended with the count
 module _ {G : Type 0} {table : TableView} {becomes : G → Event → G → Type 0} {counts : RecordCounts} {m b : SeatView × G} (all : CountsAll table becomes counts m b) (some : 1 ≤ table.layout.nodes)
@@ -82,7 +84,7 @@ judged_fault passes lacks needs size counts (HeldBack full) j = ap fault_of j.0
 judged_fault passes lacks needs size counts (IsFull full shown) j = ap fault_of j.0
 
 pub told_after : {G : Type 0} {table : TableView} {becomes : G → Event → G → Type 0} {counts : RecordCounts} {m b : SeatView × G} (all : CountsAll table becomes counts m b) (some : 1 ≤ table.layout.nodes) (call : Call) (s : SeatView) (g : G) (lacks : Full) (made : List Rec) (needs : ℕ) →
-    HasLacked table made (Err (fault_of lacks)) s m.0 → needs ≡ length (nodes_among made) + 1 → ¬ (HasNodeLeft table.layout.passes call) → (table.layout.passes ≡ 1 → IsEarly b.0 → AreAllAtRest counts × IsShortOf lacks needs (length (key_of call)) counts) → (refusal : Refusal) → IsRefusalByCounts table.layout.passes lacks needs (length (key_of call)) counts refusal →
+    HasLacked table made (Err (fault_of lacks)) s m.0 → needs ≡ length (nodes_among made) + 1 → ¬ (HasNodeLeft table.layout.passes call) → (table.layout.passes ≡ 1 → IsEarly b.0 → AreAllAtRest counts × (HasAllCommitted s → IsShortOf lacks needs (length (key_of call)) counts)) → (refusal : Refusal) → IsRefusalByCounts table.layout.passes lacks needs (length (key_of call)) counts refusal →
     FollowsRefusal call table becomes (pass_of s, g) (pass_of m.0, m.1) (pass_of b.0, b.1) refusal
 told_after {table = table} all some call s g lacks made needs lacked is other rest IsBusy j = absurd j
 told_after {table = table} {becomes = becomes} {counts = counts} {m = m} {b = b} all some call s g lacks made needs lacked is other rest (HeldBack full) j = inr (record {
@@ -92,7 +94,7 @@ told_after {table = table} {becomes = becomes} {counts = counts} {m = m} {b = b}
   counted = has_counted all some;
   judged = subst (λ z. IsRefusalByCounts table.layout.passes z needs (length (key_of call)) counts (HeldBack full)) (sym j.0) j;
   alone = λ one early. (rest one early).0;
-  short = λ one early. subst (λ z. IsShortOf z needs (length (key_of call)) counts) (sym j.0) (rest one early).1;
+  short = λ one early none. subst (λ z. IsShortOf z needs (length (key_of call)) counts) (sym j.0) ((rest one early).1 none);
 })
 told_after {table = table} {becomes = becomes} {counts = counts} {m = m} {b = b} all some call s g lacks made needs lacked is other rest (IsFull full shown) j = (
   other,
@@ -103,7 +105,7 @@ told_after {table = table} {becomes = becomes} {counts = counts} {m = m} {b = b}
     counted = has_counted all some;
     judged = subst (λ z. IsRefusalByCounts table.layout.passes z needs (length (key_of call)) counts (IsFull full shown)) (sym j.0) j;
     alone = λ one early. (rest one early).0;
-    short = λ one early. subst (λ z. IsShortOf z needs (length (key_of call)) counts) (sym j.0) (rest one early).1;
+    short = λ one early none. subst (λ z. IsShortOf z needs (length (key_of call)) counts) (sym j.0) ((rest one early).1 none);
   },
 )
 

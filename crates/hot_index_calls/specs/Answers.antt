@@ -160,13 +160,13 @@ pub record HasConflict (layout : Layout) (old new : PassView) : Type 0 where
   pub met : HasMetTaken layout new.number old.steps new.failed ⊎ IsOvertaken layout old new
   pub hindered : HasBeenHindered layout new.number old.seat new.seat
 
--- Why a call was refused. Busy: another pass was in its way. Full: it found each node record not free, or each leaf record with room for
--- its key, at that record's turn. None of these leaf records was its own. Of the node records those in `own` were, at most two for each
--- node that it had locked, and one.
+-- Why a call was refused. Busy: another pass was in its way. Full: it found each node record not free that it had known to be committed when
+-- it began, or each leaf record with room for its key before the first that it hadn't, at that record's turn. None of these leaf records was
+-- its own. Of the node records those in `own` were, at most two for each node that it had locked, and one.
 abbrev pub IsCause : (layout : Layout) (key : Key) (old new : PassView) (fault : TryFault) → Type 0
 IsCause layout key old new Busy = HasConflict layout old new
-IsCause layout key old new FullNodes = (own : List Rec) × LacksNodes layout new.number new.failed old.steps own
-IsCause layout key old new FullLeaves = LacksLeaves layout key new.number new.failed old.steps
+IsCause layout key old new FullNodes = (own : List Rec) × LacksNodes layout old.seat.bounds new.number new.failed old.steps own
+IsCause layout key old new FullLeaves = LacksLeaves layout old.seat.bounds key new.number new.failed old.steps
 
 -- After the first `place` changes of the front the key had the value `held`, or was absent. All that the pass had seen before the call are
 -- among these changes. So are all that were made before the pin of its last load of the root.

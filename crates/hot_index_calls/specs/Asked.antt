@@ -31,11 +31,11 @@ pub record HasReplied (table : TableView) (call : Call) (result : Result Reply T
   pub leafless : LacksNoLeaf FullLeaves call result
   pub loaded : old.known.steps ≤ new.known.fresh.step
 
--- If the call was refused for want of a node record, it found each node record not free when that record's turn came. The pass's own among
--- them were the node records of `made`. Of another result nothing is said.
+-- If the call was refused for want of a node record, it found each node record not free when that record's turn came, of those that it knew
+-- to be committed when it began. The pass's own among them were the node records of `made`. Of another result nothing is said.
 abbrev pub HasLacked : (table : TableView) (made : List Rec) (result : Result Reply TryFault) (old new : SeatView) → Type 0
 HasLacked table made result old new =
-    result ≡ Err FullNodes → LacksNodes table.layout new.known.pass new.known.failed old.known.steps (nodes_among made)
+    result ≡ Err FullNodes → LacksNodes table.layout old.bounds new.known.pass new.known.failed old.known.steps (nodes_among made)
 
 -- The pass has made a call with this result, by steps of which `Are` holds, and then one that clears its pin. With this last step comes the
 -- call's note, if the call was answered. The pass is between two calls again.

@@ -10,7 +10,7 @@ use Rattle.tries.specs.Keys.{Key}
 use Rattle.versions.specs.Core.{Fate, InTree, Unlinked, Marked}
 use Rattle.rowex_core.specs.Cores.{Core}
 use Rattle.publish_laws.specs.Lone.{IsLone}
-use Rattle.rowex_table.specs.Seats.{SeatView}
+use Rattle.rowex_table.specs.Seats.{HasAllCommitted, SeatView}
 use Rattle.rowex_writing.specs.declared.attempts.TryFault.{TryFault}
 use Rattle.rowex_writing.specs.declared.attempts.TryFault.TheVariants.{FullLeaves, FullNodes}
 
@@ -25,10 +25,11 @@ IsUsed fate = ⊥
 abbrev pub IsUsedAt : (layout : Layout) (seat : SeatView) (rec : Rec) → Type 0
 IsUsedAt layout seat rec = (core : Core) → IsLone layout seat core → IsUsed (core.fate rec)
 
--- Let a call be refused as full in an index of one pass. If it lacked a node record, each node record that is not in `own` is in the tree
--- or retired after the call. If it lacked a leaf record, each leaf record with room for the key is.
-pub record LeavesUsed (layout : Layout) (key : Key) (own : List Rec) (result : Result Reply TryFault) (seat : SeatView) : Type 0 where
-  pub nodes : layout.passes ≡ 1 → result ≡ Err FullNodes → (number : ℕ) → number < layout.nodes → ¬ (Contains own (a_node number)) →
-      IsUsedAt layout seat (a_node number)
-  pub leaves : layout.passes ≡ 1 → result ≡ Err FullLeaves → (number : ℕ) → number < layout.leaves → words_for (length key) ≤ leaf_size layout number →
-      IsUsedAt layout seat (a_leaf number)
+-- Let a call be refused as full in an index of one pass, all of whose records were committed at `old`. If it lacked a node record, each node
+-- record that is not in `own` is in the tree or retired after the call. If it lacked a leaf record, each leaf record with room for the key
+-- is.
+pub record LeavesUsed (layout : Layout) (key : Key) (own : List Rec) (result : Result Reply TryFault) (old new : SeatView) : Type 0 where
+  pub nodes : layout.passes ≡ 1 → HasAllCommitted old → result ≡ Err FullNodes → (number : ℕ) → number < layout.nodes →
+      ¬ (Contains own (a_node number)) → IsUsedAt layout new (a_node number)
+  pub leaves : layout.passes ≡ 1 → HasAllCommitted old → result ≡ Err FullLeaves → (number : ℕ) → number < layout.leaves →
+      words_for (length key) ≤ leaf_size layout number → IsUsedAt layout new (a_leaf number)

@@ -6,7 +6,7 @@ use Rattle.finite_map.specs.Maps.{key_of}
 use Rattle.record_words.specs.declared.TheConstants.{LARGE_BYTES, MEDIUM_BYTES, SHORT_BYTES, WIDE_BYTES}
 use Rattle.record_words.specs.declared.layout.Layout.{Layout}
 use Rattle.rowex_core.specs.declared.event.Event.{Event}
-use Rattle.rowex_table.specs.Seats.{TableView}
+use Rattle.rowex_table.specs.Seats.{HasAllCommitted, TableView}
 use Rattle.rowex_writing.specs.build.Changes.{LacksNodes}
 use Rattle.rowex_writing.specs.build.Spare.{IsRemoval}
 use Rattle.rowex_writing.specs.declared.attempts.TryFault.{TryFault}
@@ -90,12 +90,12 @@ as_tried (Err refusal) = Err (fault_in refusal)
 -- A try that lacked a record of the kind `lacks` needs `needs` of them. Of node records that is one more than it had claimed and given up,
 -- by its failed steps. Of leaf records nothing is said, since a change takes one.
 abbrev pub NeedsBeside : (layout : Layout) (old new : PassView) (lacks : Full) (needs : ℕ) → Type 0
-NeedsBeside layout old new Nodes needs = (own : List Rec) × LacksNodes layout new.number new.failed old.steps own × (needs ≡ suc (length own))
+NeedsBeside layout old new Nodes needs = (own : List Rec) × LacksNodes layout old.seat.bounds new.number new.failed old.steps own × (needs ≡ suc (length own))
 NeedsBeside layout old new Leaves needs = Unit {0}
 
 -- After a try, from `old` to `middle`, the records were counted, and the counts decide on the refusal (`IsRefusalByCounts`). In an index of
--- one pass no record is claimed or retired then, and fewer are free than the try needs. These two hold while epochs are not used up
--- (`IsEarly`).
+-- one pass no record is claimed or retired then. If all its records were committed before the try, fewer are free than it needs. These two
+-- hold while epochs are not used up (`IsEarly`).
 pub record IsCountedAfter {G : Type 0} (call : Call) (lacks : Full) (refusal : Refusal) (index : TableView) (becomes : G → Event → G → Type 0)
     (old middle new : PassView × G) : Type 0 where
   pub needs : ℕ
@@ -104,7 +104,7 @@ pub record IsCountedAfter {G : Type 0} (call : Call) (lacks : Full) (refusal : R
   pub counted : HasCounted index becomes middle new counts
   pub judged : IsRefusalByCounts index.layout.passes lacks needs (length (key_of call)) counts refusal
   pub alone : index.layout.passes ≡ 1 → IsEarly new.0.seat → AreAllAtRest counts
-  pub short : index.layout.passes ≡ 1 → IsEarly new.0.seat → IsShortOf lacks needs (length (key_of call)) counts
+  pub short : index.layout.passes ≡ 1 → IsEarly new.0.seat → HasAllCommitted old.0.seat → IsShortOf lacks needs (length (key_of call)) counts
 
 -- The call is a removal in an index of several passes. Insertions leave one node record for removals. So if a removal finds none free, it
 -- is held back: another call has that record, or keeps a retired one from reuse.

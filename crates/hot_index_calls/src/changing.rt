@@ -59,7 +59,7 @@ pub fn try_change<G: Gate>(
     ensures spares { KeepsSpare table.now.layout seat.old seat.new }
     ensures room { FindsRoom table.now.layout call.now result seat.old seat.new }
     ensures none { LeavesNoneRetired table.now.layout result seat.new }
-    ensures used { LeavesUsed table.now.layout (key_of call.now) (nodes_among scratch.new.build.made.items) result seat.new }
+    ensures used { LeavesUsed table.now.layout (key_of call.now) (nodes_among scratch.new.build.made.items) result seat.old seat.new }
 {
     collect_due(table, seat, gate, scratch);
     try_twice(table, seat, gate, scratch, call)
@@ -107,7 +107,7 @@ fn try_twice<G: Gate>(
     ensures spares { KeepsSpare table.now.layout seat.old seat.new }
     ensures room { FindsRoom table.now.layout call.now result seat.old seat.new }
     ensures none { LeavesNoneRetired table.now.layout result seat.new }
-    ensures used { LeavesUsed table.now.layout (key_of call.now) (nodes_among scratch.new.build.made.items) result seat.new }
+    ensures used { LeavesUsed table.now.layout (key_of call.now) (nodes_among scratch.new.build.made.items) result seat.old seat.new }
 {
     let first = make_attempt(table, seat, gate, scratch, call);
     let Some(lacks) = full_kind(first) else {
@@ -337,7 +337,7 @@ fn make_attempt<G: Gate>(
     ensures spares { KeepsSpare table.now.layout seat.old seat.new }
     ensures room { IsRemoval call.now → HasRoom table.now.layout seat.old → result ≢ Err FullNodes }
     ensures longer { length seat.old.trace ≤ length seat.new.trace }
-    ensures used { LeavesUsed table.now.layout (key_of call.now) (nodes_among scratch.new.build.made.items) result seat.new }
+    ensures used { LeavesUsed table.now.layout (key_of call.now) (nodes_among scratch.new.build.made.items) result seat.old seat.new }
 {
     pin(table, seat, gate);
     let outcome = attempt(

@@ -12,7 +12,7 @@ use record_words::{
 };
 use rowex_core::Rec;
 use rowex_reading::MOST_NODES;
-use rowex_writing::{Build, Full, Hint, Stretch};
+use rowex_writing::{Build, Full, Hint, NodeWalk, Stretch};
 use std::alloc::{AllocError, Global};
 use std::ops::Range;
 
@@ -428,7 +428,7 @@ fn new_build(
         made: BoundedVec::new(alloc)?,
         gone: BoundedVec::new(alloc)?,
         nodes: nodes.begin_claims(alloc, layout.nodes)?,
-        left_nodes: layout.nodes,
+        walk: NodeWalk::begin(layout.nodes, false),
         leaves: [
             leaves[0].begin_claims(alloc, layout.medium_from)?,
             leaves[1].begin_claims(alloc, layout.large_from.saturating_sub(layout.medium_from))?,

@@ -11,6 +11,9 @@ use Rattle.versions.specs.Trades.{AreApart}
 use Rattle.publish_laws.proofs.Lone.{lead_layout, lead_same}
 use Rattle.rowex_writing.specs.declared.attempts.TryFault.{TryFault}
 use Rattle.rowex_writing.specs.declared.plan.Full.{Full}
+use Rattle.record_words.specs.Layout.{uncommitted_in}
+use Rattle.rowex_table.specs.Seats.{HasAllCommitted}
+use Rattle.rowex_table.proofs.Committed.{all_committed}
 use Rattle.hot_index_calls.specs.Alone.{HoldsNone, RunsAlone}
 use Rattle.hot_index_calls.specs.Calls.{IsTried, MakesTries, AreTriesRefused}
 use Rattle.hot_index_calls.specs.Passes.{pass_of}
@@ -99,12 +102,12 @@ free_from c kind first count many =
 
 -- ---- where no record is lost
 -- enough are free beside those that the keys need
-enough_beside : (c : Core) (layout : Layout) (call : Call) → c.layout ≡ layout → NoneIsLost c → HasRoomBeside layout (number_of_keys c) call → HasEnoughFree call c
-enough_beside c layout call lay none room = record {
+enough_beside : (c : Core) (layout : Layout) (call : Call) (s : SeatView) → HasAllCommitted s → c.layout ≡ layout → NoneIsLost c → HasRoomBeside layout (number_of_keys c) call → HasEnoughFree call s.bounds c
+enough_beside c layout call s committed lay none room = record {
   nodes = record {
     nodes = all.numbers;
     apart = all.apart;
-    free = λ n there. (let (low, high, free) = all.free n there in (omega (arith, high), free));
+    free = λ n there. (let (low, high, free) = all.free n there in (omega (arith, high), free, all_committed c.layout (uncommitted_in s.bounds) (a_node n) committed (omega (arith, high))));
     enough = ⊎_elim (λ (many : 4322 + number_of_keys c ≤ layout.nodes). inl (let lost = none.nodes in let size = all.many in omega (arith, many, lost, size, nodes)))
         (λ (many : 3 * number_of_keys c + 2 ≤ layout.nodes). inr (let lost = none.nodes in let size = all.many in omega (arith, many, lost, size, nodes))) room.nodes;
   };
@@ -117,7 +120,7 @@ enough_beside c layout call lay none room = record {
     nodes : c.layout.nodes ≡ layout.nodes
     nodes = ap (λ (l : Layout). l.nodes) lay
 
-    leaf : HasLeavesBeside layout (number_of_keys c) (length (key_of call)) → HasFreeLeaf c (key_of call)
+    leaf : HasLeavesBeside layout (number_of_keys c) (length (key_of call)) → HasFreeLeaf s.bounds c (key_of call)
     leaf beside =
         let sum = none.leaves in
         let more = beside.more in
@@ -128,6 +131,7 @@ enough_beside c layout call lay none room = record {
           low = high;
           room = subst (λ (l : Layout). words_for (length (key_of call)) ≤ leaf_size l i) (sym lay) (beside.room i low (omega (arith, high, leaves)));
           free = free;
+          committed = λ q upto has. all_committed c.layout (uncommitted_in s.bounds) (a_leaf q) committed (omega (arith, high, upto));
         }
 
 -- ---- one pass goes on alone
@@ -165,11 +169,11 @@ alone_behind layout q s m t alone d led (more, is, own) = (
 
 -- a call of one of idle passes is alone, and begins where their run leads
 enough_alone : (index : TableView) (run : List Event) (call : Call) (s t : SeatView) (q : ℕ) → s.known.pass ≡ q → GoesOnAlone index run s t →
-    LeadsTo index run (HasEnoughFree call) →
-    (alone : RunsAlone index.layout q s t) × HasEnoughFree call alone.core
+    LeadsTo index run (HasEnoughFree call s.bounds) →
+    (alone : RunsAlone index.layout q s t) × HasEnoughFree call s.bounds alone.core
 enough_alone index run call s t q pass on enough =
     let (alone, same) = alone_behind_run index run s t on in
-    subst (λ p. (first : RunsAlone index.layout p s t) × HasEnoughFree call first.core) pass
+    subst (λ p. (first : RunsAlone index.layout p s t) × HasEnoughFree call s.bounds first.core) pass
     (alone, enough alone.core (subst (λ l. EventsLead (opening index.layout) l alone.core) same alone.led))
 
 -- a settled pass's calls are legal
@@ -190,7 +194,7 @@ module _ {G : Type 0} (becomes : G → Event → G → Type 0) where
   starts_settled index run a b on = subst (λ (z : SeatView). IsSettled z.known) on.seat_is (on.idle.settled a.known.pass on.pass)
 
   reply : (index : TableView) (run : List Event) (call : Call) (result : Result Reply TryFault) (a b : PassView × G) → GoesOnAlone index run a.0.seat b.0.seat →
-      LeadsTo index run (HasEnoughFree call) →
+      LeadsTo index run (HasEnoughFree call a.0.seat.bounds) →
       IsTried call result index becomes a b → IsOk result
   reply index run call result a b on enough tried =
       let begins = tried.made.begins in
@@ -199,7 +203,7 @@ module _ {G : Type 0} (becomes : G → Event → G → Type 0) where
       (alone_changes_end becomes).reply index call result a b tried (settled_legal a.0 begins (starts_settled index run a.0.seat b.0.seat on)) alone has
 
   once : (index : TableView) (run : List Event) (call : Call) (result : Result Reply Full) (a b : PassView × G) → GoesOnAlone index run a.0.seat b.0.seat →
-      LeadsTo index run (HasEnoughFree call) →
+      LeadsTo index run (HasEnoughFree call a.0.seat.bounds) →
       (tries : MakesTries call result index becomes a b) → (tries.refusals ≡ []) × IsOk result
   once index run call result a b on enough tries =
       let begins = tries_begin index call result a b tries in
@@ -209,21 +213,21 @@ module _ {G : Type 0} (becomes : G → Event → G → Type 0) where
 
   after_round : (index : TableView) (run : List Event) (call : Call) (result : Result Reply Full) (a m b : PassView × G) (nodes leaves : ℕ) →
       GoesOnAlone index run a.0.seat m.0.seat → length run + 2 < EPOCHS →
-      HasCollected index becomes a m nodes leaves → IsSettled m.0.seat.known → LeadsTo index m.0.seat.trace
+      HasCollected index becomes a m nodes leaves → IsSettled m.0.seat.known → HasAllCommitted m.0.seat → LeadsTo index m.0.seat.trace
       (λ core. HasRoomBeside index.layout (number_of_keys core) call) →
       StepsAlone m.0.number m.0.seat.trace b.0.seat.trace → (tries : MakesTries call result index becomes m b) → (tries.refusals ≡ []) × IsOk result
-  after_round index run call result a m b nodes leaves on early collected settled room behind tries =
+  after_round index run call result a m b nodes leaves on early collected settled committed room behind tries =
       let r = collected.round in
       let (d, led) = (steps_are_in_one_run becomes index (round_acts index becomes r) (a.0.seat, a.1) (m.0.seat, m.1) r.does.steps).run (inr (λ e. absurd cc)) in
       let lay = lead_layout (opening index.layout) m.0.seat.trace d led in
-      let enough = enough_beside d index.layout call lay ((no_record_is_lost becomes).round index run a m nodes leaves on early collected d led) (room d led) in
+      let enough = enough_beside d index.layout call m.0.seat committed lay ((no_record_is_lost becomes).round index run a m nodes leaves on early collected d led) (room d led) in
       let begins = tries_begin index call result m b tries in
       let number : m.0.number ≡ a.0.seat.known.pass =
       ap (λ (z : PassView). z.number) begins ∙ (runs_same index becomes (round_acts index becomes r) (a.0.seat, a.1) (m.0.seat, m.1) r.does.steps).2 in
       let first = (alone_behind_run index run a.0.seat m.0.seat on).0 in
       let (rest, same) = alone_behind index.layout m.0.number a.0.seat m.0.seat b.0.seat (subst (λ q. RunsAlone index.layout q a.0.seat m.0.seat) (sym number) first) d
       led behind in
-      (alone_changes_end becomes).once index call result m b tries (settled_legal m.0 begins settled) rest (subst (HasEnoughFree call) (sym same) enough)
+      (alone_changes_end becomes).once index call result m b tries (settled_legal m.0 begins settled) rest (subst (HasEnoughFree call m.0.seat.bounds) (sym same) enough)
 
   pub idle_changes_end : IdleChangesEnd becomes
   idle_changes_end = record { reply = reply; once = once; after_round = after_round }

@@ -8,7 +8,7 @@ use Rattle.record_words.specs.declared.layout.Layout.{Layout}
 use Rattle.record_words.specs.Layout.{leaf_size}
 use Rattle.record_words.specs.Leaf.{words_for}
 use Rattle.rowex_core.specs.declared.event.Event.{Event}
-use Rattle.rowex_table.specs.Seats.{TableView}
+use Rattle.rowex_table.specs.Seats.{HasAllCommitted, TableView}
 use Rattle.rowex_writing.specs.declared.attempts.TryFault.{TryFault}
 use Rattle.rowex_writing.specs.declared.plan.Full.{Full}
 use Rattle.hot_index_calls.specs.Calls.{IsTried, MakesTries}
@@ -35,17 +35,17 @@ pub record HasRoomBeside (layout : Layout) (keys : ℕ) (call : Call) : Type 0 w
 pub record IdleChangesEnd {G : Type 0} (becomes : G → Event → G → Type 0) : Type 0 where
   -- a change that doesn't wait
   pub reply : (index : TableView) (run : List Event) (call : Call) (result : Result Reply TryFault) (before later : PassView × G) →
-      GoesOnAlone index run before.0.seat later.0.seat → LeadsTo index run (HasEnoughFree call) → IsTried call result index becomes before later →
+      GoesOnAlone index run before.0.seat later.0.seat → LeadsTo index run (HasEnoughFree call before.0.seat.bounds) → IsTried call result index becomes before later →
       IsOk result
   -- a change that waits
   pub once : (index : TableView) (run : List Event) (call : Call) (result : Result Reply Full) (before later : PassView × G) →
-      GoesOnAlone index run before.0.seat later.0.seat → LeadsTo index run (HasEnoughFree call) →
+      GoesOnAlone index run before.0.seat later.0.seat → LeadsTo index run (HasEnoughFree call before.0.seat.bounds) →
       (tries : MakesTries call result index becomes before later) → (tries.refusals ≡ []) × IsOk result
-  -- A change that waits, after a round of collection by the same pass. Few enough keys are held, by the layout (`HasRoomBeside`). Fewer steps
-  -- have been made than there are epochs.
+  -- A change that waits, after a round of collection by the same pass. Few enough keys are held, by the layout (`HasRoomBeside`), and all
+  -- records are committed. Fewer steps have been made than there are epochs.
   pub after_round : (index : TableView) (run : List Event) (call : Call) (result : Result Reply Full) (before middle later : PassView × G)
       (nodes leaves : ℕ) → GoesOnAlone index run before.0.seat middle.0.seat → length run + 2 < EPOCHS →
-      HasCollected index becomes before middle nodes leaves → IsSettled middle.0.seat.known →
+      HasCollected index becomes before middle nodes leaves → IsSettled middle.0.seat.known → HasAllCommitted middle.0.seat →
       LeadsTo index middle.0.seat.trace (λ core. HasRoomBeside index.layout (number_of_keys core) call) →
       StepsAlone middle.0.number middle.0.seat.trace later.0.seat.trace →
       (tries : MakesTries call result index becomes middle later) → (tries.refusals ≡ []) × IsOk result

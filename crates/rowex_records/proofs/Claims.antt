@@ -1,8 +1,10 @@
 -- What claims of records come to.
 pub mod Making
-use Rattle.rowex_records.proofs.Common.{◌≡◌, ◌≢◌, ℕ, zero, suc, ◌+◌, ◌-◌, ◌<◌, ◌≤◌, min, inl, inr, List, [], ◌∷◌, ◌++◌, length, Option, Bool, true, false, nat_lt, nat_eq, if◌then◌else◌, refl, sym, ap, subst, ◌∙◌, arith, add-zero, length-append, All, Contains, IfNone, IfSome, MatchOption, Some, None, eqb-true, eqb-false, ltb-true, ltb-false, lt-ltb, le-ltb, All-contains, All-head, All-tail, All-weaker, Layout, Rec, a_node, IsOneOf, Fate, Free, HeldBy, ReadyBy, InTree, Unlinked, Marked, Act, Claim, LoadState, Event, a_claim, a_lock, a_load, Holding, Held, IsReady, IsUnlinked, Known, Owned, Core, HasRecord, IsLawful, holder_of, word_of, IsLocked, IsOwned, fate_of, Knows, claim_learned, failed_with, knows_all, OwnsAs, IsClaimed, Steps, Does, TableView, SeatView, in_turn_more, does_count}
+use Rattle.rowex_records.proofs.Common.{a_leaf, ◌≡◌, ◌≢◌, ℕ, zero, suc, ◌+◌, ◌-◌, ◌<◌, ◌≤◌, min, inl, inr, List, [], ◌∷◌, ◌++◌, length, Option, Bool, true, false, nat_lt, nat_eq, if◌then◌else◌, refl, sym, ap, subst, ◌∙◌, arith, add-zero, length-append, All, Contains, IfNone, IfSome, MatchOption, Some, None, eqb-true, eqb-false, ltb-true, ltb-false, lt-ltb, le-ltb, All-contains, All-head, All-tail, All-weaker, Layout, Rec, a_node, IsOneOf, Fate, Free, HeldBy, ReadyBy, InTree, Unlinked, Marked, Act, Claim, LoadState, Event, a_claim, a_lock, a_load, Holding, Held, IsReady, IsUnlinked, Known, Owned, Core, HasRecord, IsLawful, holder_of, word_of, IsLocked, IsOwned, fate_of, Knows, claim_learned, failed_with, knows_all, OwnsAs, IsClaimed, Steps, Does, TableView, SeatView, in_turn_more, does_count}
 use Rattle.std.specs.Prelude.{map}
-use Rattle.record_words.specs.Layout.{leaf_size, leaf_start}
+use Rattle.record_words.specs.Layout.{leaf_size, leaf_start, uncommitted_in}
+use Rattle.rowex_table.specs.Committed.{AtMost}
+use Rattle.rowex_table.proofs.Committed.{committed_falls}
 use Rattle.record_words.specs.State.{state_word}
 use Rattle.versions.proofs.Trades.{all_of, map_of, of_map}
 use Rattle.rowex_core.specs.declared.known.Failed.{Failed}
@@ -14,7 +16,7 @@ use Rattle.rowex_table.specs.Rule.{IsStartOf}
 use Rattle.rowex_core.proofs.Words.{free_tag}
 use Rattle.rowex_records.specs.declared.claiming.RecordKind.{RecordKind}
 use Rattle.rowex_records.specs.declared.claiming.RecordKind.TheVariants.{Node, Leaf}
-use Rattle.rowex_records.specs.Claims.{claiming, begin_of, count_of, record_of, wrapped, HasIndex, IsKindOf, Misses, IsAnothers, IsAnothersTo, TellsState, HasMissedSince, records_had, MissesOne, HoldsOneMore, ClaimsOne, FindsNone, Claims, AllMissed, GoesOnBehind, GoesOnTrying, TriesSome}
+use Rattle.rowex_records.specs.Claims.{AreCommittedUpTo, claiming, begin_of, count_of, record_of, wrapped, HasIndex, IsKindOf, Misses, IsAnothers, IsAnothersTo, TellsState, HasMissedSince, records_had, MissesOne, HoldsOneMore, ClaimsOne, FindsNone, Claims, AllMissed, GoesOnBehind, GoesOnTrying, TriesSome}
 use Rattle.rowex_records.specs.Starts.{IsSpan, first_word}
 use Rattle.rowex_records.proofs.Claims.Making.{counted, claims_nothing, claims_one, looks_one, claims_append}
 
@@ -201,6 +203,10 @@ missed_earlier Whose missed r since later low (step, late, has) = (step, omega a
 -- where each was found not free since a later step, it was since an earlier one
 pub all_earlier : (Whose : Rec → Option ℕ → Type 0) (kind : ℕ → Rec) (n : ℕ) (failed : List Failed) (since later : ℕ) → since ≤ later → AllMissed Whose kind n failed later → AllMissed Whose kind n failed since
 all_earlier Whose kind n failed since later low all q below = missed_earlier Whose failed (kind q) since later low (all q below)
+
+-- what is committed up to a record by some bounds is so by no greater ones
+pub upto_falls : (layout : Layout) (few many : List ℕ) (words number : ℕ) → AtMost (uncommitted_in few) (uncommitted_in many) → AreCommittedUpTo layout many words number → AreCommittedUpTo layout few words number
+upto_falls layout few many words number falls upto = λ other low room. committed_falls layout (uncommitted_in few) (uncommitted_in many) (a_leaf other) falls (upto other low room)
 
 -- a record that is claimed is held,
 pub more_is_claimed : (r : Rec) (k j : Known) → HoldsOneMore r k j → IsClaimed j r

@@ -202,9 +202,22 @@ GoesOnBehind {G = G} table becomes kind begin most result old new =
 abbrev pub AllMissed : (Whose : Rec → Option ℕ → Type 0) → (kind : ℕ → Rec) → (count : ℕ) → (failed : List Failed) → (since : ℕ) → Type 0
 AllMissed Whose kind count failed since = (number : ℕ) → number < count → HasMissedSince Whose failed (kind number) since
 
--- Failed steps of number `since` or later found each leaf record of at least `words` words not free. `Whose` holds of each record and of
--- the owner that was found, if there is one.
-abbrev pub AllMissedFrom : (Whose : Rec → Option ℕ → Type 0) → (layout : Layout) → (words : ℕ) → (failed : List Failed) → (since : ℕ) →
-    Type 0
-AllMissedFrom Whose layout words failed since =
-    (number : ℕ) → number < layout.leaves → words ≤ leaf_size layout number → HasMissedSince Whose failed (a_leaf number) since
+-- Failed steps of number `since` or later found each record of the kind not free that is committed by these bounds, of the first `count`
+-- ones. `Whose` holds of each record and of the owner that was found, if there is one.
+abbrev pub AllCommittedMissed : (Whose : Rec → Option ℕ → Type 0) → (layout : Layout) → (bounds : List ℕ) → (kind : ℕ → Rec) → (count : ℕ) →
+    (failed : List Failed) → (since : ℕ) → Type 0
+AllCommittedMissed Whose layout bounds kind count failed since =
+    (number : ℕ) → number < count → IsCommitted layout (uncommitted_in bounds) (kind number) → HasMissedSince Whose failed (kind number) since
+
+-- By these bounds each leaf record of at least `words` words up to this number is committed, with the one that has it.
+abbrev pub AreCommittedUpTo : (layout : Layout) → (bounds : List ℕ) → (words number : ℕ) → Type 0
+AreCommittedUpTo layout bounds words number =
+    (other : ℕ) → other ≤ number → words ≤ leaf_size layout other → IsCommitted layout (uncommitted_in bounds) (a_leaf other)
+
+-- Failed steps of number `since` or later found leaf records of at least `words` words not free: each before the first of them that isn't
+-- committed by these bounds. `Whose` holds of each record and of the owner that was found, if there is one.
+abbrev pub AllMissedFrom : (Whose : Rec → Option ℕ → Type 0) → (layout : Layout) → (bounds : List ℕ) → (words : ℕ) → (failed : List Failed) →
+    (since : ℕ) → Type 0
+AllMissedFrom Whose layout bounds words failed since =
+    (number : ℕ) → number < layout.leaves → words ≤ leaf_size layout number → AreCommittedUpTo layout bounds words number →
+    HasMissedSince Whose failed (a_leaf number) since

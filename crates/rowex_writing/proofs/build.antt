@@ -10,3 +10,4 @@ pub mod Growths
 pub mod Counts
 pub mod Walks
 pub mod Spare
+pub mod Passing

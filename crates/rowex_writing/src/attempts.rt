@@ -100,7 +100,7 @@ pub fn attempt<G: Gate>(
     ensures loaded { HasLoadedRoot seat.old.known seat.new.known }
     ensures rest { IsAtRest seat.new.known }
     ensures answered { IfOk result (HasAnswered seat.old.known seat.new.known call.now) }
-    ensures refused { IfErr result (HasRefused table.now.layout (the_key call.now) seat.old.known seat.new.known build.new.made.items) }
+    ensures refused { IfErr result (HasRefused table.now.layout seat.old.bounds (the_key call.now) seat.old.known seat.new.known build.new.made.items) }
     ensures leafless { LacksNoLeaf TryFault.FullLeaves call.now result }
     ensures full { IfErr result (IsFullOnlyIfWanting seat.new.known call.now) }
     ensures few { seat.new.known.steps ≤ seat.old.known.steps + most_steps_of call.now table.now.layout }
@@ -166,7 +166,7 @@ fn try_plan<G: Gate>(
     ensures done { IfOk result (λ now. HasFoundOther seat.old.known seat.new.known call.now job.now.key.now now ⊎ (IsFoundAgain call.now job.now.found now ×
         HasDoneDeed seat.old.known seat.new.known job.now.deed job.now.key.now (the_value_in call.now (the_value now)) now)) }
     ensures refused { IfErr result (λ fault. (k : Known) → HasLoadedRoot k seat.old.known → IsLater k seat.old.known →
-        HasRefused table.now.layout job.now.key.now k seat.new.known build.new.made.items fault) }
+        HasRefused table.now.layout seat.old.bounds job.now.key.now k seat.new.known build.new.made.items fault) }
     ensures later { IfErr result (λ fault. IsLater seat.old.known seat.new.known) }
     ensures whole { job.now.deed ≡ Deed.Value → IfErr result (λ fault. fault ≡ TryFault.Busy) }
     ensures short { job.now.deed ≡ Deed.Value → seat.new.known.steps ≤ seat.old.known.steps + value_steps }
@@ -215,7 +215,7 @@ fn change_span<G: Gate>(
     requires loaded { HasLoadedFound seat.old.known job.now.found }
     ensures run { EndsChange table.now G.becomes job.now (held_loads job.now.found) (seat.old, gate.old) (seat.new, gate.new) }
     ensures done { result ≡ Ok tt → HasDoneDeed seat.old.known seat.new.known job.now.deed job.now.key.now job.now.value job.now.found }
-    ensures failed { IfErr result (HasFailed table.now.layout job.now seat.old.known seat.new.known build.new.made.items) }
+    ensures failed { IfErr result (HasFailed table.now.layout seat.old.bounds job.now seat.old.known seat.new.known build.new.made.items) }
     ensures whole { job.now.deed ≡ Deed.Value → result ≡ Ok tt }
     ensures short { job.now.deed ≡ Deed.Value → seat.new.known.steps ≤ seat.old.known.steps + 2 + locks_of job.now.span }
     ensures leafless { TakesLeaf job.now.deed → result ≢ Err TryFault.FullLeaves }
@@ -263,7 +263,7 @@ fn make_removal<G: Gate>(
     requires loaded { HasLoadedFound seat.old.known job.now.found }
     ensures run { HasChangeStepsAfterTries table.now G.becomes (span_numbers job.now.way.now job.now.span) 1 (seat.old, gate.old) (seat.new, gate.new) }
     ensures done { result ≡ Ok tt → HasDoneDeed seat.old.known seat.new.known Take job.now.key.now job.now.value job.now.found }
-    ensures failed { IfErr result (HasFailed table.now.layout job.now seat.old.known seat.new.known build.new.made.items) }
+    ensures failed { IfErr result (HasFailed table.now.layout seat.old.bounds job.now seat.old.known seat.new.known build.new.made.items) }
     ensures leafless { result ≢ Err TryFault.FullLeaves }
     ensures spares { KeepsSpare table.now.layout seat.old seat.new }
     ensures finds { HasRoom table.now.layout seat.old → result ≢ Err TryFault.FullNodes }
@@ -311,11 +311,11 @@ fn end_removal<G: Gate>(
     requires claimed { HasClaimed table.now seat.old.known left.now.number }
     requires left { IsLeftOfNode seat.old.known job.now left.now.words }
     requires loaded { HasLoadedFound seat.old.known job.now.found }
-    ensures tries { HasFewStepsAfterTries table.now G.becomes (span_numbers job.now.way.now job.now.span) build.old.left_nodes (84 + 2 * NODE_FIELDS)
+    ensures tries { HasFewStepsAfterTries table.now G.becomes (span_numbers job.now.way.now job.now.span) build.old.walk.left (84 + 2 * NODE_FIELDS)
         (seat.old, gate.old) (seat.new, gate.new) }
     ensures done { result ≡ Ok tt → HasDoneDeed seat.old.known seat.new.known Take job.now.key.now job.now.value job.now.found }
     ensures failed { IfErr result (λ fault. (fault ≡ TryFault.Busy) ×
-        HasFailed table.now.layout job.now seat.old.known seat.new.known build.new.made.items fault) }
+        HasFailed table.now.layout seat.old.bounds job.now seat.old.known seat.new.known build.new.made.items fault) }
     ensures spares { KeepsSpare table.now.layout seat.old seat.new }
 {
     let Some(merge) = find_merge(table, seat, gate, job, left) else {
@@ -349,7 +349,7 @@ fn publish_or_undo<G: Gate>(
     ensures run { HasRun table.now G.becomes (seat.old, gate.old) (seat.new, gate.new) }
     ensures changed { result ≡ Ok tt → (x : Change) (was : Option ℕ) → MayReplace table.now seat.old build.old.made.items job.now raised x was →
         HasChanged seat.old.known seat.new.known x was }
-    ensures failed { IfErr result (λ fault. (fault ≡ TryFault.Busy) × HasFailed table.now.layout job.now seat.old.known seat.new.known build.new.made.items fault) }
+    ensures failed { IfErr result (λ fault. (fault ≡ TryFault.Busy) × HasFailed table.now.layout seat.old.bounds job.now seat.old.known seat.new.known build.new.made.items fault) }
     ensures few { seat.new.known.steps ≤
         seat.old.known.steps + held_loads job.now.found + length build.old.made.items + length (leaf_gone raised.leaf) + locks_of job.now.span + 3 }
     ensures spares { job.now.span.end < raised.low → KeepsSpare table.now.layout seat.old seat.new }

@@ -65,5 +65,5 @@ mod store;
 
 pub use attempts::{TryFault, attempt};
 pub use build::hints::{Hint, Stretch};
-pub use build::kept::Build;
+pub use build::kept::{Build, NodeWalk};
 pub use plan::Full;

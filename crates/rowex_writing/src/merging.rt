@@ -76,7 +76,7 @@ pub(crate) fn try_merge<G: Gate>(
     requires beside { IsNeighbour seat.old.known job.now merge.now }
     requires claimed { HasClaimed table.now seat.old.known merge.now.left.now.number }
     requires left { IsLeftOfNode seat.old.known job.now merge.now.left.now.words }
-    ensures tries { HasFewStepsAfterTries table.now G.becomes (span_numbers job.now.way.now job.now.span) build.old.left_nodes 53
+    ensures tries { HasFewStepsAfterTries table.now G.becomes (span_numbers job.now.way.now job.now.span) build.old.walk.left 53
         (seat.old, gate.old) (seat.new, gate.new) }
     ensures done { result ≡ true → HasDoneDeed seat.old.known seat.new.known Take job.now.key.now job.now.value job.now.found }
     ensures later { result ≡ false → IsLater seat.old.known seat.new.known × IsSeatOf table.now seat.new × IsPossible table.now.layout seat.new.known }
@@ -160,7 +160,7 @@ fn merge_under_locks<G: Gate>(
     ensures same { result ≡ false → (w : HasWiderLocks table.now seat.old job.now merge.now.number) →
         (seat.new.known.locks ≡ w.taking.before.known.locks) × (seat.new.known.anchor ≡ w.taking.before.known.anchor) ×
         HasClaimed table.now seat.new.known merge.now.left.now.number }
-    ensures few { seat.new.known.steps ≤ seat.old.known.steps + 2 * build.old.left_nodes + 500 }
+    ensures few { seat.new.known.steps ≤ seat.old.known.steps + 2 * build.old.walk.left + 500 }
     ensures spares { KeepsSpare table.now.layout seat.old seat.new }
 {
     if let Some(entry) = make_merge_records(table, seat, gate, build, job, merge) {
@@ -190,7 +190,7 @@ fn make_merge_records<G: Gate>(
     ensures goes { WorksOn table.now G.becomes (seat.old, gate.old) (seat.new, gate.new) }
     ensures may { IfSome result (λ e. MayMergeInto table.now seat.new build.new.made.items job.now merge.now.number e) }
     ensures same { result ≡ None → HasClaimed table.now seat.new.known merge.now.left.now.number }
-    ensures few { seat.new.known.steps ≤ seat.old.known.steps + 2 * build.old.left_nodes + 420 }
+    ensures few { seat.new.known.steps ≤ seat.old.known.steps + 2 * build.old.walk.left + 420 }
 {
     let joined = merge_siblings(table, seat, gate, job, merge)?;
     let number = merge.left.number;
@@ -273,7 +273,7 @@ fn raise_closed_fork<G: Gate>(
     ensures height { IfSome result HasHeight }
     ensures same { result ≡ None → (seat.new.known.own ≡ seat.old.known.own) × (build.new.made.items ≡ build.old.made.items) }
     ensures more { length build.new.made.items ≤ length build.old.made.items + 1 }
-    ensures few { seat.new.known.steps ≤ seat.old.known.steps + 2 * build.old.left_nodes + 180 }
+    ensures few { seat.new.known.steps ≤ seat.old.known.steps + 2 * build.old.walk.left + 180 }
 {
     let mut words = [0; NODE_FIELDS];
     load_locked_node_words(table, seat, gate, fork.step.number, &mut words);

@@ -5,7 +5,11 @@ use Rattle.versions.proofs.Trades.{all_of, map_of}
 use Rattle.rowex_core.specs.declared.known.Failed.{Failed}
 use Rattle.rowex_core.specs.declared.known.FailedAct.{FailedAct}
 use Rattle.rowex_core.specs.declared.known.FailedAct.TheVariants.{Claim as a_claim, Lock as a_lock, LoadState as a_load}
-use Rattle.rowex_records.specs.Claims.{AllMissed, HasMissedSince, IsAnothers, TellsState}
+use Rattle.record_words.specs.Layout.{uncommitted_in}
+use Rattle.rowex_table.specs.Committed.{IsCommitted}
+use Rattle.rowex_table.specs.Seats.{HasAllCommitted}
+use Rattle.rowex_table.proofs.Committed.{all_committed}
+use Rattle.rowex_records.specs.Claims.{AllCommittedMissed, HasMissedSince, IsAnothers, TellsState}
 use Rattle.rowex_records.proofs.Claims.{missed_so}
 use Rattle.rowex_writing.specs.build.Changes.{LacksNodes}
 use Rattle.hot_index_calls.proofs.Lacked.{without_one}
@@ -88,36 +92,41 @@ taken_but Taken (suc n) own each = ⊎_elim
     other q low rest keep (inl taken) = inl taken
     other q low rest keep (inr has) = inr (keep (a_node q) (λ e. let same : q ≡ n = cc in omega (arith, low, same)) has)
 
-module _ (layout : Layout) (k j : PassView) (one : layout.passes ≡ 1) (mine : j.number < layout.passes) (own : List Rec) (l : LacksNodes layout j.number j.failed k.steps own) where
-  missed : AllMissed (λ r by. IsNobodys r by ⊎ Contains own r) a_node layout.nodes j.failed k.steps
-  missed q low =
-      missed_so (IsAnothers layout j.number own l.locked) (λ r by. IsNobodys r by ⊎ Contains own r) j.failed (a_node q) k.steps (λ by. alone layout j.number own l.locked (a_node q) by one mine) (l.missed q low)
+module _ (layout : Layout) (k j : PassView) (one : layout.passes ≡ 1) (mine : j.number < layout.passes) (own : List Rec) (l : LacksNodes layout k.seat.bounds j.number j.failed k.steps own) where
+  missed : AllCommittedMissed (λ r by. IsNobodys r by ⊎ Contains own r) layout k.seat.bounds a_node layout.nodes j.failed k.steps
+  missed q low committed =
+      missed_so (IsAnothers layout j.number own l.locked) (λ r by. IsNobodys r by ⊎ Contains own r) j.failed (a_node q) k.steps (λ by. alone layout j.number own l.locked (a_node q) by one mine) (l.missed q low committed)
 
   abbrev Taken : ℕ → Type 0
   Taken n = HasMissedSince IsNobodys j.failed (a_node n) k.steps
 
-  all_taken : AreTaken Taken layout.nodes (length own)
-  all_taken = taken_but Taken layout.nodes own (λ q low. nobodys_or_own own j.failed (a_node q) k.steps (missed q low))
+  module _ (all : HasAllCommitted k.seat) where
+    committed : (n : ℕ) → n < layout.nodes → IsCommitted layout (uncommitted_in k.seat.bounds) (a_node n)
+    committed n low = all_committed layout (uncommitted_in k.seat.bounds) (a_node n) all low
 
-  third_is_taken : ThirdIsTaken layout k j
-  third_is_taken = ⊎_elim
-      (λ (fewer : length all_taken.nodes < length l.locked). record {
-        nodes = l.locked;
-        apart = l.apart;
-        many = (let many = all_taken.many in let few = l.few in omega arith);
-        each = λ n there. (let low = all_of (λ n. n < layout.nodes) n l.locked l.low there in
-            (low, missed_so (IsAnothers layout j.number own l.locked) IsNobodys j.failed (a_node n) k.steps (λ by. locked_nobodys layout j.number own l.locked n by there) (l.missed n low)));
-      })
-      (λ (more : length l.locked ≤ length all_taken.nodes). record {
-        nodes = all_taken.nodes;
-        apart = all_taken.apart;
-        many = (let many = all_taken.many in let few = l.few in omega arith);
-        each = all_taken.each;
-      })
-      (cases_lt (length all_taken.nodes) (length l.locked))
+    all_taken : AreTaken Taken layout.nodes (length own)
+    all_taken = taken_but Taken layout.nodes own (λ q low. nobodys_or_own own j.failed (a_node q) k.steps (missed q low (committed q low)))
+
+    third_is_taken : ThirdIsTaken layout k j
+    third_is_taken = ⊎_elim
+        (λ (fewer : length all_taken.nodes < length l.locked). record {
+          nodes = l.locked;
+          apart = l.apart;
+          many = (let many = all_taken.many in let few = l.few in omega arith);
+          each = λ n there. (let low = all_of (λ n. n < layout.nodes) n l.locked l.low there in
+              (low, missed_so (IsAnothers layout j.number own l.locked) IsNobodys j.failed (a_node n) k.steps (λ by. locked_nobodys layout j.number own l.locked n by there) (l.missed n low (committed n low))));
+        })
+        (λ (more : length l.locked ≤ length all_taken.nodes). record {
+          nodes = all_taken.nodes;
+          apart = all_taken.apart;
+          many = (let many = all_taken.many in let few = l.few in omega arith);
+          each = all_taken.each;
+        })
+        (cases_lt (length all_taken.nodes) (length l.locked))
 
 pub one_pass_full_means_taken : OnePassFullMeansTaken
 one_pass_full_means_taken layout key k j one mine = (
-  λ all q low room. missed_so (IsAnothers layout j.number [] []) IsNobodys j.failed (a_leaf q) k.steps (λ by. alone_with_none layout j.number (a_leaf q) by one mine) (all q low room),
-  λ lacks. (let (own, l) = lacks in (third_is_taken layout k j one mine own l, (own, (let few = l.few in let most = l.most in omega arith), missed layout k j one mine own l))),
+  λ all q low room upto. missed_so (IsAnothers layout j.number [] []) IsNobodys j.failed (a_leaf q) k.steps (λ by. alone_with_none layout j.number (a_leaf q) by one mine) (all q low room upto),
+  λ lacks. (let (own, l) = lacks in
+      (λ all. third_is_taken layout k j one mine own l all, (own, (let few = l.few in let most = l.most in omega arith), missed layout k j one mine own l))),
 )

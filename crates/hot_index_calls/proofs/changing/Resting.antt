@@ -1,5 +1,6 @@
 -- An attempt that does nothing, and what the one before it was refused for.
-use Rattle.hot_index_calls.proofs.Common.{◌≡◌, ℕ, ◌+◌, List, [], ◌∷◌, Option, None, Err, true, refl, sym, ap, subst, ◌∙◌, arith, Contains, false≢true, append-nil, All-nil, Note, LegalCalls, BeginsWith, ClearPin, Event, Layout, Key, Rec, a_leaf, Failed, Known, word_of, StepsWith, silent, TableView, SeatView, IsOfAttempt, Pins, HasMissedSince, IsAnothers, LacksLeaves, LacksNodes, AreAttemptSteps, IsOfSearch, TryFault, Busy, FullNodes, FullLeaves, Full, Nodes, Leaves, lacks_so, run_failed}
+use Rattle.hot_index_calls.proofs.Common.{le_refl, ◌≡◌, ℕ, ◌+◌, List, [], ◌∷◌, Option, None, Err, true, refl, sym, ap, subst, ◌∙◌, arith, Contains, false≢true, append-nil, All-nil, Note, LegalCalls, BeginsWith, ClearPin, Event, Layout, Key, Rec, a_leaf, Failed, Known, word_of, StepsWith, silent, TableView, SeatView, IsOfAttempt, Pins, HasMissedSince, IsAnothers, LacksLeaves, LacksNodes, AreAttemptSteps, IsOfSearch, TryFault, Busy, FullNodes, FullLeaves, Full, Nodes, Leaves, lacks_so, run_failed}
+use Rattle.record_words.specs.Layout.{uncommitted_in}
 use Rattle.hot_index_calls.specs.Answers.{IsCause, IsUnnoted, fault_of}
 use Rattle.hot_index_calls.specs.Passes.{AreByPasses, IsSettled, PassView, pass_of}
 use Rattle.hot_index_calls.specs.Traces.{HasEnded, IsAttempt, is_full}
@@ -69,16 +70,16 @@ module _ {G : Type 0} {table : TableView} {becomes : G → Event → G → Type 
       let x : Failed = record { act = act; location = word_of r 0; word = word; step = step } in
       (step, late, (act, word, tells, one, subst (λ (z : List Failed). Contains z x) (sym failed) (run_failed table becomes (round.first ∷ round.rest) b c round.does.steps x has)))
 
-  pub lacks_still : (own : List Rec) → LacksNodes table.layout b.0.known.pass b.0.known.failed k.steps own → LacksNodes table.layout d.0.known.pass d.0.known.failed k.steps own
-  lacks_still own l =
-      subst (λ q. LacksNodes table.layout q d.0.known.failed k.steps own) (sym same)
-      (lacks_so table.layout b.0.known.pass b.0.known.failed d.0.known.failed k.steps k.steps own l missed_still)
+  pub lacks_still : (bounds : List ℕ) (own : List Rec) → LacksNodes table.layout bounds b.0.known.pass b.0.known.failed k.steps own → LacksNodes table.layout bounds d.0.known.pass d.0.known.failed k.steps own
+  lacks_still bounds own l =
+      subst (λ q. LacksNodes table.layout bounds q d.0.known.failed k.steps own) (sym same)
+      (lacks_so table.layout bounds bounds b.0.known.pass b.0.known.failed d.0.known.failed k.steps k.steps own (λ kind. le_refl (uncommitted_in bounds kind)) l missed_still)
 
   pub cause_still : (fault : TryFault) → is_full (Err fault) ≡ true → IsCause table.layout key k (pass_of b.0) fault → IsCause table.layout key k (pass_of d.0) fault
   cause_still Busy full cause = absurd (false≢true full)
-  cause_still FullNodes full (own, l) = (own, lacks_still own l)
+  cause_still FullNodes full (own, l) = (own, lacks_still k.seat.bounds own l)
   cause_still FullLeaves full all =
-      subst (λ q. LacksLeaves table.layout key q d.0.known.failed k.steps) (sym same) (λ q low room. missed_still (IsAnothers table.layout b.0.known.pass [] []) (a_leaf q) (all q low room))
+      subst (λ q. LacksLeaves table.layout k.seat.bounds key q d.0.known.failed k.steps) (sym same) (λ q low room upto. missed_still (IsAnothers table.layout b.0.known.pass [] []) (a_leaf q) (all q low room upto))
 
 -- one that lacked these was refused as full
 pub lacked_full : (full : Full) → is_full (Err (fault_of full)) ≡ true

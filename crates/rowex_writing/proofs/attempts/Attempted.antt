@@ -133,19 +133,19 @@ tried_after table becomes e n a m p b searched reads planned (locks, tried, some
     (attempted table becomes a m b searched whole most low, attempted_few table becomes a m b searched whole most low)
 
 -- a failure since an earlier version
-pub failed_since : (layout : Layout) (job : Job) (a b c : Known) (made : List Rec) (fault : TryFault) → IsLater a b → fault ≡ Busy → HasFailed layout job b c made fault → HasFailed layout job a c made fault
-failed_since layout job a b c made Busy later is (rest, after, moved) = (rest, later_trans later after, λ m from. moved m (job_later layout a b m job later from))
-failed_since layout job a b c made FullNodes later is failed = absurd (cc)
-failed_since layout job a b c made FullLeaves later is failed = absurd (cc)
+module _ (layout : Layout) (few many : List ℕ) (job : Job) (a b c : Known) (made : List Rec) (later : IsLater a b) where
+  failed_since : (fault : TryFault) → fault ≡ Busy → HasFailed layout few job b c made fault → HasFailed layout many job a c made fault
+  failed_since Busy is (rest, after, moved) = (rest, later_trans later after, λ m from. moved m (job_later layout a b m job later from))
+  failed_since FullNodes is failed = absurd (cc)
+  failed_since FullLeaves is failed = absurd (cc)
 
-pub failed_before : (layout : Layout) (job : Job) (a b c : Known) (made : List Rec) (r : Result ⊤ TryFault) → IsLater a b → IfErr r (λ fault. (fault ≡ Busy) × HasFailed layout job b c made fault) → IfErr r (HasFailed layout job a c made)
-failed_before layout job a b c made (Ok x) _ h = tt
-failed_before layout job a b c made (Err fault) later h = failed_since layout job a b c made fault later h.0 h.1
+  pub failed_before : (r : Result ⊤ TryFault) → IfErr r (λ fault. (fault ≡ Busy) × HasFailed layout few job b c made fault) → IfErr r (HasFailed layout many job a c made)
+  failed_before (Ok x) h = tt
+  failed_before (Err fault) h = failed_since fault h.0 h.1
 
-pub busy_since : (layout : Layout) (job : Job) (a b c : Known) (made : List Rec) (r : Result ⊤ TryFault) → IsLater a b → IfErr r (λ fault. (fault ≡ Busy) × HasFailed layout job b c made fault) →
-    IfErr r (λ fault. (fault ≡ Busy) × HasFailed layout job a c made fault)
-busy_since layout job a b c made (Ok x) later h = tt
-busy_since layout job a b c made (Err fault) later (is, h) = (is, failed_since layout job a b c made fault later is h)
+  pub busy_since : (r : Result ⊤ TryFault) → IfErr r (λ fault. (fault ≡ Busy) × HasFailed layout few job b c made fault) → IfErr r (λ fault. (fault ≡ Busy) × HasFailed layout many job a c made fault)
+  busy_since (Ok x) h = tt
+  busy_since (Err fault) (is, h) = (is, failed_since fault is h)
 
 pub busy_leafless : {X : Type 0} (r : Result X TryFault) (P : TryFault → Type 0) → IfErr r (λ fault. (fault ≡ Busy) × P fault) → r ≢ Err FullLeaves
 busy_leafless (Ok x) P h = λ e. cc
@@ -174,6 +174,6 @@ ends_after table becomes job room m b c reads few (inr (some, last, changes)) =
     )
 
 -- no record was free
-pub full_failed : (layout : Layout) (job : Job) (k j : Known) (made : List Rec) (full : Full) → HasNoRoom layout job.key.now k j made full → HasFailed layout job k j made (refusal_of full)
-full_failed layout job k j made Nodes none = none
-full_failed layout job k j made Leaves none = none
+pub full_failed : (layout : Layout) (bounds : List ℕ) (job : Job) (k j : Known) (made : List Rec) (full : Full) → HasNoRoom layout bounds job.key.now k j made full → HasFailed layout bounds job k j made (refusal_of full)
+full_failed layout bounds job k j made Nodes none = none
+full_failed layout bounds job k j made Leaves none = none

@@ -2,7 +2,7 @@
 use Rattle.rowex_writing.specs.build.Spare.{IsRemoval}
 use Rattle.std.specs.Prelude.{if◌then◌else◌, nat_eq, IsSome}
 use Rattle.std.specs.Option.{option_map}
-use Rattle.rowex_writing.proofs.Common.{eqb-true, ◌≡◌, ◌≢◌, ◌⊎◌, inl, inr, ℕ, ◌+◌, ◌≤◌, ◌<◌, List, [], ◌∷◌, length, refl, sym, ap, subst, ◌∙◌, arith, Option, Some, None, Bool, true, false, Ok, Err, ◌*◌, Call, Change, Added, Replaced, TakenAway, Reply, OthersGoOn, Map, key_of, step_if, with_value, wrapped_sum, others_on, Case, LeafPushdown, NormalInsert, Overflow, PathNode, Key, IsHeldSince, WasAbsentSince, Layout, Rec, Event, Known, TableView, SeatView, IsSeatOf, IsPossible, Looks, Reads, looked_at, looks_same, reads_later, reads_same, reads_sees, IsAtRest, HadShapeSince, IsLater, HasFound, HasSearched, IsPinnedSince, Sure, since, later_trans, held_stable, missed_stable, shaped_stable, sure_later, since_later, IsWayOf, value_of, Found, Nothing, Leaf, HEAD_WORDS}
+use Rattle.rowex_writing.proofs.Common.{le_refl, eqb-true, ◌≡◌, ◌≢◌, ◌⊎◌, inl, inr, ℕ, ◌+◌, ◌≤◌, ◌<◌, List, [], ◌∷◌, length, refl, sym, ap, subst, ◌∙◌, arith, Option, Some, None, Bool, true, false, Ok, Err, ◌*◌, Call, Change, Added, Replaced, TakenAway, Reply, OthersGoOn, Map, key_of, step_if, with_value, wrapped_sum, others_on, Case, LeafPushdown, NormalInsert, Overflow, PathNode, Key, IsHeldSince, WasAbsentSince, Layout, Rec, Event, Known, TableView, SeatView, IsSeatOf, IsPossible, Looks, Reads, looked_at, looks_same, reads_later, reads_same, reads_sees, IsAtRest, HadShapeSince, IsLater, HasFound, HasSearched, IsPinnedSince, Sure, since, later_trans, held_stable, missed_stable, shaped_stable, sure_later, since_later, IsWayOf, value_of, Found, Nothing, Leaf, HEAD_WORDS}
 use Rattle.finite_map.specs.declared.Call.TheVariants.{Insert, Upsert, Exchange, Add, Get, Remove, RemoveIf}
 use Rattle.finite_map.specs.declared.Kind.{Kind}
 use Rattle.finite_map.specs.declared.Reply.TheVariants.{Exchanged, Exists, Absent, Removed}
@@ -27,6 +27,8 @@ use Rattle.rowex_writing.specs.declared.plan.Full.TheVariants.{Nodes, Leaves}
 use Rattle.rowex_writing.specs.declared.plan.Plan.{Plan}
 use Rattle.rowex_writing.specs.declared.plan.Plan.TheVariants.{Answer, Change as a_change}
 use Rattle.rowex_writing.specs.declared.plan.Span.{Span}
+use Rattle.record_words.specs.Layout.{uncommitted_in}
+use Rattle.rowex_table.specs.Committed.{AtMost}
 use Rattle.rowex_writing.proofs.build.Growths.{full_since}
 use Rattle.rowex_writing.proofs.locks.Onward.{looks_run, reads_run}
 use Rattle.rowex_writing.proofs.locks.Runs.{run_loaded, runs_trans}
@@ -384,38 +386,45 @@ loaded_steps : (k j : Known) → HasLoadedRoot k j → k.steps ≤ j.steps
 loaded_steps k j l = let x = l.from in let y = l.upto in omega (arith, x, y)
 
 -- ---- refusals
-pub refused_busy : (layout : Layout) (key : Key) (k i j : Known) (m : ℕ) (made : List Rec) → IsPinnedSince i m → HasLoadedRoot k i → IsLater k i → IsLater i j → HasMetLock layout i j ⊎ (m < length j.front) → HasRefused layout key k j made Busy
-refused_busy layout key k i j m made (p, pinned, early) loaded first next why = record {
+pub refused_busy : (layout : Layout) (bounds : List ℕ) (key : Key) (k i j : Known) (m : ℕ) (made : List Rec) → IsPinnedSince i m → HasLoadedRoot k i → IsLater k i → IsLater i j → HasMetLock layout i j ⊎ (m < length j.front) → HasRefused layout bounds key k j made Busy
+refused_busy layout bounds key k i j m made (p, pinned, early) loaded first next why = record {
   others = (later_trans first next).front;
   cause = elim why [ inl met ↦ inl (met_since layout k i j j (loaded_steps k i loaded) first.pass refl met) | inr moved ↦ inr (m, (p, (sym first.pin ∙ pinned), early), moved) ];
 }
 
-full_cause : (layout : Layout) (key : Key) (k j : Known) (made : List Rec) (full : Full) → IsFull layout key k j made full → IsAttemptCause layout key k j made (refusal_of full)
-full_cause layout key k j made Nodes f = f
-full_cause layout key k j made Leaves f = f
+full_cause : (layout : Layout) (bounds : List ℕ) (key : Key) (k j : Known) (made : List Rec) (full : Full) → IsFull layout bounds key k j made full → IsAttemptCause layout bounds key k j made (refusal_of full)
+full_cause layout bounds key k j made Nodes f = f
+full_cause layout bounds key k j made Leaves f = f
 
-pub refused_full : (layout : Layout) (key : Key) (k i j : Known) (made : List Rec) (full : Full) → HasLoadedRoot k i → IsLater k i → HasNoRoom layout key i j made full → HasRefused layout key k j made (refusal_of full)
-refused_full layout key k i j made full loaded later none = record {
-  others = (later_trans later none.later).front;
-  cause = full_cause layout key k j made full (full_since layout key k i j made full (loaded_steps k i loaded) none.full_of);
-}
+module _ (layout : Layout) (few many : List ℕ) (falls : AtMost (uncommitted_in few) (uncommitted_in many)) where
+  refused_full : (key : Key) (k i j : Known) (made : List Rec) (full : Full) → HasLoadedRoot k i → IsLater k i → HasNoRoom layout few key i j made full → HasRefused layout many key k j made (refusal_of full)
+  refused_full key k i j made full loaded later none = record {
+    others = (later_trans later none.later).front;
+    cause = full_cause layout many key k j made full (full_since layout few many key k i j made full falls (loaded_steps k i loaded) none.full_of);
+  }
 
--- a change that failed
-pub refused_failed : (layout : Layout) (job : Job) (k i j : Known) (made : List Rec) (fault : TryFault) (m : ℕ) → IsJobFrom layout i m job → HasLoadedRoot k i → IsLater k i → HasFailed layout job i j made fault → HasRefused layout job.key.now k j made fault
-refused_failed layout job k i j made Busy m from loaded first (rest, later, moved) = refused_busy layout job.key.now k i j m made from.since loaded first later (inr (moved m from))
-refused_failed layout job k i j made FullNodes m from loaded first none = refused_full layout job.key.now k i j made Nodes loaded first none
-refused_failed layout job k i j made FullLeaves m from loaded first none = refused_full layout job.key.now k i j made Leaves loaded first none
+  -- what is so by few bounds is so by more
+  pub refused_fewer : (key : Key) (k j : Known) (made : List Rec) (fault : TryFault) → HasRefused layout few key k j made fault → HasRefused layout many key k j made fault
+  refused_fewer key k j made Busy r = record { others = r.others; cause = r.cause }
+  refused_fewer key k j made FullNodes r = record { others = r.others; cause = full_since layout few many key k k j made Nodes falls (le_refl k.steps) r.cause }
+  refused_fewer key k j made FullLeaves r = record { others = r.others; cause = full_since layout few many key k k j made Leaves falls (le_refl k.steps) r.cause }
+
+  -- a change that failed
+  pub refused_failed : (job : Job) (k i j : Known) (made : List Rec) (fault : TryFault) (m : ℕ) → IsJobFrom layout i m job → HasLoadedRoot k i → IsLater k i → HasFailed layout few job i j made fault → HasRefused layout many job.key.now k j made fault
+  refused_failed job k i j made Busy m from loaded first (rest, later, moved) = refused_busy layout many job.key.now k i j m made from.since loaded first later (inr (moved m from))
+  refused_failed job k i j made FullNodes m from loaded first none = refused_full job.key.now k i j made Nodes loaded first none
+  refused_failed job k i j made FullLeaves m from loaded first none = refused_full job.key.now k i j made Leaves loaded first none
 
 -- as busy only where it had moved
-pub failed_moved : (layout : Layout) (job : Job) (i j : Known) (made : List Rec) (fault : TryFault) (m : ℕ) → IsJobFrom layout i m job → HasFailed layout job i j made fault → fault ≡ Busy → m < length j.front
-failed_moved layout job i j made Busy m from (rest, later, moved) is = moved m from
-failed_moved layout job i j made FullNodes m from none is = absurd (cc)
-failed_moved layout job i j made FullLeaves m from none is = absurd (cc)
+pub failed_moved : (layout : Layout) (bounds : List ℕ) (job : Job) (i j : Known) (made : List Rec) (fault : TryFault) (m : ℕ) → IsJobFrom layout i m job → HasFailed layout bounds job i j made fault → fault ≡ Busy → m < length j.front
+failed_moved layout bounds job i j made Busy m from (rest, later, moved) is = moved m from
+failed_moved layout bounds job i j made FullNodes m from none is = absurd (cc)
+failed_moved layout bounds job i j made FullLeaves m from none is = absurd (cc)
 
-pub failed_later : (layout : Layout) (job : Job) (i j : Known) (made : List Rec) (fault : TryFault) → HasFailed layout job i j made fault → IsLater i j
-failed_later layout job i j made Busy failed = failed.1
-failed_later layout job i j made FullNodes none = none.later
-failed_later layout job i j made FullLeaves none = none.later
+pub failed_later : (layout : Layout) (bounds : List ℕ) (job : Job) (i j : Known) (made : List Rec) (fault : TryFault) → HasFailed layout bounds job i j made fault → IsLater i j
+failed_later layout bounds job i j made Busy failed = failed.1
+failed_later layout bounds job i j made FullNodes none = none.later
+failed_later layout bounds job i j made FullLeaves none = none.later
 
 -- a call that expects a value aims at something only where its key has that value
 expects : (expected held : ℕ) (own aim : Aim) → aim_where expected (Some held) own ≡ Some aim → held ≡ expected

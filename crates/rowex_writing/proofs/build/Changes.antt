@@ -1,6 +1,9 @@
 -- What each change under the locks of a span needs: failed steps that are remembered, records that are given up, nodes that are unlocked.
 use Rattle.rowex_writing.proofs.Common.{◌≡◌, inl, inr, ℕ, suc, List, [], ◌∷◌, ◌++◌, length, get_or, Bool, true, false, nat_eq, Option, Some, None, refl, sym, ap, subst, ◌∙◌, arith, All, Contains, reverse_onto, All-cons, All-head, All-nil, All-push, All-tail, Contains-push, Contains-append_left, slice_get-get_or, Change, OthersGoOn, PathNode, Layout, Key, Rec, a_node, a_leaf, Fate, Free, IsOneOf, AreApart, all_of, map_of, of_map, of_append, apart_push, Act, Claim, Lock, LoadState, Event, Anchor, NodeTarget, Failed, a_lock, a_load, Held, Known, Owned, Core, HasRecord, holder_of, target_word, word_of, IsEvent, failed_with, claim_learned, anchor_learned, node_learned, state_learned, blocking_pass_at, IsOwned, owned_used, knows_all, Made, held_as, recs_of, IsLater, IsClaimed, Runs, silent, TableView, SeatView, act_leaves, AllMissedFrom, HasMissedSince, IsAnothers, among_held, HoldsJust, IsWayOf, Found, others_on}
 use Rattle.std.specs.Prelude.{if◌then◌else◌, reverse}
+use Rattle.record_words.specs.Layout.{uncommitted_in}
+use Rattle.rowex_table.specs.Committed.{AtMost}
+use Rattle.rowex_table.proofs.Committed.{committed_falls}
 use Rattle.rowex_writing.specs.build.Walks.{HasNoOther, IsOwnOf}
 use Rattle.rowex_writing.specs.build.Building.{IsBuilding}
 use Rattle.rowex_writing.specs.build.Changes.{HasChanged, LacksNodes}
@@ -51,19 +54,20 @@ module _ {G : Type 0} (table : TableView) (becomes : G → Event → G → Type 
   pub missed_there : (Whose : Rec → Option ℕ → Type 0) (r : Rec) (since : ℕ) (a b : SeatView × G) → HasRun table becomes a b → HasMissedSince Whose a.0.known.failed r since → HasMissedSince Whose b.0.known.failed r since
   missed_there Whose r since a b run (step, late, (act, word, tells, one, has)) = (step, late, (act, word, tells, one, run_failed run.acts a b run.steps _ has))
 
-  pub missed_from_on : (Whose : Rec → Option ℕ → Type 0) (words since : ℕ) (a b : SeatView × G) → HasRun table becomes a b → AllMissedFrom Whose table.layout words a.0.known.failed since → AllMissedFrom Whose table.layout words b.0.known.failed since
-  missed_from_on Whose words since a b run missed = λ q low room. missed_there Whose (a_leaf q) since a b run (missed q low room)
+  pub missed_from_on : (Whose : Rec → Option ℕ → Type 0) (bounds : List ℕ) (words since : ℕ) (a b : SeatView × G) → HasRun table becomes a b → AllMissedFrom Whose table.layout bounds words a.0.known.failed since
+      → AllMissedFrom Whose table.layout bounds words b.0.known.failed since
+  missed_from_on Whose bounds words since a b run missed = λ q low room upto. missed_there Whose (a_leaf q) since a b run (missed q low room upto)
 
--- what these failed steps tell of the lack of a node record, others may
-pub lacks_so : (layout : Layout) (q : ℕ) (tried more : List Failed) (since earlier : ℕ) (own : List Rec) → LacksNodes layout q tried since own →
-    ((Whose : Rec → Option ℕ → Type 0) (r : Rec) → HasMissedSince Whose tried r since → HasMissedSince Whose more r earlier) → LacksNodes layout q more earlier own
-lacks_so layout q tried more since earlier own l so = record {
+-- what these failed steps tell of the lack of a node record, others may, and of fewer committed ones
+pub lacks_so : (layout : Layout) (few many : List ℕ) (q : ℕ) (tried more : List Failed) (since earlier : ℕ) (own : List Rec) → AtMost (uncommitted_in few) (uncommitted_in many) → LacksNodes layout few q tried since own →
+    ((Whose : Rec → Option ℕ → Type 0) (r : Rec) → HasMissedSince Whose tried r since → HasMissedSince Whose more r earlier) → LacksNodes layout many q more earlier own
+lacks_so layout few many q tried more since earlier own falls l so = record {
   locked = l.locked;
   few = l.few;
   most = l.most;
   apart = l.apart;
   low = l.low;
-  missed = λ n below. so (IsAnothers layout q own l.locked) (a_node n) (l.missed n below);
+  missed = λ n below committed. so (IsAnothers layout q own l.locked) (a_node n) (l.missed n below (committed_falls layout (uncommitted_in few) (uncommitted_in many) (a_node n) falls committed));
   own_is = λ i d below. so (IsOwnOf q) (get_or own i d) (l.own_is i d below);
   once = l.once;
 }

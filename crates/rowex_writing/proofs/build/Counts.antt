@@ -1,5 +1,5 @@
 -- How long parts of a list are, how many steps claims make, and how many node records are made.
-use Rattle.rowex_writing.proofs.Common.{◌≡◌, inl, inr, ℕ, zero, suc, ◌+◌, ◌*◌, ◌≤◌, List, [], ◌∷◌, ◌++◌, length, Err, Ok, Result, refl, ap, arith, All, Contains, All-cons, All-head, All-nil, All-tail, Rec, a_node, a_leaf, Layout, AreApart, IsOneOf, Item, Act, Claim, LoadState, InTurn, Misses, ClaimsOne, wrapped, length-append, ◌<◌, Event, Made, TableView, SeatView, Claims, FindsFree, FindsNone, runs_count}
+use Rattle.rowex_writing.proofs.Common.{◌≡◌, inl, inr, ℕ, zero, suc, ◌+◌, ◌*◌, ◌≤◌, List, [], ◌∷◌, ◌++◌, length, Err, Ok, Result, refl, ap, arith, All, Contains, All-cons, All-head, All-nil, All-tail, Rec, a_node, a_leaf, Layout, AreApart, IsOneOf, Item, Act, Claim, LoadState, InTurn, Misses, ClaimsOne, wrapped, length-append, ◌<◌, Event, Made, TableView, SeatView, Claims, FindsFree, FindsNone, MissesOne, runs_count}
 use Rattle.rowex_writing.specs.build.Building.{HasLeafMade, IsBuilding}
 use Rattle.rowex_writing.specs.plan.Counts.{deed_steps, leaf_steps, all_levels_steps}
 use Rattle.rowex_writing.specs.build.Walks.{nodes_among}
@@ -14,6 +14,10 @@ miss_some : (rec : Rec) (acts : List Act) → Misses rec acts → 1 ≤ length a
 miss_some rec acts (word, low, inl is) = let one = ap length is in omega (arith, one)
 miss_some rec acts (word, low, inr is) = let two = ap length is in omega (arith, two)
 
+miss_few : (rec : Rec) (acts : List Act) → Misses rec acts → length acts ≤ 2
+miss_few rec acts (word, low, inl is) = let one = ap length is in omega (arith, one)
+miss_few rec acts (word, low, inr is) = let two = ap length is in omega (arith, two)
+
 turns_some : (turn : ℕ → Rec) (m : ℕ) (acts : List Act) → 0 < m → InTurn (λ i. Misses (turn i)) m acts → 1 ≤ length acts
 turns_some turn zero acts some in_turn = absurd (omega arith)
 turns_some turn (suc m) acts some (before, last, first, misses, is) =
@@ -23,6 +27,13 @@ module _ {G : Type 0} (table : TableView) (becomes : G → Event → G → Type 
   pub none_rises : (kind : ℕ → Rec) (n from m : ℕ) (a b : SeatView × G) → FindsNone table becomes kind n from m a b → 0 < m → a.0.known.steps < b.0.known.steps
   none_rises kind n from m a b f some =
       let z = runs_count table becomes f.tries a b f.does.steps in let more = turns_some (λ i. kind (wrapped n from i)) m f.tries some f.in_turn in omega (arith, z, more)
+
+  pub miss_count : (rec : Rec) (a b : SeatView × G) → MissesOne table becomes rec a b → (a.0.known.steps < b.0.known.steps) × (b.0.known.steps ≤ a.0.known.steps + 2)
+  miss_count rec a b missed =
+      let z = runs_count table becomes missed.acts a b missed.does.steps in
+      let some = miss_some rec missed.acts missed.misses in
+      let few = miss_few rec missed.acts missed.misses in
+      (omega (arith, z, some), omega (arith, z, few))
 
   pub one_rises : (rec : Rec) (a b : SeatView × G) → ClaimsOne table becomes rec a b → a.0.known.steps < b.0.known.steps
   one_rises rec a b one = let z = runs_count table becomes (LoadState rec 0 ∷ Claim rec 0 ∷ []) a b one.does.steps in omega (arith, z)

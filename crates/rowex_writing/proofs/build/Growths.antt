@@ -1,6 +1,6 @@
 -- What rises is put at its spot; what goes for it, and what is kept of the locked nodes.
 use Rattle.rowex_writing.proofs.build.Spared.{range_split}
-use Rattle.rowex_writing.proofs.Common.{◌≡◌, inl, inr, ◌⊎◌, ℕ, ◌+◌, ◌-◌, ◌*◌, ◌<◌, ◌≤◌, Bool, true, false, List, [], ◌∷◌, ◌++◌, length, map, take, drop, refl, sym, ap, ap₂, subst, ◌∙◌, arith, if◌then◌else◌, Some, None, IsSome, get_or, le_trans, All, slice_get, slice_range, append-nil, drop-take, map-append, All-append, All-cons, All-drop, All-head, All-map, All-tail, All-take, slice_get-get_or, IsEntry, Entry, LeafEntry, Node, PathNode, IsOneOf, AreApart, Rec, a_node, map_of, of_append, of_left, of_map, of_right, Place, HasEntryWord, entry_word, Layout, Item, item, Key, HasRecord, AreKept, LocksJust, Spot, Root, Slot, Value, Known, Locked, IsSpotOf, HasFoundBelow, HasRisen, spot_stays, insertion, risen_stays, IsLater, nodes_of, Publishes, HasSpot, words_for, some_at, tip_entry, StaysLocked, found_stays, spot_below, IsWayOf, Found, TableView, SeatView, entry, added_change, Event, IsAtRest, later_transitive, HasMissedSince, IsAnothers, IsAnothersBut, anothers_among, missed_so}
+use Rattle.rowex_writing.proofs.Common.{le_refl, ◌≡◌, inl, inr, ◌⊎◌, ℕ, ◌+◌, ◌-◌, ◌*◌, ◌<◌, ◌≤◌, Bool, true, false, List, [], ◌∷◌, ◌++◌, length, map, take, drop, refl, sym, ap, ap₂, subst, ◌∙◌, arith, if◌then◌else◌, Some, None, IsSome, get_or, le_trans, slice_get, slice_range, append-nil, drop-take, map-append, All-append, All-cons, All-drop, All-head, All-map, All-tail, All-take, slice_get-get_or, IsEntry, Entry, LeafEntry, Node, PathNode, IsOneOf, AreApart, Rec, a_node, map_of, of_append, of_left, of_map, of_right, Place, HasEntryWord, entry_word, Layout, Item, item, Key, HasRecord, AreKept, LocksJust, Spot, Root, Slot, Value, Known, Locked, IsSpotOf, HasFoundBelow, HasRisen, spot_stays, insertion, risen_stays, IsLater, nodes_of, Publishes, HasSpot, words_for, some_at, tip_entry, StaysLocked, found_stays, spot_below, IsWayOf, Found, TableView, SeatView, entry, added_change, Event, IsAtRest, later_transitive, HasMissedSince, IsAnothers, IsAnothersBut, anothers_among, missed_so}
 use Rattle.rowex_writing.specs.plan.Plans.{change}
 use Rattle.rowex_writing.specs.declared.plan.Aim.{Aim}
 use Rattle.rowex_writing.specs.declared.plan.Deed.TheVariants.{Grow}
@@ -12,6 +12,8 @@ use Rattle.rowex_writing.specs.locks.Checks.{HasTakenSpan, IsChecked}
 use Rattle.rowex_writing.specs.plan.Planned.{IsPlanned}
 use Rattle.rowex_writing.specs.locks.Going.{HasLocked, WorksOn}
 use Rattle.rowex_writing.specs.build.Growths.{HasNumber, MayGrow}
+use Rattle.record_words.specs.Layout.{uncommitted_in}
+use Rattle.rowex_table.specs.Committed.{AtMost}
 use Rattle.rowex_writing.specs.plan.Counts.{most_nodes}
 use Rattle.rowex_writing.specs.locks.Locks.{AreNodes, HasLockedSpan, Works, numbers_of, span_numbers, HasRun}
 use Rattle.rowex_writing.specs.build.Putting.{IsSpotAbove, AreInTable}
@@ -24,6 +26,7 @@ use Rattle.rowex_writing.proofs.build.Above.{locked_at}
 use Rattle.rowex_writing.proofs.build.rising.Rising.{gone_more}
 use Rattle.rowex_writing.proofs.locks.Runs.{works_run}
 use Rattle.rowex_writing.proofs.build.Counts.{all_nodes, among_nodes, nodes_apart}
+use Rattle.rowex_records.proofs.Claims.{upto_falls}
 use Rattle.rowex_writing.proofs.build.Changes.{lacks_so, missed_from_on, missed_there}
 use Rattle.rowex_writing.proofs.locks.Spans.{locked_same, numbers_few}
 use Rattle.rowex_writing.proofs.locks.Locks.{works_later}
@@ -134,18 +137,18 @@ range_records layout way b d nodes = node_records layout (slice_range way b d) (
 
 -- ---- none was free
 -- The pass has locked a span, and has made two node records for each node of it and one, or fewer.
-pub lacks_nodes : (layout : Layout) (k j : Known) (way : List PathNode) (span : Span) (made : List Rec) (since : ℕ) → AreNodes layout way → HasLockedSpan k way span → j.locks ≡ k.locks →
+pub lacks_nodes : (layout : Layout) (k : Known) (first : SeatView) (j : Known) (way : List PathNode) (span : Span) (made : List Rec) → AreNodes layout way → HasLockedSpan k way span → j.locks ≡ k.locks →
     span.end ≤ span.len → span.len ≤ length way → span.len ≤ span.end - 1 + most_nodes → length (nodes_among made) ≤ 2 * (span.len - span.end) + 1 →
-    HasMissedEach layout since j made → LacksNodes layout j.pass j.failed since (nodes_among made)
-lacks_nodes layout k j way span made since nodes taken same order within depth few each = record {
+    HasMissedEach layout first j made → LacksNodes layout first.bounds j.pass j.failed first.known.steps (nodes_among made)
+lacks_nodes layout k first j way span made nodes taken same order within depth few each = record {
   locked = numbers;
   few = omega (arith, size, few, order);
   most = omega (arith, size, depth);
   apart = taken.nodes.1;
   low = All-map (λ n. n < layout.nodes) (λ (s : PathNode). s.number) (slice_range way (span.end - 1) span.len) (range_nodes layout way (span.end - 1) span.len nodes);
-  missed = λ q low. missed_so (IsAnothersBut layout j made) (IsAnothers layout j.pass (nodes_among made) numbers) j.failed (a_node q) since
-      (λ by. anothers_among layout j.pass made (nodes_among made) (nodes_of j.locks) numbers (a_node q) by (among_nodes made q) held) (each.missed q low);
-  own_is = all_nodes (λ r. HasMissedSince (IsOwnOf j.pass) j.failed r since) made each.own;
+  missed = λ q low committed. missed_so (IsAnothersBut layout j made) (IsAnothers layout j.pass (nodes_among made) numbers) j.failed (a_node q) first.known.steps
+      (λ by. anothers_among layout j.pass made (nodes_among made) (nodes_of j.locks) numbers (a_node q) by (among_nodes made q) held) (each.missed q low committed);
+  own_is = all_nodes (λ r. HasMissedSince (IsOwnOf j.pass) j.failed r first.known.steps) made each.own;
   once = nodes_apart made each.apart;
 }
   where
@@ -160,27 +163,30 @@ lacks_nodes layout k j way span made since nodes taken same order within depth f
         let (l, at, is) = taken.nodes.0.each n there in
         subst (λ (z : List Locked). IsOneOf n (nodes_of z)) (sym same) (subst (λ m. IsOneOf m (nodes_of k.locks)) is (map_of (λ (z : Locked). z.node) l k.locks at))
 
-full_on : {G : Type 0} (table : TableView) (becomes : G → Event → G → Type 0) (key : Key) (k : Known) (b c : SeatView × G) (made : List Rec) (full : Full) → c.0.known.pass ≡ b.0.known.pass → HasRun table becomes b c → IsFull table.layout key k b.0.known made full → IsFull table.layout key k c.0.known made full
-full_on table becomes key k b c made Nodes same run l =
-    subst (λ q. LacksNodes table.layout q c.0.known.failed k.steps (nodes_among made)) (sym same)
-    (lacks_so table.layout b.0.known.pass b.0.known.failed c.0.known.failed k.steps k.steps (nodes_among made) l (λ Whose r. missed_there table becomes Whose r k.steps b c run))
-full_on table becomes key k b c made Leaves same run missed =
-    subst (λ q. LacksLeaves table.layout key q c.0.known.failed k.steps) (sym same)
-    (missed_from_on table becomes (IsAnothers table.layout b.0.known.pass [] []) (words_for (length key)) k.steps b c run missed)
+-- what was so is so still, after more steps
+full_on : {G : Type 0} (table : TableView) (becomes : G → Event → G → Type 0) (bounds : List ℕ) (key : Key) (k : Known) (b c : SeatView × G) (made : List Rec) (full : Full) → c.0.known.pass ≡ b.0.known.pass → HasRun table becomes b c → IsFull table.layout bounds key k b.0.known made full →
+    IsFull table.layout bounds key k c.0.known made full
+full_on table becomes bounds key k b c made Nodes same run l =
+    subst (λ q. LacksNodes table.layout bounds q c.0.known.failed k.steps (nodes_among made)) (sym same)
+    (lacks_so table.layout bounds bounds b.0.known.pass b.0.known.failed c.0.known.failed k.steps k.steps (nodes_among made) (λ kind. le_refl (uncommitted_in bounds kind)) l (λ Whose r. missed_there table becomes Whose r k.steps b c run))
+full_on table becomes bounds key k b c made Leaves same run missed =
+    subst (λ q. LacksLeaves table.layout bounds key q c.0.known.failed k.steps) (sym same)
+    (missed_from_on table becomes (IsAnothers table.layout b.0.known.pass [] []) bounds (words_for (length key)) k.steps b c run missed)
 
-pub no_room : {G : Type 0} (table : TableView) (becomes : G → Event → G → Type 0) (key : Key) (a b c : SeatView × G) (made : List Rec) (full : Full) → WorksOn table becomes a b → Works table becomes b c → IsAtRest c.0.known →
-    IsFull table.layout key a.0.known b.0.known made full → HasNoRoom table.layout key a.0.known c.0.known made full
-no_room table becomes key a b c made full goes works rest missed = record {
+pub no_room : {G : Type 0} (table : TableView) (becomes : G → Event → G → Type 0) (bounds : List ℕ) (key : Key) (a b c : SeatView × G) (made : List Rec) (full : Full) → WorksOn table becomes a b → Works table becomes b c → IsAtRest c.0.known →
+    IsFull table.layout bounds key a.0.known b.0.known made full → HasNoRoom table.layout bounds key a.0.known c.0.known made full
+no_room table becomes bounds key a b c made full goes works rest missed = record {
   rest = rest;
   later = later_transitive a.0.known b.0.known c.0.known goes.stays.0 (works_later table becomes b c works);
-  full_of = full_on table becomes key a.0.known b c made full (works_later table becomes b c works).pass (works_run table becomes b c works) missed;
+  full_of = full_on table becomes bounds key a.0.known b c made full (works_later table becomes b c works).pass (works_run table becomes b c works) missed;
 }
 
--- nor since an earlier version
-pub full_since : (layout : Layout) (key : Key) (a b c : Known) (made : List Rec) (full : Full) → a.steps ≤ b.steps → IsFull layout key b c made full → IsFull layout key a c made full
-full_since layout key a b c made Nodes count l =
-    lacks_so layout c.pass c.failed c.failed b.steps a.steps (nodes_among made) l (λ Whose r missed. (let (step, late, miss) = missed in (step, le_trans count late, miss)))
-full_since layout key a b c made Leaves count missed = λ q low room. (let (step, late, miss) = missed q low room in (step, le_trans count late, miss))
+-- nor since an earlier version, when the pass knew no more to be committed
+pub full_since : (layout : Layout) (few many : List ℕ) (key : Key) (a b c : Known) (made : List Rec) (full : Full) → AtMost (uncommitted_in few) (uncommitted_in many) → a.steps ≤ b.steps → IsFull layout few key b c made full → IsFull layout many key a c made full
+full_since layout few many key a b c made Nodes falls count l =
+    lacks_so layout few many c.pass c.failed c.failed b.steps a.steps (nodes_among made) falls l (λ Whose r missed. (let (step, late, miss) = missed in (step, le_trans count late, miss)))
+full_since layout few many key a b c made Leaves falls count missed = λ q low room upto.
+    (let (step, late, miss) = missed q low room (upto_falls layout few many (words_for (length key)) q falls upto) in (step, le_trans count late, miss))
 
 -- ---- the leaf's record is made
 pub may_grow : (table : TableView) (a b : SeatView) (made : List Rec) (m : ℕ) (job : Job) (aim : Aim) (new : NewLeaf) → HasTakenSpan table a m new.key.now job.way.now job.found job.span →

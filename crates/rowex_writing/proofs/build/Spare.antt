@@ -1,11 +1,11 @@
 -- In a table with one pass: steps of a change leave a spare node record, and what is free, and a walk finds what is free.
-use Rattle.rowex_writing.proofs.Common.{◌≡◌, ◌≢◌, ℕ, zero, suc, ◌<◌, ◌≤◌, List, [], ◌∷◌, ◌++◌, Option, Some, inl, inr, ⊎_elim, refl, sym, ap, subst, ◌∙◌, arith, map, ◌-◌, drop, get_or, length, Result, Ok, Err, All, Contains, slice_get, slice_range, cases_lt, All-cons, All-weaker, slice_get-get_or, PathNode, Layout, Fate, Free, InTree, Unlinked, Marked, IsOneOf, Rec, a_node, a_leaf, all_of, map_of, of_left, of_map, Act, Claim, LoadRef, LoadState, Publish, Load, Event, Spot, Root, Target, HeldBy, ReadyBy, Owned, Core, HasRecord, after, claimed, IsUnlinked, OwnsJust, lock_of, tag_of, state_word, Made, held_as, recs_of, InTurn, Runs, Steps, silent, SeatView, TableView, KeepsRecall, led_more, IsBelowRoot, Looks, Reads, FindsFree, FindsNone, Misses, begin_of, wrapped, begins_low, turned_to, look_free, one_of, runs_free, runs_out, runs_spare, step_back}
+use Rattle.rowex_writing.proofs.Common.{◌≡◌, ◌≢◌, ℕ, zero, suc, ◌<◌, ◌≤◌, List, [], ◌∷◌, ◌++◌, Option, Some, inl, inr, ⊎_elim, refl, sym, ap, subst, ◌∙◌, arith, map, ◌-◌, drop, get_or, length, Result, Ok, Err, All, Contains, slice_get, slice_range, cases_lt, All-cons, All-weaker, slice_get-get_or, PathNode, Layout, Fate, Free, InTree, Unlinked, Marked, IsOneOf, Rec, a_node, a_leaf, all_of, map_of, of_left, of_map, Act, Claim, LoadRef, LoadState, Publish, Load, Event, Spot, Root, Target, HeldBy, ReadyBy, Owned, Core, HasRecord, after, claimed, IsUnlinked, OwnsJust, lock_of, tag_of, state_word, Made, held_as, recs_of, InTurn, Runs, Steps, silent, SeatView, TableView, KeepsRecall, led_more, IsBelowRoot, Looks, Reads, FindsFree, FindsNone, Misses, MissesOne, begin_of, wrapped, begins_low, turned_to, look_free, one_of, runs_free, runs_out, runs_spare, step_back}
 use Rattle.std.specs.Prelude.{IfOk}
 use Rattle.rowex_table.specs.Seats.{HasFoundBounds}
 use Rattle.versions.specs.Core.{Held, Ready}
 use Rattle.rowex_core.specs.Opening.{opening}
 use Rattle.rowex_core.specs.Runs.{EventsLead}
-use Rattle.publish_laws.specs.Lone.{HasFree, HasRoom, HasSpare, IsLone, LeavesTree, KeepsSpare}
+use Rattle.publish_laws.specs.Lone.{HasFree, HasRoom, HasSpare, IsFreeAt, IsLone, LeavesTree, KeepsSpare}
 use Rattle.publish_laws.proofs.Lone.Published.{gone_out, publish_free, publish_spare}
 use Rattle.rowex_writing.specs.build.Building.{IsBuilding}
 use Rattle.rowex_writing.specs.build.Deeds.{gone_of_span, leaf_gone}
@@ -24,9 +24,9 @@ use Rattle.rowex_writing.proofs.build.Changes.{reversed_has}
 use Rattle.rowex_writing.proofs.locks.Runs.{plain_recalls, quiet_recalls}
 
 -- what is free is so, whatever the pass has found uncommitted
-pub found_room : (layout : Layout) (s t : SeatView) → HasFoundBounds s t → HasRoom layout s → HasRoom layout t
-found_room layout s t found (one, (number, low, free)) =
-    (one, (number, low, λ core lone. free core (record { passes = lone.passes; led = subst (λ l. EventsLead (opening layout) l core) (ap (λ (z : SeatView). z.trace) found.1) lone.led })))
+pub found_free : (layout : Layout) (s t : SeatView) (n : ℕ) → HasFoundBounds s t → IsFreeAt layout s n → IsFreeAt layout t n
+found_free layout s t n found free =
+    λ core lone. free core (record { passes = lone.passes; led = subst (λ l. EventsLead (opening layout) l core) (ap (λ (z : SeatView). z.trace) found.1) lone.led })
 
 -- ---- kinds of steps
 recalls_unpublished : (act : Act) → KeepsRecall act → LeavesTree act
@@ -73,6 +73,9 @@ module _ {G : Type 0} (table : TableView) (becomes : G → Event → G → Type 
       one plain (suc i) d low = absurd (omega arith)
 
   -- what is free, if the pass has no record
+  pub goes_free : (n : ℕ) (a b : SeatView × G) → WorksOn table becomes a b → b.0.known.own ≡ [] → IsFreeAt table.layout a.0 n → IsFreeAt table.layout b.0 n
+  goes_free n a b goes none free = runs_free table becomes goes.acts a b n (goes_plain goes.acts goes.plain) goes.steps (λ o has is. absurd (subst (IsOneOf o) none has)) free
+
   runs_room : (acts : List Act) (a b : SeatView × G) → All LeavesTree acts → Runs table becomes acts a b → b.0.known.own ≡ [] → HasRoom table.layout a.0 → HasRoom table.layout b.0
   runs_room acts a b plain run none (one, (n, low, free)) = (one, (n, low, runs_free table becomes acts a b n plain run (λ o has is. absurd (subst (IsOneOf o) none has)) free))
 
@@ -97,8 +100,8 @@ module _ {G : Type 0} (table : TableView) (becomes : G → Event → G → Type 
       let free = subst (λ z. Steps table becomes (LoadState (a_node n) z) a b) is step in
       look_finds n a b (subst (λ (l : Layout). n < l.nodes) free.event.layout_is free.event.legal.1.0) free
 
-  pub free_found : (from m number : ℕ) (a b : SeatView × G) → FindsFree table becomes a_node table.layout.nodes from m number a b → HasFree table.layout b.0
-  free_found from m number a b found =
+  pub free_found : (end from m number : ℕ) (a b : SeatView × G) → FindsFree table becomes a_node end from m number a b → HasFree table.layout b.0
+  free_found end from m number a b found =
       look_finds number found.before b (subst (λ (l : Layout). number < l.nodes) found.free.event.layout_is found.free.event.legal.1.0) found.free
 
   -- ---- a store
@@ -211,25 +214,31 @@ module _ {G : Type 0} (table : TableView) (becomes : G → Event → G → Type 
   runs_lone act [] a b one (m, step, end) = subst (λ (z : SeatView × G). (d : Core) × IsLone table.layout z.0 d) (sym end) (step_lone act a m one step)
   runs_lone act (x ∷ acts) a b one (m, step, rest) = runs_lone x acts m b one rest
 
+  miss_lone : (r : Rec) (acts : List Act) (a b : SeatView × G) → Misses r acts → table.layout.passes ≡ 1 → Runs table becomes acts a b → (d : Core) × IsLone table.layout b.0 d
+  miss_lone r acts a b (word, more, inl now) one run = runs_lone (LoadState r word) [] a b one (subst (λ l. Runs table becomes l a b) now run)
+  miss_lone r acts a b (word, more, inr now) one run = runs_lone (LoadState r 0) (Claim r word ∷ []) a b one (subst (λ l. Runs table becomes l a b) now run)
+
   some_lone : (turn : ℕ → Rec) (m : ℕ) (acts : List Act) (a b : SeatView × G) → 0 < m → InTurn (λ i. Misses (turn i)) m acts → table.layout.passes ≡ 1 → Runs table becomes acts a b → (d : Core) × IsLone table.layout b.0 d
   some_lone turn zero acts a b some in_turn one run = absurd (omega arith)
-  some_lone turn (suc m) acts a b some (before, last, first, (word, more, inl now), is) one run =
-      let (o, _, two) = runs_split before last a b (subst (λ l. Runs table becomes l a b) is run) in
-      runs_lone (LoadState (turn m) word) [] o b one (subst (λ l. Runs table becomes l o b) now two)
-  some_lone turn (suc m) acts a b some (before, last, first, (word, more, inr now), is) one run =
-      let (o, _, two) = runs_split before last a b (subst (λ l. Runs table becomes l a b) is run) in
-      runs_lone (LoadState (turn m) 0) (Claim (turn m) word ∷ []) o b one (subst (λ l. Runs table becomes l o b) now two)
+  some_lone turn (suc m) acts a b some (before, last, first, misses, is) one run =
+      let (o, _, two) = runs_split before last a b (subst (λ l. Runs table becomes l a b) is run) in miss_lone (turn m) last o b misses one two
 
-  -- so a walk over all of them finds one that is free
-  pub walk_finds : (from m : ℕ) (a b : SeatView × G) → m ≡ table.layout.nodes → HasRoom table.layout a.0 → FindsNone table becomes a_node table.layout.nodes (begin_of table.layout.nodes from) m a b → ⊥
-  walk_finds from m a b whole (one, (n, low, free)) finds =
-      let nodes = table.layout.nodes in
-      let begin = begin_of nodes from in
-      let turn : ℕ → Rec = λ i. a_node (wrapped nodes begin i) in
-      let (i, under, at) = turned_to nodes begin n (begins_low nodes from (omega arith)) low in
+  -- so none of those that a walk has gone over was free
+  pub walk_taken : (from end m : ℕ) (a b : SeatView × G) → m ≡ end → table.layout.passes ≡ 1 → FindsNone table becomes a_node end (begin_of end from) m a b → (n : ℕ) → n < end → ¬ (IsFreeAt table.layout a.0 n)
+  walk_taken from end m a b whole one finds n low free =
+      let begin = begin_of end from in
+      let turn : ℕ → Rec = λ i. a_node (wrapped end begin i) in
+      let (i, under, at) = turned_to end begin n (begins_low end from (omega (arith, low))) low in
       let (d, lone) = some_lone turn m finds.tries a b (omega (arith, whole, low)) finds.in_turn one finds.does.steps in
       let was = none_taken turn m finds.tries a b finds.in_turn finds.does.steps d lone in
       was.none (a_node n) (i, omega (arith, whole, under), ap a_node (sym at)) (free was.core was.lone)
+
+  -- nor one that was missed
+  pub miss_none_free : (n : ℕ) (a b : SeatView × G) → table.layout.passes ≡ 1 → MissesOne table becomes (a_node n) a b → ¬ (IsFreeAt table.layout a.0 n)
+  miss_none_free n a b one missed free =
+      let (d, lone) = miss_lone (a_node n) missed.acts a b missed.misses one missed.does.steps in
+      let was = miss_taken (a_node n) missed.acts a b missed.misses missed.does.steps d lone in
+      was.none (a_node n) refl (free was.core was.lone)
 
 -- a node of the span goes
 pub gone_node : (way : List PathNode) (span : Span) (raised : Raised) → span.end < raised.low → raised.low ≤ span.len → span.len ≤ length way → (n : ℕ) × IsOneOf (a_node n) (gone_of_span way span raised)

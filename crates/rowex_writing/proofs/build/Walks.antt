@@ -1,13 +1,16 @@
 -- The walk of a change over the records of a kind: how it begins, goes on and ends.
-use Rattle.rowex_writing.proofs.Common.{◌≡◌, ◌⊎◌, inl, inr, ℕ, suc, ◌+◌, ◌-◌, ◌<◌, ◌≤◌, List, [], ◌∷◌, ◌++◌, Bool, true, false, nat_eq, nat_lt, Option, length, get_or, if◌then◌else◌, refl, sym, ap, subst, ◌∙◌, arith, le_refl, Some, None, All, Contains, eqb-false, eqb-true, ltb-true, ltb-false, lt-ltb, le-ltb, get_or_default, All-contains, Contains-append_left, Contains-push, Layout, state_word, Rec, a_node, LoadState, Event, Failed, Known, Locked, Owned, Held, Fate, AreApart, Core, HasRecord, holder_of, word_of, failed_with, IsOwned, lock_of, tag_of, a_load, knows_all, Made, nodes_of, IsClaimed, OwnsAs, Steps, TableView, SeatView, does_count, AllMissed, Claims, FindsNone, HasMissedSince, IsAnothers, IsAnothersBut, IsAnothersTo, MissesOne, begin_of, claiming, records_had, wrapped, anothers_among, anothers_before, held_misses, missed_among, missed_earlier, missed_so, turned_to, counted, looks_one}
-use Rattle.std.specs.Prelude.{map}
+use Rattle.rowex_writing.proofs.Common.{◌≡◌, ◌⊎◌, inl, inr, ℕ, suc, ◌+◌, ◌-◌, ◌<◌, ◌≤◌, List, [], ◌∷◌, ◌++◌, Bool, true, false, nat_eq, nat_lt, Option, length, get_or, if◌then◌else◌, refl, sym, ap, subst, ◌∙◌, arith, le_refl, le_trans, Some, None, All, Contains, eqb-false, eqb-true, cases_lt, ltb-true, ltb-false, lt-ltb, le-ltb, get_or_default, All-contains, Contains-append_left, Contains-push, Layout, state_word, Rec, a_node, LoadState, Event, Failed, Known, Locked, Owned, Held, Fate, AreApart, Core, HasRecord, holder_of, word_of, failed_with, IsOwned, lock_of, tag_of, a_load, knows_all, Made, nodes_of, IsClaimed, OwnsAs, Steps, TableView, SeatView, does_count, Claims, FindsNone, HasMissedSince, IsAnothers, IsAnothersBut, IsAnothersTo, MissesOne, begin_of, begins_low, claiming, records_had, wrapped, anothers_among, anothers_before, held_misses, missed_among, missed_earlier, missed_so, turned_to, counted, looks_one}
+use Rattle.std.specs.Prelude.{map, min, MatchOption}
+use Rattle.record_words.specs.Layout.{uncommitted_in}
+use Rattle.rowex_records.specs.Claims.{AllCommittedMissed}
 use Rattle.versions.specs.Core.{Held as HeldBy}
 use Rattle.rowex_writing.specs.declared.build.kept.Build.{Build}
 use Rattle.rowex_writing.specs.build.Building.{IsBuilding}
 use Rattle.rowex_writing.specs.locks.Going.{WorksOn}
-use Rattle.rowex_writing.specs.build.Walks.{HasMissedEach, HasNoOther, HasWalked, IsClaimWalk, IsOwnOf, Makes}
+use Rattle.rowex_writing.specs.declared.build.kept.NodeWalk.{NodeWalk}
+use Rattle.rowex_writing.specs.build.Walks.{HasMissedEach, HasNoOther, HasWalked, IsClaimWalk, IsCommittedWalk, IsOwnOf, Makes, left_below}
 use Rattle.rowex_writing.proofs.build.Changes.{made_alone, made_held, made_records, run_failed}
-use Rattle.rowex_writing.proofs.locks.Going.{goes_more, goes_none}
+use Rattle.rowex_writing.proofs.locks.Going.{goes_bounds, goes_more, goes_none}
 use Rattle.rowex_writing.proofs.build.Building.{miss_on, steps_rise}
 
 -- ---- numbers in turn
@@ -65,21 +68,29 @@ alone_still k j made same alone r has = alone r (subst (λ own. Contains (map (�
 
 -- ---- the walk
 -- a walk that is to try each record begins at any number
-pub walk_begins : (layout : Layout) (k : Known) (build : Build) (all : Layout) → build.left_nodes ≡ all.nodes → all ≡ layout → HasWalked layout k.steps k build
-walk_begins layout k build all left same = record {
-  early = omega arith;
-  begin = begin_of layout.nodes build.nodes.next;
-  low = begins (nat_lt build.nodes.next layout.nodes) refl;
+pub claims_begin : (layout : Layout) (end since : ℕ) (k : Known) (made : List Rec) (next left : ℕ) → since ≤ k.steps → 0 < end → left ≡ end → IsClaimWalk layout end since k made next left
+claims_begin layout end since k made next left early some whole = record {
+  early = early;
+  begin = begin_of end next;
+  low = begins_low end next some;
   tried = 0;
-  count = (let e = ap (λ (z : Layout). z.nodes) same in omega (arith, e, left));
-  next_is = λ more. sym ((let same : begin_of layout.nodes build.nodes.next + 0 ≡ begin_of layout.nodes build.nodes.next = omega arith in ap (λ z. if nat_lt z layout.nodes then z else z - layout.nodes) same) ∙
-      low_is layout.nodes (begin_of layout.nodes build.nodes.next) (begins (nat_lt build.nodes.next layout.nodes) refl));
+  count = omega arith;
+  next_is = λ more. sym ((let same : begin_of end next + 0 ≡ begin_of end next = omega arith in ap (λ z. if nat_lt z end then z else z - end) same) ∙ low_is end (begin_of end next) (begins_low end next some));
   each = λ i low. absurd (omega arith);
 }
-  where
-    begins : (b : Bool) → nat_lt build.nodes.next layout.nodes ≡ b → (if nat_lt build.nodes.next layout.nodes then build.nodes.next else 0) < layout.nodes
-    begins true e = rw e (ltb-true build.nodes.next layout.nodes e)
-    begins false e = rw e layout.nodes_in_range.0
+
+pub walk_begins : (layout : Layout) (s : SeatView) (build : Build) (all : Layout) → build.walk.left ≡ all.nodes → build.walk.end ≡ all.nodes → all ≡ layout → HasWalked layout s s build
+walk_begins layout s build all left end same =
+    let whole : all.nodes ≡ layout.nodes = ap (λ (z : Layout). z.nodes) same in
+    let some = layout.nodes_in_range.0 in
+    record {
+      claims = claims_begin layout build.walk.end s.known.steps s.known build.made.items build.nodes.next (left_below layout.nodes build.walk) (le_refl s.known.steps) (omega (arith, whole, end, some)) (omega (arith, whole, left, end));
+      within = omega (arith, whole, end);
+      rest = omega (arith, whole, left);
+      falls = le_refl (uncommitted_in s.bounds 0);
+      whole = omega (arith, whole, end);
+      begun = inl (left ∙ whole, end ∙ whole);
+    }
 
 -- it goes on being one, where failed steps and records come to those that there are
 pub walk_stays : {end : ℕ} (layout : Layout) (since : ℕ) (k j : Known) (made more : List Rec) (next left : ℕ) → j.pass ≡ k.pass → j.locks ≡ k.locks → k.steps ≤ j.steps → ((x : Failed) → Contains k.failed x → Contains j.failed x) → ((r : Rec) → Contains made r → Contains more r)
@@ -98,16 +109,91 @@ walk_stays {end} layout since k j made more next left same locks later failed ke
   ];
 }
 
--- where all have been tried, each was found not free, if those that are made were
-pub walk_ends : (layout : Layout) (since : ℕ) (k : Known) (made : List Rec) (next left : ℕ) → left ≡ 0 → ((r : Rec) → Contains made r → HasMissedSince (IsAnothersBut layout k made) k.failed r since) →
-    All (λ r. HasMissedSince (IsOwnOf k.pass) k.failed r since) made → AreApart made → IsClaimWalk layout layout.nodes since k made next left → HasMissedEach layout since k made
-walk_ends layout since k made next left none looked own apart w = record { missed = each; own = own; apart = apart }
+-- where all below its end have been tried, each that was known to be committed was found not free, if those that are made were
+pub walk_ends : (layout : Layout) (first : SeatView) (end : ℕ) (k : Known) (made : List Rec) (next left : ℕ) → left ≡ 0 → layout.nodes ≤ end + uncommitted_in first.bounds 0 →
+    ((r : Rec) → Contains made r → HasMissedSince (IsAnothersBut layout k made) k.failed r first.known.steps) →
+    All (λ r. HasMissedSince (IsOwnOf k.pass) k.failed r first.known.steps) made → AreApart made → IsClaimWalk layout end first.known.steps k made next left → HasMissedEach layout first k made
+walk_ends layout first end k made next left none whole looked own apart w = record { missed = each; own = own; apart = apart }
   where
-    each : AllMissed (IsAnothersBut layout k made) a_node layout.nodes k.failed since
-    each q low =
-        let (i, within, is) = turned_to layout.nodes w.begin q w.low low in
+    each : AllCommittedMissed (IsAnothersBut layout k made) layout first.bounds a_node layout.nodes k.failed first.known.steps
+    each q low committed =
+        let below : q < end = omega (arith, whole, committed) in
+        let (i, within, is) = turned_to end w.begin q w.low below in
         let all = w.count in
-        subst (λ z. HasMissedSince (IsAnothersBut layout k made) k.failed (a_node z) since) is (elim (w.each i (omega arith)) [ inl missed ↦ missed | inr has ↦ looked _ has ])
+        subst (λ z. HasMissedSince (IsAnothersBut layout k made) k.failed (a_node z) first.known.steps) is (elim (w.each i (omega arith)) [ inl missed ↦ missed | inr has ↦ looked _ has ])
+
+-- a walk that has ended below a number, and then tried that number, has ended behind it
+pub walk_past : (layout : Layout) (end since : ℕ) (k : Known) (made : List Rec) (next left more : ℕ) → left ≡ 0 → IsClaimWalk layout end since k made next left →
+    HasMissedSince (IsAnothersBut layout k made) k.failed (a_node end) since ⊎ Contains made (a_node end) → IsClaimWalk layout (end + 1) since k made more 0
+walk_past layout end since k made next left more none w last = record {
+  early = w.early;
+  begin = 0;
+  low = omega arith;
+  tried = end + 1;
+  count = omega arith;
+  next_is = λ more. absurd (omega arith);
+  each = λ i low. subst Tried (sym (low_is (end + 1) (0 + i) (omega (arith, low)) ∙ (let same : 0 + i ≡ i = omega arith in same))) (each i low (cases_lt i end));
+}
+  where
+    Tried : ℕ → Type 0
+    Tried i = HasMissedSince (IsAnothersBut layout k made) k.failed (a_node i) since ⊎ Contains made (a_node i)
+
+    each : (i : ℕ) → i < end + 1 → (i < end) ⊎ (end ≤ i) → Tried i
+    each i low (inl below) = let (at, within, is) = turned_to end w.begin i w.low below in let all = w.count in subst Tried is (w.each at (omega arith))
+    each i low (inr past) = (let same : end ≡ i = omega arith in subst Tried same last)
+
+-- ---- a walk over committed records
+-- Where `count` are found to be committed, a walk goes on over those below its end and below `count`. It begins anew if none was tried.
+module _ (layout : Layout) (first s : SeatView) (made : List Rec) (next : ℕ) (walk : NodeWalk) (w : IsCommittedWalk layout first s made next walk) (count end most : ℕ) (rest : layout.nodes ≤ count + uncommitted_in s.bounds 0)
+    (end_is : end ≡ min count walk.end) (most_is : most ≡ min (left_below layout.nodes walk) end) where
+  -- what is left is not more than its records
+  few_left : left_below layout.nodes walk ≤ walk.end
+  few_left = let all = w.claims.count in omega (arith, all)
+
+  -- no fewer are committed than before, if some were tried
+  none_tried : count < walk.end → (walk.left ≡ layout.nodes) × (walk.end ≡ layout.nodes)
+  none_tried fewer = elim w.begun [ inl none ↦ none | inr some ↦ absurd (omega (arith, some, rest, fewer)) ]
+
+  pub walk_narrows : 0 < count → IsClaimWalk layout end first.known.steps s.known made next most
+  walk_narrows some = go (cases_lt count walk.end)
+    where
+      go : (count < walk.end) ⊎ (walk.end ≤ count) → IsClaimWalk layout end first.known.steps s.known made next most
+      go (inl fewer) = (let (left, all) = none_tried fewer in claims_begin layout end first.known.steps s.known made next most w.claims.early (omega (arith, some, end_is, fewer)) (omega (arith, left, all, most_is, end_is, fewer)))
+      go (inr more) = (let same : walk.end ≡ end = omega (arith, end_is, more) in let left : left_below layout.nodes walk ≡ most = omega (arith, most_is, same, few_left) in
+          subst (λ z. IsClaimWalk layout z first.known.steps s.known made next most) same (subst (IsClaimWalk layout walk.end first.known.steps s.known made next) left w.claims))
+
+  -- where so many of those are left
+  module _ (after : ℕ) (less : after ≤ most) (fits : count ≤ layout.nodes) where
+    abbrev now : NodeWalk
+    now = record { left = walk.left - (most - after); end = end; commits = walk.commits }
+
+    walk_left : (left_below layout.nodes now ≡ after) × (layout.nodes ≤ now.left + end)
+    walk_left = go (cases_lt count walk.end)
+      where
+        go : (count < walk.end) ⊎ (walk.end ≤ count) → (left_below layout.nodes now ≡ after) × (layout.nodes ≤ now.left + end)
+        go (inl fewer) = (let (left, all) = none_tried fewer in (omega (arith, left, all, most_is, end_is, fewer, less, fits), omega (arith, left, all, most_is, end_is, fewer, less, fits)))
+        go (inr more) = (let was = w.rest in let within = w.within in (omega (arith, most_is, end_is, more, few_left, less, was, within), omega (arith, most_is, end_is, more, few_left, less, was, within)))
+
+    -- the seat after the claim, and where the walk goes on
+    module _ (b : SeatView) (from : ℕ) (falls : uncommitted_in b.bounds 0 ≤ uncommitted_in s.bounds 0) (committed : uncommitted_in b.bounds 0 + count ≤ layout.nodes) where
+      walk_widens : (more : List Rec) → IsClaimWalk layout end first.known.steps b.known more from after → IsCommittedWalk layout first b more from now
+      walk_widens more claims =
+          let (left, upto) = walk_left in
+          let within = w.within in
+          record {
+            claims = subst (IsClaimWalk layout end first.known.steps b.known more from) (sym left) claims;
+            within = omega (arith, end_is, within);
+            rest = upto;
+            falls = le_trans falls w.falls;
+            whole = (let fell = w.falls in let whole = w.whole in omega (arith, end_is, whole, fell, rest));
+            begun = inr (omega (arith, committed, end_is));
+          }
+
+      pub walk_answers : (r : Option ℕ) →
+          MatchOption r ((after ≡ 0) × IsClaimWalk layout end first.known.steps b.known made from after) (λ number. IsClaimWalk layout end first.known.steps b.known (made ++ a_node number ∷ []) from after) →
+          MatchOption r ((left_below layout.nodes now ≡ 0) × IsCommittedWalk layout first b made from now) (λ number. IsCommittedWalk layout first b (made ++ a_node number ∷ []) from now)
+      walk_answers None (none, claims) = (walk_left.0 ∙ none, walk_widens made claims)
+      walk_answers (Some number) claims = walk_widens (made ++ a_node number ∷ []) claims
 
 -- what was found the pass's own was found so since an earlier step
 pub own_as : (k j : Known) (failed : List Failed) (made more : List Rec) (since later : ℕ) → j.pass ≡ k.pass → made ≡ more → since ≤ later → All (λ r. HasMissedSince (IsOwnOf k.pass) failed r later) made →
@@ -121,6 +207,20 @@ module _ {G : Type 0} (table : TableView) (becomes : G → Event → G → Type 
       → IsClaimWalk table.layout end since a.0.known made next left → IsClaimWalk table.layout end since b.0.known more next left
   walk_on since a b made more next left goes kept w =
       walk_stays table.layout since a.0.known b.0.known made more next left goes.stays.0.pass goes.stays.1 (steps_rise table becomes goes.acts a b goes.steps) (λ x has. run_failed table becomes goes.acts a b goes.steps x has) kept w
+
+  -- and so does one over committed records
+  pub committed_on : (first : SeatView) (a b : SeatView × G) (made more : List Rec) (next : ℕ) (walk : NodeWalk) → WorksOn table becomes a b → ((r : Rec) → Contains made r → Contains more r)
+      → IsCommittedWalk table.layout first a.0 made next walk → IsCommittedWalk table.layout first b.0 more next walk
+  committed_on first a b made more next walk goes kept w =
+      let less : uncommitted_in b.0.bounds 0 ≤ uncommitted_in a.0.bounds 0 = goes_bounds table becomes a b goes 0 in
+      record {
+        claims = walk_on first.known.steps a b made more next (left_below table.layout.nodes walk) goes kept w.claims;
+        within = w.within;
+        rest = w.rest;
+        falls = le_trans less w.falls;
+        whole = w.whole;
+        begun = elim w.begun [ inl none ↦ inl none | inr some ↦ inr (omega (arith, less, some)) ];
+      }
 
   -- after tries that found none free
   module _ {end : ℕ} (since m : ℕ) (a b : SeatView × G) (made : List Rec) (next left : ℕ) (alone : HasNoOther a.0.known made) (w : IsClaimWalk table.layout end since a.0.known made next left) (within : m ≤ left)
@@ -316,11 +416,25 @@ module _ {G : Type 0} (table : TableView) (becomes : G → Event → G → Type 
   pub looked_own : (index : ℕ) (a b : SeatView × G) → length made ≤ index → HasLooked index a b → All (λ r. HasMissedSince (IsOwnOf a.0.known.pass) b.0.known.failed r a.0.known.steps) made
   looked_own index a b all looked = λ i d low. looked.mine i d (omega (arith, all, low))
 
+module _ {G : Type 0} (table : TableView) (becomes : G → Event → G → Type 0) where
+  -- what looks at the records made tell, they tell since an earlier step
+  pub looked_since : (since : ℕ) (a b : SeatView × G) (made listed : List Rec) → listed ≡ made → since ≤ a.0.known.steps → WorksOn table becomes a b →
+      ((r : Rec) → Contains listed r → HasMissedSince (IsAnothersBut table.layout a.0.known listed) b.0.known.failed r a.0.known.steps) →
+      All (λ r. HasMissedSince (IsOwnOf a.0.known.pass) b.0.known.failed r a.0.known.steps) listed →
+      ((r : Rec) → Contains made r → HasMissedSince (IsAnothersBut table.layout b.0.known made) b.0.known.failed r since) ×
+      All (λ r. HasMissedSince (IsOwnOf b.0.known.pass) b.0.known.failed r since) made
+  looked_since since a b made listed same early goes seen mine = (
+    λ r has. missed_as table.layout a.0.known b.0.known made made b.0.known.failed r since goes.stays.0.pass goes.stays.1 (λ h. h)
+        (missed_earlier (IsAnothersBut table.layout a.0.known made) b.0.known.failed r since a.0.known.steps early
+        (subst (λ z. HasMissedSince (IsAnothersBut table.layout a.0.known z) b.0.known.failed r a.0.known.steps) same (seen r (subst (λ z. Contains z r) (sym same) has)))),
+    own_as a.0.known b.0.known b.0.known.failed listed made since a.0.known.steps goes.stays.0.pass same early mine,
+  )
+
 -- ---- what makes records
 module _ {G : Type 0} {table : TableView} {becomes : G → Event → G → Type 0} where
   -- what needs none
   pub makes_none : {X : Type 0} {most steps : ℕ} {x : X} (a : (SeatView × G) × Build) → Makes most steps table becomes a a (Some x)
-  makes_none a = record { goes = goes_none table becomes a.0; more = omega arith; nodes = omega arith; walk = λ since w. w; few = omega arith }
+  makes_none a = record { goes = goes_none table becomes a.0; more = omega arith; nodes = omega arith; walk = λ first w. w; few = omega arith }
 
   -- another answer, where one is given, and where none was free
   pub makes_as : {X Y : Type 0} {m s : ℕ} {a b : (SeatView × G) × Build} {x : X} {y : Y} → Makes m s table becomes a b (Some x) → Makes m s table becomes a b (Some y)
@@ -346,7 +460,7 @@ module _ {G : Type 0} {table : TableView} {becomes : G → Event → G → Type 
     goes = goes_more table becomes a.0 b.0 c.0 one.goes two.goes;
     more = omega (arith, one.more, two.more);
     nodes = omega (arith, one.nodes, two.nodes);
-    walk = λ since w. two.walk since (one.walk since w);
+    walk = λ first w. two.walk first (one.walk first w);
     few = omega (arith, one.few, two.few);
   }
 
@@ -357,6 +471,6 @@ module _ {G : Type 0} {table : TableView} {becomes : G → Event → G → Type 
     goes = goes_more table becomes a b c.0 goes makes.goes;
     more = omega (arith, makes.more);
     nodes = omega (arith, makes.nodes);
-    walk = λ since w. makes.walk since (walk_on table becomes since a b build.made.items build.made.items build.nodes.next build.left_nodes goes (λ r has. has) w);
+    walk = λ first w. makes.walk first (committed_on table becomes first a b build.made.items build.made.items build.nodes.next build.walk goes (λ r has. has) w);
     few = omega (arith, few, makes.few);
   }

@@ -6,6 +6,7 @@ use Rattle.record_words.proofs.Written.{no_entry_word}
 use Rattle.record_words.specs.Layout.{uncommitted_in}
 use Rattle.rowex_table.specs.Runs.{Runs}
 use Rattle.rowex_table.specs.Seats.{HasFoundBounds}
+use Rattle.rowex_table.specs.Committed.{AtMost}
 use Rattle.rowex_table.proofs.Committed.{committed_falls}
 use Rattle.rowex_table.proofs.Committed.Chains.{bounds_then_runs}
 use Rattle.rowex_records.specs.Claims.{AreCommitted, record_of}
@@ -41,10 +42,14 @@ module _ {G : Type 0} (table : TableView) (becomes : G → Event → G → Type 
       from [] run = absurd (let same = ap (λ (z : SeatView × G). z.0.known.steps) run in omega (arith, same, some))
       from (act ∷ acts) run = bounds_then_runs table becomes act acts s t gate b found run
 
+  -- no more is uncommitted than before
+  pub goes_bounds : (a b : SeatView × G) → WorksOn table becomes a b → AtMost (uncommitted_in b.0.bounds) (uncommitted_in a.0.bounds)
+  goes_bounds a b goes = (runs_same table becomes goes.acts a b goes.steps).4
+
   -- what is committed stays so
   pub goes_committed : (kind : RecordKind) (a b : SeatView × G) → WorksOn table becomes a b → AreCommitted table.layout a.0.bounds kind → AreCommitted table.layout b.0.bounds kind
   goes_committed kind a b goes committed = λ index low.
-      committed_falls table.layout (uncommitted_in b.0.bounds) (uncommitted_in a.0.bounds) (record_of kind index) (runs_same table becomes goes.acts a b goes.steps).4 (committed index low)
+      committed_falls table.layout (uncommitted_in b.0.bounds) (uncommitted_in a.0.bounds) (record_of kind index) (goes_bounds a b goes) (committed index low)
 
   -- the seat is one of the table still
   pub seat_of : (a b : SeatView × G) → WorksOn table becomes a b → IsSeatOf table a.0 → IsSeatOf table b.0

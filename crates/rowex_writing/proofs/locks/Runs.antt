@@ -1,7 +1,9 @@
 -- Steps of a pass, one after the other: what they leave as it was, and what only grows.
-use Rattle.rowex_writing.proofs.Common.{◌≡◌, ◌≤◌, ℕ, List, [], ◌∷◌, ◌++◌, map, refl, sym, ap, subst, ◌∙◌, arith, ◌<◌, ◌+◌, All, All-head, All-tail, All-weaker, BeginsWith, begins_itself, begins_on, begins_push, Layout, AreApart, Act, Claim, Fill, Ready, Release, LoadRef, LoadFixed, Lock, Unlock, Publish, Mark, LoadEpoch, Advance, SetPin, ClearPin, LoadPin, LoadState, GiveBack, Load, Event, Root, Slot, Value, Target, Fresh, Known, items_of, loaded_tree, next_change, IsEvent, version_of, Runs, Steps, silent, TableView, SeatView, KeepsRecall, LeavesFresh, LeavesFront, LeavesPin, act_leaves}
+use Rattle.rowex_writing.proofs.Common.{runs_same, ◌≡◌, ◌≤◌, ℕ, List, [], ◌∷◌, ◌++◌, map, refl, sym, ap, subst, ◌∙◌, arith, ◌<◌, ◌+◌, All, All-head, All-tail, All-weaker, BeginsWith, begins_itself, begins_on, begins_push, Layout, AreApart, Act, Claim, Fill, Ready, Release, LoadRef, LoadFixed, Lock, Unlock, Publish, Mark, LoadEpoch, Advance, SetPin, ClearPin, LoadPin, LoadState, GiveBack, Load, Event, Root, Slot, Value, Target, Fresh, Known, items_of, loaded_tree, next_change, IsEvent, version_of, Runs, Steps, silent, TableView, SeatView, KeepsRecall, LeavesFresh, LeavesFront, LeavesPin, act_leaves}
 use Rattle.versions.specs.Told.{added_change}
 use Rattle.rowex_writing.specs.plan.Planned.{HasLoadedRoot}
+use Rattle.record_words.specs.Layout.{uncommitted_in}
+use Rattle.rowex_table.specs.Committed.{AtMost}
 use Rattle.rowex_writing.specs.locks.Going.{IsStepUnderLocks, WorksOn}
 use Rattle.rowex_writing.specs.locks.Locks.{IsOfAttempt, LoadsNoRoot, Tries, TriesNodes, TriesNodesBy, TriesOnce, Works, targets_of, HasRun, HasTried, HasTriedOnce}
 use Rattle.rowex_writing.proofs.locks.Tried.{once_then, then_once, no_lock_is_tried, tries_more, tries_none, tries_one}
@@ -187,6 +189,10 @@ module _ {G : Type 0} (table : TableView) (becomes : G → Event → G → Type 
 
   pub run_count : {tried : List Target} (a b : SeatView × G) → HasTried table becomes tried a b → a.0.known.steps ≤ b.0.known.steps
   run_count a b r = runs_count r.acts a b r.steps
+
+  -- no more is uncommitted than before
+  pub run_bounds : {tried : List Target} (a b : SeatView × G) → HasTried table becomes tried a b → AtMost (uncommitted_in b.0.bounds) (uncommitted_in a.0.bounds)
+  run_bounds a b r = (runs_same table becomes r.acts a b r.steps).4
 
   -- a load of the root by which the call goes is not forgotten, nor is one that comes later older
   runs_loaded : (acts : List Act) (first : Known) (a b : SeatView × G) → HasLoadedRoot first a.0.known → Runs table becomes acts a b → HasLoadedRoot first b.0.known

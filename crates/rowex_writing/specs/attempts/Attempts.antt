@@ -71,11 +71,12 @@ IsChangeOf pass call reply change was =
     (reply ≡ reply_to call was) × (change_of pass (record { place = 0; call = call; reply = reply }) ≡ Some change)
 
 -- Why a planned change was not made; the pass is at rest, and its front has grown by changes of others alone. Busy: it has seen a change
--- made since the job's search loaded the root. Full: no record of the kind was free when one was wanted.
-abbrev pub HasFailed : (layout : Layout) → (job : Job) → (old new : Known) → (made : List Rec) → (fault : TryFault) → Type 0
-HasFailed layout job old new made Busy = IsAtRest new × IsLater old new × HasMoved layout job old new
-HasFailed layout job old new made FullNodes = HasNoRoom layout job.key.now old new made Nodes
-HasFailed layout job old new made FullLeaves = HasNoRoom layout job.key.now old new made Leaves
+-- made since the job's search loaded the root. Full: no record of the kind was free when one was wanted, of those that are committed by
+-- these bounds.
+abbrev pub HasFailed : (layout : Layout) → (bounds : List ℕ) → (job : Job) → (old new : Known) → (made : List Rec) → (fault : TryFault) → Type 0
+HasFailed layout bounds job old new made Busy = IsAtRest new × IsLater old new × HasMoved layout job old new
+HasFailed layout bounds job old new made FullNodes = HasNoRoom layout bounds job.key.now old new made Nodes
+HasFailed layout bounds job old new made FullLeaves = HasNoRoom layout bounds job.key.now old new made Leaves
 
 -- the fault of an attempt for which no record of this kind was free
 abbrev pub refusal_of : Full → TryFault
@@ -95,11 +96,13 @@ LacksNoLeaf leaves (RemoveIf key expected) result = result ≢ Err leaves
 LacksNoLeaf leaves call result = Unit {0}
 
 -- Why an attempt was refused. Busy: another pass had locked or unlinked what it had to lock, or the pass has seen a change made since its
--- pin. Full: no node record was found free since `old`, or no leaf record with room for the key.
-abbrev pub IsAttemptCause : (layout : Layout) → (key : Key) → (old new : Known) → (made : List Rec) → (fault : TryFault) → Type 0
-IsAttemptCause layout key old new made Busy = HasMetLock layout old new ⊎ ((since : ℕ) × IsPinnedSince old since × (since < length new.front))
-IsAttemptCause layout key old new made FullNodes = IsFull layout key old new made Nodes
-IsAttemptCause layout key old new made FullLeaves = IsFull layout key old new made Leaves
+-- pin. Full: no node record was found free since `old`, or no leaf record with room for the key, of those that are committed by these
+-- bounds.
+abbrev pub IsAttemptCause : (layout : Layout) → (bounds : List ℕ) → (key : Key) → (old new : Known) → (made : List Rec) → (fault : TryFault) →
+    Type 0
+IsAttemptCause layout bounds key old new made Busy = HasMetLock layout old new ⊎ ((since : ℕ) × IsPinnedSince old since × (since < length new.front))
+IsAttemptCause layout bounds key old new made FullNodes = IsFull layout bounds key old new made Nodes
+IsAttemptCause layout bounds key old new made FullLeaves = IsFull layout bounds key old new made Leaves
 
 -- the fault says that no record of its kind was free: it is any but busy
 abbrev pub IsFullFault : TryFault → Type 0
@@ -129,6 +132,6 @@ IsFullOnlyIfWanting known call fault = IsFullFault fault → WantsRecord known c
 
 -- The attempt was refused with this fault, and has its cause (`IsAttemptCause`). It has made no change: the front has grown by changes of
 -- other passes alone since `old`.
-pub record HasRefused (layout : Layout) (key : Key) (old new : Known) (made : List Rec) (fault : TryFault) : Type 0 where
+pub record HasRefused (layout : Layout) (bounds : List ℕ) (key : Key) (old new : Known) (made : List Rec) (fault : TryFault) : Type 0 where
   pub others : OthersGoOn old.pass old.front new.front
-  pub cause : IsAttemptCause layout key old new made fault
+  pub cause : IsAttemptCause layout bounds key old new made fault

@@ -16,7 +16,7 @@ use Rattle.rowex_core.specs.declared.known.Known.{Known}
 use Rattle.rowex_table.specs.Made.{Made, IsLater}
 use Rattle.rowex_table.specs.Publishes.{Publishes}
 use Rattle.rowex_table.specs.Seats.{TableView, SeatView}
-use Rattle.rowex_records.specs.Claims.{AllMissed, AllMissedFrom, HasMissedSince, IsAnothers}
+use Rattle.rowex_records.specs.Claims.{AllCommittedMissed, AllMissedFrom, HasMissedSince, IsAnothers}
 use Rattle.publish_laws.specs.Ending.{IsAtRest}
 use Rattle.publish_laws.specs.Stages.{HasLoaded, HasReady}
 use Rattle.rowex_writing.specs.build.Building.{IsBuilding}
@@ -72,36 +72,36 @@ pub record HasChanged (old new : Known) (done : Change) (was : Option ℕ) : Typ
   pub fits : Fits (map_of before) done
   pub was_held : value_at (map_of before) done.key ≡ was
 
--- By failed steps since step `since` the pass has found each node record not free. Those in `own` were its own, at most two for each node
--- in `locked` and one, as many as a change makes. Those in `locked`, nodes of a path that it had locked, were nobody's. Each other record
--- was another pass's, or nobody's: in the tree or retired.
-pub record LacksNodes (layout : Layout) (pass : ℕ) (failed : List Failed) (since : ℕ) (own : List Rec) : Type 0 where
+-- By failed steps since step `since` the pass has found each node record not free that is committed by these bounds. Those in `own` were
+-- its own, at most two for each node in `locked` and one, as many as a change makes. Those in `locked`, nodes of a path that it had locked,
+-- were nobody's. Each other record was another pass's, or nobody's: in the tree or retired.
+pub record LacksNodes (layout : Layout) (bounds : List ℕ) (pass : ℕ) (failed : List Failed) (since : ℕ) (own : List Rec) : Type 0 where
   pub locked : List ℕ
   pub few : length own ≤ 2 * length locked + 1
   pub most : length locked ≤ most_nodes
   pub apart : AreApart locked
   pub low : All (λ number. number < layout.nodes) locked
-  pub missed : AllMissed (IsAnothers layout pass own locked) a_node layout.nodes failed since
+  pub missed : AllCommittedMissed (IsAnothers layout pass own locked) layout bounds a_node layout.nodes failed since
   pub own_is : All (λ rec. HasMissedSince (IsOwnOf pass) failed rec since) own
   pub once : AreApart own
 
--- By failed steps since step `since` the pass has found each leaf record with room for the key not free. None was its own. Each was another
--- pass's, or nobody's: in the tree or retired.
-abbrev pub LacksLeaves : (layout : Layout) → (key : Key) → (pass : ℕ) → (failed : List Failed) → (since : ℕ) → Type 0
-LacksLeaves layout key pass failed since = AllMissedFrom (IsAnothers layout pass [] []) layout (words_for (length key)) failed since
+-- By failed steps since step `since` the pass has found leaf records with room for the key not free: each before the first of them that isn't
+-- committed by these bounds. None was its own. Each was another pass's, or nobody's: in the tree or retired.
+abbrev pub LacksLeaves : (layout : Layout) → (bounds : List ℕ) → (key : Key) → (pass : ℕ) → (failed : List Failed) → (since : ℕ) → Type 0
+LacksLeaves layout bounds key pass failed since = AllMissedFrom (IsAnothers layout pass [] []) layout bounds (words_for (length key)) failed since
 
 -- By failed steps since `old` no record of the kind was free when the pass wanted one: a node record beside those in `made`, or a leaf
--- record with room for the key.
-abbrev pub IsFull : (layout : Layout) → (key : Key) → (old new : Known) → (made : List Rec) → (full : Full) → Type 0
-IsFull layout key old new made Nodes = LacksNodes layout new.pass new.failed old.steps (nodes_among made)
-IsFull layout key old new made Leaves = LacksLeaves layout key new.pass new.failed old.steps
+-- record with room for the key. Of records that aren't committed by these bounds nothing is said.
+abbrev pub IsFull : (layout : Layout) → (bounds : List ℕ) → (key : Key) → (old new : Known) → (made : List Rec) → (full : Full) → Type 0
+IsFull layout bounds key old new made Nodes = LacksNodes layout bounds new.pass new.failed old.steps (nodes_among made)
+IsFull layout bounds key old new made Leaves = LacksLeaves layout bounds key new.pass new.failed old.steps
 
--- The pass has made no change since `old`, since no record of the kind was free beside those in `made`, which it had made. It has no
--- records of its own and no locks.
-pub record HasNoRoom (layout : Layout) (key : Key) (old new : Known) (made : List Rec) (full : Full) : Type 0 where
+-- The pass has made no change since `old`, since no record of the kind was free beside those in `made`, which it had made (`IsFull`). It has
+-- no records of its own and no locks.
+pub record HasNoRoom (layout : Layout) (bounds : List ℕ) (key : Key) (old new : Known) (made : List Rec) (full : Full) : Type 0 where
   pub rest : IsAtRest new
   pub later : IsLater old new
-  pub full_of : IsFull layout key old new made full
+  pub full_of : IsFull layout bounds key old new made full
 
 -- The change that gives the key this value. It replaces the value that the search found, which is `was`. If the search found no leaf with
 -- the key, it adds the key, and `was` is none.

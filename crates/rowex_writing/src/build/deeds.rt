@@ -102,7 +102,7 @@ pub(crate) fn push_leaf_down<G: Gate>(
     let Some(leaf) = make_leaf(table, seat, gate, build, job) else {
         return Err(Full::Leaves);
     };
-    build.begin_claims(table.layout().nodes);
+    build.begin_claims(table.layout().nodes, false);
     let pair = pair_with_leaf(job.key, position, Entry::Leaf(old), leaf);
     let Some(entry) = make_node(table, seat, gate, build, &pair) else {
         return Err(Full::Nodes);

@@ -2,14 +2,15 @@
 
 ghost use Rattle.std.specs.Prelude.{◌≡◌, ◌<◌, ◌≤◌, ◌++◌, ◌∷◌, [], length, ◌⊎◌, ◌+◌, ◌-◌, ◌^◌, ◌/◌, ◌↔◌, max, min, ◌*◌, MatchOption, IfOk, IsSome, IsTrue, List, ℕ, vec_capacity};
 ghost use Rattle.record_words.specs.declared.records.Rec.TheVariants.{Node as a_node};
-ghost use Rattle.rowex_table.specs.Seats.{IsSeatOf};
+ghost use Rattle.rowex_table.specs.Seats.{IsSeatOf, SeatView};
 ghost use Rattle.rowex_records.specs.Claims.{AllMissed, AreCommitted, HoldsOneMore, IsAnothersTo, IsKindOf, count_of, record_of};
 ghost use Rattle.rowex_records.specs.declared.claiming.RecordKind.TheVariants.{Node};
-ghost use Rattle.rowex_writing.specs.build.Spare.{FindsOne};
+ghost use Rattle.rowex_writing.specs.build.Spare.{FindsOne, NoneWasFree};
 ghost use Rattle.rowex_writing.specs.locks.Going.{WorksOn};
 ghost use Rattle.record_words.specs.declared.records.Rec.{Rec as Record};
-ghost use Rattle.rowex_writing.specs.build.Walks.{HasNoOther, IsClaimWalk};
+ghost use Rattle.rowex_writing.specs.build.Walks.{HasNoOther, IsClaimWalk, IsCommittedWalk, left_below};
 
+use crate::build::kept::NodeWalk;
 use rowex_core::{Gate, Rec};
 use rowex_records::{RecordKind, claim_by_number, claim_next_record, claim_record};
 use rowex_table::{HotTable, TableSeat};
@@ -22,8 +23,9 @@ const MOST_SPARE: u32 = 4_096;
 /// Where the claims of a pass begin, of node records or of the leaf records of one class. Numbers are counted from the first of these
 /// on.
 ///
-/// Whatever a hint says, a claim of a leaf record tries each that has room before it finds that none is free. All claims of node
-/// records in one change share one walk, which tries each of them once before it finds that.
+/// Whatever a hint says, a claim of a leaf record tries each committed one that has room before it finds that none is free, up to the first
+/// class with uncommitted ones. All claims of node records in one change share one walk, which tries each committed one once before it
+/// finds that.
 #[derive(Drop)]
 pub struct Hint {
     /// Numbers that the pass has given back, as far as they find room here: claims begin with the last of these.
@@ -32,8 +34,8 @@ pub struct Hint {
     pub next: u32,
     /// Where a walk of claims begins.
     pub stretch: Stretch,
-    /// How many claims of a leaf record still try the records of this class last. A claim that finds none of them free sets it to their
-    /// number, and each claim lowers it. So in the long run a claim looks at one of them, however many are in use.
+    /// How many claims of a leaf record still try the records of this class last. A claim that finds none of them free, where all are
+    /// committed, sets it to their number, and each claim lowers it. So in the long run a claim looks at one of them, however many are in use.
     pub skips: u32,
 }
 
@@ -278,38 +280,119 @@ fn claim_spare_record<G: Gate>(
     None
 }
 
-/// Claims the next free node record on the walk of a change's claims, and returns its number. `None` if none of those left was free. All
-/// node records are committed before the first is tried.
+/// Claims the next free node record on the walk of a change's claims, and returns its number. `None` if none of those left was free. Where
+/// `walk.commits`, the next uncommitted records are then committed and tried, one after the other.
 ///
-/// The last spare number of `hint` is tried first, and is no longer spare. Then at most `left` records are tried, each once, from
-/// `hint.next` on. Each try takes at most two steps. `left` becomes less by the number of these tries without the spare one. If one of
-/// these claims a record, `hint.next` is the number behind it. If none is left, nothing is tried.
+/// The last spare number of `hint` is tried first, and is no longer spare. Then each record that the walk has left is tried once, from
+/// `hint.next` on. Each try takes at most two steps. `walk.left` becomes less by the number of these tries without the spare one. If one of
+/// these claims a record, `hint.next` is the number behind it.
 ///
-/// In a table with one pass that has no record of its own, a walk that may still try each record finds one if one is free.
+/// In a table with one pass that has no record of its own, a walk that may still try each record, and commit more, finds one if one is free.
 pub(crate) fn claim_node_on_walk<G: Gate>(
     table: &HotTable,
     seat: &mut TableSeat,
     gate: &mut G,
     hint: &mut Hint,
-    left: &mut u32,
+    walk: &mut NodeWalk,
 ) -> Option<u32>
     requires own { IsSeatOf table.now seat.old }
     ensures goes { WorksOn table.now G.becomes (seat.old, gate.old) (seat.new, gate.new) }
     ensures claims { MatchOption result (seat.new.known.own ≡ seat.old.known.own)
         (λ number. (number < table.now.layout.nodes) × HoldsOneMore (a_node number) seat.old.known seat.new.known) }
-    ensures walk { (since : ℕ) (made : List Record) → HasNoOther seat.old.known made →
-        IsClaimWalk table.now.layout table.now.layout.nodes since seat.old.known made hint.old.next left.old → MatchOption result
-        ((left.new ≡ 0) × IsClaimWalk table.now.layout table.now.layout.nodes since seat.new.known made hint.new.next left.new)
-        (λ number. IsClaimWalk table.now.layout table.now.layout.nodes since seat.new.known (made ++ a_node number ∷ []) hint.new.next left.new) }
-    ensures few { seat.new.known.steps + 2 * left.new ≤ seat.old.known.steps + 2 * left.old + 2 }
-    ensures finds { FindsOne table.now.layout left.old seat.old result }
+    ensures walk { (first : SeatView) (made : List Record) → HasNoOther seat.old.known made →
+        IsCommittedWalk table.now.layout first seat.old made hint.old.next walk.old → MatchOption result
+        ((left_below table.now.layout.nodes walk.new ≡ 0) × IsCommittedWalk table.now.layout first seat.new made hint.new.next walk.new)
+        (λ number. IsCommittedWalk table.now.layout first seat.new (made ++ a_node number ∷ []) hint.new.next walk.new) }
+    ensures few { seat.new.known.steps + 2 * walk.new.left ≤ seat.old.known.steps + 2 * walk.old.left + 2 }
+    ensures finds { FindsOne table.now.layout walk.old seat.old result }
 {
-    if *left == 0 {
+    if let Some(number) = claim_below_end(table, seat, gate, hint, walk) {
+        return Some(number);
+    }
+    if walk.commits {
+        return claim_from_end(table, seat, gate, hint, walk);
+    }
+    None
+}
+
+/// Claims the next free node record of those below the end of the walk, as [`claim_node_on_walk`] does. One load finds how many are
+/// committed, which is one at least. The first claim of a walk lowers the end to that.
+fn claim_below_end<G: Gate>(
+    table: &HotTable,
+    seat: &mut TableSeat,
+    gate: &mut G,
+    hint: &mut Hint,
+    walk: &mut NodeWalk,
+) -> Option<u32>
+    requires own { IsSeatOf table.now seat.old }
+    ensures goes { WorksOn table.now G.becomes (seat.old, gate.old) (seat.new, gate.new) }
+    ensures claims { MatchOption result (seat.new.known.own ≡ seat.old.known.own)
+        (λ number. (number < table.now.layout.nodes) × HoldsOneMore (a_node number) seat.old.known seat.new.known) }
+    ensures walk { (first : SeatView) (made : List Record) → HasNoOther seat.old.known made →
+        IsCommittedWalk table.now.layout first seat.old made hint.old.next walk.old → MatchOption result
+        ((left_below table.now.layout.nodes walk.new ≡ 0) × IsCommittedWalk table.now.layout first seat.new made hint.new.next walk.new)
+        (λ number. IsCommittedWalk table.now.layout first seat.new (made ++ a_node number ∷ []) hint.new.next walk.new) }
+    ensures few { seat.new.known.steps + 2 * walk.new.left ≤ seat.old.known.steps + 2 * walk.old.left + 2 }
+    ensures commits { walk.new.commits ≡ walk.old.commits }
+    ensures left { result ≡ None → walk.old.left ≡ table.now.layout.nodes → walk.old.end ≡ table.now.layout.nodes →
+        table.now.layout.nodes ≤ walk.new.left + walk.new.end }
+    ensures tried { walk.old.left ≡ table.now.layout.nodes → walk.old.end ≡ table.now.layout.nodes →
+        NoneWasFree table.now.layout 0 walk.new.end seat.old result }
+{
+    let nodes = table.layout().nodes;
+    let left = walk.left_below_end(nodes);
+    if left == 0 || walk.end == 0 {
         return None;
     }
+    let end = table.count_committed_from(seat, Rec::Node(0)).min(walk.end);
+    let most = left.min(end);
+    let mut rest = most;
+    let claimed = claim_committed_node(table, seat, gate, hint, &mut rest, end);
+    walk.end = end;
+    walk.left -= most - rest;
+    claimed
+}
+
+/// Commits the next node record from the end of the walk on, and claims it; and so on until one is claimed. Returns its number. `None` if
+/// none was free up to the table's last. The end of the walk is after the last one tried.
+fn claim_from_end<G: Gate>(
+    table: &HotTable,
+    seat: &mut TableSeat,
+    gate: &mut G,
+    hint: &mut Hint,
+    walk: &mut NodeWalk,
+) -> Option<u32>
+    requires own { IsSeatOf table.now seat.old }
+    ensures goes { WorksOn table.now G.becomes (seat.old, gate.old) (seat.new, gate.new) }
+    ensures claims { MatchOption result (seat.new.known.own ≡ seat.old.known.own)
+        (λ number. (number < table.now.layout.nodes) × HoldsOneMore (a_node number) seat.old.known seat.new.known) }
+    ensures walk { (first : SeatView) (made : List Record) → HasNoOther seat.old.known made → left_below table.now.layout.nodes walk.old ≡ 0 →
+        IsCommittedWalk table.now.layout first seat.old made hint.old.next walk.old → MatchOption result
+        ((left_below table.now.layout.nodes walk.new ≡ 0) × IsCommittedWalk table.now.layout first seat.new made hint.new.next walk.new)
+        (λ number. IsCommittedWalk table.now.layout first seat.new (made ++ a_node number ∷ []) hint.new.next walk.new) }
+    ensures few { seat.new.known.steps + 2 * walk.new.left ≤ seat.old.known.steps + 2 * walk.old.left }
+    ensures tried { table.now.layout.nodes ≤ walk.old.left + walk.old.end →
+        NoneWasFree table.now.layout walk.old.end table.now.layout.nodes seat.old result }
+{
     let nodes = table.layout().nodes;
-    table.commit(seat, Rec::Node(nodes - 1));
-    claim_committed_node(table, seat, gate, hint, left, nodes)
+    while walk.end < nodes && walk.left > 0 {
+        let number = walk.end;
+        table.commit(seat, Rec::Node(number));
+        walk.end = number + 1;
+        walk.left -= 1;
+        if claim_by_number(
+            table,
+            seat,
+            gate,
+            RecordKind::Node { end: walk.end },
+            number,
+        ) {
+            hint.stretch.advance_past_claim(number, number);
+            hint.next = walk.end;
+            return Some(number);
+        }
+    }
+    None
 }
 
 /// Claims the next free node record on a walk over those below `end`, as [`claim_node_on_walk`] does. These are committed, and the table has
@@ -333,7 +416,8 @@ fn claim_committed_node<G: Gate>(
         ((left.new ≡ 0) × IsClaimWalk table.now.layout end since seat.new.known made hint.new.next left.new)
         (λ number. IsClaimWalk table.now.layout end since seat.new.known (made ++ a_node number ∷ []) hint.new.next left.new) }
     ensures few { seat.new.known.steps + 2 * left.new ≤ seat.old.known.steps + 2 * left.old + 2 }
-    ensures finds { end ≡ table.now.layout.nodes → FindsOne table.now.layout left.old seat.old result }
+    ensures less { left.new ≤ left.old }
+    ensures tried { left.old ≡ end → NoneWasFree table.now.layout 0 end seat.old result }
     ensures some { 0 < end → 0 < left.old → seat.old.known.steps < seat.new.known.steps }
 {
     let kind = RecordKind::Node { end };

@@ -1,6 +1,6 @@
 //! The leaf record of a change: claimed in the smallest class that has one free, and filled.
 
-ghost use Rattle.std.specs.Prelude.{◌≡◌, ◌<◌, ◌≤◌, ◌+◌, ◌*◌, [], MatchOption, ◌-◌};
+ghost use Rattle.std.specs.Prelude.{◌≡◌, ◌<◌, ◌≤◌, ◌+◌, ◌*◌, [], IfErr, IfOk, MatchOption, ◌-◌};
 ghost use Rattle.key_bits.specs.Key.{IsKey};
 ghost use Rattle.rowex_table.specs.Seats.{IsSeatOf};
 ghost use Rattle.rowex_reading.specs.Possible.{IsPossible};
@@ -10,9 +10,10 @@ ghost use Rattle.rowex_writing.specs.declared.plan.Full.TheVariants.{Leaves};
 ghost use Rattle.rowex_writing.specs.plan.Counts.{leaf_steps};
 ghost use Rattle.rowex_writing.specs.locks.Going.{WorksOn};
 ghost use Rattle.tries.specs.Content.{item};
-ghost use Rattle.record_words.specs.Layout.{leaf_size};
+ghost use Rattle.record_words.specs.Layout.{leaf_size, uncommitted_in};
 ghost use Rattle.record_words.specs.declared.TheConstants.{LEAF_WORDS};
 ghost use Rattle.record_words.specs.declared.records.Rec.TheVariants.{Leaf as a_leaf};
+ghost use Rattle.rowex_table.specs.Committed.{IsCommitted};
 ghost use Rattle.rowex_records.specs.Claims.{AllMissed, AllMissedFrom, HoldsOneMore, IsAnothersTo, record_of};
 ghost use Rattle.rowex_records.specs.declared.claiming.RecordKind.TheVariants.{Leaf as LeafKind};
 ghost use Rattle.rowex_writing.specs.build.Classes.{AllMissedBetween, AreOfOneClass};
@@ -27,8 +28,8 @@ use rowex_table::{HotTable, TableSeat};
 use std::ops::Range;
 
 /// Makes a record for the leaf of `job.key` and `job.value`, the first record of a change, and returns its number. `build.made` is this
-/// record alone then. `None` if no leaf record with room for the key was free: `build.made` is empty then. At most `leaf_steps` steps are
-/// made.
+/// record alone then. `None` if no leaf record with room for the key was free before the first of these that the pass didn't know to be
+/// committed when the call began: `build.made` is empty then. At most `leaf_steps` steps are made.
 pub(crate) fn make_leaf<G: Gate>(
     table: &HotTable,
     seat: &mut TableSeat,
@@ -42,7 +43,7 @@ pub(crate) fn make_leaf<G: Gate>(
     requires key { IsKey job.now.key.now }
     ensures goes { WorksOn table.now G.becomes (seat.old, gate.old) (seat.new, gate.new) }
     ensures made { MatchOption result
-        (IsBuilding table.now seat.new build.new.made.items [] × IsFull table.now.layout job.now.key.now seat.old.known seat.new.known [] Leaves)
+        (IsBuilding table.now seat.new build.new.made.items [] × IsFull table.now.layout seat.old.bounds job.now.key.now seat.old.known seat.new.known [] Leaves)
         (λ n. HasLeafMade table.now seat.new build.new.made.items (item n job.now.key.now job.now.value)) }
     ensures few { seat.new.known.steps ≤ seat.old.known.steps + leaf_steps table.now.layout }
 {
@@ -59,8 +60,9 @@ pub(crate) fn make_leaf<G: Gate>(
     Some(number)
 }
 
-/// Claims a leaf record of at least `words` words and returns its number. `None` if none was free: then failed steps of this call tell of
-/// each such record who may own it. `classes` has the hint of each class.
+/// Claims a leaf record of at least `words` words and returns its number. `None` if none was free before the first of these that the pass
+/// didn't know to be committed when the call began: then failed steps of this call tell of each before it who may own it. `classes` has the
+/// hint of each class.
 ///
 /// The classes whose records are large enough are tried one after the other, the smallest first. Those among the smallest that are to be
 /// skipped are tried after the others. At most four steps are made for each leaf record of the table.
@@ -76,7 +78,7 @@ fn claim_leaf<G: Gate>(
     ensures goes { WorksOn table.now G.becomes (seat.old, gate.old) (seat.new, gate.new) }
     ensures claims { MatchOption result
         ((seat.new.known.own ≡ seat.old.known.own) ×
-        AllMissedFrom (IsAnothersTo table.now.layout seat.old.known) table.now.layout words seat.new.known.failed seat.old.known.steps)
+        AllMissedFrom (IsAnothersTo table.now.layout seat.old.known) table.now.layout seat.old.bounds words seat.new.known.failed seat.old.known.steps)
         (λ number. (number < table.now.layout.leaves) × (words ≤ leaf_size table.now.layout number) ×
         HoldsOneMore (a_leaf number) seat.old.known seat.new.known) }
     ensures few { seat.new.known.steps ≤ seat.old.known.steps + 4 * table.now.layout.leaves }
@@ -109,11 +111,13 @@ fn skip_classes(layout: Layout, classes: &mut [Hint; LEAF_CLASSES], first: u32) 
     from
 }
 
-/// Claims a leaf record with one of `numbers`, in the smallest class that has one free, and returns the number. `None` if none was free:
-/// then failed steps of this call tell of each who may own it. At most four steps are made for each of `numbers`.
+/// Claims a leaf record with one of `numbers`, in the smallest class that has one free, and returns the number. A class that has uncommitted
+/// ones is the last that is tried: a claim doesn't go on to larger records where smaller ones may be committed. `None` if none was free before
+/// the first uncommitted one: then failed steps of this call tell of each before it who may own it. At most four steps are made for each of
+/// `numbers`.
 ///
-/// A class with none free is skipped by as many later claims as it has records, by its hint in `classes`: so a full class costs little.
-/// Inline, so that the class of the first number is known when it is compiled.
+/// A class with none free is skipped by as many later claims as it has records, by its hint in `classes`: so a full class costs little. One
+/// that has uncommitted records isn't skipped. Inline, so that the class of the first number is known when it is compiled.
 #[inline(always)]
 fn claim_leaf_between<G: Gate>(
     table: &HotTable,
@@ -127,7 +131,8 @@ fn claim_leaf_between<G: Gate>(
     ensures goes { WorksOn table.now G.becomes (seat.old, gate.old) (seat.new, gate.new) }
     ensures claims { MatchOption result
         ((seat.new.known.own ≡ seat.old.known.own) ×
-        AllMissedBetween (IsAnothersTo table.now.layout seat.old.known) numbers.start numbers.end seat.new.known.failed seat.old.known.steps)
+        AllMissedBetween (IsAnothersTo table.now.layout seat.old.known) table.now.layout seat.old.bounds numbers.start numbers.end
+        seat.new.known.failed seat.old.known.steps)
         (λ number. (numbers.start ≤ number) × (number < numbers.end) × HoldsOneMore (a_leaf number) seat.old.known seat.new.known) }
     ensures few { seat.new.known.steps ≤ seat.old.known.steps + 4 * (numbers.end - numbers.start) }
 {
@@ -136,8 +141,13 @@ fn claim_leaf_between<G: Gate>(
     while first < numbers.end {
         let end = layout.class_end(first).min(numbers.end);
         let hint = &mut classes[layout.class_of(first).index()];
-        if let Some(number) = claim_leaf_of_class(table, seat, gate, first..end, hint) {
-            return Some(first + number);
+        match claim_leaf_of_class(table, seat, gate, first..end, hint) {
+            Ok(number) => return Some(first + number),
+            Err(tried) => {
+                if tried < end {
+                    return None;
+                }
+            }
         }
         hint.skips = end - first;
         first = end;
@@ -145,9 +155,11 @@ fn claim_leaf_between<G: Gate>(
     None
 }
 
-/// Claims a leaf record with one of `numbers`, which are all of one class, and returns its number, counted from the first of them on. `None`
-/// if none was free: then failed steps of this call tell of each who may own it. All are committed before the first is tried. Claims begin
-/// by `hint`, and each try takes at most two steps. Inline, as its caller is.
+/// Claims a leaf record with one of `numbers`, which are all of one class, and returns its number, counted from the first of them on. Only
+/// committed ones are tried: one load finds how many are, and the first of `numbers` is committed if none was. The error is the number of the
+/// first that wasn't tried. Each before it was found not free then: failed steps of this call tell who may own it.
+///
+/// Claims begin by `hint`, and each try takes at most two steps. Inline, as its caller is.
 #[inline(always)]
 fn claim_leaf_of_class<G: Gate>(
     table: &HotTable,
@@ -155,19 +167,24 @@ fn claim_leaf_of_class<G: Gate>(
     gate: &mut G,
     numbers: Range<u32>,
     hint: &mut Hint,
-) -> Option<u32>
+) -> Result<u32, u32>
     requires own { IsSeatOf table.now seat.old }
     requires range { (numbers.start < numbers.end) × (numbers.end ≤ table.now.layout.leaves) }
     requires class { AreOfOneClass table.now.layout numbers.start numbers.end }
     ensures goes { WorksOn table.now G.becomes (seat.old, gate.old) (seat.new, gate.new) }
-    ensures claims { MatchOption result
-        ((seat.new.known.own ≡ seat.old.known.own) ×
-        AllMissed (IsAnothersTo table.now.layout seat.old.known) (record_of (LeafKind numbers.start numbers.end)) (numbers.end - numbers.start)
-        seat.new.known.failed seat.old.known.steps)
-        (λ number. (number < numbers.end - numbers.start) × HoldsOneMore (a_leaf (numbers.start + number)) seat.old.known seat.new.known) }
+    ensures own { IfErr result (λ end. seat.new.known.own ≡ seat.old.known.own) }
+    ensures tried { IfErr result (λ end. (numbers.start < end) ×
+        (end < numbers.end → ¬ (IsCommitted table.now.layout (uncommitted_in seat.old.bounds) (a_leaf end)))) }
+    ensures missed { IfErr result (λ end. AllMissed (IsAnothersTo table.now.layout seat.old.known) (record_of (LeafKind numbers.start end))
+        (end - numbers.start) seat.new.known.failed seat.old.known.steps) }
+    ensures claimed { IfOk result (λ number. (number < numbers.end - numbers.start) × HoldsOneMore (a_leaf (numbers.start + number)) seat.old.known seat.new.known) }
     ensures few { seat.new.known.steps ≤ seat.old.known.steps + 2 * (numbers.end - numbers.start) + 2 }
 {
-    let (first, end) = (numbers.start, numbers.end);
-    table.commit(seat, Rec::Leaf(end - 1));
-    claim_by_hint(table, seat, gate, RecordKind::Leaf { first, end }, hint)
+    let first = numbers.start;
+    let count = table.count_committed_from(seat, Rec::Leaf(first));
+    let end = first + count.min(numbers.end - first);
+    match claim_by_hint(table, seat, gate, RecordKind::Leaf { first, end }, hint) {
+        Some(number) => Ok(number),
+        None => Err(end),
+    }
 }

@@ -1,10 +1,10 @@
 //! Node records that a change makes: of one node, or of both halves of a cut. Their claims share one walk.
 
-ghost use Rattle.std.specs.Prelude.{◌≡◌, ◌<◌, ◌≤◌, ◌+◌, ◌*◌, ◌++◌, ◌∷◌, [], All, List, ℕ, length, MatchOption, None, false, true, Contains};
+ghost use Rattle.std.specs.Prelude.{◌≡◌, ◌<◌, ◌≤◌, ◌+◌, ◌*◌, ◌++◌, ◌∷◌, [], All, IfSome, List, ℕ, length, MatchOption, None, false, true, Contains};
 ghost use Rattle.record_words.specs.Node.{CanTakeLeaf, HasNodeWords, node_words};
 ghost use Rattle.record_words.specs.Reading.{IsSpelling};
 ghost use Rattle.rowex_table.specs.Made.{Made};
-ghost use Rattle.rowex_table.specs.Seats.{IsSeatOf};
+ghost use Rattle.rowex_table.specs.Seats.{IsSeatOf, SeatView};
 ghost use Rattle.publish_laws.specs.Rises.{made_of_node};
 ghost use Rattle.rowex_writing.specs.build.Spare.{FindsOne};
 ghost use Rattle.rowex_writing.specs.build.Building.{IsBuilding, IsHalfMade, IsMadeFrom, HasNotMade};
@@ -13,14 +13,14 @@ ghost use Rattle.compound_node.specs.Nodes.{IsBuiltFrom, NodeView, piece};
 ghost use Rattle.insert_cases.specs.declared.growth.Grown.TheVariants.{Two};
 ghost use Rattle.rowex_writing.specs.plan.Counts.{node_steps};
 ghost use Rattle.rowex_writing.specs.locks.Going.{WorksOn};
-ghost use Rattle.rowex_writing.specs.build.Walks.{HasMissedEach, HasWalked, IsClaimWalk, IsOwnOf, Makes, looks_for, looks_unless};
+ghost use Rattle.rowex_writing.specs.build.Walks.{HasMissedEach, HasNoOther, HasWalked, IsClaimWalk, IsCommittedWalk, IsOwnOf, Makes, looks_for, looks_unless};
 ghost use Rattle.record_words.specs.declared.records.Rec.TheVariants.{Node as a_node};
 ghost use Rattle.rowex_records.specs.Claims.{HoldsOneMore, HasMissedSince, IsAnothersBut};
 ghost use Rattle.publish_laws.specs.Lone.{HasFree};
 ghost use Rattle.record_words.specs.declared.records.Rec.{Rec as Record};
 
 use crate::build::hints::claim_node_on_walk;
-use crate::build::kept::{Build, MOST_MADE};
+use crate::build::kept::{Build, MOST_MADE, NodeWalk};
 use crate::build::remaking::{NewLeaf, add_leaf_to_words};
 use compound_node::{Cut, Entry, Half, Node};
 use insert_cases::Risen;
@@ -32,8 +32,8 @@ use rowex_table::{HotTable, TableSeat};
 /// Makes a record for `node`, adds it to `build.made`, and returns the entry that names it. `None` if no node record was free: none is
 /// added.
 ///
-/// The claim tries the last spare record, and then `build.left_nodes` others at most, from `build.nodes.next` on, by at most two steps
-/// each. At a change's first claim these are all node records. Beside the walk's tries at most `node_steps` steps are made. If no record
+/// The claim tries the last spare record, and then those that `build.walk` has left, from `build.nodes.next` on, by at most two steps
+/// each. At a change's first claim these are all committed node records. Beside the walk's tries at most `node_steps` steps are made. If no record
 /// was free, the states of the records in `build.made` are loaded, too.
 pub(crate) fn make_node<G: Gate>(
     table: &HotTable,
@@ -74,7 +74,7 @@ pub(crate) fn make_node_from_words<G: Gate>(
         MatchOption result (HasNotMade table.now seat.new build.new.made.items)
         (λ e. (number : ℕ) × (e ≡ Entry.Node number node.height) × IsBuilding table.now seat.new build.new.made.items (made_of_node number node ∷ news)) }
     ensures same { result ≡ None → (seat.new.known.own ≡ seat.old.known.own) × (build.new.made.items ≡ build.old.made.items) }
-    ensures finds { FindsOne table.now.layout build.old.left_nodes seat.old result }
+    ensures finds { FindsOne table.now.layout build.old.walk seat.old result }
 {
     let number = claim_node(table, seat, gate, build)?;
     fill_node(table, seat, gate, number, words);
@@ -162,11 +162,11 @@ pub(crate) fn make_fork_of_cut<G: Gate>(
     })
 }
 
-/// Claims a node record and returns its number. `None` if each was found not free since the change began its claims. `build.made` stays in
-/// either case.
+/// Claims a node record and returns its number. `None` if each committed one was found not free since the change began its claims.
+/// `build.made` stays in either case.
 ///
 /// All claims of a change try each node record once at most, spare ones aside, and each try takes at most two steps. Where none is left to
-/// try, each was found not free, or the change has claimed it. The states of the records in `build.made` are loaded then. In a table with
+/// try, each committed one was found not free, or the change has claimed it. The states of the records in `build.made` are loaded then. In a table with
 /// one pass, which has claimed nothing yet, the first claim of a change finds a record if one is free.
 pub(crate) fn claim_node<G: Gate>(
     table: &HotTable,
@@ -179,14 +179,13 @@ pub(crate) fn claim_node<G: Gate>(
     ensures claims { MatchOption result (seat.new.known.own ≡ seat.old.known.own)
         (λ number. (number < table.now.layout.nodes) × HoldsOneMore (a_node number) seat.old.known seat.new.known) }
     ensures made { build.new.made.items ≡ build.old.made.items }
-    ensures walk { (since : ℕ) → HasWalked table.now.layout since seat.old.known build.old → MatchOption result
-        (HasMissedEach table.now.layout since seat.new.known build.new.made.items)
-        (λ number. IsClaimWalk table.now.layout table.now.layout.nodes since seat.new.known (build.old.made.items ++ a_node number ∷ [])
-        build.new.nodes.next build.new.left_nodes) }
-    ensures few { seat.new.known.steps + 2 * build.new.left_nodes ≤ seat.old.known.steps + 2 * build.old.left_nodes + 2 + looks_for build.new result }
-    ensures finds { FindsOne table.now.layout build.old.left_nodes seat.old result }
+    ensures walk { (first : SeatView) → HasWalked table.now.layout first seat.old build.old → MatchOption result
+        (HasMissedEach table.now.layout first seat.new.known build.new.made.items)
+        (λ number. IsCommittedWalk table.now.layout first seat.new (build.old.made.items ++ a_node number ∷ []) build.new.nodes.next build.new.walk) }
+    ensures few { seat.new.known.steps + 2 * build.new.walk.left ≤ seat.old.known.steps + 2 * build.old.walk.left + 2 + looks_for build.new result }
+    ensures finds { FindsOne table.now.layout build.old.walk seat.old result }
 {
-    let claimed = claim_node_on_walk(table, seat, gate, &mut build.nodes, &mut build.left_nodes);
+    let claimed = claim_node_on_walk(table, seat, gate, &mut build.nodes, &mut build.walk);
     if let Some(number) = claimed {
         return Some(number);
     }
@@ -195,7 +194,7 @@ pub(crate) fn claim_node<G: Gate>(
 }
 
 /// Returns whether a node record was found free beside those that the change has claimed. That record is not claimed, but left for
-/// removals. `false` if each node record was found not free since the change began its claims. `build.made` stays.
+/// removals, and may be uncommitted. `false` if each node record was found not free since the change began its claims. `build.made` stays.
 ///
 /// The last spare record is looked at first. Then the walk of the claims goes on, and the next claim begins with the record found. If none
 /// is found, the states of the records in `build.made` are loaded, too.
@@ -209,16 +208,43 @@ pub(crate) fn leaves_free_node<G: Gate>(
     ensures goes { WorksOn table.now G.becomes (seat.old, gate.old) (seat.new, gate.new) }
     ensures own { seat.new.known.own ≡ seat.old.known.own }
     ensures made { build.new.made.items ≡ build.old.made.items }
-    ensures walk { result ≡ false → (since : ℕ) → HasWalked table.now.layout since seat.old.known build.old →
-        HasMissedEach table.now.layout since seat.new.known build.new.made.items }
-    ensures few { seat.new.known.steps ≤ seat.old.known.steps + 2 * build.old.left_nodes + 1 + looks_unless result build.new }
+    ensures walk { result ≡ false → (first : SeatView) → HasWalked table.now.layout first seat.old build.old →
+        HasMissedEach table.now.layout first seat.new.known build.new.made.items }
+    ensures few { seat.new.known.steps ≤ seat.old.known.steps + 2 * build.old.walk.left + 1 + looks_unless result build.new }
     ensures free { result ≡ true → HasFree table.now.layout seat.new }
 {
     if is_last_free(table, seat, gate, build.nodes.spare.as_slice()) {
         return true;
     }
-    let (next, left) = (build.nodes.next, build.left_nodes);
-    let end = table.layout().nodes;
+    if let Some(number) = find_free_node(table, seat, gate, build.nodes.next, build.walk) {
+        build.nodes.next = number;
+        return true;
+    }
+    load_states(table, seat, gate, build.made.as_slice());
+    false
+}
+
+/// Returns the number of a node record that a load finds free. `None` if none was. Those that the walk has left below its end are looked at
+/// from `next` on, and then those from the end on, which may be uncommitted.
+fn find_free_node<G: Gate>(
+    table: &HotTable,
+    seat: &mut TableSeat,
+    gate: &mut G,
+    next: u32,
+    walk: NodeWalk,
+) -> Option<u32>
+    requires own { IsSeatOf table.now seat.old }
+    ensures goes { WorksOn table.now G.becomes (seat.old, gate.old) (seat.new, gate.new) }
+    ensures own { seat.new.known.own ≡ seat.old.known.own }
+    ensures walk { result ≡ None → (first : SeatView) (made : List Record) → HasNoOther seat.old.known made →
+        IsCommittedWalk table.now.layout first seat.old made next walk →
+        IsClaimWalk table.now.layout walk.end first.known.steps seat.new.known made next 0 }
+    ensures few { seat.new.known.steps ≤ seat.old.known.steps + 2 * walk.left }
+    ensures free { IfSome result (λ number. HasFree table.now.layout seat.new) }
+{
+    let nodes = table.layout().nodes;
+    let end = walk.end.min(nodes);
+    let left = walk.left_below_end(nodes);
     if let Some(number) = find_free_record(
         table,
         seat,
@@ -227,11 +253,17 @@ pub(crate) fn leaves_free_node<G: Gate>(
         next,
         left,
     ) {
-        build.nodes.next = number;
-        return true;
+        return Some(number);
     }
-    load_states(table, seat, gate, build.made.as_slice());
-    false
+    let rest = (nodes - end).min(walk.left);
+    find_free_record(
+        table,
+        seat,
+        gate,
+        RecordKind::Node { end: nodes },
+        end,
+        rest,
+    )
 }
 
 /// Returns whether the node record with the last number in `spare` is free, by one load. `false`, without a step, if `spare` is empty, or

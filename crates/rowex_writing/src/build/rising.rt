@@ -376,7 +376,7 @@ pub(crate) fn make_entry_without_leaf<G: Gate>(
     ensures made { (key : KeyValue) (words : List ℕ) → LeadsLocked seat.old.known step.number key step.slot → HasLocked seat.old.known step.number words →
         MatchOption result (HasNotMade table.now seat.new build.new.made.items)
         (λ e. (news : List Made) × IsSide (subtrie_without key (node_words_of words).subtrie) e news × IsBuilding table.now seat.new build.new.made.items news) }
-    ensures finds { FindsOne table.now.layout build.old.left_nodes seat.old result }
+    ensures finds { FindsOne table.now.layout build.old.walk seat.old result }
 {
     let mut words = [0; NODE_FIELDS];
     if let Some(entry) = load_without_leaf(table, seat, gate, step, &mut words) {

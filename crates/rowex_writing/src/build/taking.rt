@@ -46,7 +46,7 @@ pub(crate) fn make_without_leaf<G: Gate>(
     requires taken { HasTakenPlan table.now seat.old job.now TakeTop }
     ensures done { CarriesOut table.now G.becomes ((seat.old, gate.old), build.old) ((seat.new, gate.new), build.new) job.now TakeTop result }
     ensures leafless { result ≢ Err Full.Leaves }
-    ensures walk { seat.new.known.steps + 2 * build.new.left_nodes ≤ seat.old.known.steps + 2 * table.now.layout.nodes + level_steps + 1 }
+    ensures walk { seat.new.known.steps + 2 * build.new.walk.left ≤ seat.old.known.steps + 2 * table.now.layout.nodes + level_steps + 1 }
     ensures lowest { IfOk result (λ raised. raised.low ≡ job.now.span.len) }
     ensures spares { HasSpare table.now.layout seat.old → IfOk result (WillSpareOne table.now.layout seat.new build.new.made.items job.now) }
     ensures finds { HasRoom table.now.layout seat.old → result ≢ Err Full.Nodes }
@@ -89,12 +89,12 @@ fn remake_without_leaf<G: Gate>(
     ensures raised { (m number value : ℕ) → HasLeafBelow table.now seat.old m job.now number value →
         IfOk result (λ raised. MayReplace table.now seat.new build.new.made.items job.now raised
         (removed_change seat.old.known.pass (item number job.now.key.now value)) (Some value)) }
-    ensures full { IfErr result (λ full. (full ≡ Full.Nodes) × HasNoneFree table.now seat.old.known seat.new build.new.made.items job.now full) }
-    ensures walk { seat.new.known.steps + 2 * build.new.left_nodes ≤ seat.old.known.steps + 2 * table.now.layout.nodes + level_steps + 1 }
+    ensures full { IfErr result (λ full. (full ≡ Full.Nodes) × HasNoneFree table.now seat.old seat.new build.new.made.items job.now full) }
+    ensures walk { seat.new.known.steps + 2 * build.new.walk.left ≤ seat.old.known.steps + 2 * table.now.layout.nodes + level_steps + 1 }
     ensures lowest { IfOk result (λ raised. raised.low ≡ job.now.span.len) }
     ensures finds { HasRoom table.now.layout seat.old → result ≢ Err Full.Nodes }
 {
-    build.begin_claims(table.layout().nodes);
+    build.begin_claims(table.layout().nodes, true);
     let lowest = job.way[job.span.end];
     let Some(entry) = make_entry_without_leaf(table, seat, gate, build, lowest) else {
         return Err(Full::Nodes);
@@ -115,13 +115,13 @@ pub(crate) fn claim_for_leftover<G: Gate>(
     requires takes { TakesOn table.now seat.old job.now }
     requires none { seat.old.known.own ≡ [] }
     ensures goes { WorksOn table.now G.becomes (seat.old, gate.old) (seat.new, gate.new) }
-    ensures claims { MatchOption result (HasNoneFree table.now seat.old.known seat.new build.new.made.items job.now Full.Nodes)
+    ensures claims { MatchOption result (HasNoneFree table.now seat.old seat.new build.new.made.items job.now Full.Nodes)
         (HasClaimed table.now seat.new.known) }
-    ensures walk { seat.new.known.steps + 2 * build.new.left_nodes ≤ seat.old.known.steps + 2 * table.now.layout.nodes + 2 }
+    ensures walk { seat.new.known.steps + 2 * build.new.walk.left ≤ seat.old.known.steps + 2 * table.now.layout.nodes + 2 }
     ensures finds { HasRoom table.now.layout seat.old → result ≢ None }
 {
     build.made.clear();
-    build.begin_claims(table.layout().nodes);
+    build.begin_claims(table.layout().nodes, true);
     let number = claim_node(table, seat, gate, build)?;
     Some(number)
 }

@@ -56,6 +56,6 @@ returns g c =
           omega (arith, first, on, last)
           );
       few = omega (arith, pinned, o.few, cleared);
-      used = subst (λ made. LeavesUsed c.args.table.now.layout (key_of c.args.call.now) (nodes_among made) c.attempt-outcome.result c.end_attempt.new.seat) (sym c.move_unlinked_to_limbo.ensures.made)
+      used = subst (λ made. LeavesUsed c.args.table.now.layout (key_of c.args.call.now) (nodes_among made) c.attempt-outcome.result c.args.seat.now c.end_attempt.new.seat) (sym c.move_unlinked_to_limbo.ensures.made)
           (attempt_leaves c.args.table.now g.G.Gate.becomes c.args.call.now c.attempt-outcome.new.build.made.items c.attempt-outcome.result (c.args.seat.now, c.args.gate.now) (c.end_attempt.new.seat, c.end_attempt.new.gate) ended lacked left.0.1);
     }

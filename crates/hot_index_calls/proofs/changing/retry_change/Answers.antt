@@ -10,7 +10,7 @@ use Rattle.hot_index_calls.specs.declared.refusals.Refusal.{Refusal}
 use Rattle.hot_index_calls.specs.declared.refusals.Refusal.TheVariants.{Full as IsFull}
 use Rattle.hot_index_calls.proofs.Refusing.{left_never, passes_never, stepped_out, stepped_then}
 use Rattle.hot_index_calls.proofs.Counts.{refused_again, waited_from_before, waited_out}
-use Rattle.hot_index_calls.proofs.Hindered.{stepped_begin}
+use Rattle.hot_index_calls.proofs.Hindered.{stepped_begin, stepped_bounds}
 use Rattle.hot_index_calls.proofs.changing.retry_change.Goals as goal
 
 pub try_and_count-requires : goal.try_and_count-requires
@@ -66,6 +66,7 @@ loop-preserved g c =
       idle = o.replied.idle;
       spares = λ was. o.spares (c.loop.invariant.spares was);
       waited = waited_from_before c.args.table.now.layout (pass_of c.args.seat.now) (pass_of c.loop.seat) (pass_of c.try_and_count.new.seat) c.loop.invariant.waited o.replied.refused.refused.unnoted o.later
+          (stepped_bounds c.args.table.now g.G.Gate.becomes (c.loop.seat, c.loop.gate) (c.try_and_count.new.seat, c.try_and_count.new.gate) o.stepped)
           (stepped_begin c.args.table.now g.G.Gate.becomes (c.loop.seat, c.loop.gate) (c.try_and_count.new.seat, c.try_and_count.new.gate) o.stepped);
       refused = (
         refusals ++ c.in-Err.refusal ∷ [],

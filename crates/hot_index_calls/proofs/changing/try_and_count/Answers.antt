@@ -1,6 +1,7 @@
 -- The try, and the count after it.
 use Rattle.hot_index_calls.proofs.Common.{FullNodes, ◌≡◌, ◌≤◌, ◌+◌, ◌∙◌, ℕ, List, Err, length, ap, inl, refl, sym, subst, arith, false≢true, key_of, Layout, Rec, ClearPin, Known, TryFault, nodes_among, MAX_BYTES}
 use Rattle.hot_index_calls.proofs.Rooms.{counts_spare, runs_longer}
+use Rattle.rowex_table.specs.Seats.{HasAllCommitted}
 use Rattle.hot_index_calls.specs.Answers.{fault_of}
 use Rattle.hot_index_calls.specs.Asked.{HasAsked, HasLacked, HasReplied}
 use Rattle.hot_index_calls.specs.Calls.{IsTried}
@@ -101,14 +102,14 @@ returns-else-has_node_left-clause-tried g c =
     omega (arith, c.saturating_add-needs.ensures, c.count_node_records.ensures, ap (λ (l : List Rec). length (nodes_among l)) c.as_slice.ensures.value, nodes_most c.as_slice.result.now, c.as_slice.ensures.fits) in
     let steps = c.count_records-counts.ensures.steps in
     let full = ap (λ (f : TryFault). is_full (Err f)) c.in-Some.ensures.some ∙ lacked_full c.in-Some.lacks in
-    let rest : table.layout.passes ≡ 1 → IsEarly c.count_records-counts.new.seat → AreAllAtRest c.count_records-counts.result × IsShortOf c.in-Some.lacks c.saturating_add-needs.result (length (key_of call)) c.count_records-counts.result = λ one early.
+    let rest : table.layout.passes ≡ 1 → IsEarly c.count_records-counts.new.seat → AreAllAtRest c.count_records-counts.result × (HasAllCommitted c.args.seat.now → IsShortOf c.in-Some.lacks c.saturating_add-needs.result (length (key_of call)) c.count_records-counts.result) = λ one early.
     let longer = runs_longer table g.G.Gate.becomes (loads_in table.layout steps.0) (c.try_change.new.seat, c.try_change.new.gate) (c.count_records-counts.new.seat, c.count_records-counts.new.gate) steps.4.steps in
     let all = counts_rest table g.G.Gate.becomes one steps.0 (c.try_change.new.seat, c.try_change.new.gate) (c.count_records-counts.new.seat, c.count_records-counts.new.gate) steps.4.steps asked.replied.idle.1.own (c.in-Err.ensures.none one full (omega (arith, early, longer))) in
     let key : length (key_of call) ≤ MAX_BYTES = subst (λ (k : List ℕ). length k ≤ MAX_BYTES) c.key.ensures c.as_bytes-size.ensures.key.short in
-    let used = subst (λ (f : TryFault). LeavesUsed table.layout (key_of call) (nodes_among c.try_change.new.scratch.build.made.items) (Err f) c.try_change.new.seat) c.in-Some.ensures.some c.in-Err.ensures.used in
-    subst (λ z. AreAllAtRest z × IsShortOf c.in-Some.lacks c.saturating_add-needs.result (length (key_of call)) z) (sym steps.3) (
+    let used = subst (λ (f : TryFault). LeavesUsed table.layout (key_of call) (nodes_among c.try_change.new.scratch.build.made.items) (Err f) c.args.seat.now c.try_change.new.seat) c.in-Some.ensures.some c.in-Err.ensures.used in
+    subst (λ z. AreAllAtRest z × (HasAllCommitted c.args.seat.now → IsShortOf c.in-Some.lacks c.saturating_add-needs.result (length (key_of call)) z)) (sym steps.3) (
       all,
-      counts_short table g.G.Gate.becomes one _ steps.0 (c.try_change.new.seat, c.try_change.new.gate) (c.count_records-counts.new.seat, c.count_records-counts.new.gate) steps.2 steps.4.steps (key_of call) key (nodes_among c.try_change.new.scratch.build.made.items) c.in-Some.lacks used all c.saturating_add-needs.result needs,
+      λ none. counts_short table g.G.Gate.becomes one _ steps.0 c.args.seat.now none (c.try_change.new.seat, c.try_change.new.gate) (c.count_records-counts.new.seat, c.count_records-counts.new.gate) steps.2 steps.4.steps (key_of call) key (nodes_among c.try_change.new.scratch.build.made.items) c.in-Some.lacks used all c.saturating_add-needs.result needs,
     ) in
     let other = λ (left : HasNodeLeft table.layout.passes call). false≢true (sym c.if-has_node_left.false ∙ c.has_node_left.ensures.1 (subst (λ (l : Layout). HasNodeLeft l.passes call) (sym c.layout-passes.ensures) left)) in
     record {

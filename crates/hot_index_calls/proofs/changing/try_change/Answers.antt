@@ -1,5 +1,7 @@
 -- A small round or nothing, and then the tries.
-use Rattle.hot_index_calls.proofs.Counts.{tidied_asked, tidied_few, tidied_lacks}
+use Rattle.finite_map.specs.Maps.{key_of}
+use Rattle.hot_index_calls.proofs.Counts.{tidied_asked, tidied_bounds, tidied_few, tidied_lacks}
+use Rattle.hot_index_calls.proofs.Lacked.{used_since}
 use Rattle.hot_index_calls.proofs.changing.try_change.Goals as goal
 
 pub returns : goal.returns
@@ -10,5 +12,6 @@ returns g c = record {
   spares = λ was. c.try_twice.ensures.spares (c.collect_due.ensures.spares was);
   room = λ removal one was early. c.try_twice.ensures.room removal one (c.collect_due.ensures.spares was) early;
   none = c.try_twice.ensures.none;
-  used = c.try_twice.ensures.used;
+  used = used_since c.args.table.now.layout (key_of c.args.call.now) _ c.try_twice.result c.args.seat.now c.collect_due.new.seat c.try_twice.new.seat
+      (tidied_bounds {table = c.args.table.now} {becomes = g.G.Gate.becomes} (c.args.seat.now, c.args.gate.now) (c.collect_due.new.seat, c.collect_due.new.gate) c.collect_due.ensures.tidied) c.try_twice.ensures.used;
 }

@@ -1,6 +1,8 @@
 -- Where the first attempt was refused as full, a round follows; and what the second leaves is what the whole call leaves.
 use Rattle.hot_index_calls.proofs.Rooms.{collecting_room, collecting_still, collects_spare, ended_longer, runs_longer}
 use Rattle.hot_index_calls.proofs.Common.{◌≤◌, ◌∙◌, ◌∷◌, Result, Err, inl, inr, refl, sym, ap, subst, le_trans, arith, Reply, key_of, begins_on, Fresh, Known, TryFault, false≢true, LacksNodes, nodes_among, run_begins_on, runs_begin}
+use Rattle.record_words.specs.Layout.{uncommitted_in}
+use Rattle.rowex_table.proofs.Committed.{at_most_trans}
 use Rattle.hot_index_calls.specs.Answers.{fault_of}
 use Rattle.hot_index_calls.specs.Asked.{HasAsked}
 use Rattle.hot_index_calls.specs.Traces.{AreTries, IsOneAttempt, is_full}
@@ -8,12 +10,12 @@ use Rattle.hot_index_calls.specs.Passes.{pass_of}
 use Rattle.hot_index_calls.proofs.Passes.Collected.{between, does_idle, none_between}
 use Rattle.hot_index_calls.proofs.changing.Conflicts.{may_take_from_before, no_further}
 use Rattle.hot_index_calls.specs.Lacking.{LeavesUsed}
-use Rattle.hot_index_calls.proofs.Lacked.{none_lacked, rested_leaves}
+use Rattle.hot_index_calls.proofs.Lacked.{none_lacked, rested_leaves, used_since}
 use Rattle.hot_index_calls.proofs.changing.Resting.{cause_still, lacked_full, lacks_still}
 use Rattle.hot_index_calls.proofs.Passes.Settled.{full_unnoted, refused_still}
 use Rattle.hot_index_calls.proofs.Traces.{ended_again}
 use Rattle.hot_index_calls.proofs.Counts.{full_fault, lacks_from_before, once_asked, once_few, outcome_then, round_later, then_collected, twice_few, unnoted_then}
-use Rattle.hot_index_calls.proofs.Hindered.{ended_begin}
+use Rattle.hot_index_calls.proofs.Hindered.{ended_bounds, ended_begin}
 use Rattle.hot_index_calls.proofs.changing.try_twice.Goals as goal
 
 pub make_attempt-requires : goal.make_attempt-requires
@@ -32,7 +34,7 @@ returns-in_default g c = record {
   spares = c.make_attempt-first.ensures.spares;
   room = λ removal one was early is. absurd (false≢true (sym (c.full_kind.ensures.none c.in_default.is) ∙ ap is_full is));
   none = λ one full early. absurd (false≢true (sym (c.full_kind.ensures.none c.in_default.is) ∙ full));
-  used = none_lacked c.args.table.now.layout (key_of c.args.call.now) _ c.make_attempt-first.result c.make_attempt-first.new.seat (c.full_kind.ensures.none c.in_default.is);
+  used = none_lacked c.args.table.now.layout (key_of c.args.call.now) _ c.make_attempt-first.result c.args.seat.now c.make_attempt-first.new.seat (c.full_kind.ensures.none c.in_default.is);
 }
 
 pub returns-then-collect_between : goal.returns-then-collect_between
@@ -45,7 +47,9 @@ returns-then-collect_between g c =
     let again = c.make_attempt.ensures.asked in
     let unnoted = first.replied.refused.refused.unnoted in
     let later = round_later k (c.make_attempt-first.new.seat, c.make_attempt-first.new.gate) (c.collect_between.new.seat, c.collect_between.new.gate) unnoted first.later first.replied.idle.1 round in
-    let both = outcome_then table.layout k (pass_of c.collect_between.new.seat) (pass_of c.make_attempt.new.seat) (then_collected k (c.make_attempt-first.new.seat, c.make_attempt-first.new.gate) (c.collect_between.new.seat, c.collect_between.new.gate) unnoted first.later first.replied.idle.1 round) later
+    let falls = at_most_trans (uncommitted_in c.collect_between.new.seat.bounds) (uncommitted_in c.make_attempt-first.new.seat.bounds) (uncommitted_in c.args.seat.now.bounds) round.does.seat.4
+    (ended_bounds table g.G.Gate.becomes (c.args.seat.now, c.args.gate.now) (c.make_attempt-first.new.seat, c.make_attempt-first.new.gate) first.ended) in
+    let both = outcome_then table.layout k (pass_of c.collect_between.new.seat) (pass_of c.make_attempt.new.seat) (then_collected k (c.make_attempt-first.new.seat, c.make_attempt-first.new.gate) (c.collect_between.new.seat, c.collect_between.new.gate) unnoted first.later first.replied.idle.1 round) later falls
     (run_begins_on c.args.seat.now.trace c.make_attempt-first.new.seat.trace c.collect_between.new.seat.trace
     (ended_begin table g.G.Gate.becomes (c.args.seat.now, c.args.gate.now) (c.make_attempt-first.new.seat, c.make_attempt-first.new.gate) first.ended)
     (runs_begin table g.G.Gate.becomes (round.first ∷ round.rest) (c.make_attempt-first.new.seat, c.make_attempt-first.new.gate) (c.collect_between.new.seat, c.collect_between.new.gate) round.does.steps))
@@ -56,8 +60,8 @@ returns-then-collect_between g c =
         ended = ended_again table g.G.Gate.becomes call c.make_attempt.result c.in-Some.lacks (c.args.seat.now, c.args.gate.now) (c.make_attempt-first.new.seat, c.make_attempt-first.new.gate) (c.collect_between.new.seat, c.collect_between.new.gate) _ first.ended first.replied.refused round again.ended (inl (again.replied.noted, again.replied.refused));
         later = le_trans later again.later;
       };
-      lacks = λ is. lacks_from_before table.layout c.make_attempt.new.seat.known.pass c.make_attempt.new.seat.known.pass c.make_attempt.new.seat.known.failed c.make_attempt.new.seat.known.failed c.args.seat.now.known.steps c.collect_between.new.seat.known.steps
-          (nodes_among c.make_attempt.new.scratch.build.made.items) later refl refl (c.make_attempt.ensures.lacks is);
+      lacks = λ is. lacks_from_before table.layout c.collect_between.new.seat.bounds c.args.seat.now.bounds c.make_attempt.new.seat.known.pass c.make_attempt.new.seat.known.pass c.make_attempt.new.seat.known.failed c.make_attempt.new.seat.known.failed c.args.seat.now.known.steps c.collect_between.new.seat.known.steps
+          (nodes_among c.make_attempt.new.scratch.build.made.items) falls later refl refl (c.make_attempt.ensures.lacks is);
       few = (
           let count = round.few in
           let twice = twice_few call table.layout k (pass_of c.make_attempt-first.new.seat) (first.replied.refused.refused.full (full_fault c.in-Some.lacks)) in
@@ -69,7 +73,7 @@ returns-then-collect_between g c =
           let idle = c.make_attempt-first.ensures.asked.replied.idle.1 in
           c.make_attempt.ensures.room removal
           (collecting_room c.args.table.now g.G.Gate.becomes (c.make_attempt-first.new.seat, c.make_attempt-first.new.gate) (c.collect_between.new.seat, c.collect_between.new.gate) c.collect_between.ensures.collects one idle.pin idle.own (omega (arith, early, longer, c.make_attempt.ensures.longer)) (c.make_attempt-first.ensures.spares was));
-      used = c.make_attempt.ensures.used;
+      used = used_since table.layout (key_of call) _ c.make_attempt.result c.args.seat.now c.collect_between.new.seat c.make_attempt.new.seat falls c.make_attempt.ensures.used;
       none = λ one full early.
           let longer = runs_longer c.args.table.now g.G.Gate.becomes (round.first ∷ round.rest) (c.make_attempt-first.new.seat, c.make_attempt-first.new.gate) (c.collect_between.new.seat, c.collect_between.new.gate) round.does.steps in
           let idle = c.make_attempt-first.ensures.asked.replied.idle in
@@ -112,8 +116,8 @@ returns g c =
       later = omega (arith, later, again.steps);
     } in
     record {
-      lacks = λ is. subst (λ made. LacksNodes table.layout c.pin_and_unpin.new.seat.known.pass c.pin_and_unpin.new.seat.known.failed c.args.seat.now.known.steps (nodes_among made)) (sym c.collect_between.ensures.made)
-          (lacks_still (key_of call) k (c.make_attempt-first.new.seat, c.make_attempt-first.new.gate) (c.collect_between.new.seat, c.collect_between.new.gate) (c.pin_and_unpin.new.seat, c.pin_and_unpin.new.gate) round again.failed again.unnoted.number _
+      lacks = λ is. subst (λ made. LacksNodes table.layout c.args.seat.now.bounds c.pin_and_unpin.new.seat.known.pass c.pin_and_unpin.new.seat.known.failed c.args.seat.now.known.steps (nodes_among made)) (sym c.collect_between.ensures.made)
+          (lacks_still (key_of call) k (c.make_attempt-first.new.seat, c.make_attempt-first.new.gate) (c.collect_between.new.seat, c.collect_between.new.gate) (c.pin_and_unpin.new.seat, c.pin_and_unpin.new.gate) round again.failed again.unnoted.number c.args.seat.now.bounds _
           (c.make_attempt-first.ensures.lacks is));
       few = (
           let count = round.few in
@@ -123,8 +127,8 @@ returns g c =
       spares = λ was. c.pin_and_unpin.ensures.spares (collects_spare c.args.table.now g.G.Gate.becomes (c.make_attempt-first.new.seat, c.make_attempt-first.new.gate) (c.collect_between.new.seat, c.collect_between.new.gate) c.collect_between.ensures.collects (c.make_attempt-first.ensures.spares was));
       room = λ removal one was early is. elim (c.collect_between.ensures.not c.if-collect_between.false) [ inl plain ↦ absurd (false≢true (sym plain ∙ c.is_removal.ensures.1 removal)) | inr several ↦ absurd (omega (arith, several, one)) ];
       asked = subst (λ (z : Result Reply TryFault). HasAsked table g.G.Gate.becomes (AreTries table g.G.Gate.becomes call z) call z (c.args.seat.now, c.args.gate.now) (c.pin_and_unpin.new.seat, c.pin_and_unpin.new.gate)) (sym c.in-Some.ensures.some) whole;
-      used = subst (λ made. LeavesUsed table.layout (key_of call) (nodes_among made) c.make_attempt-first.result c.pin_and_unpin.new.seat) (sym c.collect_between.ensures.made)
-          (rested_leaves table g.G.Gate.becomes (key_of call) (nodes_among c.make_attempt-first.new.scratch.build.made.items) c.in-Some.lacks c.make_attempt-first.result (c.make_attempt-first.new.seat, c.make_attempt-first.new.gate) (c.collect_between.new.seat, c.collect_between.new.gate) (c.pin_and_unpin.new.seat, c.pin_and_unpin.new.gate)
+      used = subst (λ made. LeavesUsed table.layout (key_of call) (nodes_among made) c.make_attempt-first.result c.args.seat.now c.pin_and_unpin.new.seat) (sym c.collect_between.ensures.made)
+          (rested_leaves table g.G.Gate.becomes (key_of call) (nodes_among c.make_attempt-first.new.scratch.build.made.items) c.in-Some.lacks c.make_attempt-first.result c.args.seat.now (c.make_attempt-first.new.seat, c.make_attempt-first.new.gate) (c.collect_between.new.seat, c.collect_between.new.gate) (c.pin_and_unpin.new.seat, c.pin_and_unpin.new.gate)
           c.in-Some.ensures.some (c.collect_between.ensures.none c.if-collect_between.false) again.ended c.make_attempt-first.ensures.used);
       none = λ one full early.
           let longer = runs_longer c.args.table.now g.G.Gate.becomes (round.first ∷ round.rest) (c.make_attempt-first.new.seat, c.make_attempt-first.new.gate) (c.collect_between.new.seat, c.collect_between.new.gate) round.does.steps in

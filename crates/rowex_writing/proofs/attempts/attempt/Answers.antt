@@ -5,10 +5,10 @@ use Rattle.rowex_writing.specs.attempts.Attempts.{HasAttempted}
 use Rattle.rowex_writing.specs.plan.Planned.{IsPlanned}
 use Rattle.rowex_writing.specs.plan.Counts.{most_steps}
 use Rattle.rowex_writing.specs.plan.Plans.{LiesOnWay}
-use Rattle.rowex_writing.proofs.attempts.Attempts.{Begun, aimless_looked, answered_change, answered_leafless, answered_look, begun_on, found_later, leafless, looked, looked_few, plan_made, removal_takes, removes_aim, searched, planned_again, full_of_new, tried_few}
+use Rattle.rowex_writing.proofs.attempts.Attempts.{Begun, aimless_looked, answered_change, answered_leafless, answered_look, begun_on, found_later, leafless, looked, looked_few, plan_made, removal_takes, removes_aim, searched, planned_again, full_of_new, refused_fewer, tried_few}
 use Rattle.rowex_writing.proofs.attempts.Attempted.{attempted, searched_few, tried_after}
 use Rattle.rowex_writing.proofs.locks.Onward.{reads_run}
-use Rattle.rowex_writing.proofs.locks.Runs.{none_once, run_loaded, run_none}
+use Rattle.rowex_writing.proofs.locks.Runs.{none_once, run_bounds, run_loaded, run_none}
 use Rattle.rowex_writing.proofs.locks.Locks.{no_change_made_later}
 use Rattle.rowex_writing.proofs.locks.Others.{hindered_later, tried_begin}
 use Rattle.rowex_writing.proofs.attempts.attempt.Given as given
@@ -106,7 +106,8 @@ returns-in-Err-clause-loaded g c =
 pub returns-in-Err-clause-refused : goal.returns-in-Err-clause-refused
 returns-in-Err-clause-refused g c =
     let b = begun g (goal.at.returns-in-Err-clause-refused g c).After-find_plan in
-    rw (sym c.key-key.ensures) (c.in-Err.ensures.refused c.args.seat.now.known b.loaded b.later)
+    rw (sym c.key-key.ensures) (refused_fewer c.args.table.now.layout c.find_plan.new.seat.bounds c.args.seat.now.bounds (run_bounds c.args.table.now g.G.Gate.becomes (c.args.seat.now, c.args.gate.now) (c.find_plan.new.seat, c.find_plan.new.gate) b.run) _ _ _ _ _
+    (c.in-Err.ensures.refused c.args.seat.now.known b.loaded b.later))
 
 pub returns-in-Err-clause-leafless : goal.returns-in-Err-clause-leafless
 returns-in-Err-clause-leafless g c =

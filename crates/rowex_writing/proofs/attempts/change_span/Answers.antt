@@ -97,8 +97,8 @@ returns-in-Err-clause-run g c =
 
 pub returns-in-Err-clause-failed : goal.returns-in-Err-clause-failed
 returns-in-Err-clause-failed g c =
-    rw c.refusal_of.ensures (full_failed c.args.table.now.layout c.args.job.now c.args.seat.now.known c.undo_change.new.seat.known _ c.in-Err.full
-    (no_room c.args.table.now g.G.Gate.becomes c.args.job.now.key.now (c.args.seat.now, c.args.gate.now) (c.carry_out_deed.new.seat, c.carry_out_deed.new.gate) (c.undo_change.new.seat, c.undo_change.new.gate) _ c.in-Err.full
+    rw c.refusal_of.ensures (full_failed c.args.table.now.layout c.args.seat.now.bounds c.args.job.now c.args.seat.now.known c.undo_change.new.seat.known _ c.in-Err.full
+    (no_room c.args.table.now g.G.Gate.becomes c.args.seat.now.bounds c.args.job.now.key.now (c.args.seat.now, c.args.gate.now) (c.carry_out_deed.new.seat, c.carry_out_deed.new.gate) (c.undo_change.new.seat, c.undo_change.new.gate) _ c.in-Err.full
     c.carry_out_deed.ensures.done.goes c.undo_change.ensures.works c.undo_change.ensures.rest c.in-Err.ensures.done.full.full_of))
 
 pub returns-in-Err-clause-leafless : goal.returns-in-Err-clause-leafless

@@ -47,7 +47,7 @@ returns-in_default-clause-tries g c =
     let table = c.args.table.now in
     let last = c.requires.takes.0.below.last in
     let (x, was, is, may) = c.fill_leftover-raised.ensures.may in
-    few_none table g.G.Gate.becomes (span_numbers c.args.job.now.way.now c.args.job.now.span) c.args.build.now.left_nodes (84 + 2 * NODE_FIELDS) (c.args.seat.now, c.args.gate.now) (c.publish_change.new.seat, c.publish_change.new.gate)
+    few_none table g.G.Gate.becomes (span_numbers c.args.job.now.way.now c.args.job.now.span) c.args.build.now.walk.left (84 + 2 * NODE_FIELDS) (c.args.seat.now, c.args.gate.now) (c.publish_change.new.seat, c.publish_change.new.gate)
     (runs_trans table g.G.Gate.becomes (c.args.seat.now, c.args.gate.now) (c.find_merge.new.seat, c.find_merge.new.gate) (c.publish_change.new.seat, c.publish_change.new.gate)
     (goes_run table g.G.Gate.becomes (c.args.seat.now, c.args.gate.now) (c.find_merge.new.seat, c.find_merge.new.gate) c.find_merge.ensures.reads.goes)
     (runs_trans table g.G.Gate.becomes (c.find_merge.new.seat, c.find_merge.new.gate) (c.fill_leftover-raised.new.seat, c.fill_leftover-raised.new.gate) (c.publish_change.new.seat, c.publish_change.new.gate)
@@ -84,7 +84,7 @@ try_merge-requires-clause-left g c =
 pub returns-then-try_merge-clause-tries : goal.returns-then-try_merge-clause-tries
 returns-then-try_merge-clause-tries g c =
     let table = c.args.table.now in
-    few_before table g.G.Gate.becomes (span_numbers c.args.job.now.way.now c.args.job.now.span) c.args.build.now.left_nodes 53 (84 + 2 * NODE_FIELDS) (c.args.seat.now, c.args.gate.now) (c.find_merge.new.seat, c.find_merge.new.gate) (c.try_merge.new.seat, c.try_merge.new.gate)
+    few_before table g.G.Gate.becomes (span_numbers c.args.job.now.way.now c.args.job.now.span) c.args.build.now.walk.left 53 (84 + 2 * NODE_FIELDS) (c.args.seat.now, c.args.gate.now) (c.find_merge.new.seat, c.find_merge.new.gate) (c.try_merge.new.seat, c.try_merge.new.gate)
     (goes_run table g.G.Gate.becomes (c.args.seat.now, c.args.gate.now) (c.find_merge.new.seat, c.find_merge.new.gate) c.find_merge.ensures.reads.goes) c.try_merge.ensures.tries (omega (arith, c.find_merge.ensures.few))
 
 pub returns-then-try_merge-clause-done : goal.returns-then-try_merge-clause-done
@@ -132,8 +132,8 @@ returns-clause-tries g c =
     let table = c.args.table.now in
     let last = c.requires.takes.0.below.last in
     let (x, was, is, may) = c.fill_leftover-raised-2.ensures.may in
-    few_then table g.G.Gate.becomes (span_numbers c.args.job.now.way.now c.args.job.now.span) c.args.build.now.left_nodes (84 + 2 * NODE_FIELDS) (c.args.seat.now, c.args.gate.now) (c.try_merge.new.seat, c.try_merge.new.gate) (c.publish_or_undo.new.seat, c.publish_or_undo.new.gate)
-    (few_before table g.G.Gate.becomes (span_numbers c.args.job.now.way.now c.args.job.now.span) c.args.build.now.left_nodes 53 63 (c.args.seat.now, c.args.gate.now) (c.find_merge.new.seat, c.find_merge.new.gate) (c.try_merge.new.seat, c.try_merge.new.gate)
+    few_then table g.G.Gate.becomes (span_numbers c.args.job.now.way.now c.args.job.now.span) c.args.build.now.walk.left (84 + 2 * NODE_FIELDS) (c.args.seat.now, c.args.gate.now) (c.try_merge.new.seat, c.try_merge.new.gate) (c.publish_or_undo.new.seat, c.publish_or_undo.new.gate)
+    (few_before table g.G.Gate.becomes (span_numbers c.args.job.now.way.now c.args.job.now.span) c.args.build.now.walk.left 53 63 (c.args.seat.now, c.args.gate.now) (c.find_merge.new.seat, c.find_merge.new.gate) (c.try_merge.new.seat, c.try_merge.new.gate)
     (goes_run table g.G.Gate.becomes (c.args.seat.now, c.args.gate.now) (c.find_merge.new.seat, c.find_merge.new.gate) c.find_merge.ensures.reads.goes) c.try_merge.ensures.tries (omega (arith, c.find_merge.ensures.few)))
     (runs_trans table g.G.Gate.becomes (c.try_merge.new.seat, c.try_merge.new.gate) (c.fill_leftover-raised-2.new.seat, c.fill_leftover-raised-2.new.gate) (c.publish_or_undo.new.seat, c.publish_or_undo.new.gate)
     (goes_run table g.G.Gate.becomes (c.try_merge.new.seat, c.try_merge.new.gate) (c.fill_leftover-raised-2.new.seat, c.fill_leftover-raised-2.new.gate) c.fill_leftover-raised-2.ensures.goes) c.publish_or_undo.ensures.run)
@@ -151,7 +151,8 @@ pub returns-clause-failed : goal.returns-clause-failed
 returns-clause-failed g c =
     let l = c.try_merge.ensures.later c.if-try_merge.false in
     let later = later_trans c.find_merge.ensures.reads.goes.stays.0 (later_trans l.0 c.fill_leftover-raised-2.ensures.goes.stays.0) in
-    busy_since c.args.table.now.layout c.args.job.now c.args.seat.now.known c.fill_leftover-raised-2.new.seat.known c.publish_or_undo.new.seat.known _ c.publish_or_undo.result later c.publish_or_undo.ensures.failed
+    busy_since c.args.table.now.layout c.fill_leftover-raised-2.new.seat.bounds c.args.seat.now.bounds c.args.job.now c.args.seat.now.known c.fill_leftover-raised-2.new.seat.known c.publish_or_undo.new.seat.known _ later
+    c.publish_or_undo.result c.publish_or_undo.ensures.failed
 
 pub returns-clause-spares : goal.returns-clause-spares
 returns-clause-spares g c = λ had.

@@ -12,7 +12,7 @@ use Rattle.rowex_writing.proofs.merging.Beside.{takes_on}
 use Rattle.rowex_writing.proofs.build.Growths.{full_since, no_room}
 use Rattle.rowex_writing.proofs.build.Changes.{changed_since}
 use Rattle.rowex_writing.proofs.merging.Leaving.{left_on}
-use Rattle.rowex_writing.proofs.locks.Going.{goes_more, locked_on, seat_of}
+use Rattle.rowex_writing.proofs.locks.Going.{goes_bounds, goes_more, locked_on, seat_of}
 use Rattle.rowex_writing.proofs.build.Building.{building_none, goes_possible, steps_rise}
 use Rattle.rowex_writing.proofs.merging.Merging.{entry_height, holds_on, is_taking, takes_taken}
 use Rattle.rowex_writing.proofs.attempts.Named.{loaded_on}
@@ -145,21 +145,22 @@ returns-in_default-claim_for_leftover-clause-run g c =
     let table = c.args.table.now in
     let (t, same) = is_taking table c.args.seat.now c.args.job.now c.requires.taken c.requires.some in
     let goes = goes_more table g.G.Gate.becomes (c.args.seat.now, c.args.gate.now) (c.load_without_leaf.new.seat, c.load_without_leaf.new.gate) (c.claim_for_leftover.new.seat, c.claim_for_leftover.new.gate) c.load_without_leaf.ensures.reads.goes c.claim_for_leftover.ensures.goes in
-    removal_changes table g.G.Gate.becomes c.args.job.now t c.claim_for_leftover.new.build.left_nodes (NODE_FIELDS + 2) 84 (c.args.seat.now, c.args.gate.now) (c.claim_for_leftover.new.seat, c.claim_for_leftover.new.gate) (c.undo_change.new.seat, c.undo_change.new.gate) (omega arith)
+    removal_changes table g.G.Gate.becomes c.args.job.now t c.claim_for_leftover.new.build.walk.left (NODE_FIELDS + 2) 84 (c.args.seat.now, c.args.gate.now) (c.claim_for_leftover.new.seat, c.claim_for_leftover.new.gate) (c.undo_change.new.seat, c.undo_change.new.gate) (omega arith)
     (goes_run table g.G.Gate.becomes (c.args.seat.now, c.args.gate.now) (c.claim_for_leftover.new.seat, c.claim_for_leftover.new.gate) goes) (omega (arith, c.load_without_leaf.ensures.few, c.claim_for_leftover.ensures.walk))
-    (few_none table g.G.Gate.becomes (span_numbers c.args.job.now.way.now c.args.job.now.span) c.claim_for_leftover.new.build.left_nodes 84 (c.claim_for_leftover.new.seat, c.claim_for_leftover.new.gate) (c.undo_change.new.seat, c.undo_change.new.gate)
+    (few_none table g.G.Gate.becomes (span_numbers c.args.job.now.way.now c.args.job.now.span) c.claim_for_leftover.new.build.walk.left 84 (c.claim_for_leftover.new.seat, c.claim_for_leftover.new.gate) (c.undo_change.new.seat, c.undo_change.new.gate)
     (works_run table g.G.Gate.becomes (c.claim_for_leftover.new.seat, c.claim_for_leftover.new.gate) (c.undo_change.new.seat, c.undo_change.new.gate) c.undo_change.ensures.works)
     (omega (arith, c.undo_change.ensures.few, c.in_default-claim_for_leftover.ensures.claims.few, t.below.last)))
 
 pub returns-in_default-claim_for_leftover-clause-failed : goal.returns-in_default-claim_for_leftover-clause-failed
 returns-in_default-claim_for_leftover-clause-failed g c =
     let reads = c.load_without_leaf.ensures.reads in
-    let none = no_room c.args.table.now g.G.Gate.becomes c.args.job.now.key.now (c.load_without_leaf.new.seat, c.load_without_leaf.new.gate) (c.claim_for_leftover.new.seat, c.claim_for_leftover.new.gate) (c.undo_change.new.seat, c.undo_change.new.gate) c.claim_for_leftover.new.build.made.items Nodes
+    let none = no_room c.args.table.now g.G.Gate.becomes c.load_without_leaf.new.seat.bounds c.args.job.now.key.now (c.load_without_leaf.new.seat, c.load_without_leaf.new.gate) (c.claim_for_leftover.new.seat, c.claim_for_leftover.new.gate) (c.undo_change.new.seat, c.undo_change.new.gate) c.claim_for_leftover.new.build.made.items Nodes
     c.claim_for_leftover.ensures.goes c.undo_change.ensures.works c.undo_change.ensures.rest c.in_default-claim_for_leftover.ensures.claims.full_of in
     record {
       rest = none.rest;
       later = later_trans reads.goes.stays.0 none.later;
-      full_of = full_since c.args.table.now.layout c.args.job.now.key.now c.args.seat.now.known c.load_without_leaf.new.seat.known c.undo_change.new.seat.known c.claim_for_leftover.new.build.made.items Nodes
+      full_of = full_since c.args.table.now.layout c.load_without_leaf.new.seat.bounds c.args.seat.now.bounds c.args.job.now.key.now c.args.seat.now.known c.load_without_leaf.new.seat.known c.undo_change.new.seat.known c.claim_for_leftover.new.build.made.items Nodes
+          (goes_bounds c.args.table.now g.G.Gate.becomes (c.args.seat.now, c.args.gate.now) (c.load_without_leaf.new.seat, c.load_without_leaf.new.gate) reads.goes)
           (steps_rise c.args.table.now g.G.Gate.becomes reads.goes.acts (c.args.seat.now, c.args.gate.now) (c.load_without_leaf.new.seat, c.load_without_leaf.new.gate) reads.goes.steps) none.full_of;
     }
 
@@ -206,7 +207,7 @@ returns-clause-run g c =
     let table = c.args.table.now in
     let (t, same) = is_taking table c.args.seat.now c.args.job.now c.requires.taken c.requires.some in
     let goes = goes_more table g.G.Gate.becomes (c.args.seat.now, c.args.gate.now) (c.load_without_leaf.new.seat, c.load_without_leaf.new.gate) (c.claim_for_leftover.new.seat, c.claim_for_leftover.new.gate) c.load_without_leaf.ensures.reads.goes c.claim_for_leftover.ensures.goes in
-    removal_changes table g.G.Gate.becomes c.args.job.now t c.claim_for_leftover.new.build.left_nodes (NODE_FIELDS + 2) (84 + 2 * NODE_FIELDS) (c.args.seat.now, c.args.gate.now) (c.claim_for_leftover.new.seat, c.claim_for_leftover.new.gate) (c.end_removal.new.seat, c.end_removal.new.gate) (omega arith)
+    removal_changes table g.G.Gate.becomes c.args.job.now t c.claim_for_leftover.new.build.walk.left (NODE_FIELDS + 2) (84 + 2 * NODE_FIELDS) (c.args.seat.now, c.args.gate.now) (c.claim_for_leftover.new.seat, c.claim_for_leftover.new.gate) (c.end_removal.new.seat, c.end_removal.new.gate) (omega arith)
     (goes_run table g.G.Gate.becomes (c.args.seat.now, c.args.gate.now) (c.claim_for_leftover.new.seat, c.claim_for_leftover.new.gate) goes) (omega (arith, c.load_without_leaf.ensures.few, c.claim_for_leftover.ensures.walk)) c.end_removal.ensures.tries
 
 pub returns-clause-done : goal.returns-clause-done
@@ -219,7 +220,8 @@ returns-clause-done g c = λ ok.
 pub returns-clause-failed : goal.returns-clause-failed
 returns-clause-failed g c =
     let later = later_trans c.load_without_leaf.ensures.reads.goes.stays.0 c.claim_for_leftover.ensures.goes.stays.0 in
-    failed_before c.args.table.now.layout c.args.job.now c.args.seat.now.known c.claim_for_leftover.new.seat.known c.end_removal.new.seat.known _ c.end_removal.result later c.end_removal.ensures.failed
+    failed_before c.args.table.now.layout c.claim_for_leftover.new.seat.bounds c.args.seat.now.bounds c.args.job.now c.args.seat.now.known c.claim_for_leftover.new.seat.known c.end_removal.new.seat.known _ later
+    c.end_removal.result c.end_removal.ensures.failed
 
 pub returns-clause-leafless : goal.returns-clause-leafless
 returns-clause-leafless g c = busy_leafless c.end_removal.result _ c.end_removal.ensures.failed

@@ -1,7 +1,9 @@
 -- What goes and what stays for what a deed has raised, and where that is stored.
-use Rattle.rowex_writing.proofs.Common.{slice_range, ◌≡◌, ◌≢◌, inl, inr, ℕ, suc, zero, ◌+◌, ◌-◌, ◌<◌, ◌≤◌, Bool, true, false, List, [], ◌++◌, length, map, Option, Some, None, Result, Ok, Err, IfOk, IfErr, refl, sym, ap, subst, ◌∙◌, arith, eqb-true, length-append, length-map, All-append, PathNode, IsOneOf, AreApart, Rec, a_node, of_append, of_left, Layout, Key, spot_below, HasRecord, AreKept, Event, Spot, Root, Slot, Value, Known, nodes_of, Made, HasSpot, IsWayOf, Found, Leaf, IsLater, TableView, SeatView, IsSeatOf, added_change, removed_change, item, IsPossible, Change, spot, HasReady, later_transitive}
+use Rattle.rowex_writing.proofs.Common.{slice_range, ◌≡◌, ◌≢◌, inl, inr, ℕ, suc, zero, ◌+◌, ◌-◌, ◌<◌, ◌≤◌, Bool, true, false, List, [], ◌++◌, length, map, Option, Some, None, Result, Ok, Err, IfOk, IfErr, refl, sym, ap, subst, ◌∙◌, arith, eqb-true, length-append, length-map, All-append, PathNode, IsOneOf, AreApart, Rec, a_node, of_append, of_left, Layout, Key, spot_below, HasRecord, AreKept, Event, Spot, Root, Slot, Value, Known, nodes_of, Made, HasSpot, IsWayOf, Found, Leaf, IsLater, TableView, SeatView, IsSeatOf, added_change, removed_change, item, IsPossible, Change, HasReady, later_transitive}
 use Rattle.std.specs.Prelude.{nat_eq}
 use Rattle.rowex_writing.specs.build.Building.{IsBuilding}
+use Rattle.record_words.specs.Layout.{uncommitted_in}
+use Rattle.rowex_table.specs.Committed.{AtMost}
 use Rattle.rowex_writing.specs.build.Changes.{IsFull, IsPutChange, IsTakeChange, MayPublishOnceReady}
 use Rattle.rowex_writing.specs.build.Deeds.{CarriesOut, HasNoneFree, HasRaised, MayReplace, gone_of_span, kept_of_span, leaf_gone}
 use Rattle.rowex_writing.specs.plan.Counts.{leaf_steps, spare_steps}
@@ -103,12 +105,12 @@ taken_raised table a b made job number value (Ok raised) is may = (
 taken_raised table a b made job number value (Err full) is may = tt
 
 -- none was free since an earlier version
-pub none_free_since : (table : TableView) (a m : Known) (b : SeatView) (made : List Rec) (job : Job) (r : Result Raised Full) → a.steps ≤ m.steps → IfErr r (HasNoneFree table m b made job) → IfErr r (HasNoneFree table a b made job)
-none_free_since table a m b made job (Ok raised) count none = tt
-none_free_since table a m b made job (Err full) count none = record {
+pub none_free_since : (table : TableView) (a m b : SeatView) (made : List Rec) (job : Job) (r : Result Raised Full) → AtMost (uncommitted_in m.bounds) (uncommitted_in a.bounds) → a.known.steps ≤ m.known.steps → IfErr r (HasNoneFree table m b made job) → IfErr r (HasNoneFree table a b made job)
+none_free_since table a m b made job (Ok raised) falls count none = tt
+none_free_since table a m b made job (Err full) falls count none = record {
   not_made = none.not_made;
   few = none.few;
-  full_of = full_since table.layout job.key.now a m b.known made full count none.full_of;
+  full_of = full_since table.layout m.bounds a.bounds job.key.now a.known m.known b.known made full falls count none.full_of;
 }
 
 -- where it was a node record, it was no leaf record
@@ -119,7 +121,7 @@ nodes_alone (Err Leaves) P h = absurd (let z = h.0 in cc)
 
 -- no leaf record was free, the first that a deed wants
 pub no_leaf_free : {G : Type 0} {table : TableView} {becomes : G → Event → G → Type 0} {a b : (SeatView × G) × Build} {job : Job} {deed : Deed} → WorksOn table becomes a.0 b.0 →
-    IsBuilding table b.0.0 b.1.made.items [] × IsFull table.layout job.key.now a.0.0.known b.0.0.known b.1.made.items Leaves → b.0.0.known.steps ≤ a.0.0.known.steps + leaf_steps table.layout → spare_steps deed ≡ 0 → CarriesOut table becomes a b job deed (Err Leaves)
+    IsBuilding table b.0.0 b.1.made.items [] × IsFull table.layout a.0.0.bounds job.key.now a.0.0.known b.0.0.known b.1.made.items Leaves → b.0.0.known.steps ≤ a.0.0.known.steps + leaf_steps table.layout → spare_steps deed ≡ 0 → CarriesOut table becomes a b job deed (Err Leaves)
 no_leaf_free goes (building, missed) few none = record {
   goes = goes;
   raised = tt;

@@ -18,7 +18,7 @@ use Rattle.rowex_writing.proofs.store.Values.{held_few}
 
 pub returns-then-not-lock_for_merge-clause-tries : goal.returns-then-not-lock_for_merge-clause-tries
 returns-then-not-lock_for_merge-clause-tries g c =
-    few_more c.args.table.now g.G.Gate.becomes (span_numbers c.args.job.now.way.now c.args.job.now.span) c.args.build.now.left_nodes 53 c.lock_for_merge.result (c.args.seat.now, c.args.gate.now) (c.args.seat.now, c.args.gate.now) (c.lock_for_merge.new.seat, c.lock_for_merge.new.gate)
+    few_more c.args.table.now g.G.Gate.becomes (span_numbers c.args.job.now.way.now c.args.job.now.span) c.args.build.now.walk.left 53 c.lock_for_merge.result (c.args.seat.now, c.args.gate.now) (c.args.seat.now, c.args.gate.now) (c.lock_for_merge.new.seat, c.lock_for_merge.new.gate)
     (run_none c.args.table.now g.G.Gate.becomes (c.args.seat.now, c.args.gate.now)) c.lock_for_merge.ensures.tries (omega (arith, c.lock_for_merge.ensures.few))
 
 pub returns-then-not-lock_for_merge-clause-later : goal.returns-then-not-lock_for_merge-clause-later
@@ -49,7 +49,7 @@ release_merge_locks-requires g c =
 pub returns-then-not-is_unchanged-clause-tries : goal.returns-then-not-is_unchanged-clause-tries
 returns-then-not-is_unchanged-clause-tries g c =
     let table = c.args.table.now in
-    few_both table g.G.Gate.becomes (span_numbers c.args.job.now.way.now c.args.job.now.span) c.args.build.now.left_nodes (c.args.seat.now, c.args.gate.now) (c.args.seat.now, c.args.gate.now) (c.lock_for_merge.new.seat, c.lock_for_merge.new.gate) (c.release_merge_locks.new.seat, c.release_merge_locks.new.gate)
+    few_both table g.G.Gate.becomes (span_numbers c.args.job.now.way.now c.args.job.now.span) c.args.build.now.walk.left (c.args.seat.now, c.args.gate.now) (c.args.seat.now, c.args.gate.now) (c.lock_for_merge.new.seat, c.lock_for_merge.new.gate) (c.release_merge_locks.new.seat, c.release_merge_locks.new.gate)
     (run_none table g.G.Gate.becomes (c.args.seat.now, c.args.gate.now))
     (subst (λ both. HasTriedUpToTwoMore table g.G.Gate.becomes (span_numbers c.args.job.now.way.now c.args.job.now.span) both (c.args.seat.now, c.args.gate.now) (c.lock_for_merge.new.seat, c.lock_for_merge.new.gate)) c.if-not-lock_for_merge.false c.lock_for_merge.ensures.tries)
     (runs_trans table g.G.Gate.becomes (c.lock_for_merge.new.seat, c.lock_for_merge.new.gate) (c.is_unchanged.new.seat, c.is_unchanged.new.gate) (c.release_merge_locks.new.seat, c.release_merge_locks.new.gate)
@@ -102,7 +102,7 @@ merge_under_locks-requires-clause-loaded g c = c.is_unchanged.ensures.same c.if-
 pub returns-clause-tries : goal.returns-clause-tries
 returns-clause-tries g c =
     let table = c.args.table.now in
-    few_both table g.G.Gate.becomes (span_numbers c.args.job.now.way.now c.args.job.now.span) c.args.build.now.left_nodes (c.args.seat.now, c.args.gate.now) (c.args.seat.now, c.args.gate.now) (c.lock_for_merge.new.seat, c.lock_for_merge.new.gate) (c.merge_under_locks.new.seat, c.merge_under_locks.new.gate)
+    few_both table g.G.Gate.becomes (span_numbers c.args.job.now.way.now c.args.job.now.span) c.args.build.now.walk.left (c.args.seat.now, c.args.gate.now) (c.args.seat.now, c.args.gate.now) (c.lock_for_merge.new.seat, c.lock_for_merge.new.gate) (c.merge_under_locks.new.seat, c.merge_under_locks.new.gate)
     (run_none table g.G.Gate.becomes (c.args.seat.now, c.args.gate.now))
     (subst (λ both. HasTriedUpToTwoMore table g.G.Gate.becomes (span_numbers c.args.job.now.way.now c.args.job.now.span) both (c.args.seat.now, c.args.gate.now) (c.lock_for_merge.new.seat, c.lock_for_merge.new.gate)) c.if-not-lock_for_merge.false c.lock_for_merge.ensures.tries)
     (runs_trans table g.G.Gate.becomes (c.lock_for_merge.new.seat, c.lock_for_merge.new.gate) (c.is_unchanged.new.seat, c.is_unchanged.new.gate) (c.merge_under_locks.new.seat, c.merge_under_locks.new.gate)

@@ -5,7 +5,7 @@ use Rattle.rowex_writing.specs.build.Taking.{no_step}
 use Rattle.rowex_writing.proofs.build.deeds.Deeds.{grown_raised, no_leaf_free, none_free_since}
 use Rattle.rowex_writing.proofs.build.growing.Growing.{grow_plan}
 use Rattle.rowex_writing.proofs.build.Growths.{grown_stored, may_grow}
-use Rattle.rowex_writing.proofs.locks.Going.{goes_more}
+use Rattle.rowex_writing.proofs.locks.Going.{goes_bounds, goes_more}
 use Rattle.rowex_writing.proofs.locks.Runs.{goes_run, run_count}
 use Rattle.rowex_writing.proofs.build.growing.grow_node.Goals as goal
 
@@ -37,7 +37,8 @@ returns g c = record {
         let (m, aim, t, planned) = c.requires.taken in
         grown_raised c.args.table.now c.args.seat.now.known c.make_leaf.new.seat.known c.grow_with_leaf.new.seat c.grow_with_leaf.new.build.made.items job c.args.position c.in-Some.number c.grow_with_leaf.result c.in-Some.ensures.goes.stays.0
         (grown_stored c.args.seat.now.known m job.key.now job.value job.way.now job.found job.span aim c.args.position c.in-Some.number planned) c.grow_with_leaf.ensures.raised);
-    full = (none_free_since c.args.table.now c.args.seat.now.known c.make_leaf.new.seat.known c.grow_with_leaf.new.seat c.grow_with_leaf.new.build.made.items c.args.job.now c.grow_with_leaf.result
+    full = (none_free_since c.args.table.now c.args.seat.now c.make_leaf.new.seat c.grow_with_leaf.new.seat c.grow_with_leaf.new.build.made.items c.args.job.now c.grow_with_leaf.result
+        (goes_bounds c.args.table.now g.G.Gate.becomes (c.args.seat.now, c.args.gate.now) (c.make_leaf.new.seat, c.make_leaf.new.gate) c.in-Some.ensures.goes)
         (run_count c.args.table.now g.G.Gate.becomes (c.args.seat.now, c.args.gate.now) (c.make_leaf.new.seat, c.make_leaf.new.gate)
         (goes_run c.args.table.now g.G.Gate.becomes (c.args.seat.now, c.args.gate.now) (c.make_leaf.new.seat, c.make_leaf.new.gate) c.in-Some.ensures.goes)) (IfErr-weaker c.grow_with_leaf.result _ _ (λ full h. h.1) c.grow_with_leaf.ensures.full));
     few = omega (arith, c.make_leaf.ensures.few, c.grow_with_leaf.ensures.few);

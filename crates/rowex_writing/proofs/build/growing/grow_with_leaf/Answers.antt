@@ -27,19 +27,19 @@ returns-in_default-clause-full g c =
       record {
         not_made = c.in_default.ensures.made may.growing;
         few = omega (arith, made_one may.growing.lowest.made_leaf.building, c.raise_with_leaf.ensures.makes.more, may.within.0);
-        full_of = lacks_nodes c.args.table.now.layout c.args.seat.now.known c.raise_with_leaf.new.seat.known c.args.job.now.way.now c.args.job.now.span c.raise_with_leaf.new.build.made.items c.args.seat.now.known.steps
+        full_of = lacks_nodes c.args.table.now.layout c.args.seat.now.known c.args.seat.now c.raise_with_leaf.new.seat.known c.args.job.now.way.now c.args.job.now.span c.raise_with_leaf.new.build.made.items
             may.nodes may.locked c.raise_with_leaf.ensures.makes.goes.stays.1 (omega (arith, may.within.0)) may.within.1 (omega (arith, may.within.1, may.depth))
             (omega (arith, no_nodes may.growing.lowest.made_leaf, c.in_default.ensures.makes.nodes, may.within.0))
-            (c.in_default.ensures.makes.walk c.args.seat.now.known.steps
-            (walk_begins c.args.table.now.layout c.args.seat.now.known c.begin_claims.new.self c.layout.result c.begin_claims.ensures.left c.layout.ensures));
+            (c.in_default.ensures.makes.walk c.args.seat.now
+            (walk_begins c.args.table.now.layout c.args.seat.now c.begin_claims.new.self c.layout.result c.begin_claims.ensures.walk.0 c.begin_claims.ensures.walk.1 c.layout.ensures));
       },
     )
 
 pub returns-in_default-clause-few : goal.returns-in_default-clause-few
 returns-in_default-clause-few g c =
     let may = subst (λ z. MayGrow c.args.table.now c.args.seat.now z c.args.job.now c.args.new.now) (sym c.begin_claims.ensures.made) c.requires.may in
-    let whole : c.begin_claims.new.self.left_nodes ≡ c.args.table.now.layout.nodes = c.begin_claims.ensures.left ∙ ap (λ (z : Layout). z.nodes) c.layout.ensures in
-    let few : c.raise_with_leaf.new.seat.known.steps + 2 * c.raise_with_leaf.new.build.left_nodes ≤ c.args.seat.now.known.steps + 2 * c.begin_claims.new.self.left_nodes + ((c.args.job.now.span.len - c.args.job.now.span.end) * level_steps + node_steps) + length c.raise_with_leaf.new.build.made.items = c.in_default.ensures.makes.few in
+    let whole : c.begin_claims.new.self.walk.left ≡ c.args.table.now.layout.nodes = c.begin_claims.ensures.walk.0 ∙ ap (λ (z : Layout). z.nodes) c.layout.ensures in
+    let few : c.raise_with_leaf.new.seat.known.steps + 2 * c.raise_with_leaf.new.build.walk.left ≤ c.args.seat.now.known.steps + 2 * c.begin_claims.new.self.walk.left + ((c.args.job.now.span.len - c.args.job.now.span.end) * level_steps + node_steps) + length c.raise_with_leaf.new.build.made.items = c.in_default.ensures.makes.few in
     omega (arith, whole, few, made_one may.growing.lowest.made_leaf.building, c.raise_with_leaf.ensures.makes.more, may.within.0)
 
 pub leaves_free_node-requires : goal.leaves_free_node-requires
@@ -60,11 +60,11 @@ returns-then-not-leaves_free_node-clause-full g c =
         not_made = not_made c.args.table.now g.G.Gate.becomes (c.raise_with_leaf.new.seat, c.raise_with_leaf.new.gate) (c.leaves_free_node.new.seat, c.leaves_free_node.new.gate) c.raise_with_leaf.new.build.made.items c.leaves_free_node.new.build.made.items raising.news
             c.leaves_free_node.ensures.goes c.leaves_free_node.ensures.own made raising.building;
         few = omega (arith, ap length made, made_one may.growing.lowest.made_leaf.building, c.in-Some.ensures.makes.more, may.within.0);
-        full_of = lacks_nodes c.args.table.now.layout c.args.seat.now.known c.leaves_free_node.new.seat.known c.args.job.now.way.now c.args.job.now.span c.leaves_free_node.new.build.made.items c.args.seat.now.known.steps
+        full_of = lacks_nodes c.args.table.now.layout c.args.seat.now.known c.args.seat.now c.leaves_free_node.new.seat.known c.args.job.now.way.now c.args.job.now.span c.leaves_free_node.new.build.made.items
             may.nodes may.locked (c.leaves_free_node.ensures.goes.stays.1 ∙ c.in-Some.ensures.makes.goes.stays.1) (omega (arith, may.within.0)) may.within.1 (omega (arith, may.within.1, may.depth))
             (omega (arith, ap (λ (z : List Rec). length (nodes_among z)) made, no_nodes may.growing.lowest.made_leaf, c.in-Some.ensures.makes.nodes, may.within.0))
-            (c.leaves_free_node.ensures.walk c.if-not-leaves_free_node.true c.args.seat.now.known.steps (c.in-Some.ensures.makes.walk c.args.seat.now.known.steps
-            (walk_begins c.args.table.now.layout c.args.seat.now.known c.begin_claims.new.self c.layout.result c.begin_claims.ensures.left c.layout.ensures)));
+            (c.leaves_free_node.ensures.walk c.if-not-leaves_free_node.true c.args.seat.now (c.in-Some.ensures.makes.walk c.args.seat.now
+            (walk_begins c.args.table.now.layout c.args.seat.now c.begin_claims.new.self c.layout.result c.begin_claims.ensures.walk.0 c.begin_claims.ensures.walk.1 c.layout.ensures)));
       },
     )
 

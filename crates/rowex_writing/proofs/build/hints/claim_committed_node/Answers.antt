@@ -1,6 +1,6 @@
 -- The spare record was not free, or there was none; then one of those below the end is claimed, or none was free.
-use Rattle.rowex_writing.proofs.build.Spare.{goes_room, walk_finds}
-use Rattle.rowex_writing.proofs.Common.{ℕ, ◌<◌, ◌≤◌, ◌∙◌, subst, arith, Contains-append_left, a_node, FindsNone, begin_of, claims_holds, more_since}
+use Rattle.rowex_writing.proofs.build.Spare.{goes_free, walk_taken}
+use Rattle.rowex_writing.proofs.Common.{ℕ, ◌<◌, ◌≤◌, ◌∙◌, arith, Contains-append_left, a_node, claims_holds, more_since}
 use Rattle.std.specs.Prelude.{min}
 use Rattle.rowex_records.specs.declared.claiming.RecordKind.TheVariants.{Node}
 use Rattle.rowex_writing.proofs.build.Counts.{claims_count, claims_rises, none_count, none_rises}
@@ -62,12 +62,11 @@ returns-clause-few g c =
     let few = claims_count c.args.table.now g.G.Gate.becomes a_node _ _ c.in_ok-number.number (c.claim_spare_record.new.seat, c.claim_spare_record.new.gate) (c.claim_next_record.new.seat, c.claim_next_record.new.gate) claims in
     omega (arith, few, c.in_ok-number.ensures.claims.1, c.claim_spare_record.ensures.few)
 
-pub returns-in_err-number-clause-finds : goal.returns-in_err-number-clause-finds
-returns-in_err-number-clause-finds g c = λ all whole none room is.
-    walk_finds c.args.table.now g.G.Gate.becomes c.args.hint.now.next (min c.args.end c.args.left.now) (c.claim_spare_record.new.seat, c.claim_spare_record.new.gate) (c.claim_next_record.new.seat, c.claim_next_record.new.gate) (omega (arith, all, whole))
-    (goes_room c.args.table.now g.G.Gate.becomes (c.args.seat.now, c.args.gate.now) (c.claim_spare_record.new.seat, c.claim_spare_record.new.gate) c.claim_spare_record.ensures.goes (c.in_default.ensures.claims ∙ none) room)
-    (subst (λ e. FindsNone c.args.table.now g.G.Gate.becomes a_node e (begin_of e c.args.hint.now.next) (min c.args.end c.args.left.now) (c.claim_spare_record.new.seat, c.claim_spare_record.new.gate) (c.claim_next_record.new.seat, c.claim_next_record.new.gate)) all
-    c.in_err-number.ensures.claims.1)
+pub returns-in_err-number-clause-tried : goal.returns-in_err-number-clause-tried
+returns-in_err-number-clause-tried g c = λ whole one none is number from low free.
+    walk_taken c.args.table.now g.G.Gate.becomes c.args.hint.now.next c.args.end (min c.args.end c.args.left.now) (c.claim_spare_record.new.seat, c.claim_spare_record.new.gate) (c.claim_next_record.new.seat, c.claim_next_record.new.gate) (omega (arith, whole)) one
+    c.in_err-number.ensures.claims.1 number low
+    (goes_free c.args.table.now g.G.Gate.becomes number (c.args.seat.now, c.args.gate.now) (c.claim_spare_record.new.seat, c.claim_spare_record.new.gate) c.claim_spare_record.ensures.goes (c.in_default.ensures.claims ∙ none) free)
 
 pub claim_next_record-requires-clause-committed : goal.claim_next_record-requires-clause-committed
 claim_next_record-requires-clause-committed g c =

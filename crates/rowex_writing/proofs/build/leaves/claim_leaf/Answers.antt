@@ -26,14 +26,16 @@ returns-in_err-number-clause-claims g c =
     let since = c.args.seat.now.known.steps in
     let goes = c.claim_leaf_between.ensures.goes in
     let late = steps_rise table g.G.Gate.becomes goes.acts (c.args.seat.now, c.args.gate.now) (c.claim_leaf_between.new.seat, c.claim_leaf_between.new.gate) goes.steps in
-    let later = subst (λ (z : Layout). AllMissedBetween (IsAnothersTo table.layout c.args.seat.now.known) c.skip_classes-from.result z.leaves c.claim_leaf_between.new.seat.known.failed since) at c.in_default.ensures.claims.1 in
+    let later =
+    subst (λ (z : Layout). AllMissedBetween (IsAnothersTo table.layout c.args.seat.now.known) table.layout c.args.seat.now.bounds c.skip_classes-from.result z.leaves c.claim_leaf_between.new.seat.known.failed since) at c.in_default.ensures.claims.1 in
     rw c.from_residual.ensures (
       c.in_err-number.ensures.claims.0 ∙ c.in_default.ensures.claims.0,
-      missed_all table g.G.Gate.becomes (IsAnothersTo table.layout c.args.seat.now.known) c.args.words c.first_leaf_with-first.result c.skip_classes-from.result since (c.claim_leaf_between.new.seat, c.claim_leaf_between.new.gate)
-          (c.claim_leaf_between-2.new.seat, c.claim_leaf_between-2.new.gate) late c.claim_leaf_between-2.ensures.goes
-          (λ q low. subst (λ (z : Layout). leaf_size z q < c.args.words) at (c.first_leaf_with-first.ensures.below q low)) later
-          (λ q low high. missed_before table.layout c.args.seat.now.known c.claim_leaf_between.new.seat.known c.claim_leaf_between-2.new.seat.known.failed (a_leaf q) c.claim_leaf_between.new.seat.known.steps
-          goes.stays.0.pass c.in_default.ensures.claims.0 goes.stays.1 (c.in_err-number.ensures.claims.1 q low high)),
+      missed_all table g.G.Gate.becomes (IsAnothersTo table.layout c.args.seat.now.known) c.args.words c.first_leaf_with-first.result c.skip_classes-from.result since c.args.seat.now c.args.gate.now
+          (c.claim_leaf_between.new.seat, c.claim_leaf_between.new.gate) (c.claim_leaf_between-2.new.seat, c.claim_leaf_between-2.new.gate) late goes c.claim_leaf_between-2.ensures.goes c.skip_classes-from.ensures.0
+          (λ q low. subst (λ (z : Layout). leaf_size z q < c.args.words) at (c.first_leaf_with-first.ensures.below q low))
+          (λ q low. subst (λ (z : Layout). c.args.words ≤ leaf_size z q) at (c.first_leaf_with-first.ensures.from c.requires.words q low)) later
+          (λ q low high committed. missed_before table.layout c.args.seat.now.known c.claim_leaf_between.new.seat.known c.claim_leaf_between-2.new.seat.known.failed (a_leaf q) c.claim_leaf_between.new.seat.known.steps
+          goes.stays.0.pass c.in_default.ensures.claims.0 goes.stays.1 (c.in_err-number.ensures.claims.1 q low high committed)),
     )
 
 pub returns-clause-goes : goal.returns-clause-goes

@@ -1,4 +1,4 @@
--- The records before this one are not free.
+-- Those of the records before this one that are tried are not free.
 use Rattle.rowex_writing.proofs.Common.{◌≡◌, ◌+◌, ◌-◌, ◌*◌, ◌≤◌, IsAnothersTo}
 use Rattle.rowex_writing.specs.build.Classes.{AllMissedBetween}
 use Rattle.rowex_writing.specs.locks.Going.{WorksOn}
@@ -9,7 +9,7 @@ invariant-loop-first g l = record {
   within : (l.fn.numbers.start ≤ l.first) × (l.first ≤ l.numbers.end);
   goes : WorksOn l.table g.G.Gate.becomes (l.fn.seat, l.fn.gate) (l.seat, l.gate);
   own : l.seat.known.own ≡ l.fn.seat.known.own;
-  missed : AllMissedBetween (IsAnothersTo l.table.layout l.fn.seat.known) l.fn.numbers.start l.first l.seat.known.failed l.fn.seat.known.steps;
+  missed : AllMissedBetween (IsAnothersTo l.table.layout l.fn.seat.known) l.table.layout l.fn.seat.bounds l.fn.numbers.start l.first l.seat.known.failed l.fn.seat.known.steps;
   count : l.seat.known.steps ≤ l.fn.seat.known.steps + 4 * (l.first - l.fn.numbers.start);
   later : l.fn.seat.known.steps ≤ l.seat.known.steps;
 }

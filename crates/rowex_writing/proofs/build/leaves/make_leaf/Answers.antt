@@ -13,8 +13,8 @@ pub returns-in_err-number-clause-made : goal.returns-in_err-number-clause-made
 returns-in_err-number-clause-made g c = rw c.from_residual.ensures (
   subst (λ z. IsBuilding c.args.table.now c.claim_leaf.new.seat z []) (sym c.clear.ensures) (building_on c.args.table.now g.G.Gate.becomes (c.args.seat.now, c.args.gate.now) (c.claim_leaf.new.seat, c.claim_leaf.new.gate) [] []
       c.claim_leaf.ensures.goes c.in_err-number.ensures.claims.0 (building_none c.args.table.now c.args.seat.now c.requires.own c.requires.possible c.requires.none)),
-  lacks_leaves c.args.table.now.layout c.args.job.now.key.now c.args.seat.now.known c.claim_leaf.new.seat.known c.claim_leaf.new.seat.known.failed c.args.seat.now.known.steps c.claim_leaf.ensures.goes.stays.0.pass c.requires.none
-      (subst (λ w. AllMissedFrom (IsAnothersTo c.args.table.now.layout c.args.seat.now.known) c.args.table.now.layout w c.claim_leaf.new.seat.known.failed c.args.seat.now.known.steps) c.count_leaf_words.ensures.words c.in_err-number.ensures.claims.1),
+  lacks_leaves c.args.table.now.layout c.args.seat.now.bounds c.args.job.now.key.now c.args.seat.now.known c.claim_leaf.new.seat.known c.claim_leaf.new.seat.known.failed c.args.seat.now.known.steps c.claim_leaf.ensures.goes.stays.0.pass c.requires.none
+      (subst (λ w. AllMissedFrom (IsAnothersTo c.args.table.now.layout c.args.seat.now.known) c.args.table.now.layout c.args.seat.now.bounds w c.claim_leaf.new.seat.known.failed c.args.seat.now.known.steps) c.count_leaf_words.ensures.words c.in_err-number.ensures.claims.1),
 )
 
 pub returns-clause-goes : goal.returns-clause-goes

@@ -1,11 +1,11 @@
 -- A claim and its fills are one record more.
 use Rattle.rowex_writing.proofs.Common.{◌∷◌, [], ◌++◌, List, ℕ, length, ap, refl, sym, subst, ◌∙◌, arith, length-append, Node, a_node, first_told, more_is_claimed, made_of_node}
 use Rattle.rowex_writing.specs.build.Building.{IsBuilding}
-use Rattle.rowex_writing.specs.build.Walks.{IsClaimWalk, nodes_among}
+use Rattle.rowex_writing.specs.build.Walks.{IsCommittedWalk, nodes_among}
 use Rattle.rowex_writing.proofs.build.Counts.{nodes_pushed}
 use Rattle.rowex_writing.proofs.locks.Going.{goes_more, seat_of}
 use Rattle.rowex_writing.proofs.build.Building.{set_all_on, building_node, not_made}
-use Rattle.rowex_writing.proofs.build.Walks.{walk_on}
+use Rattle.rowex_writing.proofs.build.Walks.{committed_on}
 use Rattle.rowex_writing.proofs.build.nodes.make_node_from_words.Goals as goal
 
 pub fill_node-requires-clause-own : goal.fill_node-requires-clause-own
@@ -47,12 +47,12 @@ returns-clause-makes g c =
       goes = goes_more c.args.table.now g.G.Gate.becomes _ _ _ c.claim_node.ensures.goes filled;
       more = omega (arith, ap length c.push.ensures.items, ap length c.claim_node.ensures.made, length-append items (a_node c.in_ok-number.number ∷ []));
       nodes = omega (arith, ap (λ made. length (nodes_among made)) c.push.ensures.items, ap (λ made. length (nodes_among made)) c.claim_node.ensures.made, nodes_pushed items c.in_ok-number.number);
-      walk = λ since w.
-          subst (λ z. IsClaimWalk c.args.table.now.layout c.args.table.now.layout.nodes since c.fill_node.new.seat.known z c.claim_node.new.build.nodes.next c.claim_node.new.build.left_nodes) (sym made)
-          (walk_on c.args.table.now g.G.Gate.becomes since (c.claim_node.new.seat, c.claim_node.new.gate) (c.fill_node.new.seat, c.fill_node.new.gate) (c.args.build.now.made.items ++ a_node c.in_ok-number.number ∷ [])
-          (c.args.build.now.made.items ++ a_node c.in_ok-number.number ∷ []) c.claim_node.new.build.nodes.next c.claim_node.new.build.left_nodes filled (λ r h. h) (c.in_ok-number.ensures.walk since w));
+      walk = λ first w.
+          subst (λ z. IsCommittedWalk c.args.table.now.layout first c.fill_node.new.seat z c.claim_node.new.build.nodes.next c.claim_node.new.build.walk) (sym made)
+          (committed_on c.args.table.now g.G.Gate.becomes first (c.claim_node.new.seat, c.claim_node.new.gate) (c.fill_node.new.seat, c.fill_node.new.gate) (c.args.build.now.made.items ++ a_node c.in_ok-number.number ∷ [])
+          (c.args.build.now.made.items ++ a_node c.in_ok-number.number ∷ []) c.claim_node.new.build.nodes.next c.claim_node.new.build.walk filled (λ r h. h) (c.in_ok-number.ensures.walk first w));
       few = omega (arith, c.in_ok-number.ensures.few, c.fill_node.ensures.steps);
     }
 
 pub returns-in_err-number-clause-finds : goal.returns-in_err-number-clause-finds
-returns-in_err-number-clause-finds g c = λ whole none room is. c.in_err-number.ensures.finds whole none room refl
+returns-in_err-number-clause-finds g c = λ left end commits none room is. c.in_err-number.ensures.finds left end commits none room refl

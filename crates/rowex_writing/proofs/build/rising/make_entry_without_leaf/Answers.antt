@@ -39,7 +39,7 @@ pub returns-clause-makes : goal.returns-clause-makes
 returns-clause-makes g c = makes_after _ c.load_without_leaf.ensures.reads.goes c.load_without_leaf.ensures.few c.make_node_from_words.ensures.makes (omega arith) (omega arith)
 
 pub returns-clause-finds : goal.returns-clause-finds
-returns-clause-finds g c = λ whole none room.
+returns-clause-finds g c = λ left end commits none room.
     let reads = c.load_without_leaf.ensures.reads in
-    c.make_node_from_words.ensures.finds whole (reads.own ∙ none)
+    c.make_node_from_words.ensures.finds left end commits (reads.own ∙ none)
     (goes_room c.args.table.now g.G.Gate.becomes (c.args.seat.now, c.args.gate.now) (c.load_without_leaf.new.seat, c.load_without_leaf.new.gate) reads.goes (reads.own ∙ none) room)

@@ -26,21 +26,23 @@ returns-in_err-number-clause-claims g c =
       not_made = not_made table g.G.Gate.becomes (c.args.seat.now, c.args.gate.now) (c.claim_node.new.seat, c.claim_node.new.gate) _ _ [] c.claim_node.ensures.goes
           c.in_err-number.ensures.claims c.claim_node.ensures.made before;
       few = omega (arith, ap length none);
-      full_of = lacks_nodes table.layout c.args.seat.now.known c.claim_node.new.seat.known job.way.now job.span c.claim_node.new.build.made.items c.args.seat.now.known.steps
+      full_of = lacks_nodes table.layout c.args.seat.now.known c.args.seat.now c.claim_node.new.seat.known job.way.now job.span c.claim_node.new.build.made.items
           (step_nodes table.layout c.args.seat.now.known t.since job.key.now job.way.now _ (way_on table c.args.seat.now job c.requires.takes))
           (span_later t.before.known c.args.seat.now.known job.way.now job.span stays.1 stays.2 t.below.taken.locked) c.claim_node.ensures.goes.stays.1 t.below.taken.within.0 t.below.taken.within.1
           (omega (arith, t.below.last)) (omega (arith, ap (λ made. length (nodes_among made)) none))
-          (c.in_err-number.ensures.walk c.args.seat.now.known.steps (walk_begins table.layout c.args.seat.now.known c.begin_claims.new.self c.layout.result c.begin_claims.ensures.left c.layout.ensures));
+          (c.in_err-number.ensures.walk c.args.seat.now (walk_begins table.layout c.args.seat.now c.begin_claims.new.self c.layout.result c.begin_claims.ensures.walk.0 c.begin_claims.ensures.walk.1 c.layout.ensures));
     })
 
 pub returns-in_err-number-clause-walk : goal.returns-in_err-number-clause-walk
 returns-in_err-number-clause-walk g c =
-    let whole : c.begin_claims.new.self.left_nodes ≡ c.args.table.now.layout.nodes = c.begin_claims.ensures.left ∙ ap (λ (z : Layout). z.nodes) c.layout.ensures in
+    let whole : c.begin_claims.new.self.walk.left ≡ c.args.table.now.layout.nodes = c.begin_claims.ensures.walk.0 ∙ ap (λ (z : Layout). z.nodes) c.layout.ensures in
     let none = c.claim_node.ensures.made ∙ (c.begin_claims.ensures.made ∙ c.clear.ensures) in
     let few = c.in_err-number.ensures.few in omega (arith, whole, few, ap length none)
 
 pub returns-in_err-number-clause-finds : goal.returns-in_err-number-clause-finds
-returns-in_err-number-clause-finds g c = λ room is. c.in_err-number.ensures.finds (c.begin_claims.ensures.left ∙ ap (λ (z : Layout). z.nodes) c.layout.ensures) c.requires.none room refl
+returns-in_err-number-clause-finds g c = λ room is.
+    let whole = ap (λ (z : Layout). z.nodes) c.layout.ensures in
+    c.in_err-number.ensures.finds (c.begin_claims.ensures.walk.0 ∙ whole) (c.begin_claims.ensures.walk.1 ∙ whole) c.begin_claims.ensures.walk.2 c.requires.none room refl
 
 pub returns-clause-claims : goal.returns-clause-claims
 returns-clause-claims g c =
@@ -54,5 +56,5 @@ returns-clause-claims g c =
 
 pub returns-clause-walk : goal.returns-clause-walk
 returns-clause-walk g c =
-    let whole : c.begin_claims.new.self.left_nodes ≡ c.args.table.now.layout.nodes = c.begin_claims.ensures.left ∙ ap (λ (z : Layout). z.nodes) c.layout.ensures in
+    let whole : c.begin_claims.new.self.walk.left ≡ c.args.table.now.layout.nodes = c.begin_claims.ensures.walk.0 ∙ ap (λ (z : Layout). z.nodes) c.layout.ensures in
     let few = c.in_ok-number.ensures.few in omega (arith, whole, few)

@@ -37,11 +37,11 @@ returns-in_default-clause-full g c =
       record {
         not_made = c.in_default.ensures.made job.key.now words (lowest_leads c.args.table.now c.args.seat.now m job number value b _ at) h;
         few = omega (arith, ap length none, c.make_entry_without_leaf.ensures.makes.more);
-        full_of = lacks_nodes c.args.table.now.layout c.args.seat.now.known c.make_entry_without_leaf.new.seat.known job.way.now job.span c.make_entry_without_leaf.new.build.made.items c.args.seat.now.known.steps
+        full_of = lacks_nodes c.args.table.now.layout c.args.seat.now.known c.args.seat.now c.make_entry_without_leaf.new.seat.known job.way.now job.span c.make_entry_without_leaf.new.build.made.items
             (step_nodes c.args.table.now.layout c.args.seat.now.known m job.key.now job.way.now _ b.taken.way_of) b.taken.locked c.make_entry_without_leaf.ensures.makes.goes.stays.1 b.taken.within.0 b.taken.within.1 (omega (arith, b.last))
             (omega (arith, ap (λ made. length (nodes_among made)) none, c.in_default.ensures.makes.nodes))
-            (c.in_default.ensures.makes.walk c.args.seat.now.known.steps
-            (walk_begins c.args.table.now.layout c.args.seat.now.known c.begin_claims.new.self c.layout.result c.begin_claims.ensures.left c.layout.ensures));
+            (c.in_default.ensures.makes.walk c.args.seat.now
+            (walk_begins c.args.table.now.layout c.args.seat.now c.begin_claims.new.self c.layout.result c.begin_claims.ensures.walk.0 c.begin_claims.ensures.walk.1 c.layout.ensures));
       },
     )
 
@@ -95,17 +95,18 @@ make_entry_without_leaf-requires-clause-range g c =
 pub returns-in_default-clause-walk : goal.returns-in_default-clause-walk
 returns-in_default-clause-walk g c =
     let none = c.begin_claims.ensures.made ∙ c.requires.made in
-    let whole : c.begin_claims.new.self.left_nodes ≡ c.args.table.now.layout.nodes = c.begin_claims.ensures.left ∙ ap (λ (z : Layout). z.nodes) c.layout.ensures in
-    let few : c.make_entry_without_leaf.new.seat.known.steps + 2 * c.make_entry_without_leaf.new.build.left_nodes ≤ c.args.seat.now.known.steps + 2 * c.begin_claims.new.self.left_nodes + level_steps + length c.make_entry_without_leaf.new.build.made.items = c.in_default.ensures.makes.few in
+    let whole : c.begin_claims.new.self.walk.left ≡ c.args.table.now.layout.nodes = c.begin_claims.ensures.walk.0 ∙ ap (λ (z : Layout). z.nodes) c.layout.ensures in
+    let few : c.make_entry_without_leaf.new.seat.known.steps + 2 * c.make_entry_without_leaf.new.build.walk.left ≤ c.args.seat.now.known.steps + 2 * c.begin_claims.new.self.walk.left + level_steps + length c.make_entry_without_leaf.new.build.made.items = c.in_default.ensures.makes.few in
     omega (arith, whole, few, ap length none, c.make_entry_without_leaf.ensures.makes.more)
 
 pub returns-clause-walk : goal.returns-clause-walk
 returns-clause-walk g c =
-    let whole : c.begin_claims.new.self.left_nodes ≡ c.args.table.now.layout.nodes = c.begin_claims.ensures.left ∙ ap (λ (z : Layout). z.nodes) c.layout.ensures in
-    let few : c.make_entry_without_leaf.new.seat.known.steps + 2 * c.make_entry_without_leaf.new.build.left_nodes ≤ c.args.seat.now.known.steps + 2 * c.begin_claims.new.self.left_nodes + level_steps + 0 = c.in-Some.ensures.makes.few in
+    let whole : c.begin_claims.new.self.walk.left ≡ c.args.table.now.layout.nodes = c.begin_claims.ensures.walk.0 ∙ ap (λ (z : Layout). z.nodes) c.layout.ensures in
+    let few : c.make_entry_without_leaf.new.seat.known.steps + 2 * c.make_entry_without_leaf.new.build.walk.left ≤ c.args.seat.now.known.steps + 2 * c.begin_claims.new.self.walk.left + level_steps + 0 = c.in-Some.ensures.makes.few in
     omega (arith, whole, few)
 
 pub returns-in_default-clause-finds : goal.returns-in_default-clause-finds
 returns-in_default-clause-finds g c = λ room is.
     let (m, number, value, b) = c.requires.below in
-    c.make_entry_without_leaf.ensures.finds (c.begin_claims.ensures.left ∙ ap (λ (z : Layout). z.nodes) c.layout.ensures) b.taken.own room c.in_default.is
+    let whole = ap (λ (z : Layout). z.nodes) c.layout.ensures in
+    c.make_entry_without_leaf.ensures.finds (c.begin_claims.ensures.walk.0 ∙ whole) (c.begin_claims.ensures.walk.1 ∙ whole) c.begin_claims.ensures.walk.2 b.taken.own room c.in_default.is
