@@ -32,6 +32,8 @@ mod refused;
 #[cfg(test)]
 mod replays;
 #[cfg(test)]
+mod reserved;
+#[cfg(test)]
 mod shared;
 #[cfg(test)]
 mod spared;
