@@ -66,8 +66,9 @@
  * Each handle has memory for the pairs of its scans, too, which the next scan uses again. After a scan it goes if the keys have more than
  * 32 KiB of it, or the rest has. So a handle keeps 64 KiB of it at most between its calls.
  *
- * The library starts no threads and keeps no data outside its indexes. It needs Linux, and an x86-64 processor of the level for which it
- * was compiled: x86-64-v3, which has AVX2, unless the machine that compiled it had not, or x86-64-v2 was asked for. On an older one
+ * The library starts no threads and keeps no data outside its indexes. It needs Linux, and an ARM64 (aarch64) processor with the lowest byte
+ * first, or an x86-64 processor of the level for which it was compiled: x86-64-v3, which has AVX2, unless the machine that compiled it had
+ * not, or x86-64-v2 was asked for. On an older one
  * hot_create, hot_create_with, hot_open_index, hot_open_index_within, hot_open_growing, hot_load, hot_load_packed, hot_load_growing and
  * hot_stock_bytes return HOT_OLD_PROCESSOR
  * and write nothing, and stocks have no records; any other call may end the program there.
