@@ -1,5 +1,5 @@
 -- A change that is alone is answered where enough records are free. A record that was free when it began is its own wherever it finds it taken.
-use Rattle.hot_index.proofs.Common.{◌≡◌, ◌≢◌, ◌⊎◌, inl, inr, ⊎_elim, ℕ, zero, suc, ◌+◌, ◌*◌, ◌<◌, ◌≤◌, List, [], ◌∷◌, ◌++◌, length, Option, Some, None, Result, Ok, Err, IsOk, refl, sym, ap, subst, ◌∙◌, arith, append_assoc, length-append, All, Contains, append_cancel_left, All-head, All-tail, cases_lt, Call, Add, Exchange, Get, Insert, Remove, RemoveIf, Upsert, Reply, LegalCalls, key_of, Layout, leaf_size, Rec, a_node, a_leaf, ClearPin, Event, Known, Core, IsLawful, holder_of, after, opening, EventsLead, SeatView, TableView, lead_layout, LeavesTree, TryFault, Busy, FullLeaves, FullNodes, Full, runs_begin, IsTried, MakesTries, IsUnnoted, PassView, pass_of, All-part}
+use Rattle.hot_index.proofs.Common.{◌≡◌, ◌≢◌, ◌⊎◌, inl, inr, ⊎_elim, ℕ, zero, suc, ◌+◌, ◌*◌, ◌<◌, ◌≤◌, List, [], ◌∷◌, ◌++◌, length, Option, Some, Result, Ok, Err, IsOk, refl, sym, ap, subst, ◌∙◌, arith, append_assoc, length-append, All, Contains, append_cancel_left, All-head, All-tail, cases_lt, Call, Add, Exchange, Get, Insert, Remove, RemoveIf, Upsert, Reply, LegalCalls, key_of, Layout, leaf_size, Rec, a_node, a_leaf, ClearPin, Event, Known, Core, IsLawful, holder_of, after, opening, EventsLead, SeatView, TableView, lead_layout, LeavesTree, TryFault, Busy, FullLeaves, FullNodes, runs_begin, IsTried, IsUnnoted, PassView, pass_of, All-part}
 use Rattle.std.proofs.lemmas.Bool.{cases_eq}
 use Rattle.std.specs.Result.{IsErr}
 use Rattle.finite_map.specs.declared.Note.{Note}
@@ -11,7 +11,7 @@ use Rattle.rowex_core.specs.Events.{Legal}
 use Rattle.rowex_core.specs.declared.event.Act.{Act}
 use Rattle.rowex_core.specs.declared.known.Failed.{Failed}
 use Rattle.rowex_table.specs.Runs.{Ends, Runs}
-use Rattle.rowex_table.specs.Traces.{IsNextStep, OthersStepOn, RunBeginsWith}
+use Rattle.rowex_table.specs.Traces.{IsNextStep, RunBeginsWith}
 use Rattle.rowex_table.proofs.Onward.{begins_itself, begins_on, led_more, next_begins, others_none}
 use Rattle.rowex_table.proofs.Runs.{runs_same}
 use Rattle.rowex_records.specs.Claims.{HasMissedSince, IsAnothers}
@@ -29,6 +29,7 @@ use Rattle.hot_index_calls.proofs.Passes.Settled.{refused_plain}
 use Rattle.hot_index_calls.proofs.Used.{IsTaken, IsTakenIn, runs_missed}
 use Rattle.hot_index.specs.Alone.{AloneChangesEnd, HasEnoughFree, HasFreeNodes}
 use Rattle.hot_index.specs.Statements.{IsNoRemoval}
+use Rattle.hot_index_calls.proofs.Removing.{call_lacks}
 use Rattle.hot_index.proofs.Unhindered.{GoneOn, never_busy, none_there, once_unless, still_none, try_alone}
 
 -- ---- steps of one pass alone, in a run that others began
@@ -240,10 +241,11 @@ module _ {G : Type 0} (index : TableView) (becomes : G → Event → G → Type 
 
   answered : (r : Result Reply TryFault) → IsTried call r index becomes a b → IsOk r
   answered (Ok reply) tried = refl
-  answered (Err Busy) tried = absurd (never_busy index.layout (key_of call) a.0 b.0
+  answered (Err Busy) tried = absurd (never_busy index.layout call a.0 b.0
       (subst (λ q. RunsAlone index.layout q a.0.seat b.0.seat) (sym tried.call.unnoted.number) alone) tried.cause)
   answered (Err FullNodes) tried =
-      let (own, lacks) = tried.cause in
+      let (own, all) = tried.cause in
+      let lacks = call_lacks index.layout call a.0.seat.bounds b.0.number b.0.failed a.0.steps own all in
       let same = tried.call.unnoted.number in
       absurd (no_lack index.layout a.0.seat.bounds b.0.number a.0.steps b.0.failed own alone.core lay enough.nodes lacks
       (λ n low committed free. subst (λ q. IsAnothers index.layout b.0.number own lacks.locked (a_node n) (Some q)) (sym same)

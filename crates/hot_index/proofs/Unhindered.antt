@@ -1,5 +1,5 @@
 -- A call that is alone is not hindered: what no other pass had when it began, none has while it runs.
-use Rattle.hot_index.proofs.Common.{◌≡◌, ◌≢◌, ◌⊎◌, inl, inr, ⊎_elim, ℕ, ◌+◌, ◌<◌, ◌≤◌, List, [], ◌∷◌, ◌++◌, length, get_or, Bool, true, false, ◌&&◌, nat_eq, if◌then◌else◌, Option, Some, None, Result, Ok, Err, IsOk, refl, sym, ap, subst, ◌∙◌, arith, append-nil, append_assoc, length-append, All, ne_eqb, append_cancel_left, All-head, All-nil, All-tail, get_or_from_slice_get, slice_get_within, Call, Change, Added, Reply, BeginsWith, key_of, Key, Layout, Rec, a_node, IsLockable, ClearPin, Event, Known, Core, IsLawful, holder_of, IsFact, IsStillLoaded, Knows, after, opening, AreOthers, EventsLead, knows_all, SeatView, TableView, lead_layout, front_on, Full, TryFault, Busy, FullLeaves, FullNodes, NoChangeFrom, no_change_from_later, runs_begin, IsCause, MayTake, fault_of, AreTriesRefused, HasCause, IsResultOfLast, IsOutcome, IsTried, IsTriedAndCounted, MakesTries, loads_in, change_notes, FollowsTry, IsCountedAfter, as_tried, Refusal, IsNewPass, PassView, All-part, full_fault}
+use Rattle.hot_index.proofs.Common.{◌≡◌, ◌≢◌, inl, inr, ⊎_elim, ℕ, ◌<◌, ◌≤◌, List, [], ◌∷◌, ◌++◌, length, Bool, true, false, ◌&&◌, if◌then◌else◌, Option, Some, None, Result, Ok, Err, IsOk, refl, sym, ap, subst, ◌∙◌, arith, append-nil, append_assoc, length-append, All, ne_eqb, append_cancel_left, All-head, All-nil, All-tail, get_or_from_slice_get, slice_get_within, Call, Change, Reply, BeginsWith, Layout, Rec, a_node, IsLockable, ClearPin, Event, Known, Core, IsLawful, holder_of, IsFact, IsStillLoaded, Knows, after, opening, AreOthers, EventsLead, knows_all, SeatView, TableView, lead_layout, front_on, Full, TryFault, Busy, FullLeaves, FullNodes, NoChangeFrom, no_change_from_later, runs_begin, IsCause, MayTake, AreTriesRefused, HasCause, IsResultOfLast, IsOutcome, IsTried, IsTriedAndCounted, MakesTries, loads_in, change_notes, FollowsTry, IsCountedAfter, as_tried, Refusal, IsNewPass, PassView, All-part}
 use Rattle.std.specs.Prelude.{Contains}
 use Rattle.std.specs.Result.{IsErr}
 use Rattle.std.proofs.lemmas.List.Elements.{All-cons}
@@ -187,12 +187,12 @@ module _ (layout : Layout) (q : ℕ) (s t : SeatView) (alone : RunsAlone layout 
   unhindered : ⊥
   unhindered = not_met (from_begin layout q s h.at t alone h.before h.first h.own h.behind h.within since)
 
-pub never_busy : (layout : Layout) (key : Key) (k j : PassView) → RunsAlone layout j.number k.seat j.seat → IsCause layout key k j Busy → ⊥
-never_busy layout key k j alone conflict = unhindered layout j.number k.seat j.seat alone conflict.hindered
+pub never_busy : (layout : Layout) (call : Call) (k j : PassView) → RunsAlone layout j.number k.seat j.seat → IsCause layout call k j Busy → ⊥
+never_busy layout call k j alone conflict = unhindered layout j.number k.seat j.seat alone conflict.hindered
 
 replies : (index : TableView) (call : Call) (result : Result Reply TryFault) (k j : PassView) → IsOutcome call result index k j → HasCause call result index k j → RunsAlone index.layout j.number k.seat j.seat → ¬ (MayTake call k j) → IsOk result
 replies index call (Ok reply) k j outcome cause alone never = refl
-replies index call (Err Busy) k j outcome cause alone never = absurd (never_busy index.layout (key_of call) k j alone cause)
+replies index call (Err Busy) k j outcome cause alone never = absurd (never_busy index.layout call k j alone cause)
 replies index call (Err FullNodes) k j outcome cause alone never = absurd (never (outcome.full tt))
 replies index call (Err FullLeaves) k j outcome cause alone never = absurd (never (outcome.full tt))
 
@@ -295,7 +295,7 @@ module _ {G : Type 0} (index : TableView) (becomes : G → Event → G → Type 
   never_refused : (call : Call) (a b : PassView × G) → RunsAlone index.layout a.0.number a.0.seat b.0.seat → TakesNone call a.0 b.0 → (r : Result Reply TryFault) (m : PassView × G) → IsErr r → GoneOn m b → IsTried call r index becomes a m → ⊥
   never_refused call a b alone none (Ok reply) m bad more tried = absurd cc
   never_refused call a b alone none (Err Busy) m bad more tried =
-      never_busy index.layout (key_of call) a.0 m.0 (subst (λ q. RunsAlone index.layout q a.0.seat m.0.seat) (sym tried.call.unnoted.number) (try_alone call (Err Busy) a m b alone more tried).0) tried.cause
+      never_busy index.layout call a.0 m.0 (subst (λ q. RunsAlone index.layout q a.0.seat m.0.seat) (sym tried.call.unnoted.number) (try_alone call (Err Busy) a m b alone more tried).0) tried.cause
   never_refused call a b alone none (Err FullNodes) m bad more tried = none m.0 more.1 (tried.call.full tt)
   never_refused call a b alone none (Err FullLeaves) m bad more tried = none m.0 more.1 (tried.call.full tt)
 

@@ -34,7 +34,7 @@ TakesNone call old new = (middle : PassView) → BeginsWith new.front middle.fro
 -- What becomes of a call that is alone: it is refused only for want of a record.
 pub record AloneCallsEnd {G : Type 0} (becomes : G → Event → G → Type 0) : Type 0 where
   -- a call that is alone is never busy
-  pub busy : (layout : Layout) (key : Key) (old new : PassView) → RunsAlone layout new.number old.seat new.seat → ¬ (IsCause layout key old new Busy)
+  pub busy : (layout : Layout) (call : Call) (old new : PassView) → RunsAlone layout new.number old.seat new.seat → ¬ (IsCause layout call old new Busy)
   -- A call that is alone and takes no record is answered. Such are exchanges and additions, a new value of a key held all the while, and a
   -- removal of one absent all the while.
   pub reply : (index : TableView) (call : Call) (result : Result Reply TryFault) (old new : PassView) →

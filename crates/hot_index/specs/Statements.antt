@@ -15,11 +15,10 @@ use Rattle.record_words.specs.Leaf.{words_for}
 use Rattle.versions.specs.Trades.{AreApart, IsOneOf}
 use Rattle.record_words.specs.declared.records.Rec.{Rec}
 use Rattle.record_words.specs.declared.records.Rec.TheVariants.{Node as a_node, Leaf as a_leaf}
-use Rattle.tries.specs.Keys.{Key}
 use Rattle.publish_laws.specs.Lone.{HasSpare, KeepsSpare}
 use Rattle.rowex_core.specs.declared.event.Event.{Event}
 use Rattle.rowex_table.specs.Seats.{HasAllCommitted, IsShownAll, SeatView, TableView}
-use Rattle.rowex_records.specs.Claims.{AllCommittedMissed, AllMissedFrom, HasMissedSince, IsAnothers}
+use Rattle.rowex_records.specs.Claims.{AllCommittedMissed, AllMissed, AllMissedFrom, HasMissedSince, IsAnothers}
 use Rattle.rowex_writing.specs.plan.Counts.{most_nodes}
 use Rattle.rowex_writing.specs.build.Spare.{IsRemoval}
 use Rattle.rowex_writing.specs.declared.attempts.TryFault.{TryFault}
@@ -34,12 +33,12 @@ use Rattle.hot_index_calls.specs.declared.census.RecordCounts.{RecordCounts}
 -- record not free when its turn came, of those that its pass knew to be committed when it began. None of them was the pass's own.
 abbrev pub AllLongFullMeansNoneFree : Type 0
 AllLongFullMeansNoneFree =
-    (layout : Layout) (key : Key) (old new : PassView) → layout.long_from ≡ 0 → IsKey key → IsCause layout key old new FullLeaves →
+    (layout : Layout) (call : Call) (old new : PassView) → layout.long_from ≡ 0 → IsKey (key_of call) → IsCause layout call old new FullLeaves →
     AllCommittedMissed (IsAnothers layout new.number [] []) layout old.seat.bounds a_leaf layout.leaves new.failed old.steps
 
 -- A call of an index's only pass is never refused as busy.
 abbrev pub OnePassIsNeverBusy : Type 0
-OnePassIsNeverBusy = (layout : Layout) (key : Key) (old new : PassView) → layout.passes ≡ 1 → ¬ (IsCause layout key old new Busy)
+OnePassIsNeverBusy = (layout : Layout) (call : Call) (old new : PassView) → layout.passes ≡ 1 → ¬ (IsCause layout call old new Busy)
 
 -- No pass owns the record. So if the record was found not free, it was in the tree or retired. `by` is the pass that owned it, if one did.
 abbrev pub IsNobodys : (rec : Rec) (by : Option ℕ) → Type 0
@@ -66,9 +65,9 @@ pub record ThirdIsTaken (layout : Layout) (old new : PassView) : Type 0 where
 -- least a third of the node records but one (`ThirdIsTaken`).
 abbrev pub OnePassFullMeansTaken : Type 0
 OnePassFullMeansTaken =
-    (layout : Layout) (key : Key) (old new : PassView) → layout.passes ≡ 1 → new.number < layout.passes →
-    (IsCause layout key old new FullLeaves → AllMissedFrom IsNobodys layout old.seat.bounds (words_for (length key)) new.failed old.steps) ×
-    (IsCause layout key old new FullNodes → (HasAllCommitted old.seat → ThirdIsTaken layout old new) × AreTakenButOwn layout old new)
+    (layout : Layout) (call : Call) (old new : PassView) → layout.passes ≡ 1 → new.number < layout.passes →
+    (IsCause layout call old new FullLeaves → AllMissedFrom IsNobodys layout old.seat.bounds (words_for (length (key_of call))) new.failed old.steps) ×
+    (IsCause layout call old new FullNodes → (HasAllCommitted old.seat → ThirdIsTaken layout old new) × AreTakenButOwn layout old new)
 
 -- The call is no removal. So if it changes the map, it gives its key a value. A get is such a call, too, but is never refused.
 abbrev pub IsNoRemoval : Call → Type 0
@@ -89,6 +88,13 @@ abbrev pub AbsentIsNeverFull : Type 0
 AbsentIsNeverFull =
     (layout : Layout) (call : Call) (old new : PassView) (fault : TryFault) → IsRefused layout call old new fault → IsRemoval call →
     ((count : ℕ) → length old.front ≤ count → count ≤ length new.front → value_at (map_of (take count new.front)) (key_of call) ≡ None) → fault ≡ Busy
+
+-- A removal that was refused for want of a node record has found each node record of the index not free when its turn came, committed or
+-- not. Those in `own` the call may have claimed itself. Each other one was another pass's, or nobody's: in the tree or retired.
+abbrev pub RemovalFullMeansNoneFree : Type 0
+RemovalFullMeansNoneFree =
+    (layout : Layout) (call : Call) (old new : PassView) → IsRemoval call → IsCause layout call old new FullNodes →
+    (own : List Rec) × (length own ≤ 2 * most_nodes + 1) × AllMissed (IsAnothers layout new.number own []) a_node layout.nodes new.failed old.steps
 
 -- In an index of one pass, let a call that gives its key a value be refused, for whatever reason. Its key was absent before the call. The
 -- premise on the pass's earlier calls, that they are legal, holds between any two calls.

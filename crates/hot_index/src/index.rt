@@ -167,7 +167,7 @@ impl Index {
     ///
     /// It never blocks, makes no more steps than `try_insert` may, and is refused for the same reasons. A refused call has changed nothing.
     /// It needs no leaf record, so it never returns `FullLeaves`. It returns `FullNodes` only if its search found the key
-    /// (`laws::absent_is_never_full`).
+    /// (`laws::absent_is_never_full`), and it has found each node record not free, committed or not (`laws::removal_full_means_none_free`).
     ///
     /// In an index of one pass let a node record be outside the tree when the call begins. One is at the end, too. The call doesn't return
     /// `FullNodes` while the pass knows fewer than 2^60 - 2 steps.

@@ -1,7 +1,7 @@
 //! Laws of the index. The functions do nothing: their contracts are the laws.
 
 ghost use Rattle.hot_index.specs.Alone.{AloneCallsEnd, AloneChangesEnd};
-ghost use Rattle.hot_index.specs.Statements.{AbsentIsNeverFull, AllLongFullMeansNoneFree, CountsAddUp, HeldIsNeverFull, OnePassFullMeansTaken, OnePassIsNeverBusy, OnePassKeepsSpare, OnePassRefusesOnlyNewKeys, ReturnedBeforeBegun};
+ghost use Rattle.hot_index.specs.Statements.{AbsentIsNeverFull, AllLongFullMeansNoneFree, CountsAddUp, HeldIsNeverFull, OnePassFullMeansTaken, OnePassIsNeverBusy, OnePassKeepsSpare, OnePassRefusesOnlyNewKeys, RemovalFullMeansNoneFree, ReturnedBeforeBegun};
 
 use rowex_core::Gate;
 
@@ -46,6 +46,12 @@ pub fn held_is_never_full()
 /// A removal is never refused as full if the key was absent all the while: in each version that its pass has seen since the call began.
 pub fn absent_is_never_full()
     ensures { AbsentIsNeverFull }
+{}
+
+/// A removal is refused as `FullNodes` only once it has found each node record of the index not free, committed or not, at that record's turn
+/// in the call. At most 4,321 of them were claimed by the call itself.
+pub fn removal_full_means_none_free()
+    ensures { RemovalFullMeansNoneFree }
 {}
 
 /// In an index of one pass a call that gives its key a value is refused only if the key was absent before the call. So a new value of a

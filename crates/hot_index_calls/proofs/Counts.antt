@@ -11,6 +11,8 @@ use Rattle.rowex_records.proofs.Claims.{upto_falls}
 use Rattle.publish_laws.specs.Ending.{IsAtRest}
 use Rattle.rowex_writing.specs.plan.Asking.{reply_to}
 use Rattle.rowex_writing.specs.attempts.Attempts as tries
+use Rattle.rowex_writing.specs.attempts.Attempts.{bounds_for}
+use Rattle.hot_index_calls.proofs.Removing.{call_bounds_fall, call_bounds_few}
 use Rattle.hot_index_calls.specs.Alone.{HasBeenHindered}
 use Rattle.hot_index_calls.specs.Answers.{IsCause, IsNoted, IsRefused, IsRefusedFor, IsUnnoted, MayLack, MayRefuse, MayTake, WasFound, fault_of}
 use Rattle.hot_index_calls.specs.Asked.{HasAsked, HasLacked, HasReplied, last_try}
@@ -151,10 +153,10 @@ leaves_from_before layout few many key k j h i falls steps number failed all =
     (one.0, le_trans steps one.1, subst (λ (z : List Failed). HasMissed (IsAnothers layout h.number [] []) z (a_leaf q) one.0) (sym failed) one.2))
 
 -- the cause of a part of a call is one of the call
-cause_from_before : (layout : Layout) (key : Key) (k j i : PassView) (fault : TryFault) → AtMost (uncommitted_in j.seat.bounds) (uncommitted_in k.seat.bounds) → k.steps ≤ j.steps → RunBeginsWith j.seat.trace k.seat.trace → IsCause layout key j i fault → IsCause layout key k i fault
-cause_from_before layout key k j i Busy falls steps grown conflict = conflict_from_before layout k j i steps grown conflict
-cause_from_before layout key k j i FullNodes falls steps grown (own, l) = (own, lacks_from_before layout j.seat.bounds k.seat.bounds i.number i.number i.failed i.failed k.steps j.steps own falls steps refl refl l)
-cause_from_before layout key k j i FullLeaves falls steps grown all = leaves_from_before layout j.seat.bounds k.seat.bounds key k j i i falls steps refl refl all
+cause_from_before : (layout : Layout) (call : Call) (k j i : PassView) (fault : TryFault) → AtMost (uncommitted_in j.seat.bounds) (uncommitted_in k.seat.bounds) → k.steps ≤ j.steps → RunBeginsWith j.seat.trace k.seat.trace → IsCause layout call j i fault → IsCause layout call k i fault
+cause_from_before layout call k j i Busy falls steps grown conflict = conflict_from_before layout k j i steps grown conflict
+cause_from_before layout call k j i FullNodes falls steps grown (own, l) = (own, lacks_from_before layout (bounds_for call j.seat.bounds) (bounds_for call k.seat.bounds) i.number i.number i.failed i.failed k.steps j.steps own (call_bounds_fall call j.seat.bounds k.seat.bounds falls) steps refl refl l)
+cause_from_before layout call k j i FullLeaves falls steps grown all = leaves_from_before layout j.seat.bounds k.seat.bounds (key_of call) k j i i falls steps refl refl all
 
 -- A part of a call that was not noted, and the rest of the call
 
@@ -174,7 +176,7 @@ module _ (layout : Layout) (k j i : PassView) (first : IsUnnoted layout k j) (st
       unnoted = unnoted_then r.refused.unnoted;
       full = λ full. may_take_from_before call k j i i first.front (no_further refl) refl (r.refused.full full);
     };
-    cause = cause_from_before layout (key_of call) k j i fault falls steps grown r.cause;
+    cause = cause_from_before layout call k j i fault falls steps grown r.cause;
   }
 
   noted_then : (call : Call) (reply : Reply) → IsNoted layout j i call reply → IsNoted layout k i call reply
@@ -394,14 +396,18 @@ module _ {G : Type 0} {table : TableView} {becomes : G → Event → G → Type 
       let f = ap (λ (z : Known). z.fresh.step) pinned in
       omega (arith, settled.loaded, s, f)
 
+  -- none is left out but those that the pass didn't know to be committed at the start
+  falls : (call : Call) → AtMost (uncommitted_in (bounds_for call b.0.bounds)) (uncommitted_in a.0.bounds)
+  falls call = at_most_trans (uncommitted_in (bounds_for call b.0.bounds)) (uncommitted_in b.0.bounds) (uncommitted_in a.0.bounds) (call_bounds_few call b.0.bounds) pins.1.seat.4
+
   -- the cause of an attempt is one by what contracts see
-  cause_seen : (key : Key) (made : List Rec) (fault : TryFault) {said : Known → List Note} → StepsWith table becomes ClearPin said c d → OthersGoOn b.0.known.pass b.0.known.front c.0.known.front →
-      (fault ≡ Busy → IsHindered table.layout b.0 c.0) → tries.IsAttemptCause table.layout b.0.bounds key b.0.known c.0.known made fault → IsCause table.layout key (pass_of a.0) (pass_of d.0) fault
-  cause_seen key made FullNodes step others hindered h =
-      (nodes_among made, lacks_from_before table.layout b.0.bounds a.0.bounds c.0.known.pass d.0.known.pass c.0.known.failed d.0.known.failed a.0.known.steps b.0.known.steps (nodes_among made) pins.1.seat.4 counted step.seat.2 (ap (λ (z : Known). z.failed) step.event.learned_is) h)
-  cause_seen key made FullLeaves step others hindered h =
-      leaves_from_before table.layout b.0.bounds a.0.bounds key (pass_of a.0) (pass_of b.0) (pass_of c.0) (pass_of d.0) pins.1.seat.4 counted step.seat.2 (ap (λ (z : Known). z.failed) step.event.learned_is) h
-  cause_seen key made Busy step others hindered h = record {
+  cause_seen : (call : Call) (made : List Rec) (fault : TryFault) {said : Known → List Note} → StepsWith table becomes ClearPin said c d → OthersGoOn b.0.known.pass b.0.known.front c.0.known.front →
+      (fault ≡ Busy → IsHindered table.layout b.0 c.0) → tries.IsAttemptCause table.layout (bounds_for call b.0.bounds) (key_of call) b.0.known c.0.known made fault → IsCause table.layout call (pass_of a.0) (pass_of d.0) fault
+  cause_seen call made FullNodes step others hindered h =
+      (nodes_among made, lacks_from_before table.layout (bounds_for call b.0.bounds) (bounds_for call a.0.bounds) c.0.known.pass d.0.known.pass c.0.known.failed d.0.known.failed a.0.known.steps b.0.known.steps (nodes_among made) (call_bounds_fall call b.0.bounds a.0.bounds pins.1.seat.4) counted step.seat.2 (ap (λ (z : Known). z.failed) step.event.learned_is) h)
+  cause_seen call made FullLeaves step others hindered h =
+      leaves_from_before table.layout (bounds_for call b.0.bounds) a.0.bounds (key_of call) (pass_of a.0) (pass_of b.0) (pass_of c.0) (pass_of d.0) (falls call) counted step.seat.2 (ap (λ (z : Known). z.failed) step.event.learned_is) h
+  cause_seen call made Busy step others hindered h = record {
     pass = subst (λ q. q < table.layout.passes) (sym step.seat.2) (subst (λ (z : Layout). c.0.known.pass < z.passes) step.event.layout_is step.event.knows.pass);
     met = met_from_before table.layout (pass_of a.0) (pass_of b.0) (pass_of c.0) (pass_of d.0) counted step.seat.2 (ap (λ (z : Known). z.failed) step.event.learned_is)
         (ap (λ (z : Known). z.front) step.event.learned_is) (ap (λ (z : Known). z.fresh) step.event.learned_is) (⊎_elim
@@ -448,33 +454,33 @@ module _ {G : Type 0} {table : TableView} {becomes : G → Event → G → Type 
   may_take_seen (RemoveIf key expected) event met = held_seen key expected event met
 
   -- it was refused
-  when_refused : (call : Call) (made : List Rec) (fault : TryFault) → HasRefused table.layout b.0.bounds (key_of call) b.0.known c.0.known made fault → tries.IsFullOnlyIfWanting c.0.known call fault →
+  when_refused : (call : Call) (made : List Rec) (fault : TryFault) → HasRefused table.layout (bounds_for call b.0.bounds) (key_of call) b.0.known c.0.known made fault → tries.IsFullOnlyIfWanting c.0.known call fault →
       (fault ≡ Busy → IsHindered table.layout b.0 c.0) → StepsWith table becomes ClearPin (change_notes call (Err fault)) c d → Leaves call (Err fault)
   when_refused call made fault h new hindered step = (
     (
       tt,
       record {
         refused = record { unnoted = scan_refused a.0 d.0 settled (quiet h.others) step.event; full = λ full. may_take_seen call step.event (new full) };
-        cause = cause_seen (key_of call) made fault step h.others hindered h.cause;
+        cause = cause_seen call made fault step h.others hindered h.cause;
       },
     ),
     scan_settled a.0 d.0 settled (quiet h.others) step.event,
   )
 
   -- whatever came of it
-  pub tried : (call : Call) (made : List Rec) (r : Result Reply TryFault) → IfOk r (HasAnswered b.0.known c.0.known call) → IfErr r (HasRefused table.layout b.0.bounds (key_of call) b.0.known c.0.known made) →
+  pub tried : (call : Call) (made : List Rec) (r : Result Reply TryFault) → IfOk r (HasAnswered b.0.known c.0.known call) → IfErr r (HasRefused table.layout (bounds_for call b.0.bounds) (key_of call) b.0.known c.0.known made) →
       IfErr r (tries.IsFullOnlyIfWanting c.0.known call) → IfErr r (λ fault. fault ≡ Busy → IsHindered table.layout b.0 c.0) → StepsWith table becomes ClearPin (change_notes call r) c d → Leaves call r
   tried call made (Ok reply) (inl looked) refused new hindered step = when_looked call reply looked.0 looked.1 step.event
   tried call made (Ok reply) (inr (x, was, is, changed)) refused new hindered step = when_changed call reply x was is changed step.event
   tried call made (Err fault) answered refused new hindered step = when_refused call made fault refused new hindered step
 
   -- and what it lacked
-  pub tried_lacks : {said : Known → List Note} (key : Key) (made : List Rec) (r : Result Reply TryFault) → IfErr r (HasRefused table.layout b.0.bounds key b.0.known c.0.known made) → StepsWith table becomes ClearPin said c d → HasLacked table made r a.0 d.0
-  tried_lacks key made (Ok reply) refused step = λ is. absurd (cc)
-  tried_lacks key made (Err Busy) refused step = λ is. absurd (cc)
-  tried_lacks key made (Err FullLeaves) refused step = λ is. absurd (cc)
-  tried_lacks key made (Err FullNodes) refused step = λ is.
-      lacks_from_before table.layout b.0.bounds a.0.bounds c.0.known.pass d.0.known.pass c.0.known.failed d.0.known.failed a.0.known.steps b.0.known.steps (nodes_among made) pins.1.seat.4 counted
+  pub tried_lacks : {said : Known → List Note} (call : Call) (made : List Rec) (r : Result Reply TryFault) → IfErr r (HasRefused table.layout (bounds_for call b.0.bounds) (key_of call) b.0.known c.0.known made) → StepsWith table becomes ClearPin said c d → HasLacked table made r a.0 d.0
+  tried_lacks call made (Ok reply) refused step = λ is. absurd (cc)
+  tried_lacks call made (Err Busy) refused step = λ is. absurd (cc)
+  tried_lacks call made (Err FullLeaves) refused step = λ is. absurd (cc)
+  tried_lacks call made (Err FullNodes) refused step = λ is.
+      lacks_from_before table.layout (bounds_for call b.0.bounds) a.0.bounds c.0.known.pass d.0.known.pass c.0.known.failed d.0.known.failed a.0.known.steps b.0.known.steps (nodes_among made) (falls call) counted
       (ap (λ (z : Known). z.pass) step.event.learned_is) (ap (λ (z : Known). z.failed) step.event.learned_is) refused.cause
 
   -- it has loaded the root

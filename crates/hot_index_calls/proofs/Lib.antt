@@ -5,6 +5,7 @@ pub mod Noting
 pub mod Passes
 pub mod Counted
 pub mod Hindered
+pub mod Removing
 pub mod Counts
 pub mod Refusing
 pub mod Rooms

@@ -1,7 +1,8 @@
 -- A count of all records, after a try that found none free.
-use Rattle.hot_index_calls.proofs.Common.{le_refl, ◌≡◌, ℕ, zero, suc, take, get_or, ◌+◌, ◌<◌, ◌≤◌, List, [], ◌∷◌, ◌++◌, length, Err, inl, inr, ⊎_elim, refl, sym, ap, subst, ◌∙◌, arith, Call, key_of, Layout, Key, Rec, a_node, a_leaf, Act, Event, Failed, Fresh, Known, word_of, Does, Ends, Runs, silent, SeatView, TableView, runs_append, runs_one, collecting, HasMissedSince, IsAnothers, LacksLeaves, LacksNodes, Full, Nodes, Leaves, nodes_among, lacks_so, run_failed, HasMetTaken}
+use Rattle.hot_index_calls.proofs.Common.{le_refl, ◌≡◌, ℕ, zero, suc, take, get_or, ◌+◌, ◌<◌, ◌≤◌, List, [], ◌∷◌, ◌++◌, length, Err, inl, inr, ⊎_elim, refl, sym, ap, subst, ◌∙◌, arith, Call, key_of, Layout, Rec, a_node, a_leaf, Act, Event, Failed, Fresh, Known, word_of, Does, Ends, Runs, silent, SeatView, TableView, runs_append, runs_one, collecting, HasMissedSince, IsAnothers, LacksLeaves, LacksNodes, Full, Nodes, Leaves, nodes_among, lacks_so, run_failed, HasMetTaken}
 use Rattle.record_words.specs.Layout.{uncommitted_in}
 use Rattle.rowex_table.specs.Seats.{HasAllCommitted}
+use Rattle.rowex_writing.specs.attempts.Attempts.{bounds_for}
 use Rattle.hot_index_calls.specs.Answers.{HasConflict, IsCause, IsOvertaken, fault_of}
 use Rattle.hot_index_calls.specs.Asked.{HasLacked, HasReplied}
 use Rattle.hot_index_calls.specs.Calls.{IsTriedAndCounted}
@@ -35,7 +36,7 @@ module _ {G : Type 0} {table : TableView} {becomes : G → Event → G → Type 
   stepped_out a b c (acts, run) (more, last, (m, rest, end)) = (acts ++ more, last, (m, runs_append table becomes acts more a b m run rest, end))
 
 -- ---- what the try was refused for stays a cause
-module _ {G : Type 0} {table : TableView} {becomes : G → Event → G → Type 0} {acts : List Act} (key : Key) (k : PassView) (b d : SeatView × G) (does : Does table becomes collecting acts b d) where
+module _ {G : Type 0} {table : TableView} {becomes : G → Event → G → Type 0} {acts : List Act} (call : Call) (k : PassView) (b d : SeatView × G) (does : Does table becomes collecting acts b d) where
   same : d.0.known.pass ≡ b.0.known.pass
   same = ap (λ (z : Known). z.pass) does.rest
 
@@ -44,14 +45,14 @@ module _ {G : Type 0} {table : TableView} {becomes : G → Event → G → Type 
       let x : Failed = record { act = act; location = word_of r 0; word = word; step = step } in
       (step, late, (act, word, tells, one, run_failed table becomes acts b d does.steps x has))
 
-  pub cause_counted : (fault : Full) → IsCause table.layout key k (pass_of b.0) (fault_of fault) → IsCause table.layout key k (pass_of d.0) (fault_of fault)
+  pub cause_counted : (fault : Full) → IsCause table.layout call k (pass_of b.0) (fault_of fault) → IsCause table.layout call k (pass_of d.0) (fault_of fault)
   cause_counted Nodes (own, l) = (
     own,
-    subst (λ q. LacksNodes table.layout k.seat.bounds q d.0.known.failed k.steps own) (sym same)
-        (lacks_so table.layout k.seat.bounds k.seat.bounds b.0.known.pass b.0.known.failed d.0.known.failed k.steps k.steps own (λ kind. le_refl (uncommitted_in k.seat.bounds kind)) l missed_still),
+    subst (λ q. LacksNodes table.layout (bounds_for call k.seat.bounds) q d.0.known.failed k.steps own) (sym same)
+        (lacks_so table.layout (bounds_for call k.seat.bounds) (bounds_for call k.seat.bounds) b.0.known.pass b.0.known.failed d.0.known.failed k.steps k.steps own (λ kind. le_refl (uncommitted_in (bounds_for call k.seat.bounds) kind)) l missed_still),
   )
   cause_counted Leaves all =
-      subst (λ q. LacksLeaves table.layout k.seat.bounds key q d.0.known.failed k.steps) (sym same) (λ q low room upto. missed_still (IsAnothers table.layout b.0.known.pass [] []) (a_leaf q) (all q low room upto))
+      subst (λ q. LacksLeaves table.layout k.seat.bounds (key_of call) q d.0.known.failed k.steps) (sym same) (λ q low room upto. missed_still (IsAnothers table.layout b.0.known.pass [] []) (a_leaf q) (all q low room upto))
 
 -- ---- the call has ended with the count
 module _ {G : Type 0} {table : TableView} {becomes : G → Event → G → Type 0} {counts : RecordCounts} {m b : SeatView × G} (all : CountsAll table becomes counts m b) (some : 1 ≤ table.layout.nodes)
@@ -66,7 +67,7 @@ module _ {G : Type 0} {table : TableView} {becomes : G → Event → G → Type 
         full = λ full. may_take_from_before call (pass_of s) (pass_of s) (pass_of m.0) (pass_of b.0) (no_further refl)
             (no_further (ap (λ (z : Known). z.front) all.4.rest)) (ap (λ (z : Known). z.fresh) all.4.rest) (replied.refused.refused.full full);
       };
-      cause = cause_counted (key_of call) (pass_of s) m b all.4 lacks replied.refused.cause;
+      cause = cause_counted call (pass_of s) m b all.4 lacks replied.refused.cause;
     };
     leafless = replied.leafless;
     loaded = subst (λ (z : Fresh). s.known.steps ≤ z.step) (sym (ap (λ (z : Known). z.fresh) all.4.rest)) replied.loaded;

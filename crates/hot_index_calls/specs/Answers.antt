@@ -18,7 +18,7 @@ use Rattle.rowex_scanning.specs.Scanning.{limited}
 use Rattle.version_laws.specs.Directions.{ScanLaw}
 use Rattle.record_words.specs.declared.records.Rec.{Rec}
 use Rattle.version_laws.specs.Scan.{Range}
-use Rattle.rowex_writing.specs.attempts.Attempts.{IsFullFault}
+use Rattle.rowex_writing.specs.attempts.Attempts.{IsFullFault, bounds_for}
 use Rattle.rowex_writing.specs.build.Changes.{LacksLeaves, LacksNodes}
 use Rattle.rowex_writing.specs.locks.Locks.{HasMetTaken}
 use Rattle.rowex_writing.specs.declared.attempts.TryFault.{TryFault}
@@ -161,12 +161,13 @@ pub record HasConflict (layout : Layout) (old new : PassView) : Type 0 where
   pub hindered : HasBeenHindered layout new.number old.seat new.seat
 
 -- Why a call was refused. Busy: another pass was in its way. Full: it found each node record not free that it had known to be committed when
--- it began, or each leaf record with room for its key before the first that it hadn't, at that record's turn. None of these leaf records was
--- its own. Of the node records those in `own` were, at most two for each node that it had locked, and one.
-abbrev pub IsCause : (layout : Layout) (key : Key) (old new : PassView) (fault : TryFault) → Type 0
-IsCause layout key old new Busy = HasConflict layout old new
-IsCause layout key old new FullNodes = (own : List Rec) × LacksNodes layout old.seat.bounds new.number new.failed old.steps own
-IsCause layout key old new FullLeaves = LacksLeaves layout old.seat.bounds key new.number new.failed old.steps
+-- it began, or each leaf record with room for its key before the first that it hadn't, at that record's turn. A removal found each node
+-- record not free, committed or not (`bounds_for`). None of these leaf records was its own. Of the node records those in `own` were, at most
+-- two for each node that it had locked, and one.
+abbrev pub IsCause : (layout : Layout) (call : Call) (old new : PassView) (fault : TryFault) → Type 0
+IsCause layout call old new Busy = HasConflict layout old new
+IsCause layout call old new FullNodes = (own : List Rec) × LacksNodes layout (bounds_for call old.seat.bounds) new.number new.failed old.steps own
+IsCause layout call old new FullLeaves = LacksLeaves layout old.seat.bounds (key_of call) new.number new.failed old.steps
 
 -- After the first `place` changes of the front the key had the value `held`, or was absent. All that the pass had seen before the call are
 -- among these changes. So are all that were made before the pin of its last load of the root.
@@ -195,7 +196,7 @@ pub record IsRefused (layout : Layout) (call : Call) (old new : PassView) (fault
 -- The call was refused, as `IsRefused` says, and its fault has a cause, as `IsCause` says.
 pub record IsRefusedFor (layout : Layout) (call : Call) (old new : PassView) (fault : TryFault) : Type 0 where
   pub refused : IsRefused layout call old new fault
-  pub cause : IsCause layout (key_of call) old new fault
+  pub cause : IsCause layout call old new fault
 
 -- the fault of a call that found no record of this kind free
 abbrev pub fault_of : Full → TryFault

@@ -4,7 +4,6 @@ use Rattle.finite_map.specs.declared.Call.{Call}
 use Rattle.finite_map.specs.declared.Call.TheVariants.{Get}
 use Rattle.finite_map.specs.declared.Reply.{Reply}
 use Rattle.finite_map.specs.declared.Scan.{Scan}
-use Rattle.finite_map.specs.Maps.{key_of}
 use Rattle.finite_map.specs.Scans.{IsLawfulScan}
 use Rattle.record_words.specs.declared.layout.Layout.{Layout}
 use Rattle.rowex_core.specs.declared.event.Event.{Event}
@@ -36,7 +35,7 @@ IsOutcome asked result index old new = MatchResult result (IsNoted index.layout 
 
 -- if the call was refused, its fault has a cause, as `IsCause` says; of an answered call nothing is said
 abbrev pub HasCause : (asked : Call) (result : Result Reply TryFault) (index : TableView) (old new : PassView) → Type 0
-HasCause asked result index old new = IfErr result (IsCause index.layout (key_of asked) old new)
+HasCause asked result index old new = IfErr result (IsCause index.layout asked old new)
 
 -- What a change that doesn't wait ensures. The pass stays the index's (`own`). The call was answered and noted, or refused, with nothing
 -- changed (`call`), and a fault has a cause (`cause`). A removal lacks no leaf record (`leafless`). The steps are bounded (`made`). In an

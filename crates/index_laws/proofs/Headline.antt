@@ -2,7 +2,7 @@
 use Rattle.index_laws.proofs.Common.{a_node, ◌≡◌, ◌≢◌, inl, inr, ⊎_elim, ℕ, Bool, true, false, cond, length, ◌+◌, ◌*◌, ◌<◌, ◌≤◌, List, [], ◌∷◌, ◌++◌, Option, map, suc, refl, sym, ap, subst, ◌∙◌, arith, append-nil, le_refl, le_trans, All, Result, All-head, All-nil, sum_by-cons, Call, Reply, Add, Exchange, Insert, Remove, RemoveIf, Change, Note, Inserted, LegalCalls, StandsIn, changes_of, own_changes, LegalHistory, answered, calls_of, weave, weave-legal, woven-in_order_two, Act, Known, loaded_tree, entries_in_reach, in_reach, Layout, TableView, Item, Tree, pin_version, IsReach, a_leaf, added_notes, items_of, IsCause, MayRefuse, PassView, HasMadeChangeSteps, untold, counts_add_up, Happening, IsWholeRun, Configuration}
 use Rattle.key_bits.specs.declared.TheConstants.{MAX_BYTES}
 use Rattle.finite_map.specs.declared.Scan.{Scan}
-use Rattle.finite_map.specs.Maps.{Map, key_of}
+use Rattle.finite_map.specs.Maps.{Map}
 use Rattle.finite_map.specs.Reverse.{IsDownToLast, IsLawfulReverseScan}
 use Rattle.finite_map.specs.Scans.{IsLawfulScan, IsUpToLast}
 use Rattle.finite_map.specs.Weaves.{Event}
@@ -133,7 +133,7 @@ refusals layout call k j fault refused legal =
       refused.refused.unnoted.notes,
       own,
       refused.cause,
-      λ alone busy. one_pass_is_never_busy layout (key_of call) k j alone (subst (IsCause layout (key_of call) k j) busy refused.cause),
+      λ alone busy. one_pass_is_never_busy layout call k j alone (subst (IsCause layout call k j) busy refused.cause),
     )
 
 few_entries : (j k count entries most : ℕ) → j ≤ k + 4 + 32 * count + 26 * entries → entries ≤ most → j ≤ k + 4 + 32 * count + 26 * most

@@ -16,7 +16,7 @@ use Rattle.finite_map.specs.declared.Reply.{Reply}
 use Rattle.finite_map.specs.declared.Reply.TheVariants.{Inserted}
 use Rattle.finite_map.specs.declared.Scan.{Scan}
 use Rattle.finite_map.specs.Calls.{LegalCalls, own_changes}
-use Rattle.finite_map.specs.Maps.{IsRising, Map, key_of, reply_of}
+use Rattle.finite_map.specs.Maps.{IsRising, Map, reply_of}
 use Rattle.finite_map.specs.Reverse.{IsDownToLast, IsLawfulReverseScan}
 use Rattle.finite_map.specs.Scans.{IsLawfulScan, IsUpToLast}
 use Rattle.finite_map.specs.Weaves.{LegalHistory, answered, calls_of, weave}
@@ -117,7 +117,7 @@ abbrev pub Refusals : Type 0
 Refusals =
     (layout : Layout) (call : Call) (old new : PassView) (fault : TryFault) → IsRefusedFor layout call old new fault →
     LegalCalls old.front old.number old.notes →
-    (new.notes ≡ old.notes) × (own_changes new.number new.front ≡ own_changes old.number old.front) × IsCause layout (key_of call) old new fault ×
+    (new.notes ≡ old.notes) × (own_changes new.number new.front ≡ own_changes old.number old.front) × IsCause layout call old new fault ×
     (layout.passes ≡ 1 → fault ≢ Busy)
 
 -- When calls are never full. A call that gives its key a value is not, if the map had the key all the while (`held`). A removal is not, if

@@ -1,6 +1,6 @@
 //! One attempt of a call that may change the index, from a pinned pass that has nothing to one that has nothing.
 
-ghost use Rattle.std.specs.Prelude.{◌≡◌, ◌≢◌, ◌⊎◌, ◌<◌, ◌≤◌, ℕ, Option, length, true, false, IfErr, IfOk, IsSome, Err, Ok, ◌+◌, ◌*◌};
+ghost use Rattle.std.specs.Prelude.{◌≡◌, ◌≢◌, ◌⊎◌, ◌<◌, ◌≤◌, [], ℕ, Option, length, true, false, IfErr, IfOk, IsSome, Err, Ok, ◌+◌, ◌*◌};
 ghost use Rattle.finite_map.specs.declared.Change.{Change};
 ghost use Rattle.finite_map.specs.Maps.{key_of as the_key};
 ghost use Rattle.rowex_core.specs.declared.known.Known.{Known};
@@ -10,12 +10,12 @@ ghost use Rattle.rowex_table.specs.Made.{IsLater};
 ghost use Rattle.rowex_table.specs.Seats.{IsSeatOf};
 ghost use Rattle.publish_laws.specs.Lone.{HasRoom, KeepsSpare};
 ghost use Rattle.rowex_writing.specs.build.Spare.{IsRemoval};
-ghost use Rattle.rowex_writing.specs.attempts.Attempts.{HasAnswered, HasAttempted, HasFailed, HasRefused, IsFullOnlyIfWanting, LacksNoLeaf, refusal_of as the_refusal};
+ghost use Rattle.rowex_writing.specs.attempts.Attempts.{HasAnswered, HasAttempted, HasFailed, HasRefused, IsFullOnlyIfWanting, LacksNoLeaf, bounds_for, refusal_of as the_refusal};
 ghost use Rattle.rowex_writing.specs.store.Values.{HasDoneDeed, HasFoundOther, HasLoadedFound, IsFoundAgain};
 ghost use Rattle.rowex_writing.specs.plan.Planned.{HasLoadedRoot};
 ghost use Rattle.rowex_reading.specs.Ways.{value_of as the_value};
 ghost use Rattle.rowex_writing.specs.plan.Asking.{aim_of as the_aim, value_in as the_value_in};
-ghost use Rattle.rowex_writing.specs.build.Deeds.{MayReplace, leaf_gone};
+ghost use Rattle.rowex_writing.specs.build.Deeds.{MayReplace, bounds_of_deed, leaf_gone};
 ghost use Rattle.rowex_writing.specs.build.Building.{HasNotMade};
 ghost use Rattle.rowex_writing.specs.build.Changes.{HasChanged, HasPlanned};
 ghost use Rattle.rowex_writing.specs.locks.Checks.{HasTakenPlan, HasTakenSpan};
@@ -71,8 +71,9 @@ pub enum TryFault {
 /// says so.
 ///
 /// Returns an error, with nothing changed, in two cases. Another pass held a lock, or had made a change since the pin (`TryFault::Busy`).
-/// Or no record was free (`TryFault::FullNodes`, `TryFault::FullLeaves`). A removal is never refused as `FullLeaves`. In a table with one
-/// pass that has a free node record, a removal isn't refused as `FullNodes` either. An insertion or an upsert is refused as full only if
+/// Or no record was free (`TryFault::FullNodes`, `TryFault::FullLeaves`), of those that the pass knew to be committed before. A removal is
+/// never refused as `FullLeaves`. It is refused as `FullNodes` only once it has found each node record not free, committed or not. In a table
+/// with one pass that has a free node record, it isn't refused as `FullNodes` either. An insertion or an upsert is refused as full only if
 /// the search found the key absent. A removal is refused as full only if the search found the key, with the value expected. An exchange or
 /// an addition is never refused as full.
 ///
@@ -100,7 +101,7 @@ pub fn attempt<G: Gate>(
     ensures loaded { HasLoadedRoot seat.old.known seat.new.known }
     ensures rest { IsAtRest seat.new.known }
     ensures answered { IfOk result (HasAnswered seat.old.known seat.new.known call.now) }
-    ensures refused { IfErr result (HasRefused table.now.layout seat.old.bounds (the_key call.now) seat.old.known seat.new.known build.new.made.items) }
+    ensures refused { IfErr result (HasRefused table.now.layout (bounds_for call.now seat.old.bounds) (the_key call.now) seat.old.known seat.new.known build.new.made.items) }
     ensures leafless { LacksNoLeaf TryFault.FullLeaves call.now result }
     ensures full { IfErr result (IsFullOnlyIfWanting seat.new.known call.now) }
     ensures few { seat.new.known.steps ≤ seat.old.known.steps + most_steps_of call.now table.now.layout }
@@ -166,7 +167,7 @@ fn try_plan<G: Gate>(
     ensures done { IfOk result (λ now. HasFoundOther seat.old.known seat.new.known call.now job.now.key.now now ⊎ (IsFoundAgain call.now job.now.found now ×
         HasDoneDeed seat.old.known seat.new.known job.now.deed job.now.key.now (the_value_in call.now (the_value now)) now)) }
     ensures refused { IfErr result (λ fault. (k : Known) → HasLoadedRoot k seat.old.known → IsLater k seat.old.known →
-        HasRefused table.now.layout seat.old.bounds job.now.key.now k seat.new.known build.new.made.items fault) }
+        HasRefused table.now.layout (bounds_of_deed job.now.deed seat.old.bounds) job.now.key.now k seat.new.known build.new.made.items fault) }
     ensures later { IfErr result (λ fault. IsLater seat.old.known seat.new.known) }
     ensures whole { job.now.deed ≡ Deed.Value → IfErr result (λ fault. fault ≡ TryFault.Busy) }
     ensures short { job.now.deed ≡ Deed.Value → seat.new.known.steps ≤ seat.old.known.steps + value_steps }
@@ -215,7 +216,7 @@ fn change_span<G: Gate>(
     requires loaded { HasLoadedFound seat.old.known job.now.found }
     ensures run { EndsChange table.now G.becomes job.now (held_loads job.now.found) (seat.old, gate.old) (seat.new, gate.new) }
     ensures done { result ≡ Ok tt → HasDoneDeed seat.old.known seat.new.known job.now.deed job.now.key.now job.now.value job.now.found }
-    ensures failed { IfErr result (HasFailed table.now.layout seat.old.bounds job.now seat.old.known seat.new.known build.new.made.items) }
+    ensures failed { IfErr result (HasFailed table.now.layout (bounds_of_deed job.now.deed seat.old.bounds) job.now seat.old.known seat.new.known build.new.made.items) }
     ensures whole { job.now.deed ≡ Deed.Value → result ≡ Ok tt }
     ensures short { job.now.deed ≡ Deed.Value → seat.new.known.steps ≤ seat.old.known.steps + 2 + locks_of job.now.span }
     ensures leafless { TakesLeaf job.now.deed → result ≢ Err TryFault.FullLeaves }
@@ -263,7 +264,7 @@ fn make_removal<G: Gate>(
     requires loaded { HasLoadedFound seat.old.known job.now.found }
     ensures run { HasChangeStepsAfterTries table.now G.becomes (span_numbers job.now.way.now job.now.span) 1 (seat.old, gate.old) (seat.new, gate.new) }
     ensures done { result ≡ Ok tt → HasDoneDeed seat.old.known seat.new.known Take job.now.key.now job.now.value job.now.found }
-    ensures failed { IfErr result (HasFailed table.now.layout seat.old.bounds job.now seat.old.known seat.new.known build.new.made.items) }
+    ensures failed { IfErr result (HasFailed table.now.layout [] job.now seat.old.known seat.new.known build.new.made.items) }
     ensures leafless { result ≢ Err TryFault.FullLeaves }
     ensures spares { KeepsSpare table.now.layout seat.old seat.new }
     ensures finds { HasRoom table.now.layout seat.old → result ≢ Err TryFault.FullNodes }

@@ -14,10 +14,11 @@ use Rattle.rowex_records.proofs.Claims.{missed_so}
 use Rattle.rowex_writing.specs.build.Changes.{LacksNodes}
 use Rattle.hot_index_calls.proofs.Lacked.{without_one}
 use Rattle.hot_index_calls.proofs.Refusing.{no_other}
+use Rattle.hot_index_calls.proofs.Removing.{call_lacks}
 use Rattle.hot_index.specs.Statements.{IsNobodys, OnePassFullMeansTaken, OnePassIsNeverBusy, ThirdIsTaken}
 
 pub one_pass_is_never_busy : OnePassIsNeverBusy
-one_pass_is_never_busy layout key k j one conflict =
+one_pass_is_never_busy layout call k j one conflict =
     ⊎_elim
     (λ (met : HasMetTaken layout j.number k.steps j.failed). met.another (no_other layout.passes j.number met.by one conflict.pass met.below))
     (λ (o : IsOvertaken layout k j). o.another (no_other layout.passes j.number o.change.pass one conflict.pass o.below))
@@ -125,8 +126,9 @@ module _ (layout : Layout) (k j : PassView) (one : layout.passes ≡ 1) (mine : 
         (cases_lt (length all_taken.nodes) (length l.locked))
 
 pub one_pass_full_means_taken : OnePassFullMeansTaken
-one_pass_full_means_taken layout key k j one mine = (
+one_pass_full_means_taken layout call k j one mine = (
   λ all q low room upto. missed_so (IsAnothers layout j.number [] []) IsNobodys j.failed (a_leaf q) k.steps (λ by. alone_with_none layout j.number (a_leaf q) by one mine) (all q low room upto),
-  λ lacks. (let (own, l) = lacks in
+  λ lacks. (let (own, all) = lacks in
+      let l = call_lacks layout call k.seat.bounds j.number j.failed k.steps own all in
       (λ all. third_is_taken layout k j one mine own l all, (own, (let few = l.few in let most = l.most in omega arith), missed layout k j one mine own l))),
 )

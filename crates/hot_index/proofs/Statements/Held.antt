@@ -1,5 +1,5 @@
 -- A new value of a held key is never refused as full, nor a removal of an absent one.
-use Rattle.hot_index.proofs.Common.{◌≡◌, ◌≢◌, ℕ, ◌+◌, ◌<◌, ◌≤◌, List, [], ◌++◌, length, take, Some, None, Result, Ok, Err, IsOk, refl, sym, ap, subst, ◌∙◌, arith, length-append, All, IfErr, MatchResult, Call, Add, Exchange, Get, Insert, Remove, RemoveIf, Upsert, Change, Reply, map_of, key_of, value_at, Layout, TryFault, Busy, FullLeaves, FullNodes, Full, IsNoted, IsRefused, IsRefusedFor, MayTake, WasFound, fault_of, last_try, PassView}
+use Rattle.hot_index.proofs.Common.{◌≡◌, ℕ, List, length, take, Some, None, Result, Ok, Err, IsOk, refl, sym, ap, ◌∙◌, arith, IfErr, MatchResult, Call, Add, Exchange, Get, Insert, Remove, RemoveIf, Upsert, Change, Reply, map_of, key_of, value_at, Layout, TryFault, Busy, FullLeaves, FullNodes, Full, IsNoted, IsRefused, IsRefusedFor, MayTake, WasFound, last_try, PassView}
 use Rattle.std.proofs.Math.Seq.{take-length}
 use Rattle.rowex_writing.specs.attempts.Attempts.{IsFullFault}
 use Rattle.rowex_writing.specs.build.Spare.{IsRemoval}
@@ -44,7 +44,7 @@ absent_is_never_full layout call k j fault refused removes absent =
 
 -- a refusal of an index of one pass is as full
 full_alone : (layout : Layout) (call : Call) (k j : PassView) (fault : TryFault) → layout.passes ≡ 1 → IsRefusedFor layout call k j fault → IsFullFault fault
-full_alone layout call k j Busy one refused = absurd (one_pass_is_never_busy layout (key_of call) k j one refused.cause)
+full_alone layout call k j Busy one refused = absurd (one_pass_is_never_busy layout call k j one refused.cause)
 full_alone layout call k j FullNodes one refused = tt
 full_alone layout call k j FullLeaves one refused = tt
 

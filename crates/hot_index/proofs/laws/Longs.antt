@@ -1,5 +1,5 @@
 -- Where all leaf records are long, each has room for each key.
-use Rattle.hot_index.proofs.Common.{◌≡◌, ℕ, ◌-◌, ◌<◌, ◌≤◌, List, length, a_leaf, ap, sym, ◌∙◌, arith, nat_tests, IsKey, Layout, leaf_size, Key}
+use Rattle.hot_index.proofs.Common.{◌≡◌, ℕ, ◌-◌, ◌<◌, ◌≤◌, List, length, a_leaf, ap, sym, ◌∙◌, arith, nat_tests, key_of, IsKey, Layout, leaf_size, Key}
 use Rattle.record_words.specs.declared.TheConstants.{LEAF_WORDS}
 use Rattle.record_words.specs.Layout.{uncommitted_in}
 use Rattle.rowex_table.specs.Committed.{IsCommitted, count_from, record_kind}
@@ -25,5 +25,5 @@ long_upto layout bounds words q none low committed other upto room =
     omega (arith, committed, last, more, bound, upto, low)
 
 pub all_long_full_means_none_free : AllLongFullMeansNoneFree
-all_long_full_means_none_free layout key k j none is_key cause = λ q low committed.
-    cause q low (let size = long_size layout q none in let room = has_room key is_key in omega (arith, size, room)) (long_upto layout k.seat.bounds (words_for (length key)) q none low committed)
+all_long_full_means_none_free layout call k j none is_key cause = λ q low committed.
+    cause q low (let size = long_size layout q none in let room = has_room (key_of call) is_key in omega (arith, size, room)) (long_upto layout k.seat.bounds (words_for (length (key_of call))) q none low committed)

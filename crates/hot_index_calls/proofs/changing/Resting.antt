@@ -1,5 +1,6 @@
 -- An attempt that does nothing, and what the one before it was refused for.
-use Rattle.hot_index_calls.proofs.Common.{le_refl, ◌≡◌, ℕ, ◌+◌, List, [], ◌∷◌, Option, None, Err, true, refl, sym, ap, subst, ◌∙◌, arith, Contains, false≢true, append-nil, All-nil, Note, LegalCalls, BeginsWith, ClearPin, Event, Layout, Key, Rec, a_leaf, Failed, Known, word_of, StepsWith, silent, TableView, SeatView, IsOfAttempt, Pins, HasMissedSince, IsAnothers, LacksLeaves, LacksNodes, AreAttemptSteps, IsOfSearch, TryFault, Busy, FullNodes, FullLeaves, Full, Nodes, Leaves, lacks_so, run_failed}
+use Rattle.rowex_writing.specs.attempts.Attempts.{bounds_for}
+use Rattle.hot_index_calls.proofs.Common.{Call, key_of, le_refl, ◌≡◌, ℕ, ◌+◌, List, [], ◌∷◌, Option, None, Err, true, refl, sym, ap, subst, ◌∙◌, arith, Contains, false≢true, append-nil, All-nil, Note, LegalCalls, BeginsWith, ClearPin, Event, Layout, Rec, a_leaf, Failed, Known, word_of, StepsWith, silent, TableView, SeatView, IsOfAttempt, Pins, HasMissedSince, IsAnothers, LacksLeaves, LacksNodes, AreAttemptSteps, IsOfSearch, TryFault, Busy, FullNodes, FullLeaves, Full, Nodes, Leaves, lacks_so, run_failed}
 use Rattle.record_words.specs.Layout.{uncommitted_in}
 use Rattle.hot_index_calls.specs.Answers.{IsCause, IsUnnoted, fault_of}
 use Rattle.hot_index_calls.specs.Passes.{AreByPasses, IsSettled, PassView, pass_of}
@@ -60,7 +61,7 @@ module _ {G : Type 0} {table : TableView} {becomes : G → Event → G → Type 
   rests_ended = attempt_ended table becomes a b b d pins ([], no_steps, refl) clears
 
 -- A round of collection follows, and then no step fails: what the call was refused for as full stays a cause.
-module _ {G : Type 0} {table : TableView} {becomes : G → Event → G → Type 0} (key : Key) (k : PassView) (b c d : SeatView × G) (round : AreBetween table becomes b c)
+module _ {G : Type 0} {table : TableView} {becomes : G → Event → G → Type 0} (call : Call) (k : PassView) (b c d : SeatView × G) (round : AreBetween table becomes b c)
     (failed : d.0.known.failed ≡ c.0.known.failed) (number : d.0.known.pass ≡ c.0.known.pass) where
   same : d.0.known.pass ≡ b.0.known.pass
   same = number ∙ ap (λ (z : Known). z.pass) round.does.rest
@@ -75,11 +76,11 @@ module _ {G : Type 0} {table : TableView} {becomes : G → Event → G → Type 
       subst (λ q. LacksNodes table.layout bounds q d.0.known.failed k.steps own) (sym same)
       (lacks_so table.layout bounds bounds b.0.known.pass b.0.known.failed d.0.known.failed k.steps k.steps own (λ kind. le_refl (uncommitted_in bounds kind)) l missed_still)
 
-  pub cause_still : (fault : TryFault) → is_full (Err fault) ≡ true → IsCause table.layout key k (pass_of b.0) fault → IsCause table.layout key k (pass_of d.0) fault
+  pub cause_still : (fault : TryFault) → is_full (Err fault) ≡ true → IsCause table.layout call k (pass_of b.0) fault → IsCause table.layout call k (pass_of d.0) fault
   cause_still Busy full cause = absurd (false≢true full)
-  cause_still FullNodes full (own, l) = (own, lacks_still k.seat.bounds own l)
+  cause_still FullNodes full (own, l) = (own, lacks_still (bounds_for call k.seat.bounds) own l)
   cause_still FullLeaves full all =
-      subst (λ q. LacksLeaves table.layout k.seat.bounds key q d.0.known.failed k.steps) (sym same) (λ q low room upto. missed_still (IsAnothers table.layout b.0.known.pass [] []) (a_leaf q) (all q low room upto))
+      subst (λ q. LacksLeaves table.layout k.seat.bounds (key_of call) q d.0.known.failed k.steps) (sym same) (λ q low room upto. missed_still (IsAnothers table.layout b.0.known.pass [] []) (a_leaf q) (all q low room upto))
 
 -- one that lacked these was refused as full
 pub lacked_full : (full : Full) → is_full (Err (fault_of full)) ≡ true

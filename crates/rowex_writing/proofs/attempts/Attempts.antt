@@ -9,7 +9,7 @@ use Rattle.finite_map.specs.declared.Reply.TheVariants.{Exchanged, Exists, Absen
 use Rattle.finite_map.specs.Calls.{effect_of}
 use Rattle.finite_map.specs.Maps.{without}
 use Rattle.rowex_writing.specs.plan.Asking.{aim_of, aim_where, reply_to, value_in}
-use Rattle.rowex_writing.specs.attempts.Attempts.{HasAnswered, HasLooked, HasRefused, IsAttemptCause, IsChangeOf, LacksNoLeaf, refusal_of, HasFailed, HasSeenKeyHeld, HasSeenKeyAbsent, IsFullFault, IsFullOnlyIfWanting, WantsRecord}
+use Rattle.rowex_writing.specs.attempts.Attempts.{HasAnswered, HasLooked, HasRefused, IsAttemptCause, IsChangeOf, LacksNoLeaf, refusal_of, HasFailed, HasSeenKeyHeld, HasSeenKeyAbsent, bounds_for, IsFullFault, IsFullOnlyIfWanting, WantsRecord}
 use Rattle.rowex_writing.specs.store.Values.{HasDoneDeed, revalued}
 use Rattle.rowex_writing.specs.build.Changes.{HasChanged, HasNoRoom, IsFull}
 use Rattle.rowex_writing.specs.plan.Planned.{AreAffected, IsPlanned, HasLoadedRoot}
@@ -19,7 +19,7 @@ use Rattle.rowex_writing.specs.plan.Plans.{change, IsCase, IsNewLeafPlan, TakesL
 use Rattle.rowex_writing.specs.declared.plan.Aim.{Aim}
 use Rattle.rowex_writing.specs.declared.plan.Aim.TheVariants.{Insert as ToInsert, Upsert as ToUpsert, Remove as ToRemove}
 use Rattle.rowex_writing.specs.declared.plan.Deed.{Deed}
-use Rattle.rowex_writing.specs.declared.plan.Deed.TheVariants.{Put, PushDown, Grow, Take, Value as ValueDeed}
+use Rattle.rowex_writing.specs.declared.plan.Deed.TheVariants.{Put, PushDown, Grow, Take, TakeTop, Empty, Value as ValueDeed}
 use Rattle.rowex_writing.specs.declared.attempts.TryFault.{TryFault}
 use Rattle.rowex_writing.specs.declared.attempts.TryFault.TheVariants.{Busy, FullLeaves, FullNodes}
 use Rattle.rowex_writing.specs.declared.plan.Full.{Full}
@@ -29,6 +29,8 @@ use Rattle.rowex_writing.specs.declared.plan.Plan.TheVariants.{Answer, Change as
 use Rattle.rowex_writing.specs.declared.plan.Span.{Span}
 use Rattle.record_words.specs.Layout.{uncommitted_in}
 use Rattle.rowex_table.specs.Committed.{AtMost}
+use Rattle.rowex_writing.specs.build.Deeds.{bounds_of_deed}
+use Rattle.rowex_table.proofs.Committed.{at_most_trans}
 use Rattle.rowex_writing.proofs.build.Growths.{full_since}
 use Rattle.rowex_writing.proofs.locks.Onward.{looks_run, reads_run}
 use Rattle.rowex_writing.proofs.locks.Runs.{run_loaded, runs_trans}
@@ -391,6 +393,49 @@ refused_busy layout bounds key k i j m made (p, pinned, early) loaded first next
   others = (later_trans first next).front;
   cause = elim why [ inl met ↦ inl (met_since layout k i j j (loaded_steps k i loaded) first.pass refl met) | inr moved ↦ inr (m, (p, (sym first.pin ∙ pinned), early), moved) ];
 }
+
+-- ---- which records must be found not free
+none_more : (bounds : List ℕ) → AtMost (uncommitted_in []) (uncommitted_in bounds)
+none_more bounds kind = omega arith
+
+pub deed_bounds_fall : (deed : Deed) (few many : List ℕ) → AtMost (uncommitted_in few) (uncommitted_in many) → AtMost (uncommitted_in (bounds_of_deed deed few)) (uncommitted_in (bounds_of_deed deed many))
+deed_bounds_fall Take few many falls = none_more []
+deed_bounds_fall TakeTop few many falls = none_more []
+deed_bounds_fall Empty few many falls = none_more []
+deed_bounds_fall ValueDeed few many falls = falls
+deed_bounds_fall Put few many falls = falls
+deed_bounds_fall (PushDown position) few many falls = falls
+deed_bounds_fall (Grow position) few many falls = falls
+
+-- of a deed no more than those that are known to be committed, and of one that takes a leaf away all
+deed_bounds_few : (deed : Deed) (bounds : List ℕ) → AtMost (uncommitted_in (bounds_of_deed deed bounds)) (uncommitted_in bounds)
+deed_bounds_few Take bounds = none_more bounds
+deed_bounds_few TakeTop bounds = none_more bounds
+deed_bounds_few Empty bounds = none_more bounds
+deed_bounds_few ValueDeed bounds = λ kind. le_refl (uncommitted_in bounds kind)
+deed_bounds_few Put bounds = λ kind. le_refl (uncommitted_in bounds kind)
+deed_bounds_few (PushDown position) bounds = λ kind. le_refl (uncommitted_in bounds kind)
+deed_bounds_few (Grow position) bounds = λ kind. le_refl (uncommitted_in bounds kind)
+
+deed_bounds_all : (deed : Deed) (bounds : List ℕ) → TakesLeaf deed → AtMost (uncommitted_in (bounds_of_deed deed bounds)) (uncommitted_in [])
+deed_bounds_all Take bounds takes = none_more []
+deed_bounds_all TakeTop bounds takes = none_more []
+deed_bounds_all Empty bounds takes = none_more []
+deed_bounds_all ValueDeed bounds takes = absurd takes
+deed_bounds_all Put bounds takes = absurd takes
+deed_bounds_all (PushDown position) bounds takes = absurd takes
+deed_bounds_all (Grow position) bounds takes = absurd takes
+
+-- those of a call's deed are among those of the call
+pub call_bounds : (call : Call) (deed : Deed) (few many : List ℕ) → (IsRemoval call → TakesLeaf deed) → AtMost (uncommitted_in few) (uncommitted_in many) →
+    AtMost (uncommitted_in (bounds_of_deed deed few)) (uncommitted_in (bounds_for call many))
+call_bounds (Insert key value) deed few many takes falls = at_most_trans _ (uncommitted_in few) _ (deed_bounds_few deed few) falls
+call_bounds (Upsert key value) deed few many takes falls = at_most_trans _ (uncommitted_in few) _ (deed_bounds_few deed few) falls
+call_bounds (Exchange key expected value) deed few many takes falls = at_most_trans _ (uncommitted_in few) _ (deed_bounds_few deed few) falls
+call_bounds (Add key delta) deed few many takes falls = at_most_trans _ (uncommitted_in few) _ (deed_bounds_few deed few) falls
+call_bounds (Get key) deed few many takes falls = at_most_trans _ (uncommitted_in few) _ (deed_bounds_few deed few) falls
+call_bounds (Remove key) deed few many takes falls = deed_bounds_all deed few (takes tt)
+call_bounds (RemoveIf key expected) deed few many takes falls = deed_bounds_all deed few (takes tt)
 
 full_cause : (layout : Layout) (bounds : List ℕ) (key : Key) (k j : Known) (made : List Rec) (full : Full) → IsFull layout bounds key k j made full → IsAttemptCause layout bounds key k j made (refusal_of full)
 full_cause layout bounds key k j made Nodes f = f

@@ -137,18 +137,18 @@ range_records layout way b d nodes = node_records layout (slice_range way b d) (
 
 -- ---- none was free
 -- The pass has locked a span, and has made two node records for each node of it and one, or fewer.
-pub lacks_nodes : (layout : Layout) (k : Known) (first : SeatView) (j : Known) (way : List PathNode) (span : Span) (made : List Rec) → AreNodes layout way → HasLockedSpan k way span → j.locks ≡ k.locks →
+pub lacks_nodes : (layout : Layout) (k : Known) (bounds : List ℕ) (since : ℕ) (j : Known) (way : List PathNode) (span : Span) (made : List Rec) → AreNodes layout way → HasLockedSpan k way span → j.locks ≡ k.locks →
     span.end ≤ span.len → span.len ≤ length way → span.len ≤ span.end - 1 + most_nodes → length (nodes_among made) ≤ 2 * (span.len - span.end) + 1 →
-    HasMissedEach layout first j made → LacksNodes layout first.bounds j.pass j.failed first.known.steps (nodes_among made)
-lacks_nodes layout k first j way span made nodes taken same order within depth few each = record {
+    HasMissedEach layout bounds since j made → LacksNodes layout bounds j.pass j.failed since (nodes_among made)
+lacks_nodes layout k bounds since j way span made nodes taken same order within depth few each = record {
   locked = numbers;
   few = omega (arith, size, few, order);
   most = omega (arith, size, depth);
   apart = taken.nodes.1;
   low = All-map (λ n. n < layout.nodes) (λ (s : PathNode). s.number) (slice_range way (span.end - 1) span.len) (range_nodes layout way (span.end - 1) span.len nodes);
-  missed = λ q low committed. missed_so (IsAnothersBut layout j made) (IsAnothers layout j.pass (nodes_among made) numbers) j.failed (a_node q) first.known.steps
+  missed = λ q low committed. missed_so (IsAnothersBut layout j made) (IsAnothers layout j.pass (nodes_among made) numbers) j.failed (a_node q) since
       (λ by. anothers_among layout j.pass made (nodes_among made) (nodes_of j.locks) numbers (a_node q) by (among_nodes made q) held) (each.missed q low committed);
-  own_is = all_nodes (λ r. HasMissedSince (IsOwnOf j.pass) j.failed r first.known.steps) made each.own;
+  own_is = all_nodes (λ r. HasMissedSince (IsOwnOf j.pass) j.failed r since) made each.own;
   once = nodes_apart made each.apart;
 }
   where

@@ -53,11 +53,12 @@ module _ {G : Type 0} (table : TableView) (becomes : G → Event → G → Type 
       pub walked : (first : SeatView) (made : List Rec) → HasNoOther a.0.known made → left_below table.layout.nodes old ≡ 0 → IsCommittedWalk table.layout first a.0 made next old →
           (left_below table.layout.nodes walk ≡ 0) × IsCommittedWalk table.layout first b.0 made next walk
       pub few : b.0.known.steps + 2 * walk.left ≤ a.0.known.steps + 2 * old.left
+      pub commits : walk.commits ≡ old.commits
       pub whole : table.layout.nodes ≤ old.left + old.end → table.layout.nodes ≤ walk.left + walk.end
       pub taken : table.layout.passes ≡ 1 → a.0.known.own ≡ [] → (n : ℕ) → old.end ≤ n → n < walk.end → ¬ (IsFreeAt table.layout a.0 n)
 
     pub passed_none : HasPassed old a
-    passed_none = record { goes = goes_none table becomes a; own = refl; walked = λ first made alone none w. (none, w); few = omega arith; whole = λ h. h; taken = λ one none n from low. absurd (omega arith) }
+    passed_none = record { goes = goes_none table becomes a; own = refl; walked = λ first made alone none w. (none, w); few = omega arith; commits = refl; whole = λ h. h; taken = λ one none n from low. absurd (omega arith) }
 
     -- the next one is committed, and then tried
     module _ (walk : NodeWalk) (s t : SeatView) (gate : G) (c : SeatView × G) (passed : HasPassed walk (s, gate)) (found : HasFoundBounds s t) (last : IsCommitted table.layout (uncommitted_in t.bounds) (a_node walk.end)) (some : 0 < walk.left) where
@@ -81,6 +82,7 @@ module _ {G : Type 0} (table : TableView) (becomes : G → Event → G → Type 
             (let (left, here) = passed.walked first made alone none w in
             ends_behind first (s, gate) c made made next next walk goes (λ r has. has) (inl (tells first made alone here)) (committed there) some left here);
         few = (let few = passed.few in let more = count.1 in let same = ap (λ (z : Known). z.steps) known in omega (arith, few, more, same, some));
+        commits = passed.commits;
         whole = λ all. (let still = passed.whole all in omega (arith, still, some));
         taken = λ one none n from low free. ⊎_elim (λ (before : n < walk.end). passed.taken one none n from before free)
             (λ (past : walk.end ≤ n). (let here : n ≡ walk.end = omega arith in

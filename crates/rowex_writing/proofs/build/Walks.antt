@@ -2,13 +2,15 @@
 use Rattle.rowex_writing.proofs.Common.{◌≡◌, ◌⊎◌, inl, inr, ℕ, suc, ◌+◌, ◌-◌, ◌<◌, ◌≤◌, List, [], ◌∷◌, ◌++◌, Bool, true, false, nat_eq, nat_lt, Option, length, get_or, if◌then◌else◌, refl, sym, ap, subst, ◌∙◌, arith, le_refl, le_trans, Some, None, All, Contains, eqb-false, eqb-true, cases_lt, ltb-true, ltb-false, lt-ltb, le-ltb, get_or_default, All-contains, Contains-append_left, Contains-push, Layout, state_word, Rec, a_node, LoadState, Event, Failed, Known, Locked, Owned, Held, Fate, AreApart, Core, HasRecord, holder_of, word_of, failed_with, IsOwned, lock_of, tag_of, a_load, knows_all, Made, nodes_of, IsClaimed, OwnsAs, Steps, TableView, SeatView, does_count, Claims, FindsNone, HasMissedSince, IsAnothers, IsAnothersBut, IsAnothersTo, MissesOne, begin_of, begins_low, claiming, records_had, wrapped, anothers_among, anothers_before, held_misses, missed_among, missed_earlier, missed_so, turned_to, counted, looks_one}
 use Rattle.std.specs.Prelude.{map, min, MatchOption}
 use Rattle.record_words.specs.Layout.{uncommitted_in}
+use Rattle.rowex_table.specs.Committed.{AtMost}
+use Rattle.rowex_table.proofs.Committed.{committed_falls}
 use Rattle.rowex_records.specs.Claims.{AllCommittedMissed}
 use Rattle.versions.specs.Core.{Held as HeldBy}
 use Rattle.rowex_writing.specs.declared.build.kept.Build.{Build}
 use Rattle.rowex_writing.specs.build.Building.{IsBuilding}
 use Rattle.rowex_writing.specs.locks.Going.{WorksOn}
 use Rattle.rowex_writing.specs.declared.build.kept.NodeWalk.{NodeWalk}
-use Rattle.rowex_writing.specs.build.Walks.{HasMissedEach, HasNoOther, HasWalked, IsClaimWalk, IsCommittedWalk, IsOwnOf, Makes, left_below}
+use Rattle.rowex_writing.specs.build.Walks.{HasMissedEach, HasNoOther, HasNoneLeft, HasWalked, IsClaimWalk, IsCommittedWalk, IsOwnOf, Makes, bounds_of_walk, left_below}
 use Rattle.rowex_writing.proofs.build.Changes.{made_alone, made_held, made_records, run_failed}
 use Rattle.rowex_writing.proofs.locks.Going.{goes_bounds, goes_more, goes_none}
 use Rattle.rowex_writing.proofs.build.Building.{miss_on, steps_rise}
@@ -109,18 +111,52 @@ walk_stays {end} layout since k j made more next left same locks later failed ke
   ];
 }
 
--- where all below its end have been tried, each that was known to be committed was found not free, if those that are made were
-pub walk_ends : (layout : Layout) (first : SeatView) (end : ℕ) (k : Known) (made : List Rec) (next left : ℕ) → left ≡ 0 → layout.nodes ≤ end + uncommitted_in first.bounds 0 →
-    ((r : Rec) → Contains made r → HasMissedSince (IsAnothersBut layout k made) k.failed r first.known.steps) →
-    All (λ r. HasMissedSince (IsOwnOf k.pass) k.failed r first.known.steps) made → AreApart made → IsClaimWalk layout end first.known.steps k made next left → HasMissedEach layout first k made
-walk_ends layout first end k made next left none whole looked own apart w = record { missed = each; own = own; apart = apart }
+-- where all below its end have been tried, each that is committed by bounds that leave no more was found not free, if those that are made were
+pub walk_ends : (layout : Layout) (bounds : List ℕ) (since end : ℕ) (k : Known) (made : List Rec) (next left : ℕ) → left ≡ 0 → layout.nodes ≤ end + uncommitted_in bounds 0 →
+    ((r : Rec) → Contains made r → HasMissedSince (IsAnothersBut layout k made) k.failed r since) →
+    All (λ r. HasMissedSince (IsOwnOf k.pass) k.failed r since) made → AreApart made → IsClaimWalk layout end since k made next left → HasMissedEach layout bounds since k made
+walk_ends layout bounds since end k made next left none whole looked own apart w = record { missed = each; own = own; apart = apart }
   where
-    each : AllCommittedMissed (IsAnothersBut layout k made) layout first.bounds a_node layout.nodes k.failed first.known.steps
+    each : AllCommittedMissed (IsAnothersBut layout k made) layout bounds a_node layout.nodes k.failed since
     each q low committed =
         let below : q < end = omega (arith, whole, committed) in
         let (i, within, is) = turned_to end w.begin q w.low below in
         let all = w.count in
-        subst (λ z. HasMissedSince (IsAnothersBut layout k made) k.failed (a_node z) first.known.steps) is (elim (w.each i (omega arith)) [ inl missed ↦ missed | inr has ↦ looked _ has ])
+        subst (λ z. HasMissedSince (IsAnothersBut layout k made) k.failed (a_node z) since) is (elim (w.each i (omega arith)) [ inl missed ↦ missed | inr has ↦ looked _ has ])
+
+-- By more bounds a walk must find no more than those that were known to be committed when it began.
+pub walk_bounds_fewer : (walk : NodeWalk) (first : SeatView) → AtMost (uncommitted_in (bounds_of_walk walk first)) (uncommitted_in first.bounds)
+walk_bounds_fewer walk first kind = go walk.commits
+  where
+    go : (commits : Bool) → uncommitted_in (if commits then [] else first.bounds) kind ≤ uncommitted_in first.bounds kind
+    go true = omega arith
+    go false = le_refl (uncommitted_in first.bounds kind)
+
+-- so what it has missed are those, and all if it commits
+pub missed_known : (layout : Layout) (walk : NodeWalk) (first : SeatView) (since : ℕ) (k : Known) (made : List Rec) → HasMissedEach layout (bounds_of_walk walk first) since k made → HasMissedEach layout first.bounds since k made
+missed_known layout walk first since k made each = record {
+  missed = λ q low committed. each.missed q low (committed_falls layout (uncommitted_in (bounds_of_walk walk first)) (uncommitted_in first.bounds) (a_node q) (walk_bounds_fewer walk first) committed);
+  own = each.own;
+  apart = each.apart;
+}
+
+pub missed_all : (layout : Layout) (walk : NodeWalk) (first : SeatView) (since : ℕ) (k : Known) (made : List Rec) → walk.commits ≡ true → HasMissedEach layout (bounds_of_walk walk first) since k made → HasMissedEach layout [] since k made
+missed_all layout walk first since k made commits each = subst (λ b. HasMissedEach layout (if b then [] else first.bounds) since k made) commits each
+
+-- none is left, where a walk that doesn't commit has none left below its end, or another walk has gone on over all
+pub none_left_below : (layout : Layout) (first s : SeatView) (made : List Rec) (next : ℕ) (walk : NodeWalk) → left_below layout.nodes walk ≡ 0 → IsCommittedWalk layout first s made next walk → walk.commits ≡ false →
+    HasNoneLeft layout first s made next walk
+none_left_below layout first s made next walk none walked keeps = record {
+  none = none;
+  walked = walked;
+  all = subst (λ b. layout.nodes ≤ walk.end + uncommitted_in (if b then [] else first.bounds) 0) (sym keeps) walked.whole;
+}
+
+pub none_left_past : (layout : Layout) (first s : SeatView) (made : List Rec) (next : ℕ) (walk : NodeWalk) (r : Option ℕ) →
+    MatchOption r ((left_below layout.nodes walk ≡ 0) × IsCommittedWalk layout first s made next walk × (layout.nodes ≤ walk.end)) (λ number. IsCommittedWalk layout first s (made ++ a_node number ∷ []) next walk) →
+    MatchOption r (HasNoneLeft layout first s made next walk) (λ number. IsCommittedWalk layout first s (made ++ a_node number ∷ []) next walk)
+none_left_past layout first s made next walk None (none, walked, past) = record { none = none; walked = walked; all = omega (arith, past) }
+none_left_past layout first s made next walk (Some number) walked = walked
 
 -- a walk that has ended below a number, and then tried that number, has ended behind it
 pub walk_past : (layout : Layout) (end since : ℕ) (k : Known) (made : List Rec) (next left more : ℕ) → left ≡ 0 → IsClaimWalk layout end since k made next left →
@@ -434,14 +470,14 @@ module _ {G : Type 0} (table : TableView) (becomes : G → Event → G → Type 
 module _ {G : Type 0} {table : TableView} {becomes : G → Event → G → Type 0} where
   -- what needs none
   pub makes_none : {X : Type 0} {most steps : ℕ} {x : X} (a : (SeatView × G) × Build) → Makes most steps table becomes a a (Some x)
-  makes_none a = record { goes = goes_none table becomes a.0; more = omega arith; nodes = omega arith; walk = λ first w. w; few = omega arith }
+  makes_none a = record { goes = goes_none table becomes a.0; more = omega arith; nodes = omega arith; walk = λ first w. w; commits = refl; few = omega arith }
 
   -- another answer, where one is given, and where none was free
   pub makes_as : {X Y : Type 0} {m s : ℕ} {a b : (SeatView × G) × Build} {x : X} {y : Y} → Makes m s table becomes a b (Some x) → Makes m s table becomes a b (Some y)
-  makes_as makes = record { goes = makes.goes; more = makes.more; nodes = makes.nodes; walk = makes.walk; few = makes.few }
+  makes_as makes = record { goes = makes.goes; more = makes.more; nodes = makes.nodes; walk = makes.walk; commits = makes.commits; few = makes.few }
 
   pub makes_failed : {X Y : Type 0} {m s : ℕ} {a b : (SeatView × G) × Build} → Makes {X = X} m s table becomes a b None → Makes {X = Y} m s table becomes a b None
-  makes_failed makes = record { goes = makes.goes; more = makes.more; nodes = makes.nodes; walk = makes.walk; few = makes.few }
+  makes_failed makes = record { goes = makes.goes; more = makes.more; nodes = makes.nodes; walk = makes.walk; commits = makes.commits; few = makes.few }
 
   -- more at most
   pub makes_within : {X : Type 0} {m s most steps : ℕ} {a b : (SeatView × G) × Build} {answer : Option X} → Makes m s table becomes a b answer → m ≤ most → s ≤ steps → Makes most steps table becomes a b answer
@@ -450,6 +486,7 @@ module _ {G : Type 0} {table : TableView} {becomes : G → Event → G → Type 
     more = omega (arith, makes.more);
     nodes = omega (arith, makes.nodes);
     walk = makes.walk;
+    commits = makes.commits;
     few = omega (arith, makes.few);
   }
 
@@ -461,6 +498,7 @@ module _ {G : Type 0} {table : TableView} {becomes : G → Event → G → Type 
     more = omega (arith, one.more, two.more);
     nodes = omega (arith, one.nodes, two.nodes);
     walk = λ first w. two.walk first (one.walk first w);
+    commits = two.commits ∙ one.commits;
     few = omega (arith, one.few, two.few);
   }
 
@@ -472,5 +510,6 @@ module _ {G : Type 0} {table : TableView} {becomes : G → Event → G → Type 
     more = omega (arith, makes.more);
     nodes = omega (arith, makes.nodes);
     walk = λ first w. makes.walk first (committed_on table becomes first a b build.made.items build.made.items build.nodes.next build.walk goes (λ r has. has) w);
+    commits = makes.commits;
     few = omega (arith, few, makes.few);
   }

@@ -1,5 +1,5 @@
 -- One attempt of a call that may change the map: what it returns, and why it is refused.
-use Rattle.std.specs.Prelude.{◌≡◌, ◌≢◌, ◌⊎◌, ℕ, ◌<◌, ◌≤◌, List, ◌++◌, length, All, Option, Some, None, Result, Err}
+use Rattle.std.specs.Prelude.{◌≡◌, ◌≢◌, ◌⊎◌, ℕ, ◌<◌, ◌≤◌, List, [], ◌++◌, length, All, Option, Some, None, Result, Err}
 use Rattle.finite_map.specs.declared.Call.{Call}
 use Rattle.finite_map.specs.declared.Call.TheVariants.{Insert, Remove, RemoveIf, Upsert}
 use Rattle.finite_map.specs.declared.Change.{Change}
@@ -94,6 +94,13 @@ abbrev pub LacksNoLeaf : {F : Type 0} → (leaves : F) → (call : Call) → (re
 LacksNoLeaf leaves (Remove key) result = result ≢ Err leaves
 LacksNoLeaf leaves (RemoveIf key expected) result = result ≢ Err leaves
 LacksNoLeaf leaves call result = Unit {0}
+
+-- By these bounds those records are committed which an attempt at the call must find not free before it lacks one, of those that its pass
+-- knew to be committed by `bounds`. A removal goes on over uncommitted node records, and must find each one not free.
+abbrev pub bounds_for : (call : Call) → (bounds : List ℕ) → List ℕ
+bounds_for (Remove key) bounds = []
+bounds_for (RemoveIf key expected) bounds = []
+bounds_for call bounds = bounds
 
 -- Why an attempt was refused. Busy: another pass had locked or unlinked what it had to lock, or the pass has seen a change made since its
 -- pin. Full: no node record was found free since `old`, or no leaf record with room for the key, of those that are committed by these

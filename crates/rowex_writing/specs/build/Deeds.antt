@@ -20,6 +20,7 @@ use Rattle.rowex_writing.specs.declared.build.kept.Build.{Build}
 use Rattle.rowex_writing.specs.declared.plan.job.Job.{Job}
 use Rattle.rowex_writing.specs.declared.plan.job.Raised.{Raised}
 use Rattle.rowex_writing.specs.declared.plan.Deed.{Deed}
+use Rattle.rowex_writing.specs.declared.plan.Deed.TheVariants.{Empty, Take, TakeTop}
 use Rattle.rowex_writing.specs.declared.plan.Full.{Full}
 use Rattle.rowex_writing.specs.declared.plan.Span.{Span}
 
@@ -59,20 +60,28 @@ HasRaised table old seat made job deed raised =
     (change : Change) × (was : Option ℕ) × IsDeedChange old.pass deed job.key.now job.value job.found change was ×
     MayReplace table seat made job raised change was
 
--- Since `old` the pass wanted a record of the kind `full`, and none was free of those that it knew to be committed then (`IsFull`). That is a
--- node record beside those in `made`, or a leaf record with room for the job's key. Its own records are just those in `made`, at most two
+-- By these bounds those records are committed which a change must find not free before it lacks one, of those that its pass knew to be
+-- committed by `bounds`. A deed that takes a leaf away goes on over uncommitted node records, and must find each one not free.
+abbrev pub bounds_of_deed : (deed : Deed) → (bounds : List ℕ) → List ℕ
+bounds_of_deed Take bounds = []
+bounds_of_deed TakeTop bounds = []
+bounds_of_deed Empty bounds = []
+bounds_of_deed deed bounds = bounds
+
+-- Since `old` the pass wanted a record of the kind `full`, and none was free of those that are committed by these bounds (`IsFull`). That is
+-- a node record beside those in `made`, or a leaf record with room for the job's key. Its own records are just those in `made`, at most two
 -- for each lock of the span.
-pub record HasNoneFree (table : TableView) (old : SeatView) (seat : SeatView) (made : List Rec) (job : Job) (full : Full) : Type 0 where
+pub record HasNoneFree (table : TableView) (bounds : List ℕ) (old : Known) (seat : SeatView) (made : List Rec) (job : Job) (full : Full) : Type 0 where
   pub not_made : HasNotMade table seat made
   pub few : length made ≤ 2 * locks_of job.span
-  pub full_of : IsFull table.layout old.bounds job.key.now old.known seat.known made full
+  pub full_of : IsFull table.layout bounds job.key.now old seat.known made full
 
 -- The pass has gone on under its locks. It has made what the deed asks for, and linked none of it, or a record was wanted and none was
--- free. It has made at most the steps of `deed_steps`, less those that the deed spares. Before and after are the seat, the gate and what is
--- built.
+-- free, of those that the deed must find not free (`bounds_of_deed`). It has made at most the steps of `deed_steps`, less those that the
+-- deed spares. Before and after are the seat, the gate and what is built.
 pub record CarriesOut {G : Type 0} (table : TableView) (becomes : G → Event → G → Type 0) (before after : (SeatView × G) × Build) (job : Job) (deed : Deed)
     (answer : Result Raised Full) : Type 0 where
   pub goes : WorksOn table becomes before.0 after.0
   pub raised : IfOk answer (HasRaised table before.0.0.known after.0.0 after.1.made.items job deed)
-  pub full : IfErr answer (HasNoneFree table before.0.0 after.0.0 after.1.made.items job)
+  pub full : IfErr answer (HasNoneFree table (bounds_of_deed deed before.0.0.bounds) before.0.0.known after.0.0 after.1.made.items job)
   pub few : after.0.0.known.steps + spare_steps deed ≤ before.0.0.known.steps + deed_steps table.layout (locks_of job.span) answer

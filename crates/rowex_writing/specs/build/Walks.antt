@@ -1,5 +1,5 @@
 -- The walk of a change over the node records: each claim goes on where the one before it ended.
-use Rattle.std.specs.Prelude.{◌≡◌, ◌⊎◌, ℕ, ◌+◌, ◌-◌, ◌*◌, ◌<◌, ◌≤◌, All, List, [], ◌∷◌, length, Contains, Bool, true, false, MatchOption, Option, Some, None}
+use Rattle.std.specs.Prelude.{◌≡◌, ◌⊎◌, ℕ, ◌+◌, ◌-◌, ◌*◌, ◌<◌, ◌≤◌, All, List, [], ◌∷◌, length, Contains, Bool, true, false, if◌then◌else◌, MatchOption, Option, Some, None}
 use Rattle.record_words.specs.declared.layout.Layout.{Layout}
 use Rattle.record_words.specs.declared.records.Rec.{Rec}
 use Rattle.record_words.specs.declared.records.Rec.TheVariants.{Node as a_node, Leaf as a_leaf}
@@ -71,12 +71,24 @@ nodes_among (a_leaf number ∷ made) = nodes_among made
 abbrev pub IsOwnOf : (pass : ℕ) → (rec : Rec) → (by : Option ℕ) → Type 0
 IsOwnOf pass rec by = by ≡ Some pass
 
--- By failed steps since the seat was `first` the pass has found each node record not free that it knew to be committed then. Each was
--- another pass's, or nobody's, or one in `made`. Each record in `made` is listed once, and was found to be the pass's own.
-pub record HasMissedEach (layout : Layout) (first : SeatView) (known : Known) (made : List Rec) : Type 0 where
-  pub missed : AllCommittedMissed (IsAnothersBut layout known made) layout first.bounds a_node layout.nodes known.failed first.known.steps
-  pub own : All (λ rec. HasMissedSince (IsOwnOf known.pass) known.failed rec first.known.steps) made
+-- By these bounds the node records are committed that a walk must find not free before it has no answer. They are those that the pass knew
+-- to be committed when its seat was `first`. Of a walk that commits, which goes on over the uncommitted ones, they are all.
+abbrev pub bounds_of_walk : (walk : NodeWalk) → (first : SeatView) → List ℕ
+bounds_of_walk walk first = if walk.commits then [] else first.bounds
+
+-- By failed steps since step `since` the pass has found each node record not free that is committed by these bounds. Each was another
+-- pass's, or nobody's, or one in `made`. Each record in `made` is listed once, and was found to be the pass's own.
+pub record HasMissedEach (layout : Layout) (bounds : List ℕ) (since : ℕ) (known : Known) (made : List Rec) : Type 0 where
+  pub missed : AllCommittedMissed (IsAnothersBut layout known made) layout bounds a_node layout.nodes known.failed since
+  pub own : All (λ rec. HasMissedSince (IsOwnOf known.pass) known.failed rec since) made
   pub apart : AreApart made
+
+-- The walk has a failed step for each node record that it must find not free (`bounds_of_walk`), or has made that record: none of those
+-- below its end is left, and those are all.
+pub record HasNoneLeft (layout : Layout) (first seat : SeatView) (made : List Rec) (next : ℕ) (walk : NodeWalk) : Type 0 where
+  pub none : left_below layout.nodes walk ≡ 0
+  pub walked : IsCommittedWalk layout first seat made next walk
+  pub all : layout.nodes ≤ walk.end + uncommitted_in (bounds_of_walk walk first) 0
 
 -- 1 if there is no result, so that one record is lacking; else 0
 abbrev pub lacking : {X : Type 0} → Option X → ℕ
@@ -85,12 +97,15 @@ lacking (Some result) = 0
 
 -- The pass goes on under its locks, and makes at most `most` records; a node record that it lacks counts, too. It makes at most `steps`
 -- steps, two for each number that it tries on its walk, and the looks of `looks_for`. If there is no answer, each node record that was known
--- to be committed when the walk began was found not free since. Before and after are the seat, the gate and what is built.
+-- to be committed when the walk began was found not free since; and where the walk commits, each of all (`bounds_of_walk`). Before and after
+-- are the seat, the gate and what is built.
 pub record Makes {G X : Type 0} (most steps : ℕ) (table : TableView) (becomes : G → Event → G → Type 0) (before after : (SeatView × G) × Build)
     (answer : Option X) : Type 0 where
   pub goes : WorksOn table becomes before.0 after.0
   pub more : length after.1.made.items ≤ length before.1.made.items + most
   pub nodes : length (nodes_among after.1.made.items) + lacking answer ≤ length (nodes_among before.1.made.items) + most
   pub walk : (first : SeatView) → HasWalked table.layout first before.0.0 before.1 →
-      MatchOption answer (HasMissedEach table.layout first after.0.0.known after.1.made.items) (λ x. HasWalked table.layout first after.0.0 after.1)
+      MatchOption answer (HasMissedEach table.layout (bounds_of_walk after.1.walk first) first.known.steps after.0.0.known after.1.made.items)
+      (λ x. HasWalked table.layout first after.0.0 after.1)
+  pub commits : after.1.walk.commits ≡ before.1.walk.commits
   pub few : after.0.0.known.steps + 2 * after.1.walk.left ≤ before.0.0.known.steps + 2 * before.1.walk.left + steps + looks_for after.1 answer

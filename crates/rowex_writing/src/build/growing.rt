@@ -66,7 +66,7 @@ fn grow_with_leaf<G: Gate>(
     ensures goes { WorksOn table.now G.becomes (seat.old, gate.old) (seat.new, gate.new) }
     ensures raised { IfOk result (λ raised. MayReplace table.now seat.new build.new.made.items job.now raised
         (added_change seat.old.known.pass (item new.now.number new.now.key.now job.now.value)) None) }
-    ensures full { IfErr result (λ full. (full ≡ Full.Nodes) × HasNoneFree table.now seat.old seat.new build.new.made.items job.now full) }
+    ensures full { IfErr result (λ full. (full ≡ Full.Nodes) × HasNoneFree table.now seat.old.bounds seat.old.known seat.new build.new.made.items job.now full) }
     ensures few { seat.new.known.steps + leaf_steps table.now.layout ≤
         seat.old.known.steps + deed_steps table.now.layout (locks_of job.now.span) result }
     ensures free { IfOk result (λ raised. HasFree table.now.layout seat.new) }

@@ -8,7 +8,7 @@ ghost use Rattle.rowex_records.specs.declared.claiming.RecordKind.TheVariants.{N
 ghost use Rattle.rowex_writing.specs.build.Spare.{FindsOne, NoneWasFree};
 ghost use Rattle.rowex_writing.specs.locks.Going.{WorksOn};
 ghost use Rattle.record_words.specs.declared.records.Rec.{Rec as Record};
-ghost use Rattle.rowex_writing.specs.build.Walks.{HasNoOther, IsClaimWalk, IsCommittedWalk, left_below};
+ghost use Rattle.rowex_writing.specs.build.Walks.{HasNoOther, HasNoneLeft, IsClaimWalk, IsCommittedWalk, left_below};
 
 use crate::build::kept::NodeWalk;
 use rowex_core::{Gate, Rec};
@@ -281,7 +281,7 @@ fn claim_spare_record<G: Gate>(
 }
 
 /// Claims the next free node record on the walk of a change's claims, and returns its number. `None` if none of those left was free. Where
-/// `walk.commits`, the next uncommitted records are then committed and tried, one after the other.
+/// `walk.commits`, the next uncommitted records are then committed and tried, one after the other, so that `None` says it of all.
 ///
 /// The last spare number of `hint` is tried first, and is no longer spare. Then each record that the walk has left is tried once, from
 /// `hint.next` on. Each try takes at most two steps. `walk.left` becomes less by the number of these tries without the spare one. If one of
@@ -301,9 +301,10 @@ pub(crate) fn claim_node_on_walk<G: Gate>(
         (λ number. (number < table.now.layout.nodes) × HoldsOneMore (a_node number) seat.old.known seat.new.known) }
     ensures walk { (first : SeatView) (made : List Record) → HasNoOther seat.old.known made →
         IsCommittedWalk table.now.layout first seat.old made hint.old.next walk.old → MatchOption result
-        ((left_below table.now.layout.nodes walk.new ≡ 0) × IsCommittedWalk table.now.layout first seat.new made hint.new.next walk.new)
+        (HasNoneLeft table.now.layout first seat.new made hint.new.next walk.new)
         (λ number. IsCommittedWalk table.now.layout first seat.new (made ++ a_node number ∷ []) hint.new.next walk.new) }
     ensures few { seat.new.known.steps + 2 * walk.new.left ≤ seat.old.known.steps + 2 * walk.old.left + 2 }
+    ensures commits { walk.new.commits ≡ walk.old.commits }
     ensures finds { FindsOne table.now.layout walk.old seat.old result }
 {
     if let Some(number) = claim_below_end(table, seat, gate, hint, walk) {
@@ -368,9 +369,11 @@ fn claim_from_end<G: Gate>(
         (λ number. (number < table.now.layout.nodes) × HoldsOneMore (a_node number) seat.old.known seat.new.known) }
     ensures walk { (first : SeatView) (made : List Record) → HasNoOther seat.old.known made → left_below table.now.layout.nodes walk.old ≡ 0 →
         IsCommittedWalk table.now.layout first seat.old made hint.old.next walk.old → MatchOption result
-        ((left_below table.now.layout.nodes walk.new ≡ 0) × IsCommittedWalk table.now.layout first seat.new made hint.new.next walk.new)
+        ((left_below table.now.layout.nodes walk.new ≡ 0) × IsCommittedWalk table.now.layout first seat.new made hint.new.next walk.new ×
+        (table.now.layout.nodes ≤ walk.new.end))
         (λ number. IsCommittedWalk table.now.layout first seat.new (made ++ a_node number ∷ []) hint.new.next walk.new) }
     ensures few { seat.new.known.steps + 2 * walk.new.left ≤ seat.old.known.steps + 2 * walk.old.left }
+    ensures commits { walk.new.commits ≡ walk.old.commits }
     ensures tried { table.now.layout.nodes ≤ walk.old.left + walk.old.end →
         NoneWasFree table.now.layout walk.old.end table.now.layout.nodes seat.old result }
 {

@@ -13,7 +13,7 @@ ghost use Rattle.compound_node.specs.Nodes.{IsBuiltFrom, NodeView, piece};
 ghost use Rattle.insert_cases.specs.declared.growth.Grown.TheVariants.{Two};
 ghost use Rattle.rowex_writing.specs.plan.Counts.{node_steps};
 ghost use Rattle.rowex_writing.specs.locks.Going.{WorksOn};
-ghost use Rattle.rowex_writing.specs.build.Walks.{HasMissedEach, HasNoOther, HasWalked, IsClaimWalk, IsCommittedWalk, IsOwnOf, Makes, looks_for, looks_unless};
+ghost use Rattle.rowex_writing.specs.build.Walks.{HasMissedEach, HasNoOther, HasWalked, IsClaimWalk, IsCommittedWalk, IsOwnOf, Makes, bounds_of_walk, looks_for, looks_unless};
 ghost use Rattle.record_words.specs.declared.records.Rec.TheVariants.{Node as a_node};
 ghost use Rattle.rowex_records.specs.Claims.{HoldsOneMore, HasMissedSince, IsAnothersBut};
 ghost use Rattle.publish_laws.specs.Lone.{HasFree};
@@ -162,8 +162,8 @@ pub(crate) fn make_fork_of_cut<G: Gate>(
     })
 }
 
-/// Claims a node record and returns its number. `None` if each committed one was found not free since the change began its claims.
-/// `build.made` stays in either case.
+/// Claims a node record and returns its number. `None` if each committed one was found not free since the change began its claims; where
+/// `build.walk.commits`, if each of the table was. `build.made` stays in either case.
 ///
 /// All claims of a change try each node record once at most, spare ones aside, and each try takes at most two steps. Where none is left to
 /// try, each committed one was found not free, or the change has claimed it. The states of the records in `build.made` are loaded then. In a table with
@@ -180,8 +180,9 @@ pub(crate) fn claim_node<G: Gate>(
         (λ number. (number < table.now.layout.nodes) × HoldsOneMore (a_node number) seat.old.known seat.new.known) }
     ensures made { build.new.made.items ≡ build.old.made.items }
     ensures walk { (first : SeatView) → HasWalked table.now.layout first seat.old build.old → MatchOption result
-        (HasMissedEach table.now.layout first seat.new.known build.new.made.items)
+        (HasMissedEach table.now.layout (bounds_of_walk build.new.walk first) first.known.steps seat.new.known build.new.made.items)
         (λ number. IsCommittedWalk table.now.layout first seat.new (build.old.made.items ++ a_node number ∷ []) build.new.nodes.next build.new.walk) }
+    ensures commits { build.new.walk.commits ≡ build.old.walk.commits }
     ensures few { seat.new.known.steps + 2 * build.new.walk.left ≤ seat.old.known.steps + 2 * build.old.walk.left + 2 + looks_for build.new result }
     ensures finds { FindsOne table.now.layout build.old.walk seat.old result }
 {
@@ -209,7 +210,7 @@ pub(crate) fn leaves_free_node<G: Gate>(
     ensures own { seat.new.known.own ≡ seat.old.known.own }
     ensures made { build.new.made.items ≡ build.old.made.items }
     ensures walk { result ≡ false → (first : SeatView) → HasWalked table.now.layout first seat.old build.old →
-        HasMissedEach table.now.layout first seat.new.known build.new.made.items }
+        HasMissedEach table.now.layout first.bounds first.known.steps seat.new.known build.new.made.items }
     ensures few { seat.new.known.steps ≤ seat.old.known.steps + 2 * build.old.walk.left + 1 + looks_unless result build.new }
     ensures free { result ≡ true → HasFree table.now.layout seat.new }
 {

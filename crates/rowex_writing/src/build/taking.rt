@@ -89,7 +89,7 @@ fn remake_without_leaf<G: Gate>(
     ensures raised { (m number value : ℕ) → HasLeafBelow table.now seat.old m job.now number value →
         IfOk result (λ raised. MayReplace table.now seat.new build.new.made.items job.now raised
         (removed_change seat.old.known.pass (item number job.now.key.now value)) (Some value)) }
-    ensures full { IfErr result (λ full. (full ≡ Full.Nodes) × HasNoneFree table.now seat.old seat.new build.new.made.items job.now full) }
+    ensures full { IfErr result (λ full. (full ≡ Full.Nodes) × HasNoneFree table.now [] seat.old.known seat.new build.new.made.items job.now full) }
     ensures walk { seat.new.known.steps + 2 * build.new.walk.left ≤ seat.old.known.steps + 2 * table.now.layout.nodes + level_steps + 1 }
     ensures lowest { IfOk result (λ raised. raised.low ≡ job.now.span.len) }
     ensures finds { HasRoom table.now.layout seat.old → result ≢ Err Full.Nodes }
@@ -103,8 +103,8 @@ fn remake_without_leaf<G: Gate>(
 }
 
 /// Claims a node record for what the removal of `job` leaves of its lower node, and returns the record's number. If what is left is merged
-/// with its sibling, the record is for the merged node. `None` if no node record was free. In a table with one pass that has a free one,
-/// the result is a number. The steps are at most two for each node record tried, and two for a spare one.
+/// with its sibling, the record is for the merged node. `None` if each node record was found not free, committed or not. In a table with one
+/// pass that has a free one, the result is a number. The steps are at most two for each node record tried, and two for a spare one.
 pub(crate) fn claim_for_leftover<G: Gate>(
     table: &HotTable,
     seat: &mut TableSeat,
@@ -115,7 +115,7 @@ pub(crate) fn claim_for_leftover<G: Gate>(
     requires takes { TakesOn table.now seat.old job.now }
     requires none { seat.old.known.own ≡ [] }
     ensures goes { WorksOn table.now G.becomes (seat.old, gate.old) (seat.new, gate.new) }
-    ensures claims { MatchOption result (HasNoneFree table.now seat.old seat.new build.new.made.items job.now Full.Nodes)
+    ensures claims { MatchOption result (HasNoneFree table.now [] seat.old.known seat.new build.new.made.items job.now Full.Nodes)
         (HasClaimed table.now seat.new.known) }
     ensures walk { seat.new.known.steps + 2 * build.new.walk.left ≤ seat.old.known.steps + 2 * table.now.layout.nodes + 2 }
     ensures finds { HasRoom table.now.layout seat.old → result ≢ None }

@@ -33,7 +33,7 @@ returns g c =
     let pinned : c.pin.new.seat.known.steps ≡ c.args.seat.now.known.steps + 2 = ap (λ (z : Known). z.steps) c.pin.ensures.steps.1.rest in
     let cleared : c.end_attempt.new.seat.known.steps ≡ c.attempt-outcome.new.seat.known.steps + 1 = ap (λ (z : Known). z.steps) c.end_attempt.ensures.step.event.learned_is in
     let ended = attempt_ended c.args.table.now g.G.Gate.becomes _ _ _ _ c.pin.ensures.steps o.run c.end_attempt.ensures.step in
-    let lacked = tried_lacks _ c.requires.idle.1 c.pin.ensures.steps run o.loaded o.rest (key_of c.args.call.now) c.attempt-outcome.new.build.made.items c.attempt-outcome.result o.refused c.end_attempt.ensures.step in
+    let lacked = tried_lacks _ c.requires.idle.1 c.pin.ensures.steps run o.loaded o.rest c.args.call.now c.attempt-outcome.new.build.made.items c.attempt-outcome.result o.refused c.end_attempt.ensures.step in
     record {
       asked = record {
         replied = record {

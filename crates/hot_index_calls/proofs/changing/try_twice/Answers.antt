@@ -94,7 +94,7 @@ returns g c =
     let unnoted = first.replied.refused.refused.unnoted in
     let later = round_later k (c.make_attempt-first.new.seat, c.make_attempt-first.new.gate) (c.collect_between.new.seat, c.collect_between.new.gate) unnoted first.later first.replied.idle.1 round in
     let collected = then_collected k (c.make_attempt-first.new.seat, c.make_attempt-first.new.gate) (c.collect_between.new.seat, c.collect_between.new.gate) unnoted first.later first.replied.idle.1 round in
-    let cause = cause_still (key_of call) k (c.make_attempt-first.new.seat, c.make_attempt-first.new.gate) (c.collect_between.new.seat, c.collect_between.new.gate) (c.pin_and_unpin.new.seat, c.pin_and_unpin.new.gate) round again.failed again.unnoted.number fault (lacked_full c.in-Some.lacks) first.replied.refused.cause in
+    let cause = cause_still call k (c.make_attempt-first.new.seat, c.make_attempt-first.new.gate) (c.collect_between.new.seat, c.collect_between.new.gate) (c.pin_and_unpin.new.seat, c.pin_and_unpin.new.gate) round again.failed again.unnoted.number fault (lacked_full c.in-Some.lacks) first.replied.refused.cause in
     let whole : HasAsked table g.G.Gate.becomes (AreTries table g.G.Gate.becomes call (Err fault)) call (Err fault) (c.args.seat.now, c.args.gate.now) (c.pin_and_unpin.new.seat, c.pin_and_unpin.new.gate) = record {
       replied = record {
         idle = again.idle;
@@ -117,7 +117,7 @@ returns g c =
     } in
     record {
       lacks = λ is. subst (λ made. LacksNodes table.layout c.args.seat.now.bounds c.pin_and_unpin.new.seat.known.pass c.pin_and_unpin.new.seat.known.failed c.args.seat.now.known.steps (nodes_among made)) (sym c.collect_between.ensures.made)
-          (lacks_still (key_of call) k (c.make_attempt-first.new.seat, c.make_attempt-first.new.gate) (c.collect_between.new.seat, c.collect_between.new.gate) (c.pin_and_unpin.new.seat, c.pin_and_unpin.new.gate) round again.failed again.unnoted.number c.args.seat.now.bounds _
+          (lacks_still call k (c.make_attempt-first.new.seat, c.make_attempt-first.new.gate) (c.collect_between.new.seat, c.collect_between.new.gate) (c.pin_and_unpin.new.seat, c.pin_and_unpin.new.gate) round again.failed again.unnoted.number c.args.seat.now.bounds _
           (c.make_attempt-first.ensures.lacks is));
       few = (
           let count = round.few in

@@ -1,11 +1,13 @@
 -- The search, its plan, and what follows from it.
 use Rattle.rowex_writing.proofs.build.Spare.{looks_room, looks_spare, reads_room, reads_spare}
 use Rattle.rowex_writing.proofs.Common.{[], Err, Some, inl, inr, ◌∙◌, ap, subst, sym, arith, refl, IsSome, ◌≡◌, ◌≤◌, ◌+◌, since, IsWayOf, value_of, reads_later, same_since, way_later, later_trans}
-use Rattle.rowex_writing.specs.attempts.Attempts.{HasAttempted}
+use Rattle.rowex_writing.specs.attempts.Attempts.{HasAttempted, bounds_for}
+use Rattle.rowex_writing.specs.build.Deeds.{bounds_of_deed}
+use Rattle.rowex_writing.specs.build.Spare.{IsRemoval}
 use Rattle.rowex_writing.specs.plan.Planned.{IsPlanned}
 use Rattle.rowex_writing.specs.plan.Counts.{most_steps}
-use Rattle.rowex_writing.specs.plan.Plans.{LiesOnWay}
-use Rattle.rowex_writing.proofs.attempts.Attempts.{Begun, aimless_looked, answered_change, answered_leafless, answered_look, begun_on, found_later, leafless, looked, looked_few, plan_made, removal_takes, removes_aim, searched, planned_again, full_of_new, refused_fewer, tried_few}
+use Rattle.rowex_writing.specs.plan.Plans.{LiesOnWay, TakesLeaf}
+use Rattle.rowex_writing.proofs.attempts.Attempts.{Begun, aimless_looked, answered_change, answered_leafless, answered_look, begun_on, call_bounds, found_later, leafless, looked, looked_few, plan_made, removal_takes, removes_aim, searched, planned_again, full_of_new, refused_fewer, tried_few}
 use Rattle.rowex_writing.proofs.attempts.Attempted.{attempted, searched_few, tried_after}
 use Rattle.rowex_writing.proofs.locks.Onward.{reads_run}
 use Rattle.rowex_writing.proofs.locks.Runs.{none_once, run_bounds, run_loaded, run_none}
@@ -106,7 +108,13 @@ returns-in-Err-clause-loaded g c =
 pub returns-in-Err-clause-refused : goal.returns-in-Err-clause-refused
 returns-in-Err-clause-refused g c =
     let b = begun g (goal.at.returns-in-Err-clause-refused g c).After-find_plan in
-    rw (sym c.key-key.ensures) (refused_fewer c.args.table.now.layout c.find_plan.new.seat.bounds c.args.seat.now.bounds (run_bounds c.args.table.now g.G.Gate.becomes (c.args.seat.now, c.args.gate.now) (c.find_plan.new.seat, c.find_plan.new.gate) b.run) _ _ _ _ _
+    let m = since c.search_way-found.new.seat.known in
+    let planned = plan_made c.args.table.now.layout _ _ m c.key-key.result.now _ _ _ _ _ c.as_slice-way.ensures.value c.search_way-found.ensures.way c.find_plan.ensures.planned in
+    let takes : IsRemoval c.args.call.now → TakesLeaf c.in-Change.deed = λ removes. removal_takes c.find_plan.new.seat.known m c.key-key.result.now c.as_slice-way.result.now c.in-Some.request.aim c.search_way-found.result c.find_plan.result c.in-Change.span c.in-Change.deed
+    (removes_aim c.args.call.now (value_of c.search_way-found.result) c.in-Some.request.aim removes c.in-Some.ensures.0) c.in-Change.is planned in
+    let falls = run_bounds c.args.table.now g.G.Gate.becomes (c.args.seat.now, c.args.gate.now) (c.find_plan.new.seat, c.find_plan.new.gate) b.run in
+    rw (sym c.key-key.ensures) (refused_fewer c.args.table.now.layout (bounds_of_deed c.in-Change.deed c.find_plan.new.seat.bounds) (bounds_for c.args.call.now c.args.seat.now.bounds)
+    (call_bounds c.args.call.now c.in-Change.deed c.find_plan.new.seat.bounds c.args.seat.now.bounds takes falls) _ _ _ _ _
     (c.in-Err.ensures.refused c.args.seat.now.known b.loaded b.later))
 
 pub returns-in-Err-clause-leafless : goal.returns-in-Err-clause-leafless

@@ -1,5 +1,8 @@
 -- A new value, a removal, or what the deed has made is published; or all is given back.
 use Rattle.rowex_writing.proofs.build.Spare.{goes_spare, works_spare}
+use Rattle.std.specs.Prelude.{IfErr}
+use Rattle.rowex_writing.specs.attempts.Attempts.{HasFailed}
+use Rattle.rowex_writing.specs.build.Deeds.{bounds_of_deed}
 use Rattle.std.proofs.Common.{inl, inr, sym, ap, subst, arith, ◌≡◌, ◌∙◌, Err}
 use Rattle.rowex_writing.specs.store.Values.{HasDoneDeed}
 use Rattle.rowex_writing.specs.locks.Checks.{HasTakenPlan}
@@ -53,6 +56,11 @@ pub returns-in-Take-clause-done : goal.returns-in-Take-clause-done
 returns-in-Take-clause-done g c = λ ok.
     subst (λ d. HasDoneDeed c.args.seat.now.known c.make_removal.new.seat.known d c.args.job.now.key.now c.args.job.now.value c.args.job.now.found) (sym c.in-Take.is) (c.make_removal.ensures.done ok)
 
+pub returns-in-Take-clause-failed : goal.returns-in-Take-clause-failed
+returns-in-Take-clause-failed g c =
+    subst (λ d. IfErr c.make_removal.result (HasFailed c.args.table.now.layout (bounds_of_deed d c.args.seat.now.bounds) c.args.job.now c.args.seat.now.known c.make_removal.new.seat.known c.make_removal.new.build.made.items)) (sym c.in-Take.is)
+    c.make_removal.ensures.failed
+
 pub publish_change-requires : goal.publish_change-requires
 publish_change-requires g c =
     let (x, was, is, may) = c.in-Ok.ensures.done.raised in
@@ -97,8 +105,8 @@ returns-in-Err-clause-run g c =
 
 pub returns-in-Err-clause-failed : goal.returns-in-Err-clause-failed
 returns-in-Err-clause-failed g c =
-    rw c.refusal_of.ensures (full_failed c.args.table.now.layout c.args.seat.now.bounds c.args.job.now c.args.seat.now.known c.undo_change.new.seat.known _ c.in-Err.full
-    (no_room c.args.table.now g.G.Gate.becomes c.args.seat.now.bounds c.args.job.now.key.now (c.args.seat.now, c.args.gate.now) (c.carry_out_deed.new.seat, c.carry_out_deed.new.gate) (c.undo_change.new.seat, c.undo_change.new.gate) _ c.in-Err.full
+    rw c.refusal_of.ensures (full_failed c.args.table.now.layout (bounds_of_deed c.args.job.now.deed c.args.seat.now.bounds) c.args.job.now c.args.seat.now.known c.undo_change.new.seat.known _ c.in-Err.full
+    (no_room c.args.table.now g.G.Gate.becomes (bounds_of_deed c.args.job.now.deed c.args.seat.now.bounds) c.args.job.now.key.now (c.args.seat.now, c.args.gate.now) (c.carry_out_deed.new.seat, c.carry_out_deed.new.gate) (c.undo_change.new.seat, c.undo_change.new.gate) _ c.in-Err.full
     c.carry_out_deed.ensures.done.goes c.undo_change.ensures.works c.undo_change.ensures.rest c.in-Err.ensures.done.full.full_of))
 
 pub returns-in-Err-clause-leafless : goal.returns-in-Err-clause-leafless

@@ -1,5 +1,6 @@
 -- One entry that is left is published; for more a record is claimed; or all is given back.
-use Rattle.rowex_writing.proofs.Common.{ℕ, Option, ◌+◌, ◌*◌, [], Some, ap, arith, length, refl, rules, subst, sym, ◌∙◌, slice_get_within, Change, item, removed_change, NODE_FIELDS, one, later_trans}
+use Rattle.record_words.specs.Layout.{uncommitted_in}
+use Rattle.rowex_writing.proofs.Common.{ℕ, Option, ◌+◌, ◌*◌, [], Some, ap, arith, le_refl, length, refl, rules, subst, sym, ◌∙◌, slice_get_within, Change, item, removed_change, NODE_FIELDS, one, later_trans}
 use Rattle.rowex_writing.specs.build.Building.{IsBuilding}
 use Rattle.rowex_writing.specs.build.Changes.{IsTakeChange}
 use Rattle.rowex_writing.specs.build.Deeds.{MayReplace, leaf_gone}
@@ -12,7 +13,7 @@ use Rattle.rowex_writing.proofs.merging.Beside.{takes_on}
 use Rattle.rowex_writing.proofs.build.Growths.{full_since, no_room}
 use Rattle.rowex_writing.proofs.build.Changes.{changed_since}
 use Rattle.rowex_writing.proofs.merging.Leaving.{left_on}
-use Rattle.rowex_writing.proofs.locks.Going.{goes_bounds, goes_more, locked_on, seat_of}
+use Rattle.rowex_writing.proofs.locks.Going.{goes_more, locked_on, seat_of}
 use Rattle.rowex_writing.proofs.build.Building.{building_none, goes_possible, steps_rise}
 use Rattle.rowex_writing.proofs.merging.Merging.{entry_height, holds_on, is_taking, takes_taken}
 use Rattle.rowex_writing.proofs.attempts.Named.{loaded_on}
@@ -154,13 +155,13 @@ returns-in_default-claim_for_leftover-clause-run g c =
 pub returns-in_default-claim_for_leftover-clause-failed : goal.returns-in_default-claim_for_leftover-clause-failed
 returns-in_default-claim_for_leftover-clause-failed g c =
     let reads = c.load_without_leaf.ensures.reads in
-    let none = no_room c.args.table.now g.G.Gate.becomes c.load_without_leaf.new.seat.bounds c.args.job.now.key.now (c.load_without_leaf.new.seat, c.load_without_leaf.new.gate) (c.claim_for_leftover.new.seat, c.claim_for_leftover.new.gate) (c.undo_change.new.seat, c.undo_change.new.gate) c.claim_for_leftover.new.build.made.items Nodes
+    let none = no_room c.args.table.now g.G.Gate.becomes [] c.args.job.now.key.now (c.load_without_leaf.new.seat, c.load_without_leaf.new.gate) (c.claim_for_leftover.new.seat, c.claim_for_leftover.new.gate) (c.undo_change.new.seat, c.undo_change.new.gate) c.claim_for_leftover.new.build.made.items Nodes
     c.claim_for_leftover.ensures.goes c.undo_change.ensures.works c.undo_change.ensures.rest c.in_default-claim_for_leftover.ensures.claims.full_of in
     record {
       rest = none.rest;
       later = later_trans reads.goes.stays.0 none.later;
-      full_of = full_since c.args.table.now.layout c.load_without_leaf.new.seat.bounds c.args.seat.now.bounds c.args.job.now.key.now c.args.seat.now.known c.load_without_leaf.new.seat.known c.undo_change.new.seat.known c.claim_for_leftover.new.build.made.items Nodes
-          (goes_bounds c.args.table.now g.G.Gate.becomes (c.args.seat.now, c.args.gate.now) (c.load_without_leaf.new.seat, c.load_without_leaf.new.gate) reads.goes)
+      full_of = full_since c.args.table.now.layout [] [] c.args.job.now.key.now c.args.seat.now.known c.load_without_leaf.new.seat.known c.undo_change.new.seat.known c.claim_for_leftover.new.build.made.items Nodes
+          (λ kind. le_refl (uncommitted_in [] kind))
           (steps_rise c.args.table.now g.G.Gate.becomes reads.goes.acts (c.args.seat.now, c.args.gate.now) (c.load_without_leaf.new.seat, c.load_without_leaf.new.gate) reads.goes.steps) none.full_of;
     }
 
@@ -220,7 +221,7 @@ returns-clause-done g c = λ ok.
 pub returns-clause-failed : goal.returns-clause-failed
 returns-clause-failed g c =
     let later = later_trans c.load_without_leaf.ensures.reads.goes.stays.0 c.claim_for_leftover.ensures.goes.stays.0 in
-    failed_before c.args.table.now.layout c.claim_for_leftover.new.seat.bounds c.args.seat.now.bounds c.args.job.now c.args.seat.now.known c.claim_for_leftover.new.seat.known c.end_removal.new.seat.known _ later
+    failed_before c.args.table.now.layout c.claim_for_leftover.new.seat.bounds [] c.args.job.now c.args.seat.now.known c.claim_for_leftover.new.seat.known c.end_removal.new.seat.known _ later
     c.end_removal.result c.end_removal.ensures.failed
 
 pub returns-clause-leafless : goal.returns-clause-leafless

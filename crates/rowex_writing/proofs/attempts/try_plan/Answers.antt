@@ -3,10 +3,11 @@ use Rattle.rowex_writing.proofs.build.Spare.{goes_room, goes_spare, works_spare}
 use Rattle.rowex_writing.proofs.Common.{◌≡◌, inl, inr, ap, refl, sym, subst, ◌∙◌, arith, Err, [], IsSome, length, Fresh, IsFoundAt, value_of, later_trans}
 use Rattle.rowex_writing.specs.plan.Asking.{value_in}
 use Rattle.rowex_writing.specs.build.Changes.{IsDeedChange}
+use Rattle.rowex_writing.specs.build.Deeds.{bounds_of_deed}
 use Rattle.rowex_writing.specs.locks.Checks.{HasTakenSpan}
 use Rattle.rowex_writing.specs.plan.Planned.{IsPlanned}
 use Rattle.rowex_writing.proofs.attempts.Attempted.{ended_run, ends_after}
-use Rattle.rowex_writing.proofs.attempts.Attempts.{one_lock, planned_again, planned_later, refused_busy, refused_failed, failed_later, failed_moved}
+use Rattle.rowex_writing.proofs.attempts.Attempts.{deed_bounds_fall, one_lock, planned_again, planned_later, refused_busy, refused_failed, failed_later, failed_moved}
 use Rattle.rowex_writing.proofs.build.Changes.{changed_since, made_held}
 use Rattle.record_words.specs.Layout.{uncommitted_in}
 use Rattle.rowex_table.proofs.Committed.{at_most_trans}
@@ -29,7 +30,7 @@ use Rattle.rowex_writing.proofs.attempts.Named.{found_again, found_other}
 pub returns-then-not-lock_and_check_span-clause-refused : goal.returns-then-not-lock_and_check_span-clause-refused
 returns-then-not-lock_and_check_span-clause-refused g c k loaded later =
     let (m, aim, way, planned) = c.requires.planned in
-    refused_busy c.args.table.now.layout c.args.seat.now.bounds c.args.job.now.key.now k _ _ m _ way.since loaded later c.lock_and_check_span.ensures.later
+    refused_busy c.args.table.now.layout (bounds_of_deed c.args.job.now.deed c.args.seat.now.bounds) c.args.job.now.key.now k _ _ m _ way.since loaded later c.lock_and_check_span.ensures.later
     (met_or_moved c.args.table.now.layout c.args.seat.now c.lock_and_check_span.new.seat m (c.lock_and_check_span.ensures.busy c.if-not-lock_and_check_span.true m way))
 
 -- ---- what was found is loaded again
@@ -157,7 +158,8 @@ returns-in-Err-clause-refused g c k loaded later =
     let falls = at_most_trans (uncommitted_in c.load_found_again-found.new.seat.bounds) (uncommitted_in c.lock_and_check_span.new.seat.bounds) (uncommitted_in c.args.seat.now.bounds)
     (goes_bounds table g.G.Gate.becomes (c.lock_and_check_span.new.seat, c.lock_and_check_span.new.gate) (c.load_found_again-found.new.seat, c.load_found_again-found.new.gate) c.load_found_again-found.ensures.reads.goes)
     (run_bounds table g.G.Gate.becomes (c.args.seat.now, c.args.gate.now) (c.lock_and_check_span.new.seat, c.lock_and_check_span.new.gate) c.lock_and_check_span.ensures.run.1.1) in
-    refused_failed table.layout c.load_found_again-found.new.seat.bounds c.args.seat.now.bounds falls now k c.load_found_again-found.new.seat.known _ _ c.in-Err.fault m taken.way_of there
+    refused_failed table.layout (bounds_of_deed c.args.job.now.deed c.load_found_again-found.new.seat.bounds) (bounds_of_deed c.args.job.now.deed c.args.seat.now.bounds)
+    (deed_bounds_fall c.args.job.now.deed c.load_found_again-found.new.seat.bounds c.args.seat.now.bounds falls) now k c.load_found_again-found.new.seat.known _ _ c.in-Err.fault m taken.way_of there
     (later_trans later (later_trans c.lock_and_check_span.ensures.later c.load_found_again-found.ensures.reads.goes.stays.0)) c.in-Err.ensures.failed
 
 pub returns-in-Err-clause-leafless : goal.returns-in-Err-clause-leafless
@@ -167,7 +169,7 @@ returns-in-Err-clause-leafless g c take is = let same : c.in-Err.fault ≡ FullL
 pub returns-in-Err-clause-later : goal.returns-in-Err-clause-later
 returns-in-Err-clause-later g c =
     let now : Job = record { way = c.args.job.now.way; key = c.args.job.now.key; value = c.in-Some.request.value; found = c.load_found_again-found.result; span = c.args.job.now.span; deed = c.args.job.now.deed } in
-    later_trans c.lock_and_check_span.ensures.later (later_trans c.load_found_again-found.ensures.reads.goes.stays.0 (failed_later c.args.table.now.layout c.load_found_again-found.new.seat.bounds now c.load_found_again-found.new.seat.known c.change_span.new.seat.known _ c.in-Err.fault c.in-Err.ensures.failed))
+    later_trans c.lock_and_check_span.ensures.later (later_trans c.load_found_again-found.ensures.reads.goes.stays.0 (failed_later c.args.table.now.layout (bounds_of_deed c.args.job.now.deed c.load_found_again-found.new.seat.bounds) now c.load_found_again-found.new.seat.known c.change_span.new.seat.known _ c.in-Err.fault c.in-Err.ensures.failed))
 
 pub returns-in-Err-clause-whole : goal.returns-in-Err-clause-whole
 returns-in-Err-clause-whole g c e = let ok = sym c.in-Err.is ∙ c.change_span.ensures.whole e in absurd cc
@@ -232,4 +234,4 @@ returns-in-Err-clause-hindered g c = λ is.
     let taken = again_taken g at m (c.lock_and_check_span.ensures.taken c.if-not-lock_and_check_span.false m way) in
     let now : Job = record { way = c.args.job.now.way; key = c.args.job.now.key; value = c.in-Some.request.value; found = c.load_found_again-found.result; span = c.args.job.now.span; deed = c.args.job.now.deed } in
     seen_since c.args.table.now.layout c.args.seat.now c.change_span.new.seat m way.since
-    (failed_moved c.args.table.now.layout c.load_found_again-found.new.seat.bounds now c.load_found_again-found.new.seat.known c.change_span.new.seat.known _ c.in-Err.fault m taken.way_of c.in-Err.ensures.failed is)
+    (failed_moved c.args.table.now.layout (bounds_of_deed c.args.job.now.deed c.load_found_again-found.new.seat.bounds) now c.load_found_again-found.new.seat.known c.change_span.new.seat.known _ c.in-Err.fault m taken.way_of c.in-Err.ensures.failed is)

@@ -5,13 +5,13 @@ use Rattle.rowex_writing.specs.build.Building.{IsBuilding}
 use Rattle.record_words.specs.Layout.{uncommitted_in}
 use Rattle.rowex_table.specs.Committed.{AtMost}
 use Rattle.rowex_writing.specs.build.Changes.{IsFull, IsPutChange, IsTakeChange, MayPublishOnceReady}
-use Rattle.rowex_writing.specs.build.Deeds.{CarriesOut, HasNoneFree, HasRaised, MayReplace, gone_of_span, kept_of_span, leaf_gone}
+use Rattle.rowex_writing.specs.build.Deeds.{CarriesOut, HasNoneFree, HasRaised, MayReplace, bounds_of_deed, gone_of_span, kept_of_span, leaf_gone}
 use Rattle.rowex_writing.specs.plan.Counts.{leaf_steps, spare_steps}
 use Rattle.rowex_writing.specs.locks.Going.{WorksOn}
 use Rattle.rowex_writing.specs.declared.build.kept.Build.{Build}
 use Rattle.rowex_writing.specs.declared.plan.job.Job.{Job}
 use Rattle.rowex_writing.specs.declared.plan.Deed.{Deed}
-use Rattle.rowex_writing.specs.declared.plan.Deed.TheVariants.{Grow, TakeTop}
+use Rattle.rowex_writing.specs.declared.plan.Deed.TheVariants.{Empty, Grow, PushDown, Put, Take, TakeTop, Value as NewValue}
 use Rattle.rowex_writing.specs.declared.plan.Full.{Full}
 use Rattle.rowex_writing.specs.declared.plan.Full.TheVariants.{Nodes, Leaves}
 use Rattle.rowex_writing.specs.locks.Locks.{AreNodes, HasLockedSpan, numbers_of, KeepsLocksAndRecords}
@@ -105,7 +105,8 @@ taken_raised table a b made job number value (Ok raised) is may = (
 taken_raised table a b made job number value (Err full) is may = tt
 
 -- none was free since an earlier version
-pub none_free_since : (table : TableView) (a m b : SeatView) (made : List Rec) (job : Job) (r : Result Raised Full) → AtMost (uncommitted_in m.bounds) (uncommitted_in a.bounds) → a.known.steps ≤ m.known.steps → IfErr r (HasNoneFree table m b made job) → IfErr r (HasNoneFree table a b made job)
+pub none_free_since : (table : TableView) (a m b : SeatView) (made : List Rec) (job : Job) (r : Result Raised Full) → AtMost (uncommitted_in m.bounds) (uncommitted_in a.bounds) → a.known.steps ≤ m.known.steps →
+    IfErr r (HasNoneFree table m.bounds m.known b made job) → IfErr r (HasNoneFree table a.bounds a.known b made job)
 none_free_since table a m b made job (Ok raised) falls count none = tt
 none_free_since table a m b made job (Err full) falls count none = record {
   not_made = none.not_made;
@@ -119,13 +120,23 @@ nodes_alone (Ok x) P h = λ e. cc
 nodes_alone (Err Nodes) P h = λ e. cc
 nodes_alone (Err Leaves) P h = absurd (let z = h.0 in cc)
 
+-- a deed that makes a leaf's record looks at the committed records alone
+makes_leaf : (deed : Deed) (bounds : List ℕ) → spare_steps deed ≡ 0 → bounds_of_deed deed bounds ≡ bounds
+makes_leaf Take bounds none = absurd (omega (arith, none))
+makes_leaf TakeTop bounds none = absurd (omega (arith, none))
+makes_leaf Empty bounds none = absurd (omega (arith, none))
+makes_leaf NewValue bounds none = absurd (omega (arith, none))
+makes_leaf Put bounds none = refl
+makes_leaf (PushDown position) bounds none = refl
+makes_leaf (Grow position) bounds none = refl
+
 -- no leaf record was free, the first that a deed wants
 pub no_leaf_free : {G : Type 0} {table : TableView} {becomes : G → Event → G → Type 0} {a b : (SeatView × G) × Build} {job : Job} {deed : Deed} → WorksOn table becomes a.0 b.0 →
     IsBuilding table b.0.0 b.1.made.items [] × IsFull table.layout a.0.0.bounds job.key.now a.0.0.known b.0.0.known b.1.made.items Leaves → b.0.0.known.steps ≤ a.0.0.known.steps + leaf_steps table.layout → spare_steps deed ≡ 0 → CarriesOut table becomes a b job deed (Err Leaves)
-no_leaf_free goes (building, missed) few none = record {
+no_leaf_free {table = table} {a = a} {b} {job} {deed} goes (building, missed) few none = record {
   goes = goes;
   raised = tt;
-  full = record { not_made = record { news = []; building = building }; few = omega (arith, ap length building.listed); full_of = missed };
+  full = record { not_made = record { news = []; building = building }; few = omega (arith, ap length building.listed); full_of = subst (λ bounds. IsFull table.layout bounds job.key.now a.0.0.known b.0.0.known b.1.made.items Leaves) (sym (makes_leaf deed a.0.0.bounds none)) missed };
   few = omega (arith, few, none);
 }
 

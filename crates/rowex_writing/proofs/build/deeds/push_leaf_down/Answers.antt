@@ -13,7 +13,7 @@ use Rattle.rowex_writing.proofs.locks.Going.{goes_bounds, goes_more}
 use Rattle.rowex_writing.proofs.build.Building.{building_on, not_made, steps_rise}
 use Rattle.rowex_writing.proofs.build.Putting.{found_is_key, leaf_at, pair_here, pair_may}
 use Rattle.version_laws.proofs.Statements.Leaves.{pair_tree}
-use Rattle.rowex_writing.proofs.build.Walks.{walk_begins}
+use Rattle.rowex_writing.proofs.build.Walks.{missed_known, walk_begins}
 use Rattle.rowex_writing.specs.declared.plan.Full.TheVariants.{Nodes}
 use Rattle.rowex_writing.proofs.build.deeds.push_leaf_down.Goals as goal
 
@@ -47,15 +47,15 @@ returns-in_default-make_node g c = record {
     full = (let job = c.args.job.now in
         let (m, aim, t, planned) = c.requires.taken in
         let here = pair_here c.args.seat.now.known m job.key.now job.way.now aim job.found job.span c.args.position planned c.in-Leaf.old _ _ c.in-Leaf.is in
-        let missed = c.in_default-make_node.ensures.makes.walk c.make_leaf.new.seat
-        (walk_begins c.args.table.now.layout c.make_leaf.new.seat c.begin_claims.new.self c.layout.result c.begin_claims.ensures.walk.0 c.begin_claims.ensures.walk.1 c.layout.ensures) in
+        let missed = missed_known c.args.table.now.layout c.make_node.new.build.walk c.make_leaf.new.seat c.make_leaf.new.seat.known.steps _ _ (c.in_default-make_node.ensures.makes.walk c.make_leaf.new.seat
+        (walk_begins c.args.table.now.layout c.make_leaf.new.seat c.begin_claims.new.self c.layout.result c.begin_claims.ensures.walk.0 c.begin_claims.ensures.walk.1 c.layout.ensures)) in
         let fell = goes_bounds c.args.table.now g.G.Gate.becomes (c.args.seat.now, c.args.gate.now) (c.make_leaf.new.seat, c.make_leaf.new.gate) c.make_leaf.ensures.goes in
         let rise = steps_rise c.args.table.now g.G.Gate.becomes c.make_leaf.ensures.goes.acts (c.args.seat.now, c.args.gate.now) (c.make_leaf.new.seat, c.make_leaf.new.gate) c.make_leaf.ensures.goes.steps in
         record {
           not_made = c.in_default-make_node.ensures.made (made_of_leaf (item c.in-Some.leaf c.args.job.now.key.now c.args.job.now.value) c.in-Some.ensures.made.fresh ∷ []) (rw c.begin_claims.ensures.made c.in-Some.ensures.made.building);
           few = omega (arith, made_one c.in-Some.ensures.made.building, ap length c.begin_claims.ensures.made, c.make_node.ensures.makes.more);
           full_of = full_since c.args.table.now.layout c.make_leaf.new.seat.bounds c.args.seat.now.bounds c.args.job.now.key.now c.args.seat.now.known c.make_leaf.new.seat.known c.make_node.new.seat.known c.make_node.new.build.made.items Nodes fell rise
-              (lacks_nodes c.args.table.now.layout c.args.seat.now.known c.make_leaf.new.seat c.make_node.new.seat.known job.way.now job.span c.make_node.new.build.made.items
+              (lacks_nodes c.args.table.now.layout c.args.seat.now.known c.make_leaf.new.seat.bounds c.make_leaf.new.seat.known.steps c.make_node.new.seat.known job.way.now job.span c.make_node.new.build.made.items
               (step_nodes c.args.table.now.layout c.args.seat.now.known m job.key.now job.way.now job.found t.way_of) t.locked (c.make_node.ensures.makes.goes.stays.1 ∙ c.make_leaf.ensures.goes.stays.1)
               t.within.0 t.within.1 (omega (arith, here.len)) (omega (arith, no_nodes c.in-Some.ensures.made, ap (λ (z : List Rec). length (nodes_among z)) c.begin_claims.ensures.made, c.in_default-make_node.ensures.makes.nodes)) missed);
         });
@@ -98,7 +98,7 @@ returns-then-not-leaves_free_node g c =
                   (made_of_node number c.pair_with_leaf-pair.result ∷ news) c.leaves_free_node.ensures.goes c.leaves_free_node.ensures.own made building;
               few = omega (arith, ap length made, made_one leaf.building, ap length c.begin_claims.ensures.made, c.make_node.ensures.makes.more);
               full_of = full_since table.layout c.make_leaf.new.seat.bounds c.args.seat.now.bounds c.args.job.now.key.now c.args.seat.now.known c.make_leaf.new.seat.known c.leaves_free_node.new.seat.known c.leaves_free_node.new.build.made.items Nodes fell rise
-                  (lacks_nodes table.layout c.args.seat.now.known c.make_leaf.new.seat c.leaves_free_node.new.seat.known job.way.now job.span c.leaves_free_node.new.build.made.items
+                  (lacks_nodes table.layout c.args.seat.now.known c.make_leaf.new.seat.bounds c.make_leaf.new.seat.known.steps c.leaves_free_node.new.seat.known job.way.now job.span c.leaves_free_node.new.build.made.items
                   (step_nodes table.layout c.args.seat.now.known m job.key.now job.way.now job.found t.way_of) t.locked (c.leaves_free_node.ensures.goes.stays.1 ∙ (c.make_node.ensures.makes.goes.stays.1 ∙ c.make_leaf.ensures.goes.stays.1))
                   t.within.0 t.within.1 (omega (arith, here.len)) (omega (arith, ap (λ (z : List Rec). length (nodes_among z)) made, no_nodes leaf, ap (λ (z : List Rec). length (nodes_among z)) c.begin_claims.ensures.made, c.in-Some-make_node.ensures.makes.nodes)) missed);
             });

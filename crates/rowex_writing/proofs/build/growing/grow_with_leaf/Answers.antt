@@ -10,7 +10,7 @@ use Rattle.rowex_writing.proofs.locks.Going.{goes_more}
 use Rattle.rowex_writing.proofs.build.Building.{building_on, not_made}
 use Rattle.rowex_writing.proofs.build.deeds.Deeds.{none_in_table, replace_later}
 use Rattle.rowex_writing.proofs.build.Growths.{gone_is, grown_ends, lacks_nodes}
-use Rattle.rowex_writing.proofs.build.Walks.{walk_begins}
+use Rattle.rowex_writing.proofs.build.Walks.{missed_known, walk_begins}
 use Rattle.rowex_writing.proofs.build.growing.grow_with_leaf.Goals as goal
 use Rattle.rowex_writing.proofs.build.growing.grow_with_leaf.Goals.{then-stays, else-stays}
 
@@ -27,11 +27,11 @@ returns-in_default-clause-full g c =
       record {
         not_made = c.in_default.ensures.made may.growing;
         few = omega (arith, made_one may.growing.lowest.made_leaf.building, c.raise_with_leaf.ensures.makes.more, may.within.0);
-        full_of = lacks_nodes c.args.table.now.layout c.args.seat.now.known c.args.seat.now c.raise_with_leaf.new.seat.known c.args.job.now.way.now c.args.job.now.span c.raise_with_leaf.new.build.made.items
+        full_of = lacks_nodes c.args.table.now.layout c.args.seat.now.known c.args.seat.now.bounds c.args.seat.now.known.steps c.raise_with_leaf.new.seat.known c.args.job.now.way.now c.args.job.now.span c.raise_with_leaf.new.build.made.items
             may.nodes may.locked c.raise_with_leaf.ensures.makes.goes.stays.1 (omega (arith, may.within.0)) may.within.1 (omega (arith, may.within.1, may.depth))
             (omega (arith, no_nodes may.growing.lowest.made_leaf, c.in_default.ensures.makes.nodes, may.within.0))
-            (c.in_default.ensures.makes.walk c.args.seat.now
-            (walk_begins c.args.table.now.layout c.args.seat.now c.begin_claims.new.self c.layout.result c.begin_claims.ensures.walk.0 c.begin_claims.ensures.walk.1 c.layout.ensures));
+            (missed_known c.args.table.now.layout c.raise_with_leaf.new.build.walk c.args.seat.now c.args.seat.now.known.steps _ _ (c.in_default.ensures.makes.walk c.args.seat.now
+            (walk_begins c.args.table.now.layout c.args.seat.now c.begin_claims.new.self c.layout.result c.begin_claims.ensures.walk.0 c.begin_claims.ensures.walk.1 c.layout.ensures)));
       },
     )
 
@@ -60,7 +60,7 @@ returns-then-not-leaves_free_node-clause-full g c =
         not_made = not_made c.args.table.now g.G.Gate.becomes (c.raise_with_leaf.new.seat, c.raise_with_leaf.new.gate) (c.leaves_free_node.new.seat, c.leaves_free_node.new.gate) c.raise_with_leaf.new.build.made.items c.leaves_free_node.new.build.made.items raising.news
             c.leaves_free_node.ensures.goes c.leaves_free_node.ensures.own made raising.building;
         few = omega (arith, ap length made, made_one may.growing.lowest.made_leaf.building, c.in-Some.ensures.makes.more, may.within.0);
-        full_of = lacks_nodes c.args.table.now.layout c.args.seat.now.known c.args.seat.now c.leaves_free_node.new.seat.known c.args.job.now.way.now c.args.job.now.span c.leaves_free_node.new.build.made.items
+        full_of = lacks_nodes c.args.table.now.layout c.args.seat.now.known c.args.seat.now.bounds c.args.seat.now.known.steps c.leaves_free_node.new.seat.known c.args.job.now.way.now c.args.job.now.span c.leaves_free_node.new.build.made.items
             may.nodes may.locked (c.leaves_free_node.ensures.goes.stays.1 ∙ c.in-Some.ensures.makes.goes.stays.1) (omega (arith, may.within.0)) may.within.1 (omega (arith, may.within.1, may.depth))
             (omega (arith, ap (λ (z : List Rec). length (nodes_among z)) made, no_nodes may.growing.lowest.made_leaf, c.in-Some.ensures.makes.nodes, may.within.0))
             (c.leaves_free_node.ensures.walk c.if-not-leaves_free_node.true c.args.seat.now (c.in-Some.ensures.makes.walk c.args.seat.now

@@ -1,6 +1,6 @@
 -- Each record behind the end is committed, and claimed or missed.
-use Rattle.rowex_writing.proofs.Common.{◌≡◌, ◌∙◌, ap, refl, sym, subst, arith, Layout, SeatView}
-use Rattle.rowex_writing.specs.build.Walks.{IsCommittedWalk, left_below}
+use Rattle.rowex_writing.proofs.Common.{◌∙◌, ap, refl, sym, subst, arith, Layout, SeatView}
+use Rattle.rowex_writing.specs.build.Walks.{IsCommittedWalk}
 use Rattle.rowex_writing.proofs.locks.Going.{seat_of}
 use Rattle.rowex_writing.proofs.build.Passing.{claimed_few, claimed_goes, claimed_holds, claimed_walk, missed_one, passed_more, passed_none}
 use Rattle.rowex_writing.proofs.build.hints.claim_from_end.Goals as goal
@@ -36,6 +36,9 @@ returns-then-claim_by_number-clause-walk g c = λ first made alone none w.
     claimed_walk c.args.table.now g.G.Gate.becomes c.args.hint.now.next c.args.walk.now (c.args.seat.now, c.args.gate.now) c.loop-walk.walk c.loop-walk.seat c.commit.new.seat c.loop-walk.gate
     (c.claim_by_number.new.seat, c.claim_by_number.new.gate) c.loop-walk.invariant.passed c.commit.ensures.bounds c.commit.ensures.committed (omega (arith, c.if-walk-gt0.true)) (c.claim_by_number.ensures.claimed c.if-claim_by_number.true).1 first made _ alone none w
 
+pub returns-then-claim_by_number-clause-commits : goal.returns-then-claim_by_number-clause-commits
+returns-then-claim_by_number-clause-commits g c = c.loop-walk.invariant.passed.commits
+
 pub returns-then-claim_by_number-clause-few : goal.returns-then-claim_by_number-clause-few
 returns-then-claim_by_number-clause-few g c =
     claimed_few c.args.table.now g.G.Gate.becomes c.args.hint.now.next c.args.walk.now (c.args.seat.now, c.args.gate.now) c.loop-walk.walk c.loop-walk.seat c.commit.new.seat c.loop-walk.gate
@@ -58,8 +61,12 @@ returns-else-walk-gt0-clause-claims g c = c.loop-walk.invariant.passed.own
 
 pub returns-else-walk-gt0-clause-walk : goal.returns-else-walk-gt0-clause-walk
 returns-else-walk-gt0-clause-walk g c = λ first made alone none w.
-    subst (λ n. (left_below c.args.table.now.layout.nodes c.loop-walk.walk ≡ 0) × IsCommittedWalk c.args.table.now.layout first c.loop-walk.seat made n c.loop-walk.walk) (sym c.loop-walk.invariant.same)
-    (c.loop-walk.invariant.passed.walked first made alone none w)
+    let (left, walk) = c.loop-walk.invariant.passed.walked first made alone none w in
+    let rest = walk.rest in
+    (left, subst (λ n. IsCommittedWalk c.args.table.now.layout first c.loop-walk.seat made n c.loop-walk.walk) (sym c.loop-walk.invariant.same) walk, omega (arith, rest, c.if-walk-gt0.false))
+
+pub returns-else-walk-gt0-clause-commits : goal.returns-else-walk-gt0-clause-commits
+returns-else-walk-gt0-clause-commits g c = c.loop-walk.invariant.passed.commits
 
 pub returns-else-walk-gt0-clause-few : goal.returns-else-walk-gt0-clause-few
 returns-else-walk-gt0-clause-few g c = c.loop-walk.invariant.passed.few
@@ -75,8 +82,12 @@ returns-after-loop-walk-clause-claims g c = c.loop-walk.invariant.passed.own
 
 pub returns-after-loop-walk-clause-walk : goal.returns-after-loop-walk-clause-walk
 returns-after-loop-walk-clause-walk g c = λ first made alone none w.
-    subst (λ n. (left_below c.args.table.now.layout.nodes c.loop-walk.walk ≡ 0) × IsCommittedWalk c.args.table.now.layout first c.loop-walk.seat made n c.loop-walk.walk) (sym c.loop-walk.invariant.same)
-    (c.loop-walk.invariant.passed.walked first made alone none w)
+    let (left, walk) = c.loop-walk.invariant.passed.walked first made alone none w in
+    let rest = walk.rest in
+    (left, subst (λ n. IsCommittedWalk c.args.table.now.layout first c.loop-walk.seat made n c.loop-walk.walk) (sym c.loop-walk.invariant.same) walk, omega (arith, rest, c.loop-walk-test.false, c.loop-walk.invariant.all))
+
+pub returns-after-loop-walk-clause-commits : goal.returns-after-loop-walk-clause-commits
+returns-after-loop-walk-clause-commits g c = c.loop-walk.invariant.passed.commits
 
 pub returns-after-loop-walk-clause-few : goal.returns-after-loop-walk-clause-few
 returns-after-loop-walk-clause-few g c = c.loop-walk.invariant.passed.few

@@ -1,6 +1,6 @@
 -- A record is claimed; or none was free, and those that are made are looked at.
 use Rattle.rowex_writing.proofs.Common.{sym, subst}
-use Rattle.rowex_writing.specs.build.Walks.{left_below}
+use Rattle.rowex_writing.specs.build.Walks.{bounds_of_walk, left_below}
 use Rattle.rowex_writing.specs.build.Building.{IsBuilding}
 use Rattle.rowex_writing.proofs.build.Changes.{made_alone, made_held}
 use Rattle.rowex_writing.proofs.locks.Going.{goes_more}
@@ -28,10 +28,11 @@ returns-clause-walk g c = λ first w.
     let layout = c.args.table.now.layout in
     let made = c.args.build.now.made.items in
     let claimed = c.claim_node_on_walk-claimed.new in
-    let (none, walk) = c.in_default.ensures.walk first made (made_alone c.args.table.now c.args.seat.now made news b) w in
+    let left = c.in_default.ensures.walk first made (made_alone c.args.table.now c.args.seat.now made news b) w in
+    let walk = left.walked in
     let (looked, own) = looked_since c.args.table.now g.G.Gate.becomes first.known.steps (claimed.seat, claimed.gate) (c.load_states.new.seat, c.load_states.new.gate) made _ c.as_slice.ensures.value walk.claims.early c.load_states.ensures.goes
     c.load_states.ensures.seen c.load_states.ensures.mine in
-    walk_ends layout first claimed.walk.end c.load_states.new.seat.known made claimed.hint.next (left_below layout.nodes claimed.walk) none walk.whole looked own (made_held c.args.table.now c.args.seat.now made news b).apart
+    walk_ends layout (bounds_of_walk claimed.walk first) first.known.steps claimed.walk.end c.load_states.new.seat.known made claimed.hint.next (left_below layout.nodes claimed.walk) left.none left.all looked own (made_held c.args.table.now c.args.seat.now made news b).apart
     (walk_on c.args.table.now g.G.Gate.becomes first.known.steps (claimed.seat, claimed.gate) (c.load_states.new.seat, c.load_states.new.gate) made made claimed.hint.next (left_below layout.nodes claimed.walk) c.load_states.ensures.goes (λ r has. has) walk.claims)
 
 pub returns-in-Some-clause-walk : goal.returns-in-Some-clause-walk

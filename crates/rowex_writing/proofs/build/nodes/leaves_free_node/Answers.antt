@@ -47,7 +47,7 @@ returns-clause-walk g c = λ is first w.
     let walk = c.find_free_node.ensures.walk c.in_default.is first made alone here in
     let (looked, own) = looked_since table g.G.Gate.becomes first.known.steps (c.find_free_node.new.seat, c.find_free_node.new.gate) (c.load_states.new.seat, c.load_states.new.gate) made _ c.as_slice-2.ensures.value walk.early c.load_states.ensures.goes
     c.load_states.ensures.seen c.load_states.ensures.mine in
-    walk_ends table.layout first c.args.build.now.walk.end c.load_states.new.seat.known made next 0 refl w.whole looked own (made_held table c.args.seat.now made news b).apart
+    walk_ends table.layout first.bounds first.known.steps c.args.build.now.walk.end c.load_states.new.seat.known made next 0 refl w.whole looked own (made_held table c.args.seat.now made news b).apart
     (walk_on table g.G.Gate.becomes first.known.steps (c.find_free_node.new.seat, c.find_free_node.new.gate) (c.load_states.new.seat, c.load_states.new.gate) made made next 0 c.load_states.ensures.goes (λ r has. has) walk)
 
 pub returns-clause-few : goal.returns-clause-few

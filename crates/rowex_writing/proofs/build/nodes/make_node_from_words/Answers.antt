@@ -35,6 +35,7 @@ returns-in_err-number-clause-makes g c = rw c.from_residual.ensures (record {
   more = omega (arith, ap length c.claim_node.ensures.made);
   nodes = omega (arith, ap (λ made. length (nodes_among made)) c.claim_node.ensures.made);
   walk = c.in_err-number.ensures.walk;
+  commits = c.claim_node.ensures.commits;
   few = (let few = c.in_err-number.ensures.few in omega arith);
 })
 
@@ -51,6 +52,7 @@ returns-clause-makes g c =
           subst (λ z. IsCommittedWalk c.args.table.now.layout first c.fill_node.new.seat z c.claim_node.new.build.nodes.next c.claim_node.new.build.walk) (sym made)
           (committed_on c.args.table.now g.G.Gate.becomes first (c.claim_node.new.seat, c.claim_node.new.gate) (c.fill_node.new.seat, c.fill_node.new.gate) (c.args.build.now.made.items ++ a_node c.in_ok-number.number ∷ [])
           (c.args.build.now.made.items ++ a_node c.in_ok-number.number ∷ []) c.claim_node.new.build.nodes.next c.claim_node.new.build.walk filled (λ r h. h) (c.in_ok-number.ensures.walk first w));
+      commits = c.claim_node.ensures.commits;
       few = omega (arith, c.in_ok-number.ensures.few, c.fill_node.ensures.steps);
     }
 

@@ -7,7 +7,7 @@ use Rattle.rowex_writing.proofs.locks.Checks.{span_later}
 use Rattle.rowex_writing.proofs.build.Growths.{lacks_nodes}
 use Rattle.rowex_writing.proofs.build.Changes.{step_nodes}
 use Rattle.rowex_writing.proofs.build.Building.{building_none, not_made}
-use Rattle.rowex_writing.proofs.build.Walks.{walk_begins}
+use Rattle.rowex_writing.proofs.build.Walks.{missed_all, walk_begins}
 use Rattle.rowex_writing.proofs.build.taking.claim_for_leftover.Goals as goal
 
 pub claim_node-requires : goal.claim_node-requires
@@ -26,11 +26,12 @@ returns-in_err-number-clause-claims g c =
       not_made = not_made table g.G.Gate.becomes (c.args.seat.now, c.args.gate.now) (c.claim_node.new.seat, c.claim_node.new.gate) _ _ [] c.claim_node.ensures.goes
           c.in_err-number.ensures.claims c.claim_node.ensures.made before;
       few = omega (arith, ap length none);
-      full_of = lacks_nodes table.layout c.args.seat.now.known c.args.seat.now c.claim_node.new.seat.known job.way.now job.span c.claim_node.new.build.made.items
+      full_of = lacks_nodes table.layout c.args.seat.now.known [] c.args.seat.now.known.steps c.claim_node.new.seat.known job.way.now job.span c.claim_node.new.build.made.items
           (step_nodes table.layout c.args.seat.now.known t.since job.key.now job.way.now _ (way_on table c.args.seat.now job c.requires.takes))
           (span_later t.before.known c.args.seat.now.known job.way.now job.span stays.1 stays.2 t.below.taken.locked) c.claim_node.ensures.goes.stays.1 t.below.taken.within.0 t.below.taken.within.1
           (omega (arith, t.below.last)) (omega (arith, ap (λ made. length (nodes_among made)) none))
-          (c.in_err-number.ensures.walk c.args.seat.now (walk_begins table.layout c.args.seat.now c.begin_claims.new.self c.layout.result c.begin_claims.ensures.walk.0 c.begin_claims.ensures.walk.1 c.layout.ensures));
+          (missed_all table.layout c.claim_node.new.build.walk c.args.seat.now c.args.seat.now.known.steps _ _ (c.claim_node.ensures.commits ∙ c.begin_claims.ensures.walk.2)
+          (c.in_err-number.ensures.walk c.args.seat.now (walk_begins table.layout c.args.seat.now c.begin_claims.new.self c.layout.result c.begin_claims.ensures.walk.0 c.begin_claims.ensures.walk.1 c.layout.ensures)));
     })
 
 pub returns-in_err-number-clause-walk : goal.returns-in_err-number-clause-walk

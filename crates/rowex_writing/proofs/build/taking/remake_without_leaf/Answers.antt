@@ -9,7 +9,7 @@ use Rattle.rowex_writing.proofs.build.Growths.{lacks_nodes}
 use Rattle.rowex_writing.proofs.build.Changes.{step_nodes}
 use Rattle.rowex_writing.proofs.build.Building.{building_none}
 use Rattle.rowex_writing.proofs.build.taking.Taking.{IsRaised, left_raised, low_step, lowest_leads, lowest_locked, replaces_alone}
-use Rattle.rowex_writing.proofs.build.Walks.{walk_begins}
+use Rattle.rowex_writing.proofs.build.Walks.{missed_all, walk_begins}
 use Rattle.rowex_writing.proofs.build.taking.remake_without_leaf.Goals as goal
 
 pub make_entry_without_leaf-requires-clause-locked : goal.make_entry_without_leaf-requires-clause-locked
@@ -37,11 +37,12 @@ returns-in_default-clause-full g c =
       record {
         not_made = c.in_default.ensures.made job.key.now words (lowest_leads c.args.table.now c.args.seat.now m job number value b _ at) h;
         few = omega (arith, ap length none, c.make_entry_without_leaf.ensures.makes.more);
-        full_of = lacks_nodes c.args.table.now.layout c.args.seat.now.known c.args.seat.now c.make_entry_without_leaf.new.seat.known job.way.now job.span c.make_entry_without_leaf.new.build.made.items
+        full_of = lacks_nodes c.args.table.now.layout c.args.seat.now.known [] c.args.seat.now.known.steps c.make_entry_without_leaf.new.seat.known job.way.now job.span c.make_entry_without_leaf.new.build.made.items
             (step_nodes c.args.table.now.layout c.args.seat.now.known m job.key.now job.way.now _ b.taken.way_of) b.taken.locked c.make_entry_without_leaf.ensures.makes.goes.stays.1 b.taken.within.0 b.taken.within.1 (omega (arith, b.last))
             (omega (arith, ap (λ made. length (nodes_among made)) none, c.in_default.ensures.makes.nodes))
-            (c.in_default.ensures.makes.walk c.args.seat.now
-            (walk_begins c.args.table.now.layout c.args.seat.now c.begin_claims.new.self c.layout.result c.begin_claims.ensures.walk.0 c.begin_claims.ensures.walk.1 c.layout.ensures));
+            (missed_all c.args.table.now.layout c.make_entry_without_leaf.new.build.walk c.args.seat.now c.args.seat.now.known.steps _ _
+            (c.make_entry_without_leaf.ensures.makes.commits ∙ c.begin_claims.ensures.walk.2) (c.in_default.ensures.makes.walk c.args.seat.now
+            (walk_begins c.args.table.now.layout c.args.seat.now c.begin_claims.new.self c.layout.result c.begin_claims.ensures.walk.0 c.begin_claims.ensures.walk.1 c.layout.ensures)));
       },
     )
 
