@@ -16,7 +16,8 @@ use hot_index::Kind;
 pub extern "C" fn hot_uncommitted(handle: &mut IndexHandle, kind: u32, left: &mut u64) -> u32
     ensures closed { handle.old.cell.opened ≡ None → (result ≡ CLOSED) × (handle.new.cell.opened ≡ None) × (left.new ≡ left.old) }
     ensures range { IsSome handle.old.cell.opened → RECORD_KINDS ≤ kind → (result ≡ OUT_OF_RANGE) × (handle.new ≡ handle.old) × (left.new ≡ left.old) }
-    ensures found { IsSome handle.old.cell.opened → kind < RECORD_KINDS → (result ≡ DONE) × StaysOpen (TellsUncommitted kind left.new) handle.old.cell.opened handle.new.cell.opened }
+    ensures found { IsSome handle.old.cell.opened → kind < RECORD_KINDS →
+        (result ≡ DONE) × StaysOpen (TellsUncommitted kind left.new) handle.old.cell.opened handle.new.cell.opened }
     ensures place { handle.new.place ≡ handle.old.place }
 {
     if !handle.is_open() {
@@ -36,7 +37,8 @@ pub extern "C" fn hot_uncommitted(handle: &mut IndexHandle, kind: u32, left: &mu
 pub extern "C" fn hot_commit(handle: &mut IndexHandle, kind: u32, count: u64, left: &mut u64) -> u32
     ensures closed { handle.old.cell.opened ≡ None → (result ≡ CLOSED) × (handle.new.cell.opened ≡ None) × (left.new ≡ left.old) }
     ensures range { IsSome handle.old.cell.opened → RECORD_KINDS ≤ kind → (result ≡ OUT_OF_RANGE) × (handle.new ≡ handle.old) × (left.new ≡ left.old) }
-    ensures found { IsSome handle.old.cell.opened → kind < RECORD_KINDS → (result ≡ DONE) × StaysOpen (TellsUncommitted kind left.new) handle.old.cell.opened handle.new.cell.opened }
+    ensures found { IsSome handle.old.cell.opened → kind < RECORD_KINDS →
+        (result ≡ DONE) × StaysOpen (TellsUncommitted kind left.new) handle.old.cell.opened handle.new.cell.opened }
     ensures place { handle.new.place ≡ handle.old.place }
 {
     if !handle.is_open() {

@@ -72,8 +72,8 @@ pub record HasEnoughFree (call : Call) (bounds : List ℕ) (core : Core) : Type 
   pub nodes : HasFreeNodes bounds core
   pub leaf : IsNoRemoval call → HasFreeLeaf bounds core (key_of call)
 
--- A change that is alone is answered, where enough records were free when it began, and its pass knew them to be committed. The premise on the pass's earlier calls, that they are
--- legal, holds between any two calls.
+-- A change that is alone is answered, where enough records were free when it began, and its pass knew them to be committed. The premise on
+-- the pass's earlier calls, that they are legal, holds between any two calls.
 pub record AloneChangesEnd {G : Type 0} (becomes : G → Event → G → Type 0) : Type 0 where
   -- a change that doesn't wait
   pub reply : (index : TableView) (call : Call) (result : Result Reply TryFault) (before later : PassView × G) →

@@ -16,9 +16,9 @@ pub fn one_pass_is_never_busy()
     ensures { OnePassIsNeverBusy }
 {}
 
-/// Let a call be alone. When it began, no other pass had a lock or a record of its own; others may have been stopped within look-ups. While it
-/// runs, no other pass makes a step. The call is never busy. If it takes no record, as one that gives a held key a new value, it gets its reply. A form that waits makes just
-/// one try then. The first call of a new index is alone, if no other pass makes a step.
+/// Let a call be alone. When it began, no other pass had a lock or a record of its own; others may have been stopped within look-ups. While
+/// it runs, no other pass makes a step. The call is never busy. If it takes no record, as one that gives a held key a new value, it gets its
+/// reply. A form that waits makes just one try then. The first call of a new index is alone, if no other pass makes a step.
 pub fn alone_calls_end<G: Gate>()
     ensures { AloneCallsEnd G.becomes }
 {}

@@ -101,7 +101,8 @@ pub fn attempt<G: Gate>(
     ensures loaded { HasLoadedRoot seat.old.known seat.new.known }
     ensures rest { IsAtRest seat.new.known }
     ensures answered { IfOk result (HasAnswered seat.old.known seat.new.known call.now) }
-    ensures refused { IfErr result (HasRefused table.now.layout (bounds_for call.now seat.old.bounds) (the_key call.now) seat.old.known seat.new.known build.new.made.items) }
+    ensures refused { IfErr result
+        (HasRefused table.now.layout (bounds_for call.now seat.old.bounds) (the_key call.now) seat.old.known seat.new.known build.new.made.items) }
     ensures leafless { LacksNoLeaf TryFault.FullLeaves call.now result }
     ensures full { IfErr result (IsFullOnlyIfWanting seat.new.known call.now) }
     ensures few { seat.new.known.steps ≤ seat.old.known.steps + most_steps_of call.now table.now.layout }
@@ -350,7 +351,8 @@ fn publish_or_undo<G: Gate>(
     ensures run { HasRun table.now G.becomes (seat.old, gate.old) (seat.new, gate.new) }
     ensures changed { result ≡ Ok tt → (x : Change) (was : Option ℕ) → MayReplace table.now seat.old build.old.made.items job.now raised x was →
         HasChanged seat.old.known seat.new.known x was }
-    ensures failed { IfErr result (λ fault. (fault ≡ TryFault.Busy) × HasFailed table.now.layout seat.old.bounds job.now seat.old.known seat.new.known build.new.made.items fault) }
+    ensures failed { IfErr result (λ fault. (fault ≡ TryFault.Busy) ×
+        HasFailed table.now.layout seat.old.bounds job.now seat.old.known seat.new.known build.new.made.items fault) }
     ensures few { seat.new.known.steps ≤
         seat.old.known.steps + held_loads job.now.found + length build.old.made.items + length (leaf_gone raised.leaf) + locks_of job.now.span + 3 }
     ensures spares { job.now.span.end < raised.low → KeepsSpare table.now.layout seat.old seat.new }
