@@ -91,6 +91,15 @@ static heap_pages *map_table(const heap_table *of) {
     return made;
 }
 
+int heap_may_map(size_t bytes) {
+    void *at = mmap(NULL, IN_PAGES + bytes, PROT_READ | PROT_WRITE, MAP_PRIVATE | MAP_ANONYMOUS | MAP_NORESERVE, -1, 0);
+    return at != MAP_FAILED && munmap(at, IN_PAGES + bytes) == 0;
+}
+
+int heap_is_used(const heap_pages *table, size_t place) {
+    return table != NULL && place < table->of.bytes && *(const uint64_t *)((const char *)table + IN_PAGES + place) != 0;
+}
+
 /* One of the two blocks of which the table is made, or NULL. */
 static void *table_block(void) {
     if (making.table == NULL)
@@ -381,7 +390,7 @@ void heap_end_load(heap_pages *table) {
             ;
 }
 
-size_t heap_held(const heap_pages *table) {
+size_t heap_held(const heap_pages *table, const size_t *committed) {
     const heap_table *of = &table->of;
     char *begin, *last, *end = page_at(table, of->from[0]);
     size_t range, kind, held = held_of((char *)table, end, end);
@@ -391,7 +400,8 @@ size_t heap_held(const heap_pages *table) {
         end = page_at(table, begin_of(of, range + 1));
         last = end - (uintptr_t)end % HUGE_PAGE; /* where a huge page of the next range may begin */
         last = last < begin ? begin : last;
-        held += held_of(begin, last, page_at(table, of->from[kind] + of->first[kind])) + held_of(last, end, end);
+        held += held_of(begin, last, page_at(table, of->from[kind] + (committed != NULL ? committed : of->first)[kind]));
+        held += held_of(last, end, end);
     }
     return held;
 }

@@ -47,8 +47,15 @@ size_t heap_asked(void);
 typedef struct heap_pages heap_pages;
 heap_pages *heap_take_pages(void);
 
-/* How many bytes of its pages take memory. The system may count those that were only read. */
-size_t heap_held(const heap_pages *table);
+/* Whether the system lets a table have so many bytes of addresses, which may exceed all memory. */
+int heap_may_map(size_t bytes);
+
+/* Whether there is a word at this place of a table, and it isn't 0. */
+int heap_is_used(const heap_pages *table, size_t place);
+
+/* How many bytes of its pages take memory. The system may count those that were only read. If a table has no ranges of its handles, they are among so
+ * many bytes of each kind, and few behind these. */
+size_t heap_held(const heap_pages *table, const size_t *committed);
 
 /* Puts a huge page in the place of a piece of the table that has filled, if the next few that it looks at have one, and the system has one. */
 void heap_fill(heap_pages *table);

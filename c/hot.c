@@ -8,6 +8,7 @@
 #include <stdlib.h>
 #include <string.h>
 #include <time.h>
+#include <unistd.h>
 
 uint32_t hot_version(void) {
     return HOT_VERSION_MAJOR << 16 | HOT_VERSION_MINOR << 8 | HOT_VERSION_PATCH;
@@ -52,9 +53,6 @@ const char *hot_status_text(hot_status status) {
 
 static const hot_stock no_stock = {0, 0, 0, 0, 0, 0};
 
-/* At least as many as any index has. */
-static const hot_stock all_records = {UINT32_MAX, UINT32_MAX, UINT32_MAX, UINT32_MAX, UINT32_MAX, UINT32_MAX};
-
 void hot_stock_for_keys(uint32_t keys, size_t longest, hot_stock *stock) {
     if (is_processor_new())
         proved_stock_for_keys(keys, longest, stock);
@@ -73,80 +71,6 @@ hot_status hot_stock_bytes(const hot_stock *stock, size_t handles, size_t *bytes
     return is_processor_new() ? proved_stock_bytes(stock, handles, bytes) : HOT_OLD_PROCESSOR;
 }
 
-/* The proved calls that look something up, as they are: in the table of now, if the index grows. */
-
-/* Looks a key up in an index that grows. Not inline, so that a look-up in another saves no words for it. */
-static __attribute__((noinline)) hot_status get_growing(hot_handle *handle, const uint8_t *key, size_t length, uint64_t *value) {
-    return looked(handle, proved_get(look(handle), key, length, value));
-}
-
-hot_status hot_get(hot_handle *handle, const uint8_t *key, size_t length, uint64_t *value) {
-    return handle->tag == GROWS ? get_growing(handle, key, length, value) : proved_get(handle, key, length, value);
-}
-
-hot_status hot_scan(hot_handle *handle, const uint8_t *from, size_t from_length, const uint8_t *upto, size_t upto_length, hot_pair *pairs,
-                    size_t limit, size_t *count, uint32_t *more) {
-    return looked(handle, proved_scan(look(handle), from, from_length, upto, upto_length, pairs, limit, count, more));
-}
-
-hot_status hot_scan_reverse(hot_handle *handle, const uint8_t *from, size_t from_length, const uint8_t *upto, size_t upto_length,
-                            hot_pair *pairs, size_t limit, size_t *count, uint32_t *more) {
-    return looked(handle, proved_scan_reverse(look(handle), from, from_length, upto, upto_length, pairs, limit, count, more));
-}
-
-hot_status hot_scan_last(hot_handle *handle, const uint8_t *from, size_t from_length, const uint8_t *upto, size_t upto_length,
-                         hot_pair *pairs, size_t limit, size_t *count, uint32_t *more) {
-    return looked(handle, proved_scan_last(look(handle), from, from_length, upto, upto_length, pairs, limit, count, more));
-}
-
-hot_status hot_scan_packed(hot_handle *handle, const uint8_t *from, size_t from_length, const uint8_t *upto, size_t upto_length,
-                           uint8_t *bytes, size_t room, hot_head *heads, size_t limit, size_t *count, uint32_t *more) {
-    return looked(handle, proved_scan_packed(look(handle), from, from_length, upto, upto_length, bytes, room, heads, limit, count, more));
-}
-
-hot_status hot_scan_packed_reverse(hot_handle *handle, const uint8_t *from, size_t from_length, const uint8_t *upto, size_t upto_length,
-                                   uint8_t *bytes, size_t room, hot_head *heads, size_t limit, size_t *count, uint32_t *more) {
-    return looked(handle, proved_scan_packed_reverse(look(handle), from, from_length, upto, upto_length, bytes, room, heads, limit, count, more));
-}
-
-hot_status hot_scan_values(hot_handle *handle, const uint8_t *from, size_t from_length, const uint8_t *upto, size_t upto_length,
-                           uint64_t *values, size_t limit, size_t *count, uint32_t *more) {
-    return looked(handle, proved_scan_values(look(handle), from, from_length, upto, upto_length, values, limit, count, more));
-}
-
-hot_status hot_first(hot_handle *handle, const uint8_t *from, size_t length, hot_pair *pair) {
-    return looked(handle, proved_first(look(handle), from, length, pair));
-}
-
-hot_status hot_last(hot_handle *handle, const uint8_t *upto, size_t length, hot_pair *pair) {
-    return looked(handle, proved_last(look(handle), upto, length, pair));
-}
-
-hot_status hot_count(hot_handle *handle, const uint8_t *from, size_t from_length, const uint8_t *upto, size_t upto_length, size_t *count) {
-    return looked(handle, proved_count(look(handle), from, from_length, upto, upto_length, count));
-}
-
-hot_status hot_count_prefix(hot_handle *handle, const uint8_t *prefix, size_t length, size_t *count) {
-    return looked(handle, proved_count_prefix(look(handle), prefix, length, count));
-}
-
-hot_status hot_census(hot_handle *handle, hot_counts *counts) {
-    return looked(handle, proved_census(look(handle), counts));
-}
-
-hot_status hot_collect(hot_handle *handle, uint32_t *nodes, uint32_t *leaves) {
-    if (handle->tag == GROWS)
-        free_left(handle->place->index->grower);
-    return looked(handle, proved_collect(look(handle), nodes, leaves));
-}
-
-hot_status hot_number(hot_handle *handle, uint16_t *number) {
-    if (handle->tag != GROWS)
-        return proved_number(handle, number);
-    *number = (uint16_t)(handle->place - handle->place->index->places);
-    return HOT_DONE;
-}
-
 /* A key of no bytes may be NULL here, but not where a proved call takes it. */
 static const uint8_t *not_null(const uint8_t *key, size_t length) {
     return length > 0 ? key : hot_last_key;
@@ -156,16 +80,16 @@ hot_status hot_scan_prefix(hot_handle *handle, const uint8_t *prefix, size_t len
                            hot_pair *pairs, size_t limit, size_t *count, uint32_t *more) {
     prefix = not_null(prefix, length);
     if (after == NULL)
-        return looked(handle, proved_scan_whole_prefix(look(handle), prefix, length, pairs, limit, count, more));
-    return looked(handle, proved_scan_prefix_after(look(handle), prefix, length, after, after_length, pairs, limit, count, more));
+        return proved_scan_whole_prefix(handle, prefix, length, pairs, limit, count, more);
+    return proved_scan_prefix_after(handle, prefix, length, after, after_length, pairs, limit, count, more);
 }
 
 hot_status hot_scan_prefix_reverse(hot_handle *handle, const uint8_t *prefix, size_t length, const uint8_t *before, size_t before_length,
                                    hot_pair *pairs, size_t limit, size_t *count, uint32_t *more) {
     prefix = not_null(prefix, length);
     if (before == NULL)
-        return looked(handle, proved_scan_whole_prefix_reverse(look(handle), prefix, length, pairs, limit, count, more));
-    return looked(handle, proved_scan_prefix_before(look(handle), prefix, length, before, before_length, pairs, limit, count, more));
+        return proved_scan_whole_prefix_reverse(handle, prefix, length, pairs, limit, count, more);
+    return proved_scan_prefix_before(handle, prefix, length, before, before_length, pairs, limit, count, more);
 }
 
 hot_status hot_each(hot_handle *handle, const uint8_t *from, size_t from_length, const uint8_t *upto, size_t upto_length,
@@ -211,13 +135,154 @@ static __attribute__((cold, noinline)) hot_status note_refusal(hot_refusals *to,
     return status;
 }
 
-/* A handle looks at the pieces of the table each time it has put so many more keys in. */
-enum { KEYS_TO_A_LOOK = 4096 };
+/* A record of each kind has so many bytes: a node, and leaves by their size. */
+static const uint32_t bytes_of[HEAP_KINDS] = {464, 32, 48, 80, 112, 264};
 
-/* Looks whether a piece of the table has filled, unless another call does. Returns what the try has come to. */
-static __attribute__((cold, noinline)) hot_status look_at_pieces(hot_place *place, hot_status status) {
+/* The kind of the smallest leaves with room for a key of this length. */
+static uint32_t kind_for(size_t length) {
+    return length <= 8 ? 1 : length <= 24 ? 2 : length <= 56 ? 3 : length <= 88 ? 4 : 5;
+}
+
+/* How many records of a kind are committed, as far as a call has seen. */
+static uint32_t committed_of(const hot_index *index, uint32_t kind) {
+    return __atomic_load_n(&index->committed[kind], __ATOMIC_RELAXED);
+}
+
+/* Takes room for so many records of a kind, or fewer, out of what the index may commit: for an eighth of that at most, but for one where it is less,
+ * so that each kind gets some of the last. Leaves leave room for an eighth more nodes: where keys come and go, as many keys need more. Returns for how
+ * many; for none if these are too few. */
+static uint64_t take_room(hot_index *index, uint32_t kind, uint64_t count, uint64_t least) {
+    size_t size = bytes_of[kind], left, taken = __atomic_load_n(&index->taken, __ATOMIC_RELAXED);
+    size_t most = index->most - (kind == 0 ? 0 : (size_t)committed_of(index, 0) * bytes_of[0] / 8);
+    do {
+        left = taken < most ? most - taken : 0;
+        if (count > left / 8 / size)
+            count = left / 8 >= size ? left / 8 / size : count > 0 && left >= size;
+        if (count < least)
+            return 0;
+    } while (count > 0 && !__atomic_compare_exchange_n(&index->taken, &taken, taken + count * size, 0, __ATOMIC_RELAXED, __ATOMIC_RELAXED));
+    return count;
+}
+
+/* Notes that so many records of a kind are uncommitted, and gives back the room that was taken for some. The first call that sees that a record is
+ * committed counts it. So no record goes uncounted: until it is counted, who committed it has taken room for it, unless a removal did. */
+static void note_committed(hot_index *index, uint32_t kind, uint64_t left, uint64_t room) {
+    const uint32_t *reserved = &index->reserved[kind];
+    uint32_t is = (uint32_t)(*reserved - left), was = committed_of(index, kind);
+    while (was < is && !__atomic_compare_exchange_n(&index->committed[kind], &was, is, 0, __ATOMIC_RELAXED, __ATOMIC_RELAXED))
+        ;
+    __atomic_add_fetch(&index->taken, ((was < is ? is - was : 0) - room) * bytes_of[kind], __ATOMIC_RELAXED);
+}
+
+/* A handle commits so many records of a kind at least, where there is room. So many are to be before it: more than it mostly claims until it looks
+ * again. */
+enum { LEAST_COMMITTED = 256, AHEAD = 128 };
+
+/* Commits more records of a kind, which the handle then claims: an eighth of those that are, shared among the handles; ahead of need only where
+ * there is room for all of these. Returns whether there was room; writes how many there were to commit. */
+static int commit_more(hot_handle *handle, uint32_t kind, int is_ahead, uint64_t *left) {
+    hot_index *index = handle->place->index;
+    uint64_t room, more;
+    proved_uncommitted(handle, kind, left);
+    note_committed(index, kind, *left, 0);
+    more = committed_of(index, kind) / 8 / __atomic_load_n(&index->opened, __ATOMIC_RELAXED);
+    more = more > LEAST_COMMITTED ? more : LEAST_COMMITTED;
+    more = more < *left ? more : *left;
+    room = take_room(index, kind, more, is_ahead ? more : 1);
+    if (room == 0)
+        return 0;
+    proved_commit(handle, kind, room, left);
+    note_committed(index, kind, *left, room);
+    return 1;
+}
+
+/* The bytes of all records, with pins and what stands before them; of those that are committed, if an index grows. */
+static size_t bytes_committed(const hot_index *index) {
+    return index->grows ? __atomic_load_n(&index->taken, __ATOMIC_RELAXED) : index->holds.table;
+}
+
+/* What a change lacked. */
+typedef struct lack {
+    int node, leaf;
+    int are_used; /* whether each committed leaf is in use that it could take: none comes back */
+} lack;
+
+/* What a change lacked that was held back, by a count: leaves for its key, of a kind or larger ones, or else nodes. A change doesn't go on to larger
+ * leaves behind a kind of which some are uncommitted, but by the proved calls these may come back. */
+static lack count_lack(hot_handle *handle, uint32_t kind) {
+    const hot_index *index = handle->place->index;
+    hot_counts counts;
+    hot_states all[HEAP_KINDS];
+    lack found = {1, 0, 0};
+    uint64_t free = 0, back = 0;
+    if (proved_census(handle, &counts) != HOT_DONE)
+        return found;
+    memcpy(all, &counts, sizeof all);
+    for (; kind < HEAP_KINDS; kind++) {
+        free += all[kind].free;
+        back += all[kind].held + (uint64_t)all[kind].obsolete;
+        if (committed_of(index, kind) < index->reserved[kind])
+            break;
+    }
+    found.leaf = free == 0;
+    found.are_used = free + back == 0;
+    found.node = free > 0 || counts.nodes.free < AHEAD;
+    return found;
+}
+
+/* Commits records for a change of a key of this length, which lacked some. Returns whether it is to be tried again. If not, it is refused for want of
+ * memory where the index has as many records as memory lets it, and all are committed. */
+static __attribute__((cold, noinline)) int commit_for(hot_handle *handle, size_t length, hot_status *status) {
+    const hot_index *index = handle->place->index;
+    uint32_t kind = kind_for(length);
+    lack of = {0, 0, 0};
+    uint64_t nodes = 1, leaves = 1;
+    int is_made = 0, is_more;
+    if (!index->is_reserved)
+        return 0;
+    of.node = *status == HOT_FULL_NODES;
+    of.leaf = *status == HOT_FULL_LEAVES;
+    if (*status == HOT_HELD_BACK)
+        of = count_lack(handle, kind);
+    if (of.node)
+        is_made = commit_more(handle, 0, 0, &nodes);
+    for (; of.leaf && kind < HEAP_KINDS; kind++) {
+        is_more = commit_more(handle, kind, 0, &leaves);
+        is_made |= is_more;
+        if (is_more || leaves > 0)
+            break;
+    }
+    if (!is_made && of.are_used)
+        *status = HOT_FULL_LEAVES;
+    if (!is_made && (nodes == 0 || leaves == 0) && index->grows && bytes_committed(index) < index->most && *status != HOT_HELD_BACK)
+        *status = HOT_NO_MEMORY;
+    return is_made;
+}
+
+/* A handle looks at the pieces of the table each time it has put so many keys in. Where records are committed as they are needed, it looks more often
+ * whether some are before it. */
+enum { KEYS_TO_A_LOOK = 4096, KEYS_TO_A_COMMIT = 64 };
+
+/* Commits nodes, and leaves for keys of this length, if too few are before the handle. */
+static void commit_ahead(hot_handle *handle, size_t length) {
+    uint64_t left;
+    if (proved_is_short_of(handle, 0, AHEAD))
+        commit_more(handle, 0, 1, &left);
+    if (proved_is_short_of(handle, kind_for(length), AHEAD))
+        commit_more(handle, kind_for(length), 1, &left);
+}
+
+/* Looks whether records are to be committed, and whether a piece of the table has filled, unless another call does. Returns what the try has come
+ * to. */
+static __attribute__((cold, noinline)) hot_status look_ahead(hot_handle *handle, size_t length, hot_status status) {
+    hot_place *place = handle->place;
     hot_index *index = place->index;
-    place->looks_at = (uint32_t)place->keys + KEYS_TO_A_LOOK;
+    place->to_a_look = index->is_reserved ? KEYS_TO_A_COMMIT : KEYS_TO_A_LOOK;
+    if (index->is_reserved) {
+        commit_ahead(handle, length);
+        if (++place->looks % (KEYS_TO_A_LOOK / KEYS_TO_A_COMMIT) != 0)
+            return status;
+    }
     if (__atomic_exchange_n(&index->filling, 1, __ATOMIC_ACQUIRE) == 0) {
         heap_fill(index->holds.pages);
         __atomic_store_n(&index->filling, 0, __ATOMIC_RELEASE);
@@ -225,90 +290,73 @@ static __attribute__((cold, noinline)) hot_status look_at_pieces(hot_place *plac
     return status;
 }
 
-/* Notes what a try has done with the number of keys, or that it was refused. Returns what it has come to. */
-static __attribute__((noinline)) hot_status note(hot_place *place, hot_status status) {
+/* What `note` returns where a change is to be tried again, and what it takes for the length of a key that is to be removed: for that nothing is
+ * committed. */
+enum { AGAIN = HOT_FIXED + 1 };
+static const size_t removed = SIZE_MAX;
+
+/* Notes what a try has done with the number of keys, or that it was refused, unless records were committed for it. Returns what it has come to. */
+static __attribute__((noinline)) hot_status note(hot_handle *handle, size_t length, hot_status status) {
+    hot_place *place = handle->place;
     if (status == HOT_INSERTED || status == HOT_NEW) {
         add_to(&place->keys, 1);
-        return (uint32_t)place->keys == place->looks_at ? look_at_pieces(place, status) : status;
+        return --place->to_a_look == 0 ? look_ahead(handle, length, status) : status;
     }
     if (status != HOT_REMOVED)
-        return note_refusal(&place->refusals, status);
+        return status != HOT_BUSY && length != removed && commit_for(handle, length, &status) ? AGAIN : note_refusal(&place->refusals, status);
     add_to(&place->keys, (uint64_t)-1);
     return status;
 }
 
 /* What a try has come to, which is noted where there is something to note. */
-static __inline__ hot_status tried(hot_handle *handle, hot_status status) {
+static __inline__ hot_status tried(hot_handle *handle, size_t length, hot_status status) {
     static const uint32_t noted = 1u << HOT_INSERTED | 1u << HOT_NEW | 1u << HOT_REMOVED | 1u << HOT_BUSY | 1u << HOT_HELD_BACK |
                                   1u << HOT_FULL_NODES | 1u << HOT_FULL_LEAVES;
-    return noted >> status & 1 ? note(handle->place, status) : status;
-}
-
-/* The changes of a key. */
-typedef enum change { INSERT, UPSERT, EXCHANGE, ADD, REMOVE, REMOVE_IF } change;
-
-/* Tries to make a change in an index that grows, with the one value that it takes or two. Not inline, so that the others save no words for it. */
-static __attribute__((noinline)) hot_status try_growing(hot_handle *handle, change kind, const uint8_t *key, size_t length, uint64_t first,
-                                                        uint64_t second, uint64_t *had) {
-    hot_handle *in = begin_change(handle, key, length);
-    hot_status status;
-    switch (kind) {
-    case INSERT: status = proved_try_insert(in, key, length, first, had); break;
-    case UPSERT: status = proved_try_upsert(in, key, length, first, had); break;
-    case EXCHANGE: status = proved_try_exchange(in, key, length, first, second, had); break;
-    case ADD: status = proved_try_add(in, key, length, first, had); break;
-    case REMOVE: status = proved_try_remove(in, key, length, had); break;
-    default: status = proved_try_remove_if(in, key, length, first, had);
-    }
-    return tried(handle, end_change(handle, key, length, status));
+    return noted >> status & 1 ? note(handle, length, status) : status;
 }
 
 hot_status hot_try_insert(hot_handle *handle, const uint8_t *key, size_t length, uint64_t value, uint64_t *had) {
+    hot_status status;
     uint64_t unread;
     had = had ? had : &unread;
-    if (handle->tag == GROWS)
-        return try_growing(handle, INSERT, key, length, value, 0, had);
-    return tried(handle, proved_try_insert(handle, key, length, value, had));
+    do
+        status = tried(handle, length, proved_try_insert(handle, key, length, value, had));
+    while (status == AGAIN);
+    return status;
 }
 
 hot_status hot_try_upsert(hot_handle *handle, const uint8_t *key, size_t length, uint64_t value, uint64_t *had) {
+    hot_status status;
     uint64_t unread;
     had = had ? had : &unread;
-    if (handle->tag == GROWS)
-        return try_growing(handle, UPSERT, key, length, value, 0, had);
-    return tried(handle, proved_try_upsert(handle, key, length, value, had));
+    do
+        status = tried(handle, length, proved_try_upsert(handle, key, length, value, had));
+    while (status == AGAIN);
+    return status;
 }
 
 hot_status hot_try_remove(hot_handle *handle, const uint8_t *key, size_t length, uint64_t *had) {
     uint64_t unread;
     had = had ? had : &unread;
-    if (handle->tag == GROWS)
-        return try_growing(handle, REMOVE, key, length, 0, 0, had);
-    return tried(handle, proved_try_remove(handle, key, length, had));
+    return tried(handle, removed, proved_try_remove(handle, key, length, had));
 }
 
 hot_status hot_try_exchange(hot_handle *handle, const uint8_t *key, size_t length, uint64_t expected, uint64_t value, uint64_t *had) {
     uint64_t unread;
     had = had ? had : &unread;
-    if (handle->tag == GROWS)
-        return try_growing(handle, EXCHANGE, key, length, expected, value, had);
-    return tried(handle, proved_try_exchange(handle, key, length, expected, value, had));
+    return tried(handle, removed, proved_try_exchange(handle, key, length, expected, value, had));
 }
 
 hot_status hot_try_add(hot_handle *handle, const uint8_t *key, size_t length, uint64_t delta, uint64_t *had) {
     uint64_t unread;
     had = had ? had : &unread;
-    if (handle->tag == GROWS)
-        return try_growing(handle, ADD, key, length, delta, 0, had);
-    return tried(handle, proved_try_add(handle, key, length, delta, had));
+    return tried(handle, removed, proved_try_add(handle, key, length, delta, had));
 }
 
 hot_status hot_try_remove_if(hot_handle *handle, const uint8_t *key, size_t length, uint64_t expected, uint64_t *had) {
     uint64_t unread;
     had = had ? had : &unread;
-    if (handle->tag == GROWS)
-        return try_growing(handle, REMOVE_IF, key, length, expected, 0, had);
-    return tried(handle, proved_try_remove_if(handle, key, length, expected, had));
+    return tried(handle, removed, proved_try_remove_if(handle, key, length, expected, had));
 }
 
 /* Sleeps so many nanoseconds, and twice as long for each time that it has slept before, up to 32 times as long. That would be a cancellation point,
@@ -368,19 +416,12 @@ int hot_wait(hot_status status, hot_waits *so_far) {
     return is_to_wait(status, so_far);
 }
 
-/* The same for a change of a key of this length, whose index may grow: it does so where it is full, or where records are held back for long. */
-static int is_to_try(hot_handle *handle, size_t length, hot_status *status, hot_waits *so_far) {
-    enum { LONG = 4 };
-    int is_full = *status == HOT_FULL_NODES || *status == HOT_FULL_LEAVES || (*status == HOT_HELD_BACK && so_far->sleeps >= LONG);
-    return (is_full && handle->tag == GROWS && grow_for(handle, length, status)) || is_to_wait(*status, so_far);
-}
-
 hot_status hot_insert(hot_handle *handle, const uint8_t *key, size_t length, uint64_t value, uint64_t *had) {
     hot_waits so_far = HOT_NO_WAITS;
     hot_status status;
     do
         status = hot_try_insert(handle, key, length, value, had);
-    while (is_to_try(handle, length, &status, &so_far));
+    while (is_to_wait(status, &so_far));
     return status;
 }
 
@@ -389,7 +430,7 @@ hot_status hot_upsert(hot_handle *handle, const uint8_t *key, size_t length, uin
     hot_status status;
     do
         status = hot_try_upsert(handle, key, length, value, had);
-    while (is_to_try(handle, length, &status, &so_far));
+    while (is_to_wait(status, &so_far));
     return status;
 }
 
@@ -398,7 +439,7 @@ hot_status hot_remove(hot_handle *handle, const uint8_t *key, size_t length, uin
     hot_status status;
     do
         status = hot_try_remove(handle, key, length, had);
-    while (is_to_try(handle, length, &status, &so_far));
+    while (is_to_wait(status, &so_far));
     return status;
 }
 
@@ -407,7 +448,7 @@ hot_status hot_exchange(hot_handle *handle, const uint8_t *key, size_t length, u
     hot_status status;
     do
         status = hot_try_exchange(handle, key, length, expected, value, had);
-    while (is_to_try(handle, length, &status, &so_far));
+    while (is_to_wait(status, &so_far));
     return status;
 }
 
@@ -416,7 +457,7 @@ hot_status hot_remove_if(hot_handle *handle, const uint8_t *key, size_t length, 
     hot_status status;
     do
         status = hot_try_remove_if(handle, key, length, expected, had);
-    while (is_to_try(handle, length, &status, &so_far));
+    while (is_to_wait(status, &so_far));
     return status;
 }
 
@@ -425,7 +466,7 @@ hot_status hot_add(hot_handle *handle, const uint8_t *key, size_t length, uint64
     hot_status status;
     do
         status = hot_try_add(handle, key, length, delta, had);
-    while (is_to_try(handle, length, &status, &so_far));
+    while (is_to_wait(status, &so_far));
     return status;
 }
 
@@ -532,30 +573,51 @@ void hot_stats(const hot_index *index, hot_refusals *stats) {
     }
 }
 
+/* Waits until the word is 0, and makes it 1. Two are locked at once by hot_stamp, which takes `telling` first, and by hot_trim, which takes `opening`. */
+static void lock_word(uint32_t *word) {
+    hot_waits so_far = HOT_NO_WAITS;
+    while (__atomic_exchange_n(word, 1, __ATOMIC_SEQ_CST) != 0)
+        wait_for_call(&so_far);
+}
+
+static void unlock_word(uint32_t *word) {
+    __atomic_store_n(word, 0, __ATOMIC_SEQ_CST);
+}
+
 /* The bytes of an index without its table and long lists, if so many handles have been opened. */
 static size_t bytes_beside_table(const hot_index *index, size_t opened) {
     enum { SECTION = 128 };
     return sizeof *index + index->count * (sizeof *index->places + SECTION) + opened * (index->holds.lists + index->holds.scanned);
 }
 
+hot_status hot_census(hot_handle *handle, hot_counts *counts) {
+    hot_status status = proved_census(handle, counts);
+    if (status == HOT_DONE)
+        counts->bytes = bytes_committed(handle->place->index);
+    return status;
+}
+
+/* How many bytes of the table's pages take memory. */
+static size_t bytes_held(const hot_index *index) {
+    size_t committed[HEAP_KINDS];
+    uint32_t kind;
+    for (kind = 0; kind < HEAP_KINDS; kind++)
+        committed[kind] = (size_t)committed_of(index, kind) * bytes_of[kind];
+    return index->holds.pages == NULL ? index->holds.table : heap_held(index->holds.pages, index->is_reserved ? committed : NULL);
+}
+
 void hot_bytes(const hot_index *index, hot_memory *bytes) {
     const heap_lists *lists = &index->holds.long_lists;
     uint32_t *filling = (uint32_t *)&index->filling;
-    size_t place, held, opened = 1;
-    if (index->grower != NULL)
-        lock_word(filling);
-    /* First, since what it counts may go meanwhile. Of handles and pages of the table of now there only come more. */
-    held = grower_bytes(index);
-    for (place = 0; place < index->count; place++)
-        opened += __atomic_load_n(&index->places[place].state, __ATOMIC_SEQ_CST) != UNOPENED;
+    size_t opened = 1 + __atomic_load_n(&index->opened, __ATOMIC_RELAXED);
     opened = opened < index->count ? opened : index->count;
-    bytes->most = index->holds.table + lists->size + bytes_beside_table(index, index->count);
-    bytes->now = (index->holds.pages == NULL ? index->holds.table : heap_held(index->holds.pages)) + bytes_beside_table(index, opened) +
-                 heap_held_lists(lists);
-    if (index->grower != NULL)
+    if (index->grows)
+        lock_word(filling); /* hot_trim changes the table */
+    bytes->now = bytes_held(index) + bytes_beside_table(index, opened) + heap_held_lists(lists);
+    bytes->most = bytes_committed(index) + lists->size + bytes_beside_table(index, index->count);
+    bytes->most = bytes->most > bytes->now ? bytes->most : bytes->now; /* removals commit nodes that may not be counted yet */
+    if (index->grows)
         unlock_word(filling);
-    bytes->most += held;
-    bytes->now += held;
 }
 
 void hot_stock_for_lengths(const uint32_t *keys, hot_stock *stock) {
@@ -586,7 +648,7 @@ static hot_status get_few(hot_handle *handle, hot_lookup *lookups, size_t count)
     __attribute__((aligned(16))) char room[KEYS_AT_ONCE * FOR_A_KEY];
     hot_status status;
     heap_lend(room, sizeof room);
-    status = looked(handle, proved_get_many(look(handle), lookups, count));
+    status = proved_get_many(handle, lookups, count);
     heap_take_back();
     return status;
 }
@@ -631,25 +693,23 @@ hot_status hot_get_packed(hot_handle *handle, const uint8_t *bytes, const size_t
     return status;
 }
 
-void free_held(holding *holds) {
-    heap_unmap_lists(&holds->long_lists);
-}
+/* How many indexes there are that grow. */
+static size_t growing;
 
-void free_index(hot_index *index) {
+static void free_index(hot_index *index) {
     size_t place;
-    if (index->grower != NULL)
-        free_grower(index->grower);
     for (place = 0; place < index->count; place++)
         proved_close_section(&index->places[place].section);
     proved_close_section(&index->next);
     proved_close_section(&index->sections);
-    if (index->grower == NULL)
-        free_held(&index->holds);
+    heap_unmap_lists(&index->holds.long_lists);
+    if (index->grows)
+        __atomic_sub_fetch(&growing, 1, __ATOMIC_RELAXED);
     free(index->places);
     free(index);
 }
 
-hot_status open_next_section(hot_index *index) {
+static hot_status open_next_section(hot_index *index) {
     hot_status status = proved_open_section(&index->sections, &index->next);
     return status == HOT_OPEN ? HOT_DONE : status;
 }
@@ -661,7 +721,7 @@ static void give_section(hot_place *place) {
     place->index->next = none;
 }
 
-hot_index *new_index(size_t count) {
+static hot_index *new_index(size_t count) {
     static const hot_handle closed = HOT_HANDLE;
     static const section_handle none = {0, {NULL}};
     static const holding nothing;
@@ -675,7 +735,8 @@ hot_index *new_index(size_t count) {
     index->keeper = index->teller = closed;
     index->opening = index->telling = index->filling = 0;
     index->holds = nothing;
-    index->grower = NULL;
+    index->opened = 0;
+    index->is_reserved = index->grows = 0;
     index->places = calloc(count, sizeof *index->places);
     if (index->places == NULL) {
         free(index);
@@ -683,7 +744,7 @@ hot_index *new_index(size_t count) {
     }
     for (place = 0; place < count; place++) {
         index->places[place].index = index;
-        index->places[place].looks_at = KEYS_TO_A_LOOK;
+        index->places[place].to_a_look = KEYS_TO_A_LOOK;
         index->places[place].state = UNOPENED;
     }
     if (proved_make_sections(count, &index->sections) != HOT_DONE) {
@@ -718,13 +779,14 @@ static void share_out(heap_table *table, int kind, size_t records, size_t size, 
 }
 
 /* The table of an index with this stock and so many handles: its records end where it does, and stand there in this order. None if a number is
- * out of range. */
-static heap_table table_of(const hot_stock *stock, size_t handles) {
+ * out of range. It may exceed all memory if its records are committed as they are needed. */
+static heap_table table_of(const hot_stock *stock, size_t handles, int is_reserved) {
     static const heap_table none;
     heap_table table = none;
     if (proved_stock_bytes(stock, handles, &table.bytes) != HOT_DONE)
         return table;
-    table.handles = handles;
+    table.handles = is_reserved ? 0 : handles; /* then each claims what it commits */
+    table.may_exceed_memory = is_reserved;
     table.from[HEAP_KINDS] = table.bytes;
     share_out(&table, 5, stock->long_leaves, 264, handles);
     share_out(&table, 4, stock->wide_leaves, 112, handles);
@@ -739,7 +801,7 @@ static heap_table table_of(const hot_stock *stock, size_t handles) {
 static void note_stock(holding *holds, const hot_stock *stock, size_t handles) {
     enum { MOST_SCANNED = 64 << 10, FOR_A_PAIR = 300 };
     uint64_t leaves = (uint64_t)stock->short_leaves + stock->medium_leaves + stock->large_leaves + stock->wide_leaves + stock->long_leaves;
-    holds->table = table_of(stock, handles).bytes;
+    holds->table = table_of(stock, handles, 1).bytes;
     holds->scanned = leaves < MOST_SCANNED / FOR_A_PAIR ? (size_t)leaves * FOR_A_PAIR : MOST_SCANNED;
 }
 
@@ -762,7 +824,7 @@ static hot_status placed(hot_status status, holding *holds, hot_handle *handles,
         else
             handles[place].place = &index->places[place];
     if (index == NULL) {
-        free_held(holds);
+        heap_unmap_lists(&holds->long_lists);
         return HOT_NO_MEMORY;
     }
     index->holds = *holds;
@@ -770,10 +832,9 @@ static hot_status placed(hot_status status, holding *holds, hot_handle *handles,
     return HOT_DONE;
 }
 
-/* Begins to make an index with this stock and so many handles, of which the table may exceed all memory or not. */
-static void begin_making(const hot_stock *stock, size_t count, int may_exceed_memory, holding *holds) {
-    heap_table table = table_of(stock, count);
-    table.may_exceed_memory = may_exceed_memory;
+/* Begins to make an index with this stock and so many handles, of which the records are committed as they are needed, or all at once. */
+static void begin_making(const hot_stock *stock, size_t count, int is_reserved, holding *holds) {
+    heap_table table = table_of(stock, count, is_reserved);
     note_stock(holds, stock, count);
     heap_map_lists(&holds->long_lists, table.bytes > 0 ? count : 0);
     heap_begin(&table, &holds->long_lists);
@@ -795,23 +856,11 @@ static hot_status end_making(hot_status status, hot_handle *handles, size_t coun
     return status;
 }
 
-/* Whether one of these handles is open that an index has which grows: no proved call sees that. */
-static int has_growing(const hot_handle *handles, size_t count) {
-    size_t place;
-    for (place = 0; place < count; place++)
-        if (handles[place].tag == GROWS)
-            return 1;
-    return 0;
-}
-
 hot_status hot_create(uint32_t nodes, uint32_t leaves, hot_handle *handles, size_t count) {
-    enum { MOST_NODES = 65535, MOST_LEAVES = 262143, MOST_HANDLES = 64 };
     hot_stock stock = {0, 0, 0, 0, 0, 0};
     holding holds;
     if (!is_processor_new())
         return HOT_OLD_PROCESSOR;
-    if (nodes - 1 < MOST_NODES && leaves - 1 < MOST_LEAVES && count - 1 < MOST_HANDLES && has_growing(handles, count))
-        return HOT_OPEN;
     stock.nodes = nodes;
     stock.long_leaves = leaves;
     begin_making(&stock, count, 0, &holds);
@@ -820,27 +869,36 @@ hot_status hot_create(uint32_t nodes, uint32_t leaves, hot_handle *handles, size
 
 hot_status hot_create_with(const hot_stock *stock, hot_handle *handles, size_t count) {
     holding holds;
-    size_t bytes;
     if (!is_processor_new())
         return HOT_OLD_PROCESSOR;
-    if (proved_stock_bytes(stock, count, &bytes) == HOT_DONE && has_growing(handles, count))
-        return HOT_OPEN;
     begin_making(stock, count, 0, &holds);
     return placed(end_making(proved_create_with(stock, handles, count), handles, count, &holds), &holds, handles, count);
 }
 
-/* The same as make_table, of a table that may exceed all memory or not. */
-static hot_status make_any_table(const hot_stock *stock, size_t handles, int may_exceed_memory, hot_handle *keeper, holding *holds) {
-    begin_making(stock, handles, may_exceed_memory, holds);
-    return end_making(proved_create_keeping(stock, &all_records, handles, keeper), keeper, 1, holds);
+/* What an index is to reserve, what of that is committed at first, and how many bytes may be. */
+typedef struct plan {
+    hot_stock reserved, first;
+    size_t most;
+    int grows; /* whether it has reserved as much as it could */
+} plan;
+
+/* Notes that an index was made so. */
+static void note_plan(hot_index *index, const plan *of) {
+    size_t place;
+    index->is_reserved = 1;
+    index->grows = of->grows;
+    index->most = of->most;
+    memcpy(index->reserved, &of->reserved, sizeof index->reserved);
+    memcpy(index->committed, &of->first, sizeof index->committed);
+    proved_stock_bytes(&of->first, index->count, &index->taken);
+    for (place = 0; place < index->count; place++)
+        index->places[place].to_a_look = 1;
+    if (of->grows)
+        __atomic_add_fetch(&growing, 1, __ATOMIC_RELAXED);
 }
 
-hot_status make_table(const hot_stock *stock, size_t handles, hot_handle *keeper, holding *holds) {
-    return make_any_table(stock, handles, 0, keeper, holds);
-}
-
-/* hot_open_index, of a table that may exceed all memory or not. */
-static hot_status open_index(const hot_stock *stock, size_t handles, int may_exceed_memory, hot_index **index) {
+/* Makes an index of this stock, all of which is committed if there is no plan. */
+static hot_status open_index(const hot_stock *stock, const plan *of, size_t handles, hot_index **index) {
     size_t bytes;
     hot_index *made;
     hot_status status = hot_stock_bytes(stock, handles, &bytes);
@@ -849,46 +907,138 @@ static hot_status open_index(const hot_stock *stock, size_t handles, int may_exc
     made = new_index(handles);
     if (made == NULL)
         return HOT_NO_MEMORY;
-    status = make_any_table(stock, handles, may_exceed_memory, &made->keeper, &made->holds);
-    if (status == HOT_DONE)
-        *index = made;
-    else
+    begin_making(stock, handles, of != NULL, &made->holds);
+    status = end_making(proved_create_keeping(stock, of != NULL ? &of->first : stock, handles, &made->keeper), &made->keeper, 1, &made->holds);
+    if (status != HOT_DONE) {
         free_index(made);
-    return status;
+        return status;
+    }
+    if (of != NULL)
+        note_plan(made, of);
+    *index = made;
+    return HOT_DONE;
 }
 
 hot_status hot_open_index(const hot_stock *stock, size_t handles, hot_index **index) {
-    return open_index(stock, handles, 0, index);
+    return open_index(stock, NULL, handles, index);
+}
+
+/* Has at least one record of each kind, or of each that another stock has. */
+static void have_one(hot_stock *stock, const hot_stock *of) {
+    uint32_t counts[HEAP_KINDS], its[HEAP_KINDS] = {1, 1, 1, 1, 1, 1};
+    int kind;
+    memcpy(counts, stock, sizeof counts);
+    if (of != NULL)
+        memcpy(its, of, sizeof its);
+    for (kind = 0; kind < HEAP_KINDS; kind++)
+        counts[kind] += counts[kind] == 0 && its[kind] > 0;
+    memcpy(stock, counts, sizeof counts);
 }
 
 hot_status hot_open_index_within(const hot_stock *stock, size_t handles, size_t most, hot_index **index) {
+    plan of;
     size_t bytes;
     hot_status status = hot_stock_bytes(stock, handles, &bytes);
     if (status != HOT_DONE)
         return status;
-    return bytes > most ? HOT_NO_MEMORY : open_index(stock, handles, 1, index);
+    if (bytes > most)
+        return HOT_NO_MEMORY;
+    of.reserved = *stock;
+    of.first = no_stock;
+    have_one(&of.first, stock);
+    of.most = most;
+    of.grows = 0;
+    return open_index(stock, &of, handles, index);
+}
+
+/* Plans to reserve for each kind of records as many bytes, if these are as many as are there at first. */
+static void reserve(plan *of, size_t bytes) {
+    static const uint64_t most_of_leaves = (uint64_t)50 << 30; /* all leaves together have numbers of 32 bits */
+    uint32_t counts[HEAP_KINDS];
+    int kind;
+    memcpy(counts, &of->first, sizeof counts);
+    for (kind = 0; kind < HEAP_KINDS; kind++) {
+        uint64_t its = (kind > 0 && bytes > most_of_leaves ? most_of_leaves : bytes) / bytes_of[kind];
+        its = its < UINT32_MAX ? its : UINT32_MAX;
+        counts[kind] = its > counts[kind] ? (uint32_t)its : counts[kind];
+    }
+    memcpy(&of->reserved, counts, sizeof counts);
+}
+
+/* Plans an index that grows, which has this stock at first, or a small one. It reserves as many bytes of each kind as there is memory, but no more than
+ * leaves addresses for many such indexes. Where the system refuses them, it reserves a quarter of what it lets one have. HOT_DONE; or HOT_OUT_OF_RANGE or HOT_OLD_PROCESSOR. */
+static hot_status plan_growing(const hot_stock *stock, size_t most, size_t handles, plan *of) {
+    static const hot_stock small = {16, 16, 16, 1, 1, 1};
+    static const size_t least = 192 << 10, all = (size_t)16 << 40;
+    enum { MOST_HANDLES = 1023, SEVERAL = 64 };
+    size_t bytes, memory = (size_t)sysconf(_SC_PHYS_PAGES) * page_size(),
+                  share = all / HEAP_KINDS / (SEVERAL + __atomic_load_n(&growing, __ATOMIC_RELAXED));
+    hot_status status = hot_stock_bytes(stock != NULL ? stock : &small, handles, &bytes);
+    int are_few = 0;
+    if (status != HOT_DONE)
+        return status;
+    of->first = stock != NULL ? *stock : small;
+    have_one(&of->first, NULL);
+    of->most = most;
+    of->grows = 1;
+    if (hot_stock_bytes(&of->first, handles, &bytes) != HOT_DONE || bytes > most || handles > MOST_HANDLES)
+        return HOT_OUT_OF_RANGE;
+    memory = memory < share ? memory : share;
+    memory = memory / 2 < most ? memory : 2 * most; /* removals may commit nodes beyond that */
+    for (memory = memory > least ? memory : least;; memory /= 2, are_few = 1) {
+        reserve(of, memory);
+        if (memory < least || (proved_stock_bytes(&of->reserved, handles, &bytes) == HOT_DONE && heap_may_map(bytes)))
+            break;
+    }
+    if (are_few && memory / 4 > least)
+        reserve(of, memory / 4); /* others want some, too */
+    return HOT_DONE;
+}
+
+hot_status hot_open_growing(const hot_stock *stock, size_t most, size_t handles, hot_index **index) {
+    plan of;
+    hot_status status = plan_growing(stock, most, handles, &of);
+    return status == HOT_DONE ? open_index(&of.reserved, &of, handles, index) : status;
+}
+
+/* What a load may take: in a table whose records are committed as they are needed, so many bytes. It fills nodes one after the other, from `from` on. */
+typedef struct bound {
+    size_t most, taken, nodes, from;
+    const heap_pages *words;
+} bound;
+
+/* Whether there may be one more leaf for a key of this length, with the nodes that there are, and those that the load has to end with: by what is
+ * known of it, as many as there are pairs, or some tens. */
+static int has_room(bound *of, size_t length, size_t count) {
+    enum { AT_THE_END = 32 };
+    size_t bytes = bytes_of[kind_for(length)];
+    while (heap_is_used(of->words, of->from + of->nodes * bytes_of[0]))
+        of->nodes++;
+    if (of->taken + bytes + (of->nodes + (count < AT_THE_END ? count + 1 : AT_THE_END)) * bytes_of[0] > of->most)
+        return 0;
+    of->taken += bytes;
+    return 1;
 }
 
 /* Takes pairs into a load, until there is none or one is refused. Writes how many it took, and returns why the next one was refused, or
  * HOT_DONE. */
-static hot_status take_pairs(loading *load, hot_source *next, void *context, size_t *count) {
+static hot_status take_pairs(loading *load, bound *of, hot_source *next, void *context, size_t *count) {
     const uint8_t *key;
     size_t length;
     uint64_t value;
     hot_status status = HOT_DONE;
     for (*count = 0; next(context, &key, &length, &value); ++*count) {
-        status = proved_load_pair(load, key, length, value);
+        status = of == NULL || has_room(of, length, *count) ? proved_load_pair(load, key, length, value) : HOT_FULL_LEAVES;
         if (status != HOT_DONE)
             break;
     }
     return status;
 }
 
-hot_status begin_load(const hot_stock *stock, size_t handles, begun_load *begun, holding *holds) {
+/* Begins a load, and writes what its table holds. HOT_DONE or HOT_NO_MEMORY. */
+static hot_status begin_load(const hot_stock *stock, size_t handles, begun_load *begun, holding *holds) {
     hot_status status;
     note_stock(holds, stock, handles);
-    begun->handles = handles;
-    begun->table = table_of(stock, handles);
     heap_begin(&begun->table, NULL);
     status = proved_begin_load(stock, handles, &begun->load);
     if (heap_pause(&begun->words) || status != HOT_DONE)
@@ -897,57 +1047,94 @@ hot_status begin_load(const hot_stock *stock, size_t handles, begun_load *begun,
     return HOT_NO_MEMORY;
 }
 
-hot_status end_load(begun_load *begun, hot_handle *keeper, holding *holds) {
+/* Makes a table of what a load has taken, opens its keeper, and writes what it holds. HOT_DONE or HOT_NO_MEMORY. */
+static hot_status end_load(begun_load *begun, const hot_stock *committed, size_t handles, hot_handle *keeper, holding *holds) {
     hot_status status;
-    heap_map_lists(&holds->long_lists, begun->handles);
+    heap_map_lists(&holds->long_lists, handles);
     heap_go_on(&begun->table, begun->words, &holds->long_lists);
-    status = end_making(proved_end_load(&begun->load, &all_records, keeper), keeper, 1, holds);
+    status = end_making(proved_end_load(&begun->load, committed, keeper), keeper, 1, holds);
     if (status == HOT_DONE)
         heap_end_load(holds->pages);
     return status;
 }
 
-void count_loaded(hot_index *index, size_t count) {
-    index->places[0].keys = count;
-    index->places[0].looks_at = (uint32_t)count + KEYS_TO_A_LOOK;
+/* Bounds a load by what may be committed. */
+static void bound_load(const plan *of, const begun_load *begun, size_t handles, bound *room) {
+    proved_stock_bytes(&of->first, handles, &room->taken);
+    room->most = of->most;
+    room->nodes = 0;
+    room->from = begun->table.from[0] - bytes_of[0]; /* one is kept for removals */
+    room->words = begun->words;
 }
 
-/* The stock is read before `next` is called, which may change it. */
-hot_status load_table(const hot_stock *stock, size_t handles, hot_source *next, void *context, hot_handle *keeper, holding *holds,
-                      hot_status *refused, size_t *count) {
+/* Makes an index of what `next` gives, until it gives no more or a pair is refused: writes why, and how many it took. The stock is read before
+ * `next` is called, which may change it. */
+static hot_status load_index(const hot_stock *stock, const plan *of, hot_source *next, void *context, hot_index *made, hot_status *refused,
+                             size_t *count) {
     static const begun_load none;
+    static const hot_stock all = {UINT32_MAX, UINT32_MAX, UINT32_MAX, UINT32_MAX, UINT32_MAX, UINT32_MAX};
     begun_load begun = none;
-    hot_status status = begin_load(stock, handles, &begun, holds);
+    bound room;
+    hot_status status;
+    begun.table = table_of(stock, made->count, of != NULL);
+    status = begin_load(stock, made->count, &begun, &made->holds);
     if (status != HOT_DONE)
         return status;
-    *refused = take_pairs(&begun.load, next, context, count);
+    if (of != NULL)
+        bound_load(of, &begun, made->count, &room);
+    *refused = take_pairs(&begun.load, of != NULL ? &room : NULL, next, context, count);
     if (*refused != HOT_NO_MEMORY)
-        return end_load(&begun, keeper, holds);
+        return end_load(&begun, of != NULL ? &of->first : &all, made->count, &made->keeper, &made->holds);
     proved_give_up_load(&begun.load);
     return HOT_NO_MEMORY;
 }
 
-hot_status hot_load(const hot_stock *stock, size_t handles, hot_source *next, void *context, hot_index **index, size_t *count) {
-    size_t bytes, loaded;
-    hot_index *made;
-    hot_status refused, status = hot_stock_bytes(stock, handles, &bytes);
-    if (status != HOT_DONE)
-        return status;
-    made = new_index(handles);
+/* Loads an index of this stock, all of which is committed if there is no plan. */
+static hot_status load_any(const hot_stock *stock, const plan *of, size_t handles, hot_source *next, void *context, hot_index **index,
+                           size_t *count) {
+    hot_index *made = new_index(handles);
+    hot_status refused, status;
+    uint64_t left;
+    uint32_t kind;
+    size_t loaded;
     if (made == NULL)
         return HOT_NO_MEMORY;
-    status = load_table(stock, handles, next, context, &made->keeper, &made->holds, &refused, &loaded);
+    status = load_index(stock, of, next, context, made, &refused, &loaded);
     if (status != HOT_DONE) {
         free_index(made);
         return status;
     }
-    count_loaded(made, loaded);
+    if (of != NULL)
+        note_plan(made, of);
+    for (kind = 0; kind < HEAP_KINDS && of != NULL; kind++)
+        if (proved_uncommitted(&made->keeper, kind, &left) == HOT_DONE)
+            note_committed(made, kind, left, 0);
+    made->places[0].keys = loaded;
     *index = made;
     *count = loaded;
     return refused;
 }
 
-int next_packed(void *context, const uint8_t **key, size_t *length, uint64_t *value) {
+hot_status hot_load(const hot_stock *stock, size_t handles, hot_source *next, void *context, hot_index **index, size_t *count) {
+    size_t bytes;
+    hot_status status = hot_stock_bytes(stock, handles, &bytes);
+    return status == HOT_DONE ? load_any(stock, NULL, handles, next, context, index, count) : status;
+}
+
+hot_status hot_load_growing(size_t most, size_t handles, hot_source *next, void *context, hot_index **index, size_t *count) {
+    plan of;
+    hot_status status = plan_growing(NULL, most, handles, &of);
+    return status == HOT_DONE ? load_any(&of.reserved, &of, handles, next, context, index, count) : status;
+}
+
+/* Pairs that lie packed, and a source that gives them. */
+typedef struct packed {
+    const uint8_t *bytes;
+    const hot_head *heads;
+    size_t count;
+} packed;
+
+static int next_packed(void *context, const uint8_t **key, size_t *length, uint64_t *value) {
     packed *left = context;
     if (left->count == 0)
         return 0;
@@ -987,21 +1174,7 @@ static void move_handle(hot_handle *to, hot_handle *from) {
     *from = closed;
 }
 
-int try_to_lock(uint32_t *word) {
-    return __atomic_exchange_n(word, 1, __ATOMIC_SEQ_CST) == 0;
-}
-
-void lock_word(uint32_t *word) {
-    hot_waits so_far = HOT_NO_WAITS;
-    while (!try_to_lock(word))
-        wait_for_call(&so_far);
-}
-
-void unlock_word(uint32_t *word) {
-    __atomic_store_n(word, 0, __ATOMIC_SEQ_CST);
-}
-
-hot_status open_next(hot_handle *keeper, hot_handle *handle, holding *holds) {
+static hot_status open_next(hot_handle *keeper, hot_handle *handle, holding *holds) {
     size_t used = holds->long_lists.used;
     uint16_t number;
     hot_status status;
@@ -1017,7 +1190,7 @@ hot_status open_next(hot_handle *keeper, hot_handle *handle, holding *holds) {
     return status;
 }
 
-void give_place(hot_place *place, hot_handle *handle) {
+static void give_place(hot_place *place, hot_handle *handle) {
     handle->place = place;
     give_section(place);
     set_state(place, TAKEN);
@@ -1032,7 +1205,10 @@ static hot_status open_kept(hot_index *index, hot_handle *handle) {
     if (status == HOT_DONE)
         status = open_next(&index->keeper, handle, &index->holds);
     if (status == HOT_DONE && hot_number(handle, &number) == HOT_DONE)
+{
         give_place(&index->places[number], handle);
+        __atomic_add_fetch(&index->opened, 1, __ATOMIC_RELAXED);
+    }
     unlock_word(&index->opening);
     return status == HOT_CLOSED ? HOT_NO_HANDLE : status;
 }
@@ -1047,7 +1223,7 @@ hot_status hot_open(hot_index *index, hot_handle *handle) {
             move_handle(handle, &index->places[place].closed);
             return HOT_DONE;
         }
-    return index->grower != NULL ? open_growing(index, handle) : open_kept(index, handle);
+    return open_kept(index, handle);
 }
 
 hot_status hot_close(hot_handle *handle) {
@@ -1088,33 +1264,28 @@ static int take_all(hot_index *index) {
     return 1;
 }
 
-hot_status hot_close_index(hot_index *index) {
+/* Frees an index whose handles are closed, with these. */
+static void free_closed(hot_index *index) {
     size_t place;
-    lock_word(&index->opening);
-    if (!take_all(index)) {
-        unlock_word(&index->opening);
-        return HOT_OPEN;
-    }
     for (place = 0; place < index->count; place++)
         proved_destroy(&index->places[place].closed);
     proved_destroy(&index->teller);
     proved_destroy(&index->keeper);
     free_index(index);
+}
+
+hot_status hot_close_index(hot_index *index) {
+    lock_word(&index->opening);
+    if (!take_all(index)) {
+        unlock_word(&index->opening);
+        return HOT_OPEN;
+    }
+    free_closed(index);
     return HOT_DONE;
 }
 
 hot_status hot_destroy(hot_handle *handle) {
     return hot_close(handle);
-}
-
-/* Lets a handle see all that another one of its index has seen. If that grows, it does so in one table for both. */
-static hot_status see(hot_handle *handle, hot_handle *leader) {
-    hot_handle *its = look(handle), *leaders = look(leader);
-    hot_status status = HOT_NOT_PAST;
-    if (handle->tag != GROWS || ((growing_place *)handle->slot.at)->in == ((growing_place *)leader->slot.at)->in)
-        status = proved_see(its, leaders);
-    looked(leader, status);
-    return looked(handle, status) == HOT_NOT_PAST ? see(handle, leader) : status;
 }
 
 hot_status hot_meet(hot_handle *one, hot_handle *other) {
@@ -1127,8 +1298,8 @@ hot_status hot_meet(hot_handle *one, hot_handle *other) {
     if (index != its_index)
         return HOT_OTHER_INDEX;
     if (one != other) {
-        see(one, other);
-        see(other, one);
+        proved_see(one, other);
+        proved_see(other, one);
     }
     return HOT_DONE;
 }
@@ -1142,7 +1313,7 @@ hot_status hot_stamp(hot_handle *handle, hot_moment *moment) {
     if (index->teller.place == NULL)
         status = hot_open(index, &index->teller);
     if (status == HOT_DONE) {
-        see(&index->teller, handle);
+        proved_see(&index->teller, handle);
         moment->index = index;
     }
     unlock_word(&index->telling);
@@ -1157,7 +1328,7 @@ hot_status hot_follow(hot_handle *handle, const hot_moment *moment) {
     if (index != moment->index)
         return HOT_OTHER_INDEX;
     lock_word(&index->telling);
-    status = see(handle, &index->teller);
+    status = proved_see(handle, &index->teller);
     unlock_word(&index->telling);
     return status;
 }
@@ -1191,4 +1362,127 @@ hot_status hot_is_past(hot_handle *handle, const hot_retirement *moment) {
     if (section == NULL)
         return HOT_CLOSED;
     return handle->place->index == moment->index ? proved_is_moment_past(section, moment->number) : HOT_OTHER_INDEX;
+}
+
+/* An index that grows has nothing to do ahead of need: what it reserves is committed by and by. */
+hot_status hot_grow(hot_index *index) {
+    return index->grows ? HOT_DONE : HOT_FIXED;
+}
+
+hot_status hot_grow_begin(hot_index *index) {
+    return hot_grow(index);
+}
+
+hot_status hot_grow_step(hot_index *index, uint32_t *more) {
+    if (index->grows)
+        *more = 0;
+    return hot_grow(index);
+}
+
+int hot_is_filling(hot_index *index) {
+    (void)index;
+    return 0;
+}
+
+/* A scan that gives its pairs to a load. */
+typedef struct rescan {
+    hot_handle *by;
+    hot_pair pairs[32];
+    uint8_t from[HOT_MAX_KEY];
+    size_t at, count, from_length;
+    uint32_t more;
+    hot_status status; /* why it has ended too early, or HOT_DONE */
+} rescan;
+
+static int next_scanned(void *context, const uint8_t **key, size_t *length, uint64_t *value) {
+    rescan *of = context;
+    const hot_pair *pair = &of->pairs[of->at];
+    if (of->at == of->count) {
+        of->at = of->count = 0;
+        if (of->more)
+            of->status = hot_scan(of->by, of->from, of->from_length, HOT_TO_END, of->pairs, 32, &of->count, &of->more);
+        if (of->status != HOT_DONE || of->count == 0)
+            return 0;
+        pair = &of->pairs[of->count - 1];
+        of->more = of->more && hot_after(pair->key, pair->length, of->from, &of->from_length) == HOT_DONE;
+        pair = of->pairs;
+    }
+    of->at++;
+    *key = pair->key;
+    *length = pair->length;
+    *value = pair->value;
+    return 1;
+}
+
+/* The handle of a place, of which all handles are closed: the teller, or that which was given back. */
+static hot_handle *handle_at(hot_index *index, size_t place) {
+    return index->teller.place == &index->places[place] ? &index->teller : &index->places[place].closed;
+}
+
+static void swap_bytes(void *one, void *other, size_t size) {
+    uint8_t kept[sizeof(holding)];
+    memcpy(kept, one, size);
+    memcpy(one, other, size);
+    memcpy(other, kept, size);
+}
+
+/* Two indexes change their tables, with as many handles of each. */
+static void swap_tables(hot_index *index, hot_index *other) {
+    size_t place;
+    lock_word(&index->filling);
+    for (place = 0; place < index->opened; place++) {
+        hot_handle *its = handle_at(index, place);
+        hot_place *kept = its->place;
+        swap_bytes(its, &other->places[place].closed, sizeof *its);
+        its->place = kept;
+        index->places[place].keys = place == 0 ? other->places[0].keys : 0;
+    }
+    swap_bytes(&index->keeper, &other->keeper, sizeof index->keeper);
+    swap_bytes(&index->holds, &other->holds, sizeof index->holds);
+    swap_bytes(index->reserved, other->reserved, sizeof index->reserved);
+    swap_bytes(index->committed, other->committed, sizeof index->committed);
+    swap_bytes(&index->taken, &other->taken, sizeof index->taken);
+    unlock_word(&index->filling);
+}
+
+/* Makes an index of the same pairs, with as many open handles. HOT_DONE or HOT_NO_MEMORY. */
+static hot_status make_anew(hot_index *index, hot_index **made) {
+    rescan of;
+    uint16_t number;
+    size_t place, count;
+    hot_status status;
+    of.by = hot_number(&index->keeper, &number) == HOT_DONE ? &index->keeper : handle_at(index, 0);
+    of.at = of.count = of.from_length = 0;
+    of.more = 1;
+    of.status = HOT_DONE;
+    status = hot_load_growing(index->most, index->count, next_scanned, &of, made, &count);
+    if (*made == NULL)
+        return HOT_NO_MEMORY;
+    status = status == HOT_DONE ? of.status : status;
+    for (place = 0; place < index->opened && status == HOT_DONE; place++)
+        status = open_next(&(*made)->keeper, &(*made)->places[place].closed, &(*made)->holds);
+    return status;
+}
+
+hot_status hot_trim(hot_index *index) {
+    hot_index *made = NULL;
+    hot_status status = hot_grow(index);
+    size_t place;
+    if (status != HOT_DONE)
+        return status;
+    lock_word(&index->opening);
+    if (!take_all(index)) {
+        unlock_word(&index->opening);
+        return HOT_OPEN;
+    }
+    status = make_anew(index, &made);
+    if (status == HOT_DONE)
+        swap_tables(index, made);
+    if (made != NULL)
+        free_closed(made);
+    for (place = 0; place < index->count; place++)
+        if (was_opened(&index->places[place]))
+            set_state(&index->places[place], GIVEN_BACK);
+    unlock_word(&index->opening);
+    return status;
 }

@@ -24,8 +24,7 @@
  * is retired meanwhile.
  *
  * Removals are never full, so that a full index can be emptied. Insertions leave one node record free for them, and an index has one more
- * than asked, up to 4294967295. If an index doesn't grow and has one handle, a removal finds that record, within 2^60 steps of the index: that
- * is proved. All else here is tested alone. With several handles another call may have the record, or hold back what was retired instead. Then
+ * than asked, up to 4294967295. If an index has one handle, a removal finds that record, within 2^60 steps of the index: that is proved. All else here is tested alone. With several handles another call may have the record, or hold back what was retired instead. Then
  * removals are held back, and no count is made: hot_try_remove returns HOT_HELD_BACK, and hot_remove waits, without a bound.
  *
  * Keys in calls. A key, a prefix or an end of a range that has more than HOT_MAX_KEY bytes is refused as HOT_KEY_TOO_LONG by each call. The
@@ -43,9 +42,8 @@
  * in such a child, as glibc's does; AddressSanitizer's may hang there.
  *
  * A call fails only by its status. None waits for another, except hot_insert, hot_upsert, hot_exchange, hot_remove, hot_remove_if and
- * hot_add; hot_copy, hot_clear, hot_clear_range, hot_pop_first and hot_pop_last, which make such calls; hot_open and hot_stamp, for each
- * other; hot_stamp and hot_follow, too; and hot_grow, hot_trim, hot_grow_begin and hot_grow_step. While an index grows, hot_open, hot_stamp,
- * hot_bytes and all changes, tries among them, may wait for calls that have a part in that.
+ * hot_add; hot_copy, hot_clear, hot_clear_range, hot_pop_first and hot_pop_last, which make such calls; hot_open, hot_stamp and hot_trim, for
+ * each other; hot_stamp and hot_follow, too; and hot_bytes, with an index that grows, for hot_trim and an insertion that asks for huge pages.
  * Each other call ends after a bounded number of steps, whatever other threads do: a step is one atomic access to a word of the index.
  * Each call below that makes steps gives its bound, for the worst tree that there can be. Beside its steps it may touch words, which it loads
  * and ignores: hot_get four at most for each node on the way, hot_get_many, scans and changes eleven for each entry of a node that they load.
@@ -66,9 +64,9 @@
  * Each handle has memory for the pairs of its scans, too, which the next scan uses again. After a scan it goes if the keys have more than
  * 32 KiB of it, or the rest has. So a handle keeps 64 KiB of it at most between its calls.
  *
- * The library starts no threads and keeps no data outside its indexes. It needs Linux, and an ARM64 (aarch64) processor with the lowest byte
- * first, or an x86-64 processor of the level for which it was compiled: x86-64-v3, which has AVX2, unless the machine that compiled it had
- * not, or x86-64-v2 was asked for. On an older one
+ * The library starts no threads and keeps no data outside its indexes but how many there are that grow. It needs Linux, and an ARM64
+ * (aarch64) processor with the lowest byte first, or an x86-64 processor of the level for which it was compiled: x86-64-v3, which has AVX2,
+ * unless the machine that compiled it had not, or x86-64-v2 was asked for. On an older one
  * hot_create, hot_create_with, hot_open_index, hot_open_index_within, hot_open_growing, hot_load, hot_load_packed, hot_load_growing and
  * hot_stock_bytes return HOT_OLD_PROCESSOR
  * and write nothing, and stocks have no records; any other call may end the program there.
@@ -212,7 +210,8 @@ hot_status hot_stock_bytes(const hot_stock *stock, size_t handles, size_t *bytes
 hot_status hot_open_index(const hot_stock *stock, size_t handles, hot_index **index);
 
 /* hot_open_index, if the records and pins of the index have `most` bytes or fewer: else it is HOT_NO_MEMORY at once, as for a stock out of a
- * damaged file. `most`, and so the table, may be larger than all memory: what keys need of the table is to fit. */
+ * damaged file. `most`, and so the table, may be larger than all memory: what keys need of the table is to fit. Its records are committed as
+ * changes need them: calls that visit all records, and bounds that count them, are about those that are committed. */
 hot_status hot_open_index_within(const hot_stock *stock, size_t handles, size_t most, hot_index **index);
 
 /* What a load takes its pairs from: a call writes the next one, whose key is there until the function is called again or the load returns.
@@ -244,57 +243,43 @@ hot_status hot_close(hot_handle *handle);
  * HOT_DONE; or HOT_OPEN if a handle is open, and then it stays as it is. */
 hot_status hot_close_index(hot_index *index);
 
-/* An index that grows, for when the number of keys isn't known in advance. Where there is no room a larger table is made beside the one that it
- * has, takes the pairs from it while other calls go on, and takes over: no pair is lost or there twice. That is tested, and not proved: each table
- * is a proved index, but no theorem is about the change from one to the next. The bindings for Python and SQLite make such an index unless they
- * are told not to, and those for Redis and RocksDB always do.
+/* An index that grows, for when the number of keys isn't known in advance. It reserves as many records of each size as memory has room for, or the
+ * system gives addresses for, and commits them as keys need them: only committed records are used, and visited by hot_collect, hot_census and counts.
+ * A page takes memory once something was written there. The bindings for Python and SQLite make such an index unless they are told not to, and those
+ * for Redis and RocksDB always do.
  *
- * Calls are as with any other index, but for this. hot_insert, hot_upsert, hot_remove, hot_remove_if, and calls that make them, make the larger
- * table where they find no room or records are held back for long, or wait for the thread that makes it. They return HOT_NO_MEMORY where that
- * fails, and hot_insert and hot_upsert that the index is full where it may not be larger; then it is as it was. hot_try_insert and the like
- * return that it is full. Look-ups and scans never wait. They make three more atomic accesses each, which their bounds of steps leave out. Other
- * changes go on meanwhile, but their bounds don't hold. One may ask for memory for its key, make a portion of the growth, or be made in both
- * tables. Then a try waits, too, while another change is in its way in the larger table. Each key has one of 64 locks. Just before the larger table
- * takes over, a try is HOT_BUSY while the lock of its key is taken: by another change, by the copy of a key that was changed late, or by the
- * growth. Sections, moments, hot_len and hot_stats are of the index, and go on across growths; hot_census is of the table of now. The old table
- * goes once all calls that ran in it have returned. If one takes long, a later change, hot_collect or hot_grow_step frees it, and no look-up
- * does. */
+ * Calls are as with any other index, but for this. A handle commits records ahead of need, every 64 insertions, and where a change finds none free. That
+ * is a few accesses of memory, for which no call waits. A try that finds none free commits some and begins again, so its bound on steps holds for each
+ * attempt. Bounds that count records count committed ones. Where the index may commit no more, a change is full as in any other index; where it has
+ * committed all that it reserved, it is HOT_NO_MEMORY. A removal that finds no node free commits one in any case. So it is never held back. mlockall
+ * would take all that is reserved. */
 
-/* Makes an empty index that grows, with room for so many handles, 1 to 1023. Its first table has this stock, or a small one if it is NULL. No
- * table has more than `most` bytes, as hot_stock_bytes counts them; SIZE_MAX is no bound. While the index grows it has two. Those that it has had
- * since the oldest call began that is under way stay, too.
- * HOT_DONE; or HOT_OUT_OF_RANGE, also where `most` is too few for the first table, HOT_NO_MEMORY or HOT_OLD_PROCESSOR, and then nothing is
+/* Makes an empty index that grows, with room for so many handles, 1 to 1023. It has this stock committed at first, or a small one if it is NULL, and one
+ * record of each other size. What is committed has no more than `most` bytes, as hot_stock_bytes counts them, but for nodes that removals commit;
+ * SIZE_MAX is no bound.
+ * HOT_DONE; or HOT_OUT_OF_RANGE, also where `most` is too few for what is committed at first, HOT_NO_MEMORY or HOT_OLD_PROCESSOR, and then nothing is
  * written. */
 hot_status hot_open_growing(const hot_stock *stock, size_t most, size_t handles, hot_index **index);
 
-/* Makes such an index of pairs, of which nobody need know how many there are, as hot_load does. It keeps them packed until there are no more,
- * and makes a table that fits. A pair for which that would have more than `most` bytes is refused as HOT_FULL_LEAVES.
+/* Makes such an index of pairs, of which nobody need know how many there are, as hot_load does: they go to its table at once. A pair for which that may
+ * have more than `most` bytes is refused as HOT_FULL_LEAVES.
  * It returns what hot_load does. */
 hot_status hot_load_growing(size_t most, size_t handles, hot_source *next, void *context, hot_index **index, size_t *count);
 
-/* Has the index grow: its next table has room for three times the keys that there are, and the time is this thread's. It ends a growth that is
- * under way in place of another, and waits until the old table has gone. This and the calls below may be made by any thread until the index is
- * closed, and wait for each other.
- * HOT_DONE; or HOT_FIXED if the index doesn't grow; or HOT_NO_MEMORY, HOT_FULL_NODES or HOT_FULL_LEAVES, and then it is as it was. */
+/* These have nothing to do, since an index commits records as it needs them. They are for programs that had it grow ahead of need: hot_grow_step writes 0
+ * to `more`.
+ * HOT_DONE; or HOT_FIXED if the index doesn't grow. */
 hot_status hot_grow(hot_index *index);
-
-/* The same with a table that fits the keys that there are, so that memory comes back when keys have gone. Where too many come meanwhile, or none
- * with room to spare may be made, it is HOT_FULL_NODES or HOT_FULL_LEAVES. */
-hot_status hot_trim(hot_index *index);
-
-/* A growth by portions. hot_grow_begin begins one, unless one is under way. hot_grow_step makes a portion of it, and writes 1 to `more` if there is
- * more to do, else 0: it loads 512 pairs at most, whose keys have 16 KiB at most, opens a handle, or looks after 256 keys that were changed
- * meanwhile. But to make a table can't be parted: hot_grow_begin and one portion take half of its time each. A change that has noted 8 KiB of keys
- * makes a portion, too, but the table only where 1 MiB was noted; and one that finds no room makes all that are left. Page faults may wait for the
- * system's work on a table, which is asked for by 2 MiB at a time.
- * They return what hot_grow does. Where hot_grow_step isn't HOT_DONE, the growth was given up. */
 hot_status hot_grow_begin(hot_index *index);
 hot_status hot_grow_step(hot_index *index, uint32_t *more);
 
-/* Whether it is time for hot_grow, so that no change finds the index full: 1 if keys of a size and longer ones come to five eighths of the leaf
- * records that have room for them, or by an estimate to as many of the nodes; 0 if not, if the index doesn't grow, if it is growing, or while
- * another call looks whether an old table may go. It waits for nothing. */
+/* It is never time for that: 0. */
 int hot_is_filling(hot_index *index);
+
+/* Gives memory back when keys have gone: makes the table of an index that grows anew, with the pairs that it has. For a moment both tables are there. No
+ * handle may be open. What handles have seen, moments and numbers of handles stay.
+ * HOT_DONE; or HOT_FIXED if the index doesn't grow, HOT_OPEN if a handle is open, HOT_NO_MEMORY or HOT_FULL_LEAVES, and then it is as it was. */
+hot_status hot_trim(hot_index *index);
 
 /* Order in time. A handle has seen its own calls, and all that was published when a call of it loaded the root. Whatever a handle has
  * seen comes before its later calls. These calls let a handle see what another has seen. */
@@ -609,8 +594,7 @@ typedef struct hot_refusals {
 } hot_refusals;
 
 /* Writes how often tries were refused since the index was made, through any of its handles, open or closed. Each that was held back or full has
- * counted all records, but for removals, and for keys that are too long for the leaves of an index that grows. One that found a record free after
- * it had collected counts nowhere. Each handle keeps numbers of its own, and this adds them up; it makes no steps. The sums are exact if no change
+ * counted all records, but for removals. One that found a record free after it had collected, or after more were committed, counts nowhere. Each handle keeps numbers of its own, and this adds them up; it makes no steps. The sums are exact if no change
  * runs meanwhile. Else they are of no single moment. Any thread may make this call until the index is closed. */
 void hot_stats(const hot_index *index, hot_refusals *stats);
 
@@ -620,12 +604,12 @@ typedef struct hot_memory {
     size_t now;
 } hot_memory;
 
-/* Writes what the index takes of memory. The numbers leave out two things: the system's page tables, a 500th of the table at most, and what the
- * making of a table takes beside it while the index grows. Else they are never too low: a page of 4 KiB counts once something was written there, and
+/* Writes what the index takes of memory; of an index that grows, `most` is for what is committed. The numbers leave out two things: the system's page
+ * tables, a 500th of the table at most, and what hot_trim takes beside the table. Else they are never too low: a page of 4 KiB counts once something was written there, and
  * may count once it was read, as hot_census reads all. But what the system has swapped out may not count. What a handle may keep after a scan counts
  * for each that was opened. The call makes no steps. It asks the system which pages are there, in calls for 2 MiB each, of what a handle claims for
  * itself up to the first 2 MiB without any. So it takes time for what has filled: for 1 GB two milliseconds, and half a one in huge pages. With an
- * index that grows it waits for other such calls, and for an insertion that asks for huge pages. Any thread may make it until the index is closed. */
+ * index that grows it waits for other such calls, for hot_trim, and for an insertion that asks for huge pages. Any thread may make it until the index is closed. */
 void hot_bytes(const hot_index *index, hot_memory *bytes);
 
 /* Closes a handle of hot_create or hot_create_with, from any thread and in any order. Closing the last one frees the index. A closed

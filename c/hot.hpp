@@ -978,7 +978,7 @@ class index {
     }
 
     /// An empty index that grows, for keys of which nobody can say how many there will be, with room for so many handles, 1 to 1023:
-    /// hot_open_growing. It begins with this stock, or a small one, and no table of it has more than `most` bytes.
+    /// hot_open_growing. It has this stock committed at first, or a small one, and commits no more than `most` bytes.
     [[nodiscard]] static index growing(const hot_stock &stock, std::size_t handles = 64, std::size_t most = SIZE_MAX) {
         return open_growing(&stock, handles, most);
     }
@@ -988,10 +988,10 @@ class index {
     [[nodiscard]] static index load_growing(Pairs &&pairs, std::size_t handles = 64, std::size_t most = SIZE_MAX) {
         return load_by([&](auto... with) { return hot_load_growing(most, handles, with...); }, pairs);
     }
-    /// Have such an index grow ahead of need, or give memory back; begin a growth, and make a portion of it, which returns whether there is more to
-    /// do; and whether it is time to grow: hot_grow, hot_trim, hot_grow_begin, hot_grow_step, hot_is_filling. They throw std::logic_error if
-    /// the index was moved from. If it doesn't grow, `is_filling` returns false, and the others throw std::logic_error. These throw
-    /// std::bad_alloc, too, and std::runtime_error where it may not be larger. It is as it was then.
+    /// `trim` gives memory of such an index back, while no handle is open: hot_trim. The others have nothing to do: hot_grow, hot_grow_begin,
+    /// hot_grow_step, hot_is_filling. They throw std::logic_error if the index was moved from. If it doesn't grow, `is_filling` returns false, and the
+    /// others throw std::logic_error. `trim` throws that where a handle is open, std::bad_alloc, and std::runtime_error where it may have no other table.
+    /// The index is as it was then.
     void grow() { made(hot_grow(at())); }
     void trim() { made(hot_trim(at())); }
     void grow_begin() { made(hot_grow_begin(at())); }

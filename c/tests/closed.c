@@ -193,16 +193,15 @@ static void open_three_that_grow(scene *it) {
 static void close_one_that_grows(scene *it) {
     open_three_that_grow(it);
     CHECK(hot_upsert(&it->handles[0], key, 1, 1, NULL) == HOT_NEW && hot_close(&it->handles[0]) == HOT_DONE);
-    CHECK(hot_grow(it->index) == HOT_DONE && hot_remove(&it->handles[1], key, 1, NULL) == HOT_REMOVED);
+    CHECK(hot_remove(&it->handles[1], key, 1, NULL) == HOT_REMOVED);
 }
 
-static void close_within_a_growth(scene *it) {
-    uint32_t more, portion;
+static void close_for_another_table(scene *it) {
+    size_t place;
     open_three_that_grow(it);
-    CHECK(hot_grow_begin(it->index) == HOT_DONE);
-    for (portion = 0; portion < 4; portion++)
-        CHECK(hot_grow_step(it->index, &more) == HOT_DONE && more == 1);
-    CHECK(hot_close(&it->handles[0]) == HOT_DONE);
+    for (place = 0; place < 3; place++)
+        CHECK(hot_close(&it->handles[place]) == HOT_DONE);
+    CHECK(hot_trim(it->index) == HOT_DONE && hot_open(it->index, &it->handles[1]) == HOT_DONE);
 }
 
 static void *close_there(void *handle) {
@@ -219,7 +218,7 @@ static void close_in_another_thread(scene *it) {
 static void (*const ways[])(scene *) = {
     leave_zeroed, close_the_only_one, destroy_the_only_one, close_one_of_three, close_the_last, close_while_pairs_are_handed_over, refuse_to_create,
     give_back_the_first, open_no_more, give_back_the_last, give_to_another, close_with_the_index, close_in_another_thread, close_one_that_grows,
-    close_within_a_growth,
+    close_for_another_table,
 };
 
 /* Each call with the closed handle. */

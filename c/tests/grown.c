@@ -1,24 +1,16 @@
-/* Tests of indexes that grow: changes at each portion of a growth, beside a model; bounds; sections, moments and handles across growths; a load
- * that grows; sixty-four threads beside a model each, while another grows and trims the index; and histories of calls, across growths, that must
+/* Tests of indexes that grow: changes beside a model while records are committed, and where no more may be; bounds; sections, moments and handles
+ * where the table is made anew; a load of unknown length; sixty-four threads on one processor, beside a model each; and histories of calls that must
  * be linearizable. With a number it makes so many hundredths of the rounds. */
 #define _GNU_SOURCE
 #include "hot.h"
 #include "check.h"
-#include "../processor.h"
-#include <errno.h>
-#include <linux/filter.h>
-#include <linux/seccomp.h>
 #include <pthread.h>
 #include <sched.h>
-#include <signal.h>
-#include <stddef.h>
 #include <stdlib.h>
 #include <string.h>
-#include <sys/prctl.h>
-#include <sys/syscall.h>
+#include <sys/resource.h>
 #include <sys/wait.h>
 #include <time.h>
-#include <ucontext.h>
 #include <unistd.h>
 
 /* Numbers by chance (xorshift, Marsaglia 2003). */
@@ -130,7 +122,7 @@ static void check_model(hot_handle *handle, const model *of, int is_all) {
 
 /* ---- One thread ---- */
 
-/* From a few records on, by one thread: an index that is made small grows as often as it must. */
+/* From a few records on, by one thread: an index that is made small commits as many as it must, and trimmed it has few again. */
 static void test_growth(void) {
     hot_handle handle = HOT_HANDLE;
     hot_index *index = open_small(2, &handle);
@@ -146,73 +138,24 @@ static void test_growth(void) {
         make_call(&handle, &of, &state);
     check_model(&handle, &of, 1);
     CHECK(hot_census(&handle, &counts) == HOT_DONE && counts.bytes > 4 * first);
-    CHECK(hot_clear(&handle) == HOT_DONE && hot_trim(index) == HOT_DONE);
+    CHECK(hot_clear(&handle) == HOT_DONE && hot_trim(index) == HOT_OPEN && hot_close(&handle) == HOT_DONE);
+    CHECK(hot_trim(index) == HOT_DONE && hot_open(index, &handle) == HOT_DONE);
     CHECK(hot_census(&handle, &counts) == HOT_DONE && counts.bytes <= 2 * first);
     memset(of.values, 0, sizeof of.values);
     check_model(&handle, &of, 1);
     close_all(&handle, index);
 }
 
-/* A growth by portions, before each of which calls are made by two handles, but only if it is the one of this number; and by a handle that is
- * opened then. Returns whether there was such a portion. */
-static int test_portion(unsigned number, int is_trim, uint64_t *state) {
-    hot_handle handles[3] = {HOT_HANDLE, HOT_HANDLE, HOT_HANDLE};
-    hot_index *index = open_small(3, &handles[0]);
-    static model of;
-    unsigned turn, portion;
-    uint32_t more = 1;
-    memset(&of, 0, sizeof of);
-    of.count = KEYS;
-    CHECK(hot_open(index, &handles[1]) == HOT_DONE);
-    for (turn = 0; turn < 1000; turn++)
-        make_call(&handles[turn % 2], &of, state);
-    CHECK(!is_trim || hot_trim(index) == HOT_DONE);
-    CHECK(hot_grow_begin(index) == HOT_DONE);
-    for (portion = 0; more; portion++) {
-        if (portion == number) {
-            CHECK(hot_open(index, &handles[2]) == HOT_DONE);
-            for (turn = 0; turn < 300; turn++)
-                make_call(&handles[turn % 3], &of, state);
-            check_model(&handles[0], &of, 1);
-            CHECK(hot_close(&handles[1]) == HOT_DONE);
-        }
-        CHECK(hot_grow_step(index, &more) == HOT_DONE);
-    }
-    check_model(&handles[0], &of, 1);
-    CHECK(hot_open(index, number < portion ? &handles[1] : &handles[2]) == HOT_DONE);
-    check_model(&handles[2], &of, 1);
-    for (turn = 0; turn < 3; turn++)
-        CHECK(hot_close(&handles[turn]) == HOT_DONE);
-    CHECK(hot_close_index(index) == HOT_DONE);
-    return number < portion;
-}
-
-static void test_portions(unsigned rounds) {
-    uint64_t state = 362436069u;
-    unsigned round, number;
-    for (round = 0; round < rounds; round++) {
-        for (number = 0; test_portion(number, round % 2, &state); number++)
-            ;
-        CHECK(number > 6);
-    }
-}
-
-/* An index that is closed within a growth takes all with it. Growths are refused by indexes that don't grow. */
-static void test_closed(void) {
+/* What calls with an index say that grows, and with one that doesn't. */
+static void test_calls(void) {
     hot_handle handle = HOT_HANDLE;
-    hot_index *index;
+    hot_index *index = open_small(1, &handle);
     hot_stock stock;
-    unsigned number, portion;
     uint32_t more = 7;
-    for (number = 0; number < 10; number++) {
-        key it = key_of(number);
-        index = open_small(1, &handle);
-        CHECK(hot_open(index, &(hot_handle)HOT_HANDLE) == HOT_NO_HANDLE);
-        CHECK(hot_grow_begin(index) == HOT_DONE);
-        for (portion = 0; portion < number; portion++)
-            CHECK(hot_grow_step(index, &more) == HOT_DONE && hot_upsert(&handle, it.bytes, it.length, number, NULL) < HOT_BUSY);
-        close_all(&handle, index);
-    }
+    CHECK(hot_open(index, &(hot_handle)HOT_HANDLE) == HOT_NO_HANDLE && hot_create(10, 10, &handle, 1) == HOT_OPEN);
+    CHECK(hot_grow(index) == HOT_DONE && hot_grow_begin(index) == HOT_DONE && !hot_is_filling(index));
+    CHECK(hot_grow_step(index, &more) == HOT_DONE && more == 0);
+    close_all(&handle, index);
     hot_stock_for_keys(10, 8, &stock);
     CHECK(hot_open_index(&stock, 1, &index) == HOT_DONE && hot_grow(index) == HOT_FIXED && hot_trim(index) == HOT_FIXED);
     CHECK(hot_grow_begin(index) == HOT_FIXED && !hot_is_filling(index));
@@ -226,107 +169,217 @@ static void test_closed(void) {
     CHECK(hot_open_growing(NULL, SIZE_MAX, 1023, &index) == HOT_DONE && hot_close_index(index) == HOT_DONE);
 }
 
-/* Where a larger table may not be, changes are refused as full and all stays; and hot_try_.. never makes one. */
+/* The bytes of records that an index has committed. */
+static size_t committed(hot_handle *handle) {
+    hot_counts counts;
+    CHECK(hot_census(handle, &counts) == HOT_DONE);
+    return counts.bytes;
+}
+
+/* Where no more may be committed, changes are refused as full and all stays; one key out and one in works, again and again; and all keys go. */
 static void test_bound(void) {
     enum { MOST = 100000 };
     hot_handle handle = HOT_HANDLE;
     hot_index *index = NULL;
-    hot_counts counts;
     hot_status status = HOT_INSERTED;
-    unsigned number, held;
+    unsigned number, first;
     uint64_t value = 0;
     CHECK(hot_open_growing(NULL, MOST, 1, &index) == HOT_DONE && hot_open(index, &handle) == HOT_DONE);
     for (number = 0; status == HOT_INSERTED && number < 10000; number += status == HOT_INSERTED) {
         key it = key_of(number);
-        status = hot_try_insert(&handle, it.bytes, it.length, number, NULL);
+        status = number % 2 ? hot_try_insert(&handle, it.bytes, it.length, number, NULL) : hot_insert(&handle, it.bytes, it.length, number, NULL);
     }
-    CHECK(status == HOT_FULL_NODES || status == HOT_FULL_LEAVES);
-    held = number;
-    for (status = HOT_INSERTED; status == HOT_INSERTED && number < 10000; number += status == HOT_INSERTED) {
-        key it = key_of(number);
-        status = hot_insert(&handle, it.bytes, it.length, number, NULL);
+    CHECK((status == HOT_FULL_NODES || status == HOT_FULL_LEAVES) && number > 300 && number < 1500);
+    CHECK(committed(&handle) <= MOST && committed(&handle) > MOST / 10 * 8);
+    for (first = 0; first < 2000; first++) {
+        key it = key_of(first), other = key_of(first + number / 5 * 5);
+        CHECK(hot_remove(&handle, it.bytes, it.length, &value) == HOT_REMOVED && value == first);
+        if (first + number / 5 * 5 >= number)
+            CHECK(hot_insert(&handle, other.bytes, other.length, first + number / 5 * 5, NULL) == HOT_INSERTED);
     }
-    CHECK((status == HOT_FULL_NODES || status == HOT_FULL_LEAVES) && number > 4 * held);
-    CHECK(hot_census(&handle, &counts) == HOT_DONE && counts.bytes <= MOST && counts.bytes > MOST / 4 * 3);
-    CHECK(hot_grow(index) == HOT_FULL_LEAVES && hot_grow_begin(index) == HOT_FULL_LEAVES);
-    for (held = 0; held < number; held++) {
-        key it = key_of(held);
-        CHECK(hot_get(&handle, it.bytes, it.length, &value) == HOT_FOUND && value == held);
+    CHECK(committed(&handle) <= MOST && hot_grow(index) == HOT_DONE);
+    for (; hot_len(&handle, &(size_t){0}) == HOT_DONE && first < number / 5 * 5 + 2000; first++) {
+        key it = key_of(first);
+        CHECK(hot_remove(&handle, it.bytes, it.length, &value) == HOT_REMOVED && value == first);
     }
+    CHECK(hot_count(&handle, hot_last_key, 0, HOT_TO_END, &(size_t){0}) == HOT_DONE);
     close_all(&handle, index);
 }
 
-/* What was retired before a growth stays counted, and a moment tells of what came before it. */
+/* Calls beside a model with an index that may commit so many bytes: a change that is refused changes nothing, no more is ever committed but one node
+ * where a removal has none, and when keys have gone others find room. Returns how many calls were refused. */
+static unsigned test_within(size_t most) {
+    hot_handle handle = HOT_HANDLE;
+    hot_index *index = NULL;
+    static uint64_t has[KEYS];
+    uint64_t state = 88172645463325252u + most, value;
+    unsigned turn, refused = 0;
+    memset(has, 0, sizeof has);
+    if (hot_open_growing(NULL, most, 1, &index) == HOT_OUT_OF_RANGE)
+        return 0;
+    CHECK(hot_open(index, &handle) == HOT_DONE);
+    for (turn = 0; turn < 1500 && !failures; turn++) {
+        unsigned at = next(&state) % KEYS, is_upsert = next(&state) % 3;
+        key it = key_of(at);
+        hot_status status = is_upsert ? hot_upsert(&handle, it.bytes, it.length, turn + 1, NULL) : hot_remove(&handle, it.bytes, it.length, NULL);
+        if (status == HOT_FULL_NODES || status == HOT_FULL_LEAVES) {
+            CHECK(is_upsert && has[at] == 0);
+            refused++;
+        } else {
+            CHECK(status == (is_upsert ? (has[at] ? HOT_WAS : HOT_NEW) : (has[at] ? HOT_REMOVED : HOT_ABSENT)));
+            has[at] = is_upsert ? turn + 1 : 0;
+        }
+        value = 0;
+        CHECK(hot_get(&handle, it.bytes, it.length, &value) == (has[at] ? HOT_FOUND : HOT_ABSENT) && value == has[at]);
+    }
+    CHECK(committed(&handle) <= most);
+    for (turn = 0; turn < KEYS; turn++) {
+        key it = key_of(turn);
+        value = 0;
+        CHECK(hot_get(&handle, it.bytes, it.length, &value) == (has[turn] ? HOT_FOUND : HOT_ABSENT) && value == has[turn]);
+        CHECK(hot_remove(&handle, it.bytes, it.length, NULL) == (has[turn] ? HOT_REMOVED : HOT_ABSENT));
+    }
+    CHECK(hot_insert(&handle, bytes("a"), 1, 1, NULL) == HOT_INSERTED);
+    close_all(&handle, index);
+    return refused;
+}
+
+/* The same at each bound about what is needed: so commits are refused in each place. */
+static void test_bounds(unsigned step) {
+    size_t most;
+    unsigned refused = 0, whole = 0;
+    for (most = 5000; most < 120000; most += step) {
+        unsigned its = test_within(most);
+        refused += its > 0;
+        whole += its == 0;
+    }
+    CHECK(refused > 0 && whole > 0);
+}
+
+/* At each bound near another one the greatest number of keys is about the same, and no byte more is taken. */
+static void test_each_byte(void) {
+    size_t most;
+    unsigned before = 0, number;
+    for (most = 20000; most < 20600; most++) {
+        hot_handle handle = HOT_HANDLE;
+        hot_index *index = NULL;
+        CHECK(hot_open_growing(NULL, most, 1, &index) == HOT_DONE && hot_open(index, &handle) == HOT_DONE);
+        for (number = 0; hot_insert(&handle, key_of(5 * number).bytes, 4, number, NULL) == HOT_INSERTED; number++)
+            ;
+        CHECK((before == 0 || (number + 16 > before && number < before + 16)) && committed(&handle) <= most && committed(&handle) > most / 10 * 7);
+        before = number;
+        close_all(&handle, index);
+    }
+}
+
+/* An index of a stock that may exceed memory commits it by and by, and is full when all is in use; keys take larger leaves then, too. */
+static void test_stock(void) {
+    static const hot_stock stock = {2000, 700, 300, 0, 0, 500};
+    hot_handle handle = HOT_HANDLE;
+    hot_index *index = NULL;
+    hot_counts counts;
+    unsigned number;
+    CHECK(hot_open_index_within(&stock, 2, SIZE_MAX, &index) == HOT_DONE && hot_open(index, &handle) == HOT_DONE);
+    CHECK(hot_census(&handle, &counts) == HOT_DONE && counts.short_leaves.free < 10 && counts.nodes.free < 10 && counts.large_leaves.free == 0);
+    for (number = 0; hot_insert(&handle, key_of(5 * number).bytes, 4, number, NULL) == HOT_INSERTED; number++)
+        ;
+    CHECK(number == 1500 && hot_insert(&handle, bytes("a"), 1, 1, NULL) == HOT_FULL_LEAVES && hot_upsert(&handle, bytes("a"), 1, 1, NULL) == HOT_FULL_LEAVES);
+    CHECK(hot_census(&handle, &counts) == HOT_DONE && counts.short_leaves.live == 700 && counts.long_leaves.live == 500);
+    for (number = 0; number < 1500; number++) {
+        CHECK(hot_remove(&handle, key_of(5 * number).bytes, 4, NULL) == HOT_REMOVED);
+        CHECK(hot_insert(&handle, key_of(5 * number + 100000).bytes, 4, 1, NULL) == HOT_INSERTED);
+    }
+    CHECK(hot_grow(index) == HOT_FIXED);
+    close_all(&handle, index);
+}
+
+/* Where the table is made anew, what was retired before stays counted, a moment tells of what came before it, and each handle goes on. */
 static void test_sections(void) {
     hot_handle handles[3] = {HOT_HANDLE, HOT_HANDLE, HOT_HANDLE};
     hot_index *index = open_small(4, &handles[0]);
-    hot_retirement before, after;
+    hot_retirement before;
     hot_moment moment;
+    hot_memory now;
     uint64_t value = 0;
-    uint32_t more = 1;
+    unsigned at;
     CHECK(hot_open(index, &handles[1]) == HOT_DONE && hot_open(index, &handles[2]) == HOT_DONE);
-    CHECK(hot_upsert(&handles[0], bytes("a"), 1, 1, NULL) == HOT_NEW && hot_stamp(&handles[0], &moment) == HOT_DONE);
-    CHECK(hot_enter(&handles[1]) == HOT_DONE && hot_get(&handles[1], bytes("a"), 1, &value) == HOT_FOUND && value == 1);
+    CHECK(hot_upsert(&handles[0], bytes("a"), 1, 1, NULL) == HOT_NEW && hot_upsert(&handles[2], bytes("b"), 1, 2, NULL) == HOT_NEW);
+    CHECK(hot_stamp(&handles[0], &moment) == HOT_DONE && hot_enter(&handles[1]) == HOT_DONE);
     CHECK(hot_remove(&handles[0], bytes("a"), 1, NULL) == HOT_REMOVED && hot_retired(&handles[0], &before) == HOT_DONE);
-    CHECK(hot_grow(index) == HOT_DONE && hot_is_past(&handles[0], &before) == HOT_NOT_PAST && hot_close(&handles[1]) == HOT_INSIDE);
-    CHECK(hot_follow(&handles[2], &moment) == HOT_DONE && hot_get(&handles[2], bytes("a"), 1, &value) == HOT_ABSENT);
-    CHECK(hot_grow_begin(index) == HOT_DONE && hot_retired(&handles[2], &after) == HOT_DONE);
-    while (more)
-        CHECK(hot_grow_step(index, &more) == HOT_DONE && hot_meet(&handles[0], &handles[2]) == HOT_DONE &&
-              hot_is_past(&handles[2], &after) == HOT_NOT_PAST);
-    CHECK(hot_leave(&handles[1]) == HOT_DONE && hot_is_past(&handles[0], &before) == HOT_DONE && hot_is_past(&handles[0], &after) == HOT_DONE);
-    CHECK(hot_stamp(&handles[1], &moment) == HOT_DONE && hot_follow(&handles[0], &moment) == HOT_DONE);
-    CHECK(hot_close(&handles[1]) == HOT_DONE && hot_close(&handles[2]) == HOT_DONE);
+    CHECK(hot_is_past(&handles[0], &before) == HOT_NOT_PAST && hot_trim(index) == HOT_OPEN && hot_leave(&handles[1]) == HOT_DONE);
+    for (at = 0; at < 3; at++)
+        CHECK(hot_close(&handles[at]) == HOT_DONE && hot_trim(index) == (at < 2 ? HOT_OPEN : HOT_DONE));
+    hot_bytes(index, &now);
+    CHECK(now.now <= now.most);
+    for (at = 0; at < 3; at++) {
+        uint16_t number = 9;
+        CHECK(hot_open(index, &handles[at]) == HOT_DONE && hot_number(&handles[at], &number) == HOT_DONE && number == at);
+        CHECK(hot_follow(&handles[at], &moment) == HOT_DONE && hot_is_past(&handles[at], &before) == HOT_DONE);
+        CHECK(hot_get(&handles[at], bytes("a"), 1, &value) == HOT_ABSENT && hot_get(&handles[at], bytes("b"), 1, &value) == HOT_FOUND && value == 2);
+        CHECK(hot_enter(&handles[at]) == HOT_DONE && hot_leave(&handles[at]) == HOT_DONE);
+    }
+    CHECK(hot_open(index, &(hot_handle)HOT_HANDLE) == HOT_NO_HANDLE && hot_meet(&handles[0], &handles[2]) == HOT_DONE);
+    CHECK(hot_upsert(&handles[1], bytes("c"), 1, 3, NULL) == HOT_NEW && hot_remove(&handles[2], bytes("b"), 1, NULL) == HOT_REMOVED);
+    for (at = 0; at < 3; at++)
+        CHECK(hot_close(&handles[at]) == HOT_DONE);
+    CHECK(hot_trim(index) == HOT_DONE && hot_open(index, &handles[0]) == HOT_DONE);
+    CHECK(hot_get(&handles[0], bytes("c"), 1, &value) == HOT_FOUND && value == 3 && hot_len(&handles[0], &(size_t){0}) == HOT_DONE);
     close_all(&handles[0], index);
 }
 
-/* How often membarrier was refused. */
-static volatile int barriers_refused;
-
-static void refuse_barrier(int number, siginfo_t *why, void *context) {
-    (void)number, (void)why;
-    RETURNED_TO((ucontext_t *)context) = -EPERM;
-    barriers_refused++;
-}
-
-/* Whether each call membarrier of this process is refused from now on. */
-static int refuses_barriers(void) {
-    static struct sock_filter steps[] = {
-        BPF_STMT(BPF_LD | BPF_W | BPF_ABS, offsetof(struct seccomp_data, nr)),
-        BPF_JUMP(BPF_JMP | BPF_JEQ | BPF_K, SYS_membarrier, 0, 1),
-        BPF_STMT(BPF_RET | BPF_K, SECCOMP_RET_TRAP),
-        BPF_STMT(BPF_RET | BPF_K, SECCOMP_RET_ALLOW),
-    };
-    struct sock_fprog filter = {sizeof steps / sizeof *steps, steps};
-    struct sigaction refusal;
-    memset(&refusal, 0, sizeof refusal);
-    refusal.sa_sigaction = refuse_barrier;
-    refusal.sa_flags = SA_SIGINFO;
-    return sigaction(SIGSYS, &refusal, NULL) == 0 && prctl(PR_SET_NO_NEW_PRIVS, 1, 0, 0, 0) == 0 &&
-           prctl(PR_SET_SECCOMP, SECCOMP_MODE_FILTER, &filter) == 0;
-}
-
-/* Once the system refuses membarrier calls make fences: an index asks for no more, and one that is made then grows, too. */
-static void test_filter(void) {
-    enum { NOT_TRIED = 2 };
+/* The child of a fork has an index of its own, which commits what it needs, and so has its parent. */
+static void test_fork(void) {
+    enum { BOTH = 1000, MORE = 20000 };
     hot_handle handle = HOT_HANDLE;
     hot_index *index = open_small(1, &handle);
+    unsigned number, is_parent = 0;
     int status = 0;
-    pid_t child = fork();
-    if (child == 0) {
-        if (!refuses_barriers())
-            _exit(NOT_TRIED);
-        CHECK(hot_grow(index) == HOT_DONE && hot_grow(index) == HOT_DONE && barriers_refused <= 1);
-        close_all(&handle, index);
-        CHECK(hot_open_growing(NULL, SIZE_MAX, 1, &index) == HOT_DONE && hot_grow(index) == HOT_DONE && barriers_refused <= 2);
-        CHECK(hot_close_index(index) == HOT_DONE);
-        _exit(failures);
+    size_t count = 0;
+    pid_t child = 0;
+    for (number = 0; number < MORE; number++) {
+        key it = key_of(number < BOTH ? number : 2 * number + is_parent);
+        if (number == BOTH) {
+            child = fork();
+            is_parent = child != 0;
+            it = key_of(2 * number + is_parent);
+        }
+        CHECK(hot_insert(&handle, it.bytes, it.length, number, NULL) == HOT_INSERTED);
     }
-    CHECK(child > 0 && waitpid(child, &status, 0) == child && WIFEXITED(status) && WEXITSTATUS(status) != 1);
-    if (WIFEXITED(status) && WEXITSTATUS(status) == NOT_TRIED)
-        puts("not tried, since the system takes no filter: growths without membarrier");
+    CHECK(hot_count(&handle, hot_last_key, 0, HOT_TO_END, &count) == HOT_DONE && count == MORE);
     close_all(&handle, index);
+    if (child == 0)
+        _exit(failures);
+    CHECK(child > 0 && waitpid(child, &status, 0) == child && WIFEXITED(status) && WEXITSTATUS(status) == 0);
 }
+
+/* A process that may have few addresses has a smaller table. A sanitizer has more of them. */
+#ifndef IS_WATCHED
+static void test_addresses(void) {
+    size_t room;
+    for (room = (size_t)1 << 22; room < (size_t)1 << 40; room *= 4) {
+        int status = 0;
+        pid_t child = fork();
+        if (child == 0) {
+            struct rlimit most = {room + ((size_t)200 << 20), room + ((size_t)200 << 20)};
+            hot_handle handle = HOT_HANDLE;
+            hot_index *index = NULL;
+            unsigned number;
+            CHECK(setrlimit(RLIMIT_AS, &most) == 0 && hot_open_growing(NULL, SIZE_MAX, 1, &index) == HOT_DONE);
+            CHECK(index != NULL && hot_open(index, &handle) == HOT_DONE);
+            for (number = 0; number < 5000; number++) {
+                key it = key_of(number);
+                CHECK(hot_insert(&handle, it.bytes, it.length, number, NULL) == HOT_INSERTED);
+            }
+            close_all(&handle, index);
+            _exit(failures);
+        }
+        CHECK(child > 0 && waitpid(child, &status, 0) == child && WIFEXITED(status) && WEXITSTATUS(status) == 0);
+    }
+}
+#else
+static void test_addresses(void) {
+}
+#endif
 
 /* ---- Loads ---- */
 
@@ -363,13 +416,47 @@ static size_t load(unsigned end, unsigned odd, size_t most, hot_status status) {
         CHECK(hot_get(&handle, it.bytes, it.length, &value) == HOT_FOUND && value == number + 1);
     }
     CHECK(hot_census(&handle, &counts) == HOT_DONE && counts.bytes <= most);
-    CHECK(hot_upsert(&handle, bytes("last"), 4, 1, NULL) == HOT_NEW);
+    CHECK(hot_upsert(&handle, bytes("last"), 4, 1, NULL) == HOT_NEW && (most == SIZE_MAX || committed(&handle) <= most));
     for (number = 0; number < 1000 && most == SIZE_MAX; number++) {
         key it = key_of(1000000 + number);
         CHECK(hot_insert(&handle, it.bytes, it.length, number, NULL) == HOT_INSERTED);
     }
     close_all(&handle, index);
     return loaded;
+}
+
+static int next_of_four(void *context, const uint8_t **bytes, size_t *length, uint64_t *value) {
+    static const size_t lengths[4] = {8, 56, 88, HOT_MAX_KEY};
+    static key now;
+    unsigned *at = context;
+    if (*at == 4)
+        return 0;
+    now = key_of(*at);
+    *bytes = now.bytes;
+    *length = lengths[*at];
+    *value = (*at)++;
+    return 1;
+}
+
+/* No load makes a table that is larger than it may be, however its keys differ in size. */
+static void test_bounded_load(void) {
+    size_t most, count, whole = 0;
+    for (most = 8000; most < 40000; most += 40) {
+        hot_handle handle = HOT_HANDLE;
+        hot_index *index = NULL;
+        hot_counts counts;
+        unsigned at = 0;
+        hot_status status = hot_load_growing(most, 1, next_of_four, &at, &index, &count);
+        if (index == NULL) {
+            CHECK(status == HOT_OUT_OF_RANGE && whole == 0);
+            continue;
+        }
+        CHECK((status == HOT_DONE) == (count == 4) && (status == HOT_DONE || status == HOT_FULL_LEAVES));
+        whole += count == 4;
+        CHECK(hot_open(index, &handle) == HOT_DONE && hot_census(&handle, &counts) == HOT_DONE && counts.bytes <= most);
+        close_all(&handle, index);
+    }
+    CHECK(whole > 0);
 }
 
 static void test_load(void) {
@@ -383,41 +470,34 @@ static void test_load(void) {
 
 /* ---- Many threads ---- */
 
-/* What threads have in common: an index, how often it has been grown or trimmed, and how often that is wanted. */
+/* What threads have in common: an index, and whether they are to end. */
 static hot_index *shared;
-static unsigned is_over, growths, wanted;
+static unsigned is_over;
 
 static int is_done(void) {
     return (int)__atomic_load_n(&is_over, __ATOMIC_SEQ_CST);
 }
 
-static int are_growths_wanted(void) {
-    return __atomic_load_n(&growths, __ATOMIC_SEQ_CST) < wanted;
-}
-
-static void share(hot_index *index, unsigned growths_wanted) {
+static void share(hot_index *index) {
     shared = index;
-    is_over = growths = 0;
-    wanted = growths_wanted;
+    is_over = 0;
 }
 
-/* Grows the index and trims it, again and again, in one or by portions. */
-static void *grow_all_along(void *given) {
-    uint64_t state = 521288629u;
-    uint32_t more = 0;
+/* Puts keys in, so that records are committed, and takes them out again. */
+static void *fill_all_along(void *given) {
+    enum { MANY = 20000 };
+    hot_handle handle = HOT_HANDLE;
+    unsigned number, first = 1000000;
     (void)given;
-    while (!is_done()) {
-        unsigned how = next(&state) % 4;
-        if (how == 0)
-            CHECK(hot_trim(shared) == HOT_DONE);
-        else if (how == 1)
-            CHECK(hot_grow(shared) == HOT_DONE);
+    CHECK(hot_open(shared, &handle) == HOT_DONE);
+    for (number = 0; !is_done(); number++) {
+        key it = key_of(first + number % MANY);
+        if (number / MANY % 2 == 0)
+            CHECK(hot_insert(&handle, it.bytes, it.length, 1, NULL) == HOT_INSERTED);
         else
-            CHECK(hot_grow_begin(shared) == HOT_DONE);
-        for (more = how > 1; more;)
-            CHECK(hot_grow_step(shared, &more) == HOT_DONE);
-        __atomic_add_fetch(&growths, 1, __ATOMIC_SEQ_CST);
+            CHECK(hot_remove(&handle, it.bytes, it.length, NULL) == HOT_REMOVED);
     }
+    CHECK(hot_clear_range(&handle, key_of(first).bytes, 4, key_of(first + MANY).bytes, 4) == HOT_DONE && hot_close(&handle) == HOT_DONE);
     return NULL;
 }
 
@@ -436,7 +516,7 @@ static void *make_calls(void *given) {
     me->of.first = me->number * 1000;
     me->of.count = 24;
     CHECK(hot_open(shared, &handle) == HOT_DONE);
-    for (turn = 0; turn < me->calls || are_growths_wanted(); turn++) {
+    for (turn = 0; turn < me->calls; turn++) {
         sum[2] = (uint8_t)(turn / 8 % 4);
         make_call(&handle, &me->of, &state);
         me->added += turn % 8 == 0;
@@ -453,25 +533,25 @@ static void *make_calls(void *given) {
     return NULL;
 }
 
-static void test_members(unsigned count, unsigned calls, unsigned growths_wanted) {
+static void test_members(unsigned count, unsigned calls) {
     static member members[64];
-    pthread_t threads[64], grower;
+    pthread_t threads[64], filler;
     hot_handle handle = HOT_HANDLE;
     uint64_t sums = 0, value;
     size_t keys = 0, held = 4;
     unsigned at, key;
-    share(open_small(count + 1, &handle), growths_wanted);
+    share(open_small(count + 2, &handle));
     for (at = 0; at < count; at++) {
         memset(&members[at], 0, sizeof members[at]);
         members[at].number = at;
         members[at].calls = calls;
         CHECK(pthread_create(&threads[at], NULL, make_calls, &members[at]) == 0);
     }
-    CHECK(pthread_create(&grower, NULL, grow_all_along, NULL) == 0);
+    CHECK(pthread_create(&filler, NULL, fill_all_along, NULL) == 0);
     for (at = 0; at < count; at++)
         CHECK(pthread_join(threads[at], NULL) == 0);
     __atomic_store_n(&is_over, 1, __ATOMIC_SEQ_CST);
-    CHECK(pthread_join(grower, NULL) == 0);
+    CHECK(pthread_join(filler, NULL) == 0);
     for (at = 0; at < count; at++) {
         check_model(&handle, &members[at].of, 0);
         for (key = 0; key < members[at].of.count; key++)
@@ -485,47 +565,49 @@ static void test_members(unsigned count, unsigned calls, unsigned growths_wanted
     }
     CHECK(sums == 0 && hot_len(&handle, &keys) == HOT_DONE && keys == held);
     close_all(&handle, shared);
-    printf("%u threads made %u calls or more, in %u growths\n", count, calls, growths);
 }
 
-/* Whether a growth that other threads are to let through took too long. */
-static unsigned is_late;
-
-/* Changes values again and again, until the growth is over, or is late. It makes no other call of the system, at which it would be stopped between
- * two changes. */
+/* Changes values again and again. */
 static void *change_values(void *given) {
-    enum { MANY = 1000000 };
     hot_handle handle = HOT_HANDLE;
     unsigned count = *(unsigned *)given, turn;
     CHECK(hot_open(shared, &handle) == HOT_DONE);
-    for (turn = 0; turn < MANY && !is_done(); turn++) {
+    for (turn = 0; !is_done(); turn++) {
         key it = key_of(turn % count);
         CHECK(hot_upsert(&handle, it.bytes, it.length, turn, NULL) == HOT_WAS);
     }
-    if (turn == MANY)
-        __atomic_store_n(&is_late, 1, __ATOMIC_SEQ_CST);
     CHECK(hot_close(&handle) == HOT_DONE);
     return NULL;
 }
 
-/* A growth isn't held up by changes whose threads wait for the one processor that there is. */
+/* Has this thread, and those that it makes, one processor alone; or those that it had. */
+static void have_one_processor(cpu_set_t *had, int is_one) {
+    cpu_set_t one;
+    if (!is_one) {
+        CHECK(sched_setaffinity(0, sizeof *had, had) == 0);
+        return;
+    }
+    CHECK(sched_getaffinity(0, sizeof *had, had) == 0);
+    CPU_ZERO(&one);
+    CPU_SET((size_t)sched_getcpu(), &one);
+    CHECK(sched_setaffinity(0, sizeof one, &one) == 0);
+}
+
+/* Insertions that need room aren't held up by changes whose threads wait for the one processor that there is. */
 static void test_one_processor(unsigned count) {
     enum { THREADS = 3 };
     hot_handle handle = HOT_HANDLE;
     pthread_t threads[THREADS];
-    cpu_set_t had, one;
-    hot_counts before, counts;
+    cpu_set_t had;
+    size_t before;
     unsigned at;
-    CHECK(sched_getaffinity(0, sizeof had, &had) == 0);
-    CPU_ZERO(&one);
-    CPU_SET((size_t)sched_getcpu(), &one);
-    CHECK(sched_setaffinity(0, sizeof one, &one) == 0);
-    share(open_small(THREADS + 1, &handle), 0);
+    have_one_processor(&had, 1);
+    share(open_small(THREADS + 1, &handle));
     for (at = 0; at < count; at++) {
         key it = key_of(at);
         CHECK(hot_insert(&handle, it.bytes, it.length, 1, NULL) == HOT_INSERTED);
     }
-    CHECK(hot_trim(shared) == HOT_DONE && hot_census(&handle, &before) == HOT_DONE);
+    before = committed(&handle);
     for (at = 0; at < THREADS; at++)
         CHECK(pthread_create(&threads[at], NULL, change_values, &count) == 0);
     for (at = count; at < 2 * count; at++) {
@@ -535,287 +617,51 @@ static void test_one_processor(unsigned count) {
     __atomic_store_n(&is_over, 1, __ATOMIC_SEQ_CST);
     for (at = 0; at < THREADS; at++)
         CHECK(pthread_join(threads[at], NULL) == 0);
-    CHECK(hot_census(&handle, &counts) == HOT_DONE && counts.bytes > before.bytes && !is_late);
-    CHECK(sched_setaffinity(0, sizeof had, &had) == 0);
+    CHECK(committed(&handle) > before);
+    have_one_processor(&had, 0);
     close_all(&handle, shared);
 }
 
-/* ---- Changes that meet a growth ---- */
+/* Threads that share the last records that may be: each inserts until it is refused, and takes its keys out again. Removals that find
+ * no node commit one beyond the bound, which others use then. */
+enum { SHARES = 4 };
 
-enum { MET = 200 };
-
-static key met_key(unsigned at) {
-    return key_of(5 * at);
-}
-
-static void set_turn(unsigned *to, unsigned turn) {
-    __atomic_store_n(to, turn, __ATOMIC_SEQ_CST);
-}
-
-static void wait_for(const unsigned *to, unsigned turn) {
-    unsigned turns = 0;
-    while (__atomic_load_n(to, __ATOMIC_SEQ_CST) < turn)
-        if (++turns % 1024 == 0)
-            sched_yield();
-}
-
-#ifdef HOT_STANDS
-/* Keys that are changed where their state is copied, between the look and the change: by this handle, if there is one. */
-enum { BETWEEN = 5000 };
-
-static struct {
-    hot_handle *by;
-    uint64_t values[BETWEEN];
-    unsigned made, refused;
-} between;
-
-/* A change that stands before it is noted: it is to be made (1), it stands (2), and it may go on (3). It may be made where its key is copied. */
-static struct {
-    hot_handle handle;
-    pthread_t thread;
-    unsigned turn, number, is_to_be_locked;
-} unnoted;
-
-static void *change_unnoted(void *given) {
-    key it = met_key(unnoted.number);
-    (void)given;
-    CHECK(hot_try_upsert(&unnoted.handle, it.bytes, it.length, 3, NULL) == HOT_WAS);
+static void *fill_a_share(void *given) {
+    unsigned number, turn, first = *(unsigned *)given * 100000;
+    hot_handle handle = HOT_HANDLE;
+    CHECK(hot_open(shared, &handle) == HOT_DONE);
+    for (turn = 0; turn < 20; turn++) {
+        hot_status status = HOT_INSERTED;
+        for (number = 0; status == HOT_INSERTED; number += status == HOT_INSERTED) {
+            key it = key_of(first + number);
+            status = hot_insert(&handle, it.bytes, it.length, number, NULL);
+        }
+        CHECK(status == HOT_FULL_NODES || status == HOT_FULL_LEAVES);
+        while (number-- > 0) {
+            key it = key_of(first + number);
+            CHECK(hot_remove(&handle, it.bytes, it.length, NULL) == HOT_REMOVED);
+        }
+    }
+    CHECK(hot_close(&handle) == HOT_DONE);
     return NULL;
 }
 
-static void begin_unnoted(void) {
-    set_turn(&unnoted.turn, 1);
-    CHECK(pthread_create(&unnoted.thread, NULL, change_unnoted, NULL) == 0);
-    wait_for(&unnoted.turn, 2);
-}
-
-void stand_unnoted(void) {
-    if (__atomic_load_n(&unnoted.turn, __ATOMIC_SEQ_CST) != 1)
-        return;
-    set_turn(&unnoted.turn, 2);
-    wait_for(&unnoted.turn, 3);
-}
-
-void stand_here(const uint8_t *key, size_t length) {
-    hot_handle *by = between.by;
-    uint64_t value = between.made + 3;
-    hot_status status;
-    unsigned at;
-    if (unnoted.is_to_be_locked && key[0] == 0 && key[1] == 0 && key[2] == 0 && key[3] == 0) {
-        unnoted.is_to_be_locked = 0;
-        begin_unnoted();
+static void test_shares(void) {
+    enum { MOST = 200000 };
+    hot_handle handle = HOT_HANDLE;
+    pthread_t threads[SHARES];
+    unsigned numbers[SHARES], at;
+    hot_index *index = NULL;
+    CHECK(hot_open_growing(NULL, MOST, SHARES + 1, &index) == HOT_DONE && hot_open(index, &handle) == HOT_DONE);
+    share(index);
+    for (at = 0; at < SHARES; at++) {
+        numbers[at] = at;
+        CHECK(pthread_create(&threads[at], NULL, fill_a_share, &numbers[at]) == 0);
     }
-    if (by == NULL)
-        return;
-    between.by = NULL;
-    at = ((unsigned)key[0] << 24 | (unsigned)key[1] << 16 | (unsigned)key[2] << 8 | key[3]) / 5;
-    status = hot_try_upsert(by, key, length, value, NULL);
-    CHECK(status == HOT_WAS || status == HOT_BUSY);
-    between.made += status == HOT_WAS;
-    between.refused += status == HOT_BUSY;
-    between.values[at] = status == HOT_WAS ? value : between.values[at];
-    between.by = by;
-}
-
-/* A key that changes where it is copied is noted, and copied again; at last it is locked. Each keeps the value of its last change. */
-static void test_between(void) {
-    hot_handle handle = HOT_HANDLE, by = HOT_HANDLE;
-    hot_index *index = open_small(2, &handle);
-    uint64_t value = 0;
-    unsigned at, turn;
-    uint32_t more = 1;
-    CHECK(hot_open(index, &by) == HOT_DONE);
-    for (turn = 1; turn <= 2; turn++) {
-        for (at = 0; at < BETWEEN; at++) {
-            key it = met_key(at);
-            CHECK(hot_upsert(&handle, it.bytes, it.length, turn, NULL) == (turn == 1 ? HOT_NEW : HOT_WAS));
-            between.values[at] = turn;
-        }
-        CHECK(hot_grow_begin(index) == HOT_DONE);
-    }
-    for (between.by = &by; more;)
-        CHECK(hot_grow_step(index, &more) == HOT_DONE);
-    between.by = NULL;
-    CHECK(between.made >= BETWEEN && between.refused >= BETWEEN);
-    for (at = 0; at < BETWEEN; at++) {
-        key it = met_key(at);
-        CHECK(hot_get(&handle, it.bytes, it.length, &value) == HOT_FOUND && value == between.values[at]);
-    }
-    CHECK(hot_close(&by) == HOT_DONE);
+    for (at = 0; at < SHARES; at++)
+        CHECK(pthread_join(threads[at], NULL) == 0);
+    CHECK(committed(&handle) > MOST / 10 * 9);
     close_all(&handle, index);
-    printf("%u keys were changed where they were copied, and %u were locked there\n", between.made, between.refused);
-}
-
-/* A growth waits for a change that is not yet noted: one of a key that was listed before, and is not noted else; or one whose key is copied. */
-static void test_unnoted(unsigned is_locked) {
-    enum { LISTED = 3, STEPS = 40 };
-    hot_handle handle = HOT_HANDLE;
-    hot_index *index = open_small(2, &handle);
-    uint64_t value = 0;
-    unsigned at, turn;
-    uint32_t more = 1;
-    CHECK(hot_open(index, &unnoted.handle) == HOT_DONE);
-    for (turn = 1; turn <= 2; turn++) {
-        for (at = turn - 1; at < MET; at++) {
-            key it = met_key(MET - 1 - at);
-            CHECK(hot_upsert(&handle, it.bytes, it.length, turn, NULL) == (turn == 1 ? HOT_NEW : HOT_WAS));
-        }
-        CHECK(hot_grow_begin(index) == HOT_DONE);
-    }
-    unnoted.number = is_locked ? 0 : MET - 1;
-    unnoted.is_to_be_locked = is_locked;
-    for (at = 0; at < STEPS && more; at++) {
-        if (at == LISTED && !is_locked)
-            begin_unnoted();
-        CHECK(hot_grow_step(index, &more) == HOT_DONE);
-    }
-    CHECK(more && unnoted.turn == 2);
-    set_turn(&unnoted.turn, 3);
-    CHECK(pthread_join(unnoted.thread, NULL) == 0);
-    while (more)
-        CHECK(hot_grow_step(index, &more) == HOT_DONE);
-    for (at = 0; at < MET; at++) {
-        key it = met_key(at);
-        CHECK(hot_get(&handle, it.bytes, it.length, &value) == HOT_FOUND && value == (at == unnoted.number ? 3 : at == MET - 1 ? 1 : 2));
-    }
-    CHECK(hot_close(&unnoted.handle) == HOT_DONE);
-    close_all(&handle, index);
-    unnoted.turn = 0;
-}
-
-static void *grow_once(void *given) {
-    CHECK(hot_grow(given) == HOT_DONE);
-    return NULL;
-}
-
-/* No thread ends within a call, where it has locks: one that is cancelled while it waits there goes on. */
-static void test_cancelled(void) {
-    enum { SOME_TIME = 20000 };
-    hot_handle handle = HOT_HANDLE;
-    hot_index *index = open_small(2, &handle);
-    pthread_t grower;
-    void *ended = NULL;
-    key it = met_key(0);
-    CHECK(hot_open(index, &unnoted.handle) == HOT_DONE && hot_upsert(&handle, it.bytes, it.length, 1, NULL) == HOT_NEW);
-    unnoted.number = 0;
-    CHECK(hot_grow_begin(index) == HOT_DONE);
-    begin_unnoted();
-    CHECK(pthread_create(&grower, NULL, grow_once, index) == 0 && usleep(SOME_TIME) == 0);
-    CHECK(pthread_cancel(grower) == 0 && usleep(SOME_TIME) == 0);
-    CHECK(pthread_tryjoin_np(grower, &ended) == EBUSY);
-    set_turn(&unnoted.turn, 3);
-    CHECK(pthread_join(unnoted.thread, NULL) == 0);
-    if (!failures) {
-        CHECK(pthread_join(grower, &ended) == 0 && ended == NULL && hot_grow(index) == HOT_DONE);
-        CHECK(hot_close(&unnoted.handle) == HOT_DONE);
-        close_all(&handle, index);
-    }
-    unnoted.turn = 0;
-}
-
-static void test_stands(void) {
-    test_between();
-    test_unnoted(0);
-    test_unnoted(1);
-    test_cancelled();
-}
-#else
-static void test_stands(void) {
-}
-#endif
-
-/* A thread that makes changes in each growth, of keys that no other changes then. */
-typedef struct meeting {
-    hot_handle handle;
-    unsigned turn;  /* the growth in which it is to make them */
-    unsigned first; /* the last one in which it has made one */
-    unsigned made;  /* and all */
-} meeting;
-
-static void pause_for(unsigned times) {
-    while (times-- > 0)
-        pause_once();
-}
-
-/* Changes each key once. */
-static void *change_each(void *given) {
-    meeting *me = given;
-    unsigned turn, at;
-    for (turn = 1; wait_for(&me->turn, turn), !is_done(); turn++) {
-        for (at = 0; at < MET; at++) {
-            key it = met_key(at);
-            CHECK(hot_upsert(&me->handle, it.bytes, it.length, turn, NULL) == HOT_WAS);
-            set_turn(&me->first, turn);
-        }
-        set_turn(&me->made, turn);
-    }
-    return NULL;
-}
-
-/* Whether there is to be a further growth: so many, but on a machine where threads wait for processors none after some seconds. */
-static int is_time_left(time_t began, unsigned turn, unsigned rounds) {
-    enum { MOST_SECONDS = 10 };
-    return !failures && turn <= rounds && time(NULL) - began <= MOST_SECONDS;
-}
-
-/* What a thread does that is stopped within a portion, as the system may stop it. */
-static void stop_for_a_moment(int number) {
-    (void)number;
-    pause_for(200);
-}
-
-static void *stop_again_and_again(void *thread) {
-    while (!is_done()) {
-        pause_for(100);
-        CHECK(pthread_kill(*(pthread_t *)thread, SIGUSR1) == 0);
-    }
-    return NULL;
-}
-
-/* Keys that were noted are given the state that they have now, while a thread changes them in both tables. Where that is stopped between its look
- * and its change, the thread must wait. */
-static void test_catching_up(unsigned rounds) {
-    static meeting with;
-    hot_handle handle = HOT_HANDLE;
-    pthread_t writer, stopper, self = pthread_self();
-    uint64_t state = 362436069u, found = 0;
-    time_t began = time(NULL);
-    unsigned turn, at, portion, begin;
-    uint32_t more;
-    share(open_small(2, &handle), 0);
-    CHECK(hot_open(shared, &with.handle) == HOT_DONE);
-    for (at = 0; at < MET; at++) {
-        key it = met_key(at);
-        CHECK(hot_insert(&handle, it.bytes, it.length, 0, NULL) == HOT_INSERTED);
-    }
-    CHECK(pthread_create(&writer, NULL, change_each, &with) == 0);
-    CHECK(signal(SIGUSR1, stop_for_a_moment) != SIG_ERR && pthread_create(&stopper, NULL, stop_again_and_again, &self) == 0);
-    for (turn = 1; is_time_left(began, turn, rounds); turn++) {
-        begin = 5 + next(&state) % 6; /* those of its portions from which on changes are made in both tables */
-        CHECK(hot_grow_begin(shared) == HOT_DONE);
-        for (at = 0; at < MET; at++) {
-            key it = met_key(at);
-            CHECK(hot_upsert(&handle, it.bytes, it.length, 0, NULL) == HOT_WAS);
-        }
-        for (portion = 0, more = 1; more; portion++) {
-            if (portion == begin) {
-                set_turn(&with.turn, turn);
-                wait_for(&with.first, turn);
-            }
-            CHECK(hot_grow_step(shared, &more) == HOT_DONE);
-        }
-        set_turn(&with.turn, turn);
-        wait_for(&with.made, turn);
-        for (at = 0; at < MET; at++) {
-            key it = met_key(at);
-            CHECK(hot_get(&handle, it.bytes, it.length, &found) == HOT_FOUND && found == turn);
-        }
-    }
-    set_turn(&is_over, 1);
-    set_turn(&with.turn, UINT32_MAX);
-    CHECK(pthread_join(writer, NULL) == 0 && pthread_join(stopper, NULL) == 0 && hot_close(&with.handle) == HOT_DONE);
-    close_all(&handle, shared);
-    printf("keys were changed within %u growths that were stopped for moments\n", turn - 1);
 }
 
 /* ---- Histories ---- */
@@ -1025,13 +871,13 @@ static void test_judge(void) {
     CHECK(!has_order(&of, 0, 0, 5));
 }
 
-static void test_histories(unsigned rounds, unsigned growths_wanted) {
+static void test_histories(unsigned rounds) {
     static writer writers[WRITERS];
-    pthread_t threads[WRITERS], grower;
+    pthread_t threads[WRITERS], filler;
     hot_handle handle = HOT_HANDLE;
     uint64_t before[FEW] = {0}, after;
     unsigned at, round, number;
-    share(open_small(WRITERS + 1, &handle), growths_wanted);
+    share(open_small(WRITERS + 2, &handle));
     for (number = 0; number < FILL; number++) {
         key it = key_of(number);
         CHECK(hot_insert(&handle, it.bytes, it.length, 1, NULL) == HOT_INSERTED);
@@ -1043,8 +889,8 @@ static void test_histories(unsigned rounds, unsigned growths_wanted) {
         CHECK(hot_open(shared, &writers[at].handle) == HOT_DONE);
         CHECK(pthread_create(&threads[at], NULL, write_history, &writers[at]) == 0);
     }
-    CHECK(pthread_create(&grower, NULL, grow_all_along, NULL) == 0);
-    for (round = 0; (round < rounds || are_growths_wanted()) && !failures; round++) {
+    CHECK(pthread_create(&filler, NULL, fill_all_along, NULL) == 0);
+    for (round = 0; round < rounds && !failures; round++) {
         pthread_barrier_wait(&begin);
         pthread_barrier_wait(&end);
         for (number = 0; number < FEW; number++) {
@@ -1059,31 +905,36 @@ static void test_histories(unsigned rounds, unsigned growths_wanted) {
     pthread_barrier_wait(&begin);
     for (at = 0; at < WRITERS; at++)
         CHECK(pthread_join(threads[at], NULL) == 0 && hot_close(&writers[at].handle) == HOT_DONE);
-    CHECK(pthread_join(grower, NULL) == 0);
+    CHECK(pthread_join(filler, NULL) == 0);
     for (number = 0; number < FILL; number++) {
         key it = key_of(number);
         CHECK(hot_get(&handle, it.bytes, it.length, &after) == HOT_FOUND && after == 1);
     }
     close_all(&handle, shared);
-    printf("%u rounds of %d threads, in %u growths, have orders\n", round, WRITERS, growths);
 }
 
 int main(int count, char **words) {
     unsigned times = count > 1 ? (unsigned)atoi(words[1]) : 100;
+    cpu_set_t had;
     test_growth();
-    test_portions(1 + times / 50);
-    test_closed();
+    test_calls();
     test_bound();
+    test_bounds(times < 5 ? 997 : 97);
+    test_each_byte();
+    test_stock();
     test_sections();
-    test_filter();
+    test_fork();
+    test_addresses();
     test_load();
-    test_stands();
+    test_bounded_load();
     test_one_processor(times < 5 ? 2000 : 20000);
-    test_catching_up(20 * times);
+    test_shares();
     test_judge();
-    test_histories(40 * times, 5 * times);
-    test_members(4, 200 * times, 2 * times);
-    test_members(times < 5 ? 16 : 64, 4 * times, 1 + times / 10); /* a sanitizer that watches sixty-four threads takes minutes */
+    test_histories(40 * times);
+    test_members(4, 60 + 200 * times);
+    have_one_processor(&had, 1);
+    test_members(times < 5 ? 16 : 64, 60 + 4 * times); /* a sanitizer that watches sixty-four threads takes minutes */
+    have_one_processor(&had, 0);
     puts(failures ? "the test of indexes that grow failed" : "passed: indexes that grow");
     return failures;
 }

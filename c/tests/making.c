@@ -168,11 +168,11 @@ static void test_ranges(void) {
         CHECK(begin_of(&pages->of, range) <= begin_of(&pages->of, range + 1) && first_piece(pages, range) <= first_piece(pages, range + 1));
         CHECK((uintptr_t)first_piece(pages, range) % HUGE_PAGE == 0 && first_piece(pages, range) <= (char *)pages + pages->size);
     }
-    CHECK(page_at(pages, begin_of(&pages->of, range)) == (char *)pages + pages->size && heap_held(pages) == held);
+    CHECK(page_at(pages, begin_of(&pages->of, range)) == (char *)pages + pages->size && heap_held(pages, NULL) == held);
     /* The second small part and the third, and the last byte of all. */
     block_in(pages)[HEAD + SMALL] = block_in(pages)[HEAD + 2 * SMALL] = block_in(pages)[of.bytes - 1] = 1;
     held += 3 * PAGE;
-    CHECK(heap_held(pages) == held);
+    CHECK(heap_held(pages, NULL) == held);
     /* The part of the second handle. A page that was only read is no use. */
     page = page_at(pages, begin_of(&pages->of, SECOND));
     for (piece = 0; piece < PIECES; piece++) {
@@ -188,10 +188,10 @@ static void test_ranges(void) {
         page = end;
     }
     look_at_all(pages);
-    CHECK(all_asked(pages) == MOST_ASKED && heap_held(pages) >= held);
+    CHECK(all_asked(pages) == MOST_ASKED && heap_held(pages, NULL) >= held);
     /* Where the next part begins, and this one has not filled. */
     *page_at(pages, begin_of(&pages->of, SECOND + 1)) = 1;
-    CHECK(heap_held(pages) == written(pages));
+    CHECK(heap_held(pages, NULL) == written(pages));
     munmap(pages, pages->size);
 }
 

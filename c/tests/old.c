@@ -1,5 +1,5 @@
 /* Tests of the calls with which a program begins, on a processor older than that for which the library was compiled. It is built of c/hot.c
- * and c/growing.c alone, for a level that no processor has: so none of them makes a proved call, which might not run there. */
+ * alone, for a level that no processor has: so none of them makes a proved call, which might not run there. */
 #include "hot.h"
 #include <stdio.h>
 #include <string.h>

@@ -1,7 +1,9 @@
 /* Tests of records: how many there are, which of them a key takes, when they run out and come back. */
+#define _GNU_SOURCE
 #include "hot.h"
 #include "check.h"
 #include <string.h>
+#include <sys/mman.h>
 #include <unistd.h>
 
 static int are(hot_states states, uint32_t free, uint32_t held, uint32_t live, uint32_t obsolete) {
@@ -545,6 +547,32 @@ static void test_bytes(void) {
     CHECK(hot_close_index(index) == HOT_DONE);
 }
 
+/* Insertions read nothing behind a table. Here memory stands there that was written, and may not be read any more. The table gets addresses
+ * such that it ends a page before 2 MiB do. */
+static void test_behind(void) {
+    enum { PAGE = 4096, HUGE = 2 << 20, FREE = 128 << 20 };
+    hot_handle handle = HOT_HANDLE;
+    hot_index *index = NULL;
+    hot_stock stock = {20000, 400000, 0, 0, 0, 0};
+    size_t size = 0, length;
+    char *room = mmap(NULL, FREE, PROT_NONE, MAP_PRIVATE | MAP_ANONYMOUS | MAP_NORESERVE, -1, 0), *begin, *mine;
+    uint32_t number;
+    CHECK(hot_stock_bytes(&stock, 1, &size) == HOT_DONE && room != MAP_FAILED);
+    size = (size + PAGE) / PAGE * PAGE; /* with what stands before a table */
+    length = size + HUGE - PAGE;
+    begin = (char *)((size_t)(room + FREE - 2 * HUGE) / HUGE * HUGE + (2 * size - PAGE) % HUGE);
+    CHECK(munmap(room, (size_t)(begin - room)) == 0);
+    CHECK(hot_open_index(&stock, 1, &index) == HOT_DONE && hot_open(index, &handle) == HOT_DONE);
+    mine = mmap(NULL, length, PROT_READ | PROT_WRITE, MAP_PRIVATE | MAP_ANONYMOUS, -1, 0);
+    CHECK(mine != MAP_FAILED);
+    memset(mine, 1, length);
+    CHECK(mprotect(mine, length, PROT_NONE) == 0);
+    for (number = 0; number < 10000; number++)
+        CHECK(hot_insert(&handle, (uint8_t *)&number, 4, number, NULL) == HOT_INSERTED);
+    CHECK(munmap(mine, length) == 0);
+    CHECK(hot_close(&handle) == HOT_DONE && hot_close_index(index) == HOT_DONE);
+}
+
 int main(void) {
     alarm(900); /* a call that never returns ends the test */
     test_census();
@@ -562,6 +590,7 @@ int main(void) {
     test_sizes();
     test_size_of_another();
     test_bytes();
+    test_behind();
     puts(failures ? "c/tests/records.c failed" : "passed: c/tests/records.c");
     return failures;
 }

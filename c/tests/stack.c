@@ -157,9 +157,10 @@ static void write_keys(size_t turn) {
     CALL(2, hot_is_filling(it.growing) <= 1)                                                                                       \
     CALL(2, hot_grow(it.growing) == HOT_DONE)                                                                                      \
     CALL(1, hot_grow_begin(it.growing) == HOT_DONE)                                                                                \
-    CALL(100, hot_grow_step(it.growing, &it.more) == HOT_DONE)                                                                     \
+    CALL(2, hot_grow_step(it.growing, &it.more) == HOT_DONE)                                                                     \
+    CALL(1, hot_close(&it.grown) == HOT_DONE)                                                                                      \
     CALL(2, hot_trim(it.growing) == HOT_DONE)                                                                                      \
-    CALL(1, hot_close(&it.grown) == HOT_DONE && hot_close_index(it.growing) == HOT_DONE)                                           \
+    CALL(1, hot_close_index(it.growing) == HOT_DONE)                                                                               \
     CALL(1, hot_load_growing(SIZE_MAX, 2, write_next, &turn, &it.growing, &it.count) == HOT_DONE && it.count == LOADED)
 
 /* The calls as text, and how often each is made. */

@@ -482,16 +482,19 @@ static void test_changes_once() {
     CHECK(runs == 1000);
     for (std::uint32_t number = 1000; number < 9000; number++)
         CHECK(me.change([&](hot::handle &at) { return tried++, at.try_insert(hot::key_of(number), 1); }).what == hot::status::inserted);
-    CHECK(tried > 8000 && tried < 8020);
+    CHECK(tried == 8000);
     hot::index grows = hot::index::growing(2), fixed(10, 8, 1), bounded = hot::index::growing(1, 100000);
     hot::handle handle = grows.open(), other = bounded.open();
     for (std::uint32_t number = 0; number < 1000; number++)
         CHECK(handle.insert(hot::key_of(number), number).what == hot::status::inserted);
-    for (grows.grow_begin(); grows.grow_step();)
-        CHECK(handle.get(hot::key_of(std::uint32_t{7})) == 7);
+    grows.grow_begin();
+    CHECK(!grows.grow_step() && handle.get(hot::key_of(std::uint32_t{7})) == 7);
     const std::size_t large = handle.census().bytes;
     handle.clear();
+    CHECK(throws<std::logic_error>([&] { grows.trim(); }));
+    handle.close();
     grows.trim();
+    handle = grows.open();
     CHECK(handle.empty() && handle.census().bytes < large / 4 && !grows.is_filling());
     grows.grow();
     hot::index loaded = hot::index::load_growing(std::vector<hot::entry>{{"a", 1}, {"b", 2}}, 1);
@@ -500,7 +503,7 @@ static void test_changes_once() {
     std::uint32_t number = 0;
     while (!other.insert(hot::key_of(number), 1).is_refused())
         number++;
-    CHECK(number > 500 && throws<std::runtime_error>([&] { bounded.grow(); }) && other.size() == number);
+    CHECK(number > 500 && other.size() == number);
 }
 
 // A section holds back the moments of its time, and its handle can't be closed in it.

@@ -1,5 +1,5 @@
-/* A map that grows while threads read and change it. It begins small; a thread that has time for it makes it larger before it is full. At the end
- * most keys go, and the memory with them. */
+/* A map of unknown size, which threads read and change. It begins small, and takes what its keys need. At the end most keys go, and once its
+ * handles are closed, the memory with them. */
 #define _POSIX_C_SOURCE 199309L
 #include <hot.h>
 #include <pthread.h>
@@ -11,8 +11,8 @@ enum { THREADS = 2, KEYS = 20000 };
 
 static hot_index *map;
 
-/* How many keys each writer has put in, how many look-ups went wrong, and whether all threads are at their end. */
-static atomic_uint written[THREADS], wrong, over;
+/* How many keys each writer has put in, and how many calls went wrong. */
+static atomic_uint written[THREADS], wrong;
 
 static void key_of(unsigned number, unsigned writer, uint8_t key[4]) {
     key[0] = (uint8_t)(number >> 16), key[1] = (uint8_t)(number >> 8), key[2] = (uint8_t)number, key[3] = (uint8_t)writer;
@@ -57,18 +57,7 @@ static void *read_keys(void *given) {
     return NULL;
 }
 
-/* Without this thread a writer that finds the map full makes it larger itself. */
-static void *grow_ahead(void *unused) {
-    (void)unused;
-    while (!over)
-        if (hot_is_filling(map))
-            wrong += hot_grow(map) != HOT_DONE;
-        else
-            nap();
-    return NULL;
-}
-
-/* The bytes of the table of now. */
+/* The bytes of the records that the map has committed. */
 static size_t bytes_of(hot_handle *handle) {
     hot_counts counts;
     wrong += hot_census(handle, &counts) != HOT_DONE;
@@ -77,24 +66,21 @@ static size_t bytes_of(hot_handle *handle) {
 
 int main(void) {
     static unsigned numbers[THREADS] = {0, 1};
-    pthread_t threads[2 * THREADS], grower;
+    pthread_t threads[2 * THREADS];
     hot_handle handle = HOT_HANDLE;
     size_t count, large;
     int at;
     if (hot_open_growing(NULL, SIZE_MAX, 2 * THREADS + 1, &map) != HOT_DONE || hot_open(map, &handle) != HOT_DONE)
-        return 1;
-    if (pthread_create(&grower, NULL, grow_ahead, NULL) != 0)
         return 1;
     for (at = 0; at < 2 * THREADS; at++)
         if (pthread_create(&threads[at], NULL, at < THREADS ? write_keys : read_keys, &numbers[at % THREADS]) != 0)
             return 1;
     for (at = 0; at < 2 * THREADS; at++)
         pthread_join(threads[at], NULL);
-    over = 1;
-    pthread_join(grower, NULL);
     hot_len(&handle, &count);
     large = bytes_of(&handle);
-    wrong += hot_clear_range(&handle, (const uint8_t *)"", 0, (const uint8_t *)"\0\116", 2) != HOT_DONE || hot_trim(map) != HOT_DONE;
+    wrong += hot_clear_range(&handle, (const uint8_t *)"", 0, (const uint8_t *)"\0\116", 2) != HOT_DONE;
+    wrong += hot_close(&handle) != HOT_DONE || hot_trim(map) != HOT_DONE || hot_open(map, &handle) != HOT_DONE;
     printf("%zu keys, and %u calls went wrong; trimmed, it has a %s of its bytes\n", count, (unsigned)wrong,
            bytes_of(&handle) < large / 10 ? "tenth" : "larger part");
     return hot_close(&handle) || hot_close_index(map);

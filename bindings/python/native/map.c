@@ -215,7 +215,7 @@ static PyMethodDef methods[] = {
     {"__class_getitem__", Py_GenericAlias, METH_O | METH_CLASS, NULL},
     {"clear", METHOD(map_clear_all), METH_NOARGS, "clear($self)\n--\n\nDeletes all keys at once."},
     {"trim", METHOD(map_trim), METH_NOARGS,
-     "trim($self)\n--\n\nGives memory back that the keys of a map that grows don't need, while other threads go on."},
+     "trim($self)\n--\n\nGives memory back that the keys of a map that grows don't need. Other calls wait."},
     {"_load", METHOD(map_load), METH_O, "_load($self, pairs, /)\n--\n\nTakes pairs whose keys rise in the place of what there is."},
     {"_load_map", METHOD(map_load_map), METH_O,
      "_load_map($self, other, /)\n--\n\nTakes the pairs of a map, whose keys have the same bytes, in the place of what there is."},

@@ -215,15 +215,6 @@ hot_status store_change(store *it, store_call *attempt, store_call *change, void
     return is_in_the_way ? store_long_in_turn(it, change, what) : status;
 }
 
-static hot_status trim(hot_handle *handle, void *what) {
-    (void)handle; /* while it is lent the index stays */
-    return hot_trim(((store *)what)->room->index);
-}
-
-hot_status store_trim(store *it) {
-    return store_long_in_turn(it, trim, it);
-}
-
 /* Within a turn, which it ends: holds the store once nobody else does and all other calls have returned. Returns what begins the
  * next turn. */
 static void *hold_alone(store *it) {
@@ -237,6 +228,22 @@ static void *hold_alone(store *it) {
     }
     wait_for_leases(it);
     return ended;
+}
+
+/* The index opens all its handles anew: they were given back, so that takes no memory. */
+hot_status store_trim(store *it) {
+    void *ended = hold_alone(it);
+    room *in = it->room;
+    hot_close(&in->quick);
+    for (size_t i = 0; i < in->opened; i++)
+        hot_close(&in->leases[i].handle);
+    hot_status status = hot_trim(in->index);
+    hot_open(in->index, &in->quick);
+    for (size_t i = 0; i < in->opened; i++)
+        hot_open(in->index, &in->leases[i].handle);
+    let_go(it);
+    it->turns.begin(ended);
+    return status;
 }
 
 /* Takes an index that was made, if it was, and lets go of the store, which it has alone. */

@@ -288,13 +288,11 @@ class Refusals(unittest.TestCase):
         self.assertEqual((mine, mine.stats()), ({"a": 1}, told))
 
     def test_stats(self):
-        """What an index that was too small tells stays told, and no other thread was in
-        the way."""
+        """No index of unknown size is too small, and no other thread was in the way."""
         mine = SortedMap(longest=8)
         self.assertEqual(mine.stats(), (0, 0, 0))
         mine.update((str(number), number) for number in range(5000))
-        told = mine.stats()
-        self.assertEqual((told.busy, told.held_back, told.full > 2), (0, 0, True))
+        self.assertEqual(mine.stats(), (0, 0, 0))
 
     def test_options(self):
         """The one that is refused is named."""
@@ -313,18 +311,19 @@ SCARCE = """
 import resource
 from hot import SortedMap
 
-mine, count = SortedMap(keys=int), 0
 most = resource.getrlimit(resource.RLIMIT_AS)[1]
 size = int(open("/proc/self/statm").read().split()[0]) * resource.getpagesize()
 resource.setrlimit(resource.RLIMIT_AS, (size + 2**24, most))
+mine, count = SortedMap(keys=int), 0
 try:
-    while True:
+    while count < 10**7:
         mine[count] = count
         count += 1
 except MemoryError:
     resource.setrlimit(resource.RLIMIT_AS, (most, most))
-assert count > 1000 and list(mine.items()) == [(at, at) for at in range(count)]
-mine.update((at, at) for at in range(count, 2 * count))
+assert 1000 < count < 10**7 and list(mine.items()) == [(at, at) for at in range(count)]
+mine.clear()
+mine.update((at, at) for at in range(2 * count))
 assert len(mine) == 2 * count
 """
 
@@ -333,7 +332,7 @@ class Memory(unittest.TestCase):
     @unittest.skipUnless(sys.platform == "linux", "it reads /proc")
     @unittest.skipIf("ASAN_OPTIONS" in os.environ, "a sanitizer ends without memory")
     def test_scarce(self):
-        """Where there is no memory to grow, nothing is lost."""
+        """Where there are few addresses for a map, nothing is lost."""
         subprocess.run([sys.executable, "-c", SCARCE], check=True)
 
 

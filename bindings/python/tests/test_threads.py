@@ -81,8 +81,6 @@ class Threads(unittest.TestCase):
         calls = [
             lambda: mine.get_many(range(60000)),
             lambda: mine.values_range(),
-            lambda: mine.update((number, 1) for number in range(60000, 140000)),
-            SortedMap(keys=int, capacity=500000).clear,
         ]
         turns, is_done = 0, False
 

@@ -190,7 +190,7 @@ impl Hot {
     }
 
     /// Makes an empty index that grows, for keys of which nobody can say how many there will be, with room for 1 to 1,023 handles at a time. It
-    /// begins small, and its calls are those of any other. No table of it has more than `most` bytes; while it grows it has two.
+    /// begins small, and its calls are those of any other. What it has of records takes no more than `most` bytes.
     ///
     /// ```
     /// let index = hot::Hot::growing(usize::MAX, 2)?;
@@ -199,7 +199,9 @@ impl Hot {
     ///     handle.insert(number.to_be_bytes(), number)?;
     /// }
     /// handle.clear_range(10u64.to_be_bytes()..)?;
+    /// drop(handle);
     /// index.trim()?;
+    /// let handle = index.handle()?;
     /// assert_eq!((handle.len(), handle.census().bytes < 100_000), (10, true));
     /// # Ok::<(), hot::Error>(())
     /// ```
@@ -226,17 +228,18 @@ impl Hot {
         Ok(Hot { index })
     }
 
-    /// Has an index that grows do so ahead of need; the time is this thread's. [`Error::NotGrowing`] if it doesn't grow.
+    /// An index that grows has nothing to do ahead of need. [`Error::NotGrowing`] if it doesn't grow.
     pub fn grow(&self) -> Result<(), Error> {
         Error::check(self.index.grow()).map(|_| ())
     }
 
-    /// Gives back the memory that the keys of an index that grows don't need. [`Error::NotGrowing`] if it doesn't grow.
+    /// Gives back the memory that the keys of an index that grows don't need, while it has no handle: else it is refused. [`Error::NotGrowing`] if it
+    /// doesn't grow.
     pub fn trim(&self) -> Result<(), Error> {
         Error::check(self.index.trim()).map(|_| ())
     }
 
-    /// Whether it is time for [`Hot::grow`], so that no change finds the index full.
+    /// Whether it is time for [`Hot::grow`]: never.
     pub fn is_filling(&self) -> bool {
         self.index.is_filling()
     }

@@ -106,9 +106,11 @@ fn each_change_runs_once() -> Result<(), Error> {
     assert_eq!((handle.len(), bounded.is_filling()), (100, false));
     let pairs = (100..10_000u32).map(|number| (key_of(number), 1));
     assert!(matches!(handle.extend(pairs), Err(why) if why.is_full()) && handle.len() > 500);
-    assert!(matches!(bounded.grow(), Err(why) if why.is_full()));
     handle.clear()?;
+    assert!(bounded.trim().is_err());
+    drop(handle);
     bounded.trim()?;
+    let handle = bounded.handle()?;
     assert!(handle.is_empty() && handle.census().bytes < 25_000);
     let fixed = Hot::with_capacity(10, 8, 1)?;
     assert_eq!(
