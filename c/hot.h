@@ -34,7 +34,7 @@
  * length is 0. Each points to what its type says, and what a call writes overlaps no other argument. A handle is zeroed before it is
  * opened, and the program never copies, moves or writes its bytes. malloc, realloc and free belong to one allocator, and 16 bytes or more
  * begin at a multiple of 16. No call is made from a signal handler, or by a thread that may be cancelled asynchronously. A call is no cancellation
- * point. A call has 48 KiB of stack. The system may refuse a call of membarrier, but doesn't end the process for it.
+ * point. A call has 48 KiB of stack.
  *
  * Forks. The child of a fork has an index of its own, as it was then. If other threads were in calls, the child only looks up, scans and
  * counts, through a handle of which no call was under way. All else may find a change in its way whose thread the child hasn't: hot_try_insert

@@ -1113,8 +1113,7 @@ class growing {
         /// Calls `call` with a handle, and returns what it returns.
         template <class Call> auto read(Call call) { return call(handle_); }
 
-        /// The same for a change, which `call` returns. Where that is full, as only those of `try_..` are, the index grows, and `call` runs again.
-        /// Throws what hot::index::grow does.
+        /// The same for a change, which `call` returns. Should that be full, `call` runs again.
         template <class Call> hot::change change(Call call) {
             for (;;) {
                 const hot::change made = call(handle_);

@@ -32,7 +32,7 @@ static hot_stock stock_for(const struct index_settings *settings) {
     return stock;
 }
 
-/* Opens the index itself. One that grows needs a handle for itself. */
+/* Opens the index itself. One that grows has 1,023 handles at most. */
 static hot_status open_index(const struct index_settings *settings, hot_index **index) {
     enum { MOST_TO_GROW = 1023 };
     const size_t handles = (size_t)settings->handles;

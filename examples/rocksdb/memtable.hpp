@@ -473,7 +473,7 @@ class memtable final : public MemTableRep {
 /// Makes memtables for column families whose keys are in the order of their bytes. Others get a skip list.
 class factory final : public MemTableRepFactory {
   public:
-    /// A memtable begins with room for this many keys of at most `longest` bytes. It grows, but a write waits for that.
+    /// A memtable begins with room for this many keys of at most `longest` bytes. It grows beyond them.
     explicit factory(std::uint32_t keys = 10000, std::size_t longest = 24) : keys_(keys), longest_(longest) {}
     using MemTableRepFactory::CreateMemTableRep;
     MemTableRep *CreateMemTableRep(const MemTableRep::KeyComparator &order, Allocator *allocator, const SliceTransform *transform,

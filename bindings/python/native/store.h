@@ -7,8 +7,8 @@
 #include <pthread.h>
 #include <stdatomic.h>
 
-/* The most threads whose long calls run at once. The quick calls have one handle more, and an index that grows has one for itself:
- * so of such a store one thread less. */
+/* The most threads whose long calls run at once. The quick calls have one handle more, and an index that grows has 1,023 handles at
+ * most: so of such a store one thread less. */
 enum { MOST_THREADS = 1023 };
 
 typedef struct lease {
@@ -71,7 +71,7 @@ void store_close(store *it);
 hot_status store_read(store *it, store_call *call, void *what);
 
 /* Makes a change: by `attempt`, which waits for nobody; and where that finds another one in its way, records held back, or in a
- * store that grows no room, by `change`, which waits and has the index grow. */
+ * store that grows no room, by `change`, which waits. */
 hot_status store_change(store *it, store_call *attempt, store_call *change, void *what);
 
 /* Makes a call that may wait or take long, without a turn. */

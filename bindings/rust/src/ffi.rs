@@ -335,7 +335,7 @@ impl Index {
         Ok(Index { at, handles })
     }
 
-    /// Makes an index that grows, whose tables have at most so many bytes; the first one has this stock, or a small one.
+    /// Makes an index that grows, which commits at most so many bytes, and this stock at first, or a small one.
     pub(crate) fn growing(stock: Option<&Stock>, most: usize, handles: usize) -> Result<Index, Error> {
         let (stock, mut at) = (stock.map_or(ptr::null(), |it| ptr::addr_of!(*it)), ptr::null_mut());
         // SAFETY: it reads a stock, if there is one, and writes a pointer.
@@ -343,19 +343,19 @@ impl Index {
         Ok(Index { at, handles })
     }
 
-    /// Has an index grow that does so.
+    /// Has nothing to do for an index that grows.
     pub(crate) fn grow(&self) -> Status {
         // SAFETY: the index is there, and any thread may make the call.
         unsafe { hot_grow(self.at) }
     }
 
-    /// Gives the memory back that its keys don't need.
+    /// Gives the memory back that its keys don't need, while no handle is open.
     pub(crate) fn trim(&self) -> Status {
         // SAFETY: the index is there, and any thread may make the call.
         unsafe { hot_trim(self.at) }
     }
 
-    /// Whether it is time to grow.
+    /// Whether it is time to grow: it never is.
     pub(crate) fn is_filling(&self) -> bool {
         // SAFETY: the index is there, and any thread may make the call.
         unsafe { hot_is_filling(self.at) != 0 }

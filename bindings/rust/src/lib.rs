@@ -190,7 +190,7 @@ impl Hot {
     }
 
     /// Makes an empty index that grows, for keys of which nobody can say how many there will be, with room for 1 to 1,023 handles at a time. It
-    /// begins small, and its calls are those of any other. What it has of records takes no more than `most` bytes.
+    /// begins small, and its calls are those of any other. It commits `most` bytes of records at most, except nodes for removals.
     ///
     /// ```
     /// let index = hot::Hot::growing(usize::MAX, 2)?;
@@ -228,18 +228,18 @@ impl Hot {
         Ok(Hot { index })
     }
 
-    /// An index that grows has nothing to do ahead of need. [`Error::NotGrowing`] if it doesn't grow.
+    /// Has nothing to do: an index that grows commits records as it needs them. [`Error::NotGrowing`] if it doesn't grow.
     pub fn grow(&self) -> Result<(), Error> {
         Error::check(self.index.grow()).map(|_| ())
     }
 
-    /// Gives back the memory that the keys of an index that grows don't need, while it has no handle: else it is refused. [`Error::NotGrowing`] if it
-    /// doesn't grow.
+    /// Gives back the memory that the keys of an index that grows don't need, while no handle is open: it makes the table anew.
+    /// [`Error::NotGrowing`] if it doesn't grow.
     pub fn trim(&self) -> Result<(), Error> {
         Error::check(self.index.trim()).map(|_| ())
     }
 
-    /// Whether it is time for [`Hot::grow`]: never.
+    /// Whether it is time for [`Hot::grow`]: it never is.
     pub fn is_filling(&self) -> bool {
         self.index.is_filling()
     }
@@ -454,7 +454,7 @@ impl Handle {
             .try_for_each(|(key, value)| self.insert(key, value).map(|_| ()))
     }
 
-    /// Removes the key, and returns its value. An index that grows may refuse it as [`Error::NoMemory`].
+    /// Removes the key, and returns its value.
     pub fn remove(&self, key: impl AsRef<[u8]>) -> Result<Option<u64>, Error> {
         match self.lease.remove(key.as_ref()) {
             (ffi::REMOVED, had) => Ok(Some(had)),

@@ -52,7 +52,7 @@ class Stats(NamedTuple):
     held_back: int
     """Too few records were free, but some might come back."""
     full: int
-    """Too few records were free, and none came back. A map that grows grows then."""
+    """Too few records were free, and none came back: in one that grows, never."""
 
 
 class SortedMap(Map[K], MutableMapping[K, int], Generic[K]):
@@ -64,8 +64,8 @@ class SortedMap(Map[K], MutableMapping[K, int], Generic[K]):
 
     Threads may use a map at the same time, at most `threads` of them in calls that wait
     or look up many keys. A map has room for `capacity` keys of at most `longest` bytes.
-    When it is full it grows, while other threads go on; with grow=False it raises
-    FullError. Where the data is a SortedMap with the same keys, or sorted=True
+    It grows beyond that, while other threads go on; with grow=False it raises FullError
+    when it is full. Where the data is a SortedMap with the same keys, or sorted=True
     says that its keys rise, all goes in at once. A key that isn't above the one before,
     or is too long, raises LoadError then, which is a ValueError with the pair's number.
 
