@@ -1,9 +1,10 @@
-// The index for C++17: handles that close themselves, keys as std::string_view, and scans as ranges. hot.h has the rules.
+// The index for C++17: handles that close themselves, keys as std::string_view, scans as ranges, and maps of objects. hot.h has the rules.
 #ifndef HOT_HPP
 #define HOT_HPP
 
 #include "hot.h"
 #include <algorithm>
+#include <atomic>
 #include <cstddef>
 #include <cstdint>
 #include <cstring>
@@ -17,6 +18,7 @@
 #include <stdexcept>
 #include <string>
 #include <string_view>
+#include <thread>
 #include <tuple>
 #include <type_traits>
 #include <utility>
@@ -746,6 +748,7 @@ class handle {
   private:
     friend class index;
     friend class section;
+    template <class, class> friend class map;
 
     // A hot_handle must not move, and its index is there as long as it is.
     struct held {
@@ -1138,6 +1141,403 @@ class growing {
     check(hot_stock_bytes(&stock, count, &bytes));
     return bytes;
 }
+
+namespace detail {
+// What a map has of a key and its object. Its owners are the map, until no call can have just found it, and each iterator there.
+template <class Value> struct object {
+    template <class... Args> explicit object(Args &&...args) : value(std::forward<Args>(args)...) {}
+    Value value;
+    std::atomic<std::size_t> owners{1};
+    // Once it is out of the map: when that was, and what went out after it.
+    retirement out{};
+    object *next = nullptr;
+};
+
+// One of the owners of an object, or none.
+template <class Value> class owner {
+  public:
+    owner() = default;
+    // Is the owner that was `release`d.
+    explicit owner(object<Value> *of) : of_(of) {}
+    owner(const owner &other) : of_(other.of_) {
+        if (of_)
+            of_->owners.fetch_add(1, std::memory_order_relaxed);
+    }
+    owner(owner &&other) noexcept : of_(other.release()) {}
+    owner &operator=(owner other) noexcept {
+        std::swap(of_, other.of_);
+        return *this;
+    }
+    ~owner() {
+        if (of_ && of_->owners.fetch_sub(1, std::memory_order_acq_rel) == 1)
+            delete of_;
+    }
+    object<Value> *get() const { return of_; }
+    object<Value> *operator->() const { return of_; }
+    [[nodiscard]] object<Value> *release() { return std::exchange(of_, nullptr); }
+
+  private:
+    object<Value> *of_ = nullptr;
+};
+
+// A key of a map as bytes: text, or bytes, as one value of `key_of`; and a tuple, a pair or an array as its items.
+template <class Key> std::string bytes_of(const Key &key) {
+    if constexpr (part::is_number<Key> || std::is_convertible_v<const Key &, key_view>)
+        return key_of(key);
+    else
+        return std::apply([](const auto &...items) { return key_of(items...); }, key);
+}
+} // namespace detail
+
+/// An ordered map from keys to objects of any type, for all threads at once: what std::map is for one, and tbb::concurrent_map without its
+/// `unsafe_` calls. A key is a number, text, bytes, or a tuple, a pair or an array of these: what `key_of` takes, and in its order. It has
+/// 240 bytes at most.
+///
+/// An iterator keeps what it stands at: the object is there as long as the iterator, also when another thread has replaced or erased it. The map
+/// destroys an object that is out of it once no call can have just found it and no iterator stands at it: at once, by a later change, or when
+/// it goes. The destructor may make calls with the map, unless the map goes. Who changes an object that others may read does so by what it has of atomics or locks.
+///
+/// Changes wait while others are in their way. Where one throws, nothing is changed: what the copies of a key and an object throw;
+/// std::length_error for a key of more than 240 bytes; std::bad_alloc; std::runtime_error where the map is full. No call may be made
+/// in the child of a fork.
+template <class Key, class T> class map {
+  public:
+    using key_type = Key;
+    using mapped_type = T;
+    using value_type = std::pair<const Key, T>;
+    using size_type = std::size_t;
+
+  private:
+    using object = detail::object<value_type>;
+    using owner = detail::owner<value_type>;
+    static constexpr bool is_text = !part::is_number<Key> && std::is_convertible_v<const Key &, key_view>;
+    /// What a key is looked up by: any text or bytes for a key that is text.
+    using wanted = std::conditional_t<is_text, key_view, const Key &>;
+    static constexpr std::size_t places = 64, page = 64;
+
+  public:
+    /// Stands at a key and its object, and keeps both, also beyond the map. It goes through the keys that were there all along in their order, and
+    /// through others that were there for a time. It fetches some at a time, 64 at most, and keeps them, too; a copy of it fetches them anew.
+    class iterator {
+      public:
+        using iterator_category = std::input_iterator_tag;
+        using value_type = map::value_type;
+        using difference_type = std::ptrdiff_t;
+        using pointer = value_type *;
+        using reference = value_type &;
+
+        /// The end of any map.
+        iterator() = default;
+        iterator(const iterator &other) : of_(other.of_), at_(other.at_), upto_(other.upto_) {}
+        iterator(iterator &&) noexcept = default;
+        iterator &operator=(iterator other) noexcept {
+            std::swap(of_, other.of_);
+            at_ = std::move(other.at_);
+            upto_.swap(other.upto_);
+            next_.swap(other.next_);
+            std::swap(is_last_, other.is_last_);
+            return *this;
+        }
+        reference operator*() const { return at_->value; }
+        pointer operator->() const { return &at_->value; }
+        /// Goes on. Where it throws std::bad_alloc it stays at its key.
+        iterator &operator++() {
+            if (next_.empty() && !is_last_) {
+                const std::optional<std::string> from = after(detail::bytes_of(at_->value.first));
+                if (from)
+                    fetch(*from, page);
+            }
+            step();
+            return *this;
+        }
+        iterator operator++(int) {
+            iterator old(*this);
+            ++*this;
+            return old;
+        }
+        friend bool operator==(const iterator &one, const iterator &other) { return one.at_.get() == other.at_.get(); }
+        friend bool operator!=(const iterator &one, const iterator &other) { return one.at_.get() != other.at_.get(); }
+
+      private:
+        friend class map;
+        iterator(map *of, owner at) : of_(of), at_(std::move(at)) {}
+        // At the first key of a range; if `upto` is empty, that has no end.
+        iterator(map *of, std::string_view from, std::string_view upto) : of_(of), upto_(upto) {
+            fetch(from, 8);
+            step();
+        }
+        // The next ones of the range, last one first.
+        void fetch(std::string_view from, std::size_t limit) {
+            std::uint64_t found[page];
+            std::size_t count = 0;
+            std::uint32_t more = 0;
+            const std::string_view upto = upto_.empty() ? greatest() : upto_;
+            next_.reserve(limit);
+            lease by(*of_);
+            const section inside(by.handle());
+            check(hot_scan_values(by.handle().it(), bytes(from), from.size(), bytes(upto), upto.size(), found, limit, &count, &more));
+            while (count > 0)
+                next_.push_back(shared(found[--count]));
+            is_last_ = more == 0;
+        }
+        void step() {
+            at_ = next_.empty() ? owner() : std::move(next_.back());
+            if (!next_.empty())
+                next_.pop_back();
+        }
+
+        map *of_ = nullptr;
+        owner at_;
+        std::string upto_;
+        std::vector<owner> next_;
+        bool is_last_ = false;
+    };
+
+    /// The keys of a range, from `begin` to `end`.
+    class range {
+      public:
+        iterator begin() const { return iterator(of_, from_, upto_); }
+        iterator end() const { return iterator(); }
+
+      private:
+        friend class map;
+        range(map *of, std::string from, std::string upto) : of_(of), from_(std::move(from)), upto_(std::move(upto)) {}
+        map *of_;
+        std::string from_, upto_;
+    };
+
+    /// An empty map, whose tables have `most` bytes each at most; objects don't count. It is an index that grows: index::growing. Throws as
+    /// that does.
+    explicit map(std::size_t most = SIZE_MAX) : index_(index::growing(places, most)), places_(new place[places]) {}
+    map(const map &) = delete;
+    map &operator=(const map &) = delete;
+    /// Destroys all objects at which no iterator stands. Where memory for a page of addresses is refused, objects leak.
+    ~map() {
+        try {
+            end_all();
+        } catch (const std::bad_alloc &) {
+        }
+    }
+
+    /// Put a key with its object in, if the key is absent, and return where it is, and whether it was put in.
+    std::pair<iterator, bool> insert(const value_type &one) { return emplace(one); }
+    std::pair<iterator, bool> insert(value_type &&one) { return emplace(std::move(one)); }
+    /// The same with what a `value_type` is made from, which is made in any case.
+    template <class... Args> std::pair<iterator, bool> emplace(Args &&...args) {
+        owner made(new object(std::forward<Args>(args)...));
+        const std::string key = detail::bytes_of(made->value.first);
+        owner of_map = made;
+        lease by(*this);
+        const section inside(by.handle());
+        const change told = done(by.handle().insert(key, address(made)));
+        if (told.what == status::exists)
+            return {iterator(this, shared(*told.had)), false};
+        (void)of_map.release();
+        return {iterator(this, std::move(made)), true};
+    }
+
+    /// Gives a key an object in any case, and returns where that is, and whether the key was absent.
+    template <class Object> std::pair<iterator, bool> insert_or_assign(const Key &key, Object &&one) {
+        owner made(new object(key, std::forward<Object>(one)));
+        const std::string its = detail::bytes_of(key);
+        owner of_map = made;
+        lease by(*this);
+        const change told = done(by.handle().upsert(its, address(made)));
+        (void)of_map.release();
+        by.retire(told.had);
+        return {iterator(this, std::move(made)), !told.had};
+    }
+
+    /// Gives a key that is there the object that `change` makes of the one that it has, a `const T &`, and returns where that is; the end if the
+    /// key is absent. `change` is called again as long as other threads change the key meanwhile; what it throws goes on.
+    template <class Change> iterator update(wanted key, Change change) {
+        const std::string its = detail::bytes_of(key);
+        for (owner had = look_up(its); had.get();) {
+            owner made(new object(had->value.first, change(std::as_const(had->value.second)))), of_map = made;
+            owner other;
+            if (exchange(its, had, made, other)) {
+                (void)of_map.release();
+                return iterator(this, std::move(made));
+            }
+            had = std::move(other);
+        }
+        return end();
+    }
+
+    /// Erases a key, and returns how many there were.
+    size_type erase(wanted key) {
+        const std::string its = detail::bytes_of(key);
+        lease by(*this);
+        const change told = done(by.handle().remove(its));
+        by.retire(told.had);
+        return told.had ? 1 : 0;
+    }
+    /// Erases the key that an iterator stands at, if it still has that object, and returns whether it did.
+    bool erase(const iterator &at) {
+        const std::string its = detail::bytes_of(at->first);
+        lease by(*this);
+        const change told = done(by.handle().remove_if(its, address(at.at_)));
+        if (told.what == status::removed)
+            by.retire(told.had);
+        return told.what == status::removed;
+    }
+    /// Erases all keys, one by one. One that another thread puts in meanwhile may stay.
+    void clear() {
+        for (iterator at = begin(); at != end(); ++at)
+            erase(at);
+    }
+
+    /// Where a key is, or the end.
+    [[nodiscard]] iterator find(wanted key) { return iterator(this, look_up(detail::bytes_of(key))); }
+    [[nodiscard]] bool contains(wanted key) {
+        const std::string its = detail::bytes_of(key);
+        return lease(*this).handle().contains(its);
+    }
+    [[nodiscard]] size_type count(wanted key) { return contains(key) ? 1 : 0; }
+
+    /// The first key, the first one that isn't below a key, and the first one above it.
+    [[nodiscard]] iterator begin() { return iterator(this, "", ""); }
+    [[nodiscard]] iterator end() { return iterator(); }
+    [[nodiscard]] iterator lower_bound(wanted key) { return iterator(this, least(key), ""); }
+    [[nodiscard]] iterator upper_bound(wanted key) {
+        const std::optional<std::string> next = after(detail::bytes_of(key));
+        return next ? iterator(this, *next, "") : end();
+    }
+    /// The keys from one on and below another. (`lower_bound` of the other one is no end for a loop: its key may go meanwhile.)
+    [[nodiscard]] range between(wanted key, wanted below) {
+        const std::optional<std::string> upto = before(detail::bytes_of(below));
+        return upto && !upto->empty() ? range(this, least(key), *upto) : range(this, "\2", "\1");
+    }
+
+    /// How many keys there are: exact while no other call changes the map.
+    [[nodiscard]] size_type size() { return lease(*this).handle().size(); }
+    [[nodiscard]] bool empty() { return begin() == end(); }
+
+  private:
+    // A handle for one call at a time, and what its calls took out, oldest first, which some call may still have.
+    struct alignas(64) place {
+        std::atomic<bool> is_taken{false};
+        hot::handle handle;
+        object *oldest = nullptr, *newest = nullptr;
+        std::size_t turn = 0;
+    };
+
+    // A place that this call has. What can't be had any more goes when it is given back, since destructors may make calls.
+    class lease {
+      public:
+        explicit lease(map &of) : of_(of) {
+            // A thread keeps to a place, until another one meets it there.
+            static thread_local std::size_t last = 0;
+            for (std::size_t tries = 1; !try_take(last); tries++) {
+                last = (last + 1) % places;
+                if (tries % places == 0)
+                    std::this_thread::yield();
+            }
+            at_ = &of.places_[last];
+            if (!at_->handle)
+                open();
+        }
+        lease(const lease &) = delete;
+        lease &operator=(const lease &) = delete;
+        ~lease() {
+            give_back(*at_);
+            while (gone_)
+                owner(std::exchange(gone_, gone_->next));
+        }
+        hot::handle &handle() { return at_->handle; }
+
+        // Takes what a change took out of the map. Now and then it looks after what another place has.
+        void retire(std::optional<std::uint64_t> out) {
+            if (!out)
+                return;
+            object *const one = at(*out);
+            one->out = handle().retired();
+            (at_->oldest ? at_->newest->next : at_->oldest) = one;
+            at_->newest = one;
+            collect(*at_);
+            const std::size_t other = at_->turn++ / 16 % places;
+            if (at_->turn % 16 == 0 && try_take(other)) {
+                collect(of_.places_[other]);
+                give_back(of_.places_[other]);
+            }
+        }
+
+      private:
+        bool try_take(std::size_t number) {
+            std::atomic<bool> &is_taken = of_.places_[number].is_taken;
+            return !is_taken.load(std::memory_order_relaxed) && !is_taken.exchange(true, std::memory_order_acquire);
+        }
+        static void give_back(place &one) { one.is_taken.store(false, std::memory_order_release); }
+        void open() {
+            try {
+                at_->handle = of_.index_.open();
+            } catch (...) {
+                give_back(*at_);
+                throw;
+            }
+        }
+        void collect(place &from) {
+            while (from.oldest && handle().is_past(from.oldest->out)) {
+                object *const next = from.oldest->next;
+                from.oldest->next = gone_;
+                gone_ = std::exchange(from.oldest, next);
+            }
+        }
+        map &of_;
+        place *at_;
+        object *gone_ = nullptr;
+    };
+
+    static std::uint64_t address(const owner &of) { return reinterpret_cast<std::uintptr_t>(of.get()); }
+    static object *at(std::uint64_t address) { return reinterpret_cast<object *>(static_cast<std::uintptr_t>(address)); }
+    // One owner more of what a call has found in its section.
+    static owner shared(std::uint64_t address) {
+        owner of_map(at(address)), one = of_map;
+        (void)of_map.release();
+        return one;
+    }
+    static change done(change told) {
+        if (told.is_refused())
+            throw std::runtime_error(told.text());
+        return told;
+    }
+    owner look_up(const std::string &key) {
+        lease by(*this);
+        const section inside(by.handle());
+        const std::optional<std::uint64_t> found = by.handle().get(key);
+        return found ? shared(*found) : owner();
+    }
+    // Gives a key another object than the one that it had; else it finds which other one the key has, if any.
+    bool exchange(const std::string &key, const owner &had, const owner &made, owner &other) {
+        lease by(*this);
+        std::optional<std::uint64_t> out;
+        {
+            const section inside(by.handle());
+            const change told = done(by.handle().exchange(key, address(had), address(made)));
+            if (told.what == status::differs)
+                other = shared(*told.had);
+            else
+                out = told.had;
+        }
+        by.retire(out);
+        return out.has_value();
+    }
+    // The least bytes of a key that isn't below this one, also if this one is too long.
+    static std::string least(wanted key) {
+        std::string its = detail::bytes_of(key);
+        return its.size() > HOT_MAX_KEY ? after(its).value_or(std::string(greatest())) : its;
+    }
+    void end_all() {
+        for (std::size_t i = 0; i < places; i++)
+            while (places_[i].oldest)
+                owner(std::exchange(places_[i].oldest, places_[i].oldest->next));
+        for (iterator at = begin(); at != end(); ++at)
+            owner of_map(at.at_.get());
+    }
+
+    index index_;
+    std::unique_ptr<place[]> places_;
+};
 
 } // namespace hot
 

@@ -109,6 +109,31 @@ static void test_growing() {
     CHECK(refused(look, [&] { return me.read([](hot::handle &at) { return at.get(one); }); }) == 0);
 }
 
+// A map of objects: also the objects that it was given are gone, or its own.
+static void test_map() {
+    hot::map<std::string, std::string> map;
+    const auto look = [&] {
+        entries all;
+        for (const auto &[key, text] : map)
+            all.push_back({key + text, 0});
+        return all;
+    };
+    const auto takes = [&](auto call) { return refused(look, call) > 0; };
+    CHECK(refused([] { return entries(); }, [] { return std::make_unique<hot::map<std::string, std::string>>(); }) > 0);
+    CHECK(takes([&] { return map.emplace(one, two); }) && takes([&] { return map.insert({two, three}); }) && map.size() == 2);
+    CHECK(takes([&] { return map.insert_or_assign(one, three); }) && takes([&] { return map.insert_or_assign(three, one); }) && map.size() == 3);
+    CHECK(takes([&] { return map.update(one, [](const std::string &had) { return had + two; }); }) && map.find(one)->second == three + two);
+    CHECK(takes([&] { return map.find(two); }) && takes([&] { return map.contains(two); }) && takes([&] { return map.lower_bound(two); }));
+    CHECK(takes([&] { return map.upper_bound(one); }) && takes([&] { return map.between(one, three).begin(); }));
+    for (auto at = map.begin(), end = map.end(); at != end;) {
+        const std::string key = at->first;
+        refused([&] { return entries{{at == end ? "" : at->first, 0}}; }, [&] { return ++at; });
+        CHECK(at == end || at->first > key);
+    }
+    CHECK(takes([&] { return map.erase(two); }) && takes([&] { return map.erase(map.begin()); }) && takes([&] { return map.clear(), 0; }));
+    CHECK(map.empty());
+}
+
 int main() {
     const long kept = held;
     {
@@ -120,6 +145,7 @@ int main() {
         test_handles(index, at);
         test_changes(at, other);
         test_growing();
+        test_map();
     }
     CHECK(held == kept);
     std::puts(failures ? "the C++ test without memory failed" : "the C++ test without memory passed");
