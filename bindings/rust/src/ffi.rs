@@ -1,4 +1,4 @@
-//! `hot.h`, and over it calls that are safe: no other module has unsafe code.
+//! `hot.h`, and over it calls that are safe: no other module has unsafe code but `map`, for its values.
 #![allow(unsafe_code)]
 use crate::{Census, Error, Memory, Stats, Stock, MAX_KEY};
 use std::any::Any;
@@ -12,6 +12,7 @@ use std::sync::Arc;
 
 /// How a call came out.
 pub(crate) type Status = u32;
+pub(crate) const DONE: Status = 0;
 pub(crate) const FOUND: Status = 1;
 pub(crate) const ABSENT: Status = 2;
 pub(crate) const INSERTED: Status = 3;
@@ -701,22 +702,36 @@ impl Lease {
         unsafe { hot_leave(self.raw()) }
     }
 
-    pub(crate) fn retired(&self) -> Taken {
+    /// The number of the moment of the call.
+    pub(crate) fn moment(&self) -> u64 {
         let mut moment = RawRetirement {
             index: ptr::null_mut(),
             number: 0,
         };
         unsafe { hot_retired(self.raw(), &mut moment) };
+        moment.number
+    }
+
+    pub(crate) fn retired(&self) -> Taken {
         Taken {
             index: Arc::clone(&self.index),
-            number: moment.number,
+            number: self.moment(),
         }
     }
 
     pub(crate) fn is_past(&self, taken: &Taken) -> Status {
+        self.is_past_in(&taken.index, taken.number)
+    }
+
+    /// Whether a moment of this index is past.
+    pub(crate) fn is_moment_past(&self, number: u64) -> bool {
+        self.is_past_in(&self.index, number) == DONE
+    }
+
+    fn is_past_in(&self, index: &Index, number: u64) -> Status {
         let moment = RawRetirement {
-            index: taken.index.at,
-            number: taken.number,
+            index: index.at,
+            number,
         };
         unsafe { hot_is_past(self.raw(), &moment) }
     }

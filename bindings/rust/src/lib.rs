@@ -2,7 +2,7 @@
 //!
 //! [`Hot`] is the index, which all threads share. Calls are made by a [`Handle`], of which each thread has its own. The number of handles is fixed
 //! when the index is made, and so is the room for keys, unless it grows ([`Hot::growing`]). The names are those of `BTreeMap`, where the
-//! meaning is the same.
+//! meaning is the same. A [`Map`] has values of any type, and needs no handles.
 //!
 //! ```
 //! use hot::Hot;
@@ -25,11 +25,13 @@ mod error;
 mod ffi;
 mod growing;
 mod key;
+pub mod map;
 mod range;
 
 pub use error::{CompareExchangeError, Error, LoadError, TryInsertError};
 pub use growing::{Growing, User};
 pub use key::{key_of, values_of, FromKey, ToKey};
+pub use map::Map;
 pub use range::{KeyRange, Range};
 
 use ffi::{Index, Lease, Room, Seen, Taken};

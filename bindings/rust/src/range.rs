@@ -1,5 +1,5 @@
 //! Ranges of keys, and the pairs in them.
-use crate::ffi::Page;
+use crate::ffi::{Lease, Page};
 use crate::{Error, Handle, MAX_KEY};
 use std::alloc::{handle_alloc_error, Layout};
 use std::fmt;
@@ -181,19 +181,58 @@ pub(crate) fn values(handle: &Handle, keys: &impl KeyRange) -> Result<Vec<u64>, 
     }
 }
 
-/// The pairs of a range of keys, in order from either end: see [`Handle::range`].
-pub struct Range<'a> {
-    handle: &'a Handle,
-    /// The keys that are still to be asked for.
-    left: Option<(Key, Key)>,
-    front: Page,
-    back: Page,
-    page: usize,
-}
-
 /// How many pairs are asked for at first, for who takes one or two, and at most.
 const SMALLEST_PAGE: usize = 8;
 const LARGEST_PAGE: usize = 128;
+
+/// The keys of a range that are still to be asked for.
+pub(crate) struct Left {
+    ends: Option<(Key, Key)>,
+    page: usize,
+}
+
+impl Left {
+    pub(crate) fn new(ends: Option<(Key, Key)>) -> Left {
+        Left {
+            ends,
+            page: SMALLEST_PAGE,
+        }
+    }
+
+    pub(crate) fn is_empty(&self) -> bool {
+        self.ends.is_none()
+    }
+
+    /// Lists the first pairs, or the last ones, in a page that has none left, if there are any.
+    pub(crate) fn list(&mut self, lease: &Lease, is_first: bool, page: &mut Page) -> Result<(), Error> {
+        let (from, upto) = match self.ends {
+            Some(both) => both,
+            None => return Ok(()),
+        };
+        let more = if is_first {
+            lease.scan(from.bytes(), upto.bytes(), self.page, page)?
+        } else {
+            lease.scan_last(from.bytes(), upto.bytes(), self.page, page)?
+        };
+        let last = page.last().filter(|_| more).map(Key::new);
+        self.ends = if is_first {
+            last.and_then(Key::after).map(|next| (next, upto))
+        } else {
+            last.and_then(Key::before).map(|next| (from, next))
+        };
+        self.ends = self.ends.filter(|(from, upto)| from.bytes() <= upto.bytes());
+        self.page = LARGEST_PAGE.min(self.page * 2);
+        Ok(())
+    }
+}
+
+/// The pairs of a range of keys, in order from either end: see [`Handle::range`].
+pub struct Range<'a> {
+    handle: &'a Handle,
+    left: Left,
+    front: Page,
+    back: Page,
+}
 
 impl<'a> Range<'a> {
     pub(crate) fn new(handle: &'a Handle, keys: &impl KeyRange) -> Self {
@@ -204,26 +243,19 @@ impl<'a> Range<'a> {
         Range::between(handle, ends_of_prefix(prefix))
     }
 
-    fn between(handle: &'a Handle, left: Option<(Key, Key)>) -> Self {
+    fn between(handle: &'a Handle, ends: Option<(Key, Key)>) -> Self {
         Range {
             handle,
-            left,
+            left: Left::new(ends),
             front: Page::default(),
             back: Page::default(),
-            page: SMALLEST_PAGE,
         }
     }
 
     /// The page with the least pair that is left, if there is one.
     fn least(&mut self) -> Result<&mut Page, Error> {
-        if let (true, Some((from, upto))) = (self.front.is_empty(), self.left) {
-            let lease = self.handle.lease();
-            let more = lease.scan(from.bytes(), upto.bytes(), self.page, &mut self.front)?;
-            let next = self.front.last().and_then(|last| Key::new(last).after());
-            self.left = next
-                .filter(|next| more && next.bytes() <= upto.bytes())
-                .map(|next| (next, upto));
-            self.page = LARGEST_PAGE.min(self.page * 2);
+        if self.front.is_empty() {
+            self.left.list(self.handle.lease(), true, &mut self.front)?;
         }
         Ok(if self.front.is_empty() {
             &mut self.back
@@ -234,14 +266,8 @@ impl<'a> Range<'a> {
 
     /// The page with the greatest pair that is left, if there is one.
     fn greatest(&mut self) -> Result<&mut Page, Error> {
-        if let (true, Some((from, upto))) = (self.back.is_empty(), self.left) {
-            let lease = self.handle.lease();
-            let more = lease.scan_last(from.bytes(), upto.bytes(), self.page, &mut self.back)?;
-            let next = self.back.last().and_then(|first| Key::new(first).before());
-            self.left = next
-                .filter(|next| more && from.bytes() <= next.bytes())
-                .map(|next| (from, next));
-            self.page = LARGEST_PAGE.min(self.page * 2);
+        if self.back.is_empty() {
+            self.left.list(self.handle.lease(), false, &mut self.back)?;
         }
         Ok(if self.back.is_empty() {
             &mut self.front
