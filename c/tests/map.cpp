@@ -178,15 +178,16 @@ static void test_destructors() {
 
 // ---- Threads ----
 
-static void write(hot::map<int, watched> &map, unsigned seed, int turns) {
+static void write(hot::map<int, watched> &map, unsigned seed, int turns, int keys) {
     std::mt19937 random(seed);
     for (int turn = 0; turn < turns; turn++) {
-        const int key = static_cast<int>(random() % 20);
-        switch (random() % 5) {
-        case 0: map.emplace(key, key); break;
-        case 1: map.insert_or_assign(key, watched(key)); break;
-        case 2: map.update(key, [&](const watched &one) { return watched(one.number() + 20); }); break;
-        case 3: map.erase(key); break;
+        const int key = static_cast<int>(random() % static_cast<unsigned>(keys));
+        switch (random() % 6) {
+        case 0:
+        case 1: map.emplace(key, key); break;
+        case 2: map.insert_or_assign(key, watched(key)); break;
+        case 3: map.update(key, [&](const watched &one) { return watched(one.number() + keys); }); break;
+        case 4: map.erase(key); break;
         default:
             if (const auto where = map.find(key); where != map.end())
                 map.erase(where);
@@ -194,33 +195,34 @@ static void write(hot::map<int, watched> &map, unsigned seed, int turns) {
     }
 }
 
-static void read(hot::map<int, watched> &map, int turns) {
+static void read(hot::map<int, watched> &map, int turns, int keys) {
     for (int turn = 0; turn < turns; turn++) {
-        const int key = turn % 20;
+        const int key = turn % keys;
         if (const auto where = map.find(key); where != map.end())
-            CHECK(where->first == key && where->second.number() % 20 == key);
+            CHECK(where->first == key && where->second.number() % keys == key);
         int last = -1;
-        for (auto at = map.begin(); turn % 10 == 0 && at != map.end(); ++at) {
-            CHECK(at->first > last && at->second.number() % 20 == at->first);
+        for (auto at = map.begin(); turn % keys == keys / 2 && at != map.end(); ++at) {
+            CHECK(at->first > last && at->second.number() % keys == at->first);
             last = at->first;
         }
     }
 }
 
-static void test_threads(int turns) {
+// With few keys threads meet at them, and with many the index grows meanwhile.
+static void test_threads(int turns, int keys) {
     {
         hot::map<int, watched> map;
         std::vector<std::thread> threads;
         for (unsigned of = 0; of < 2; of++) {
-            threads.emplace_back([&map, of, turns] { write(map, of, turns); });
-            threads.emplace_back([&map, turns] { read(map, turns); });
+            threads.emplace_back([&map, of, turns, keys] { write(map, of, turns, keys); });
+            threads.emplace_back([&map, turns, keys] { read(map, turns, keys); });
         }
         for (std::thread &one : threads)
             one.join();
         // Calls of this thread look after what others have left.
-        for (int turn = 0; turn < 2000; turn++)
-            map.insert_or_assign(turn % 20, watched(turn));
-        CHECK(alive == 20 && map.size() == 20);
+        for (int turn = 0; turn < std::max(2000, keys); turn++)
+            map.insert_or_assign(turn % keys, watched(turn));
+        CHECK(alive == keys && map.size() == static_cast<std::size_t>(keys));
     }
     CHECK(alive == 0);
 }
@@ -283,7 +285,8 @@ int main() {
         test_iterators();
         test_throws();
         test_destructors();
-        test_threads(20000);
+        test_threads(60000, 3);
+        test_threads(20000, 5000);
         test_many_threads();
         CHECK(alive == 0);
         std::puts(failures ? "the test of hot::map failed" : "the test of hot::map passed");
