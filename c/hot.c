@@ -470,6 +470,30 @@ hot_status hot_add(hot_handle *handle, const uint8_t *key, size_t length, uint64
     return status;
 }
 
+hot_status hot_add_or_insert(hot_handle *handle, const uint8_t *key, size_t length, uint64_t delta, uint64_t *had) {
+    hot_status status;
+    do {
+        status = hot_add(handle, key, length, delta, had);
+        if (status == HOT_ABSENT)
+            status = hot_insert(handle, key, length, delta, NULL);
+    } while (status == HOT_EXISTS);
+    return status == HOT_INSERTED ? HOT_NEW : status;
+}
+
+hot_status hot_update(hot_handle *handle, const uint8_t *key, size_t length, hot_changer *change, void *context, uint64_t *had) {
+    uint64_t was, value;
+    hot_status status = hot_get(handle, key, length, &was);
+    if (status != HOT_FOUND)
+        return status;
+    do {
+        value = was;
+        status = change(context, &value) ? hot_exchange(handle, key, length, was, value, &was) : HOT_EXISTS;
+    } while (status == HOT_DIFFERS);
+    if (had != NULL && (status == HOT_EXCHANGED || status == HOT_EXISTS))
+        *had = was;
+    return status == HOT_EXCHANGED ? HOT_WAS : status;
+}
+
 /* Hands each pair to `visit` with a handle in its context, and tells the first status that refused a change. */
 typedef struct change_each {
     hot_handle *handle;

@@ -41,8 +41,8 @@
  * and the like then return HOT_BUSY or HOT_HELD_BACK, and calls that wait never return. Scans may ask malloc for memory. So it has to work
  * in such a child, as glibc's does; AddressSanitizer's may hang there.
  *
- * A call fails only by its status. None waits for another, except hot_insert, hot_upsert, hot_exchange, hot_remove, hot_remove_if and
- * hot_add; hot_copy, hot_clear, hot_clear_range, hot_pop_first and hot_pop_last, which make such calls; hot_open, hot_stamp and hot_trim, for
+ * A call fails only by its status. None waits for another, except hot_insert, hot_upsert, hot_exchange, hot_remove, hot_remove_if,
+ * hot_add, hot_add_or_insert and hot_update; hot_copy, hot_clear, hot_clear_range, hot_pop_first and hot_pop_last, which make such calls; hot_open, hot_stamp and hot_trim, for
  * each other; hot_stamp and hot_follow, too; and hot_bytes, with an index that grows, for hot_trim and an insertion that asks for huge pages.
  * Each other call ends after a bounded number of steps, whatever other threads do: a step is one atomic access to a word of the index.
  * Each call below that makes steps gives its bound, for the worst tree that there can be. Beside its steps it may touch words, which it loads
@@ -408,6 +408,20 @@ hot_status hot_remove(hot_handle *handle, const uint8_t *key, size_t length, uin
 hot_status hot_exchange(hot_handle *handle, const uint8_t *key, size_t length, uint64_t expected, uint64_t value, uint64_t *had);
 hot_status hot_add(hot_handle *handle, const uint8_t *key, size_t length, uint64_t delta, uint64_t *had);
 hot_status hot_remove_if(hot_handle *handle, const uint8_t *key, size_t length, uint64_t expected, uint64_t *had);
+
+/* Adds to the value of a key, modulo 2 to the power of 64, or gives the key the value `delta` if it is absent. The value that it had is written to
+ * `had`. It makes calls of hot_add and hot_insert until one of them changes the key, so it waits as they do; of these one takes effect.
+ * HOT_WAS, HOT_NEW; or HOT_FULL_NODES, HOT_FULL_LEAVES, HOT_NO_MEMORY, HOT_KEY_TOO_LONG, HOT_CLOSED. */
+hot_status hot_add_or_insert(hot_handle *handle, const uint8_t *key, size_t length, uint64_t delta, uint64_t *had);
+
+/* What makes a new value: `value` is that which a key has, and the function writes the new one there. It returns 0 if the key is to keep its own. */
+typedef int hot_changer(void *context, uint64_t *value);
+
+/* Gives a key that is there the value that `change` makes of its own, with the `context`, as one change: where another call has changed the key
+ * meanwhile, `change` is called again, with the value that it has then. The value that it had, or keeps, is written to `had`. While `change` runs no
+ * call is under way: it may use the handle. It looks the key up and makes calls of hot_exchange, so it waits as that does.
+ * HOT_WAS, HOT_ABSENT, or HOT_EXISTS if `change` returned 0; or HOT_KEY_TOO_LONG, HOT_CLOSED. */
+hot_status hot_update(hot_handle *handle, const uint8_t *key, size_t length, hot_changer *change, void *context, uint64_t *had);
 
 /* How often a loop of tries has waited. Each loop begins with none: hot_waits so_far = HOT_NO_WAITS; */
 typedef struct hot_waits {

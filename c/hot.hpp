@@ -573,17 +573,11 @@ class handle {
     change add(key_view key, std::uint64_t delta) { return turn(hot_add, key, delta); }
 
     /// Adds to a key's value, and returns the one before; a key that is absent gets the value, as if it had had 0. It waits, too, and
-    /// throws std::length_error, or std::runtime_error where the index is full.
+    /// throws std::length_error, or std::runtime_error where the index is full: hot_add_or_insert.
     std::uint64_t fetch_add(key_view key, std::uint64_t delta) {
-        for (;;) {
-            change made = add(key, delta);
-            if (made.what == status::absent)
-                made = insert(key, delta);
-            if (made.is_refused())
-                throw std::runtime_error(made.text());
-            if (made.what != status::exists) // else another call has put it in meanwhile
-                return made.had.value_or(0);
-        }
+        std::uint64_t had = 0;
+        made(hot_add_or_insert(it(), bytes(key), key.size(), delta, &had));
+        return had;
     }
 
     /// Gives a key the value that `change` makes of the one that it has, or removes it where `change` returns none, and returns the one that

@@ -51,7 +51,28 @@ static inline hot_status hot_told_each(hot_handle *handle, const uint8_t *from, 
     return HOT_TELL(hot_each(handle, from, from_length, upto, upto_length, hot_told_visit, &visitor));
 }
 
+/* What hot_update asks for a new value: its look-up has ended then, and the change that it makes is still to begin. */
+typedef struct hot_told_changer {
+    hot_changer *change;
+    void *context;
+} hot_told_changer;
+
+static inline int hot_told_change(void *changer, uint64_t *value) {
+    const hot_told_changer *it = (const hot_told_changer *)changer;
+    int is_changed;
+    __tsan_acquire(hot_calls());
+    is_changed = it->change(it->context, value);
+    hot_call_begins();
+    return is_changed;
+}
+
+static inline hot_status hot_told_update(hot_handle *handle, const uint8_t *key, size_t length, hot_changer *change, void *context, uint64_t *had) {
+    hot_told_changer changer = {change, context};
+    return HOT_TELL(hot_update(handle, key, length, hot_told_change, &changer, had));
+}
+
 #define hot_each(...) hot_told_each(__VA_ARGS__)
+#define hot_update(...) hot_told_update(__VA_ARGS__)
 #define hot_create(...) HOT_TELL(hot_create(__VA_ARGS__))
 #define hot_create_with(...) HOT_TELL(hot_create_with(__VA_ARGS__))
 #define hot_open_index(...) HOT_TELL(hot_open_index(__VA_ARGS__))
@@ -88,6 +109,7 @@ static inline hot_status hot_told_each(hot_handle *handle, const uint8_t *from, 
 #define hot_remove(...) HOT_TELL(hot_remove(__VA_ARGS__))
 #define hot_exchange(...) HOT_TELL(hot_exchange(__VA_ARGS__))
 #define hot_add(...) HOT_TELL(hot_add(__VA_ARGS__))
+#define hot_add_or_insert(...) HOT_TELL(hot_add_or_insert(__VA_ARGS__))
 #define hot_remove_if(...) HOT_TELL(hot_remove_if(__VA_ARGS__))
 #define hot_clear(...) HOT_TELL(hot_clear(__VA_ARGS__))
 #define hot_clear_range(...) HOT_TELL(hot_clear_range(__VA_ARGS__))

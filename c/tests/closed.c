@@ -30,6 +30,12 @@ static int visit(void *context, const hot_pair *pair) {
     return pair->length > 0;
 }
 
+static int change(void *context, uint64_t *value) {
+    room *to = context;
+    to->visits++;
+    return *value > 0;
+}
+
 /* An open handle of another index, for the calls that take two. */
 static hot_handle open_handle = HOT_HANDLE;
 
@@ -58,6 +64,8 @@ static hot_handle open_handle = HOT_HANDLE;
     CALL(hot_exchange(closed, key, 1, 1, 2, &to->value))                                       \
     CALL(hot_add(closed, key, 1, 1, &to->value))                                               \
     CALL(hot_remove_if(closed, key, 1, 1, &to->value))                                         \
+    CALL(hot_add_or_insert(closed, key, 1, 1, &to->value))                                     \
+    CALL(hot_update(closed, key, 1, change, to, &to->value))                                   \
     CALL(hot_clear(closed))                                                                    \
     CALL(hot_clear_range(closed, key, 1, key, 1))                                              \
     CALL(hot_pop_first(closed, key, 1, key, 1, &to->pair))                                     \

@@ -147,6 +147,62 @@ static void test_add(void) {
     CHECK(hot_destroy(&handle) == HOT_DONE);
 }
 
+/* Adding to a key that may be absent: it gets the number then, if there is room for it. */
+static void test_add_or_insert(void) {
+    hot_handle handle = HOT_HANDLE;
+    const uint8_t *key = bytes("a");
+    static const uint8_t long_key[HOT_MAX_KEY + 1] = {0};
+    uint64_t had = 7;
+    CHECK(hot_create(10, 2, &handle, 1) == HOT_DONE);
+    CHECK(hot_add_or_insert(&handle, key, 1, 5, &had) == HOT_NEW && had == 7);
+    CHECK(hot_add_or_insert(&handle, key, 1, UINT64_MAX, &had) == HOT_WAS && had == 5);
+    CHECK(hot_add_or_insert(&handle, key, 0, 0, NULL) == HOT_NEW && hot_add_or_insert(&handle, key, 0, 1, NULL) == HOT_WAS);
+    CHECK(hot_get(&handle, key, 1, &had) == HOT_FOUND && had == 4 && hot_get(&handle, key, 0, &had) == HOT_FOUND && had == 1);
+    CHECK(hot_add_or_insert(&handle, long_key, sizeof long_key, 1, &had) == HOT_KEY_TOO_LONG && had == 1);
+    CHECK(hot_add_or_insert(&handle, bytes("b"), 1, 1, &had) == HOT_FULL_LEAVES && had == 1 && hot_get(&handle, bytes("b"), 1, &had) == HOT_ABSENT);
+    CHECK(hot_add_or_insert(&handle, key, 1, 3, &had) == HOT_WAS && had == 4);
+    CHECK(hot_destroy(&handle) == HOT_DONE);
+}
+
+/* What changes a value: it doubles one of less than 100, and first changes or removes the key by a handle as often as it says. */
+typedef struct changer {
+    hot_handle *handle;
+    int calls, changes, removals;
+} changer;
+
+static int make_twice(void *context, uint64_t *value) {
+    changer *it = context;
+    it->calls++;
+    if (it->changes > 0 && it->changes-- > 0)
+        CHECK(hot_add(it->handle, bytes("a"), 1, 1, NULL) == HOT_WAS);
+    if (it->removals > 0 && it->removals-- > 0)
+        CHECK(hot_remove(it->handle, bytes("a"), 1, NULL) == HOT_REMOVED);
+    *value *= 2;
+    return *value < 200;
+}
+
+/* A value that a function makes of the one before: it is asked again where the key has another by then. */
+static void test_update(void) {
+    hot_handle handle = HOT_HANDLE;
+    static const uint8_t long_key[HOT_MAX_KEY + 1] = {0};
+    changer it = {&handle, 0, 0, 0};
+    uint64_t had = 7, value;
+    CHECK(hot_create(10, 1, &handle, 1) == HOT_DONE);
+    CHECK(hot_update(&handle, bytes("a"), 1, make_twice, &it, &had) == HOT_ABSENT && it.calls == 0 && had == 7);
+    CHECK(hot_update(&handle, long_key, sizeof long_key, make_twice, &it, &had) == HOT_KEY_TOO_LONG && it.calls == 0 && had == 7);
+    CHECK(hot_insert(&handle, bytes("a"), 1, 30, NULL) == HOT_INSERTED);
+    CHECK(hot_update(&handle, bytes("a"), 1, make_twice, &it, &had) == HOT_WAS && it.calls == 1 && had == 30);
+    it.changes = 3;
+    CHECK(hot_update(&handle, bytes("a"), 1, make_twice, &it, &had) == HOT_WAS && it.calls == 5 && had == 63);
+    CHECK(hot_get(&handle, bytes("a"), 1, &value) == HOT_FOUND && value == 126);
+    CHECK(hot_update(&handle, bytes("a"), 1, make_twice, &it, &had) == HOT_EXISTS && it.calls == 6 && had == 126);
+    CHECK(hot_update(&handle, bytes("a"), 1, make_twice, &it, NULL) == HOT_EXISTS && hot_get(&handle, bytes("a"), 1, &value) == HOT_FOUND);
+    CHECK(value == 126 && hot_upsert(&handle, bytes("a"), 1, 1, NULL) == HOT_WAS);
+    it.removals = 1;
+    CHECK(hot_update(&handle, bytes("a"), 1, make_twice, &it, &had) == HOT_ABSENT && had == 126 && it.calls == 8);
+    CHECK(hot_destroy(&handle) == HOT_DONE);
+}
+
 /* Look-ups of keys that lie one after another, more of them than are looked up at a time. */
 static void test_get_packed(void) {
     enum { MANY = 150 };
@@ -224,6 +280,8 @@ int main(void) {
     test_long_keys();
     test_unread();
     test_add();
+    test_add_or_insert();
+    test_update();
     test_get_packed();
     test_constants();
     test_waits();

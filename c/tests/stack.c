@@ -65,6 +65,12 @@ static int visit(void *context, const hot_pair *pair) {
     return context == NULL && pair->length > 0;
 }
 
+/* The value before. */
+static int change(void *context, uint64_t *value) {
+    --*value;
+    return context == NULL;
+}
+
 /* Writes the keys of some turns for look-ups of many keys, one after another. */
 static void write_keys(size_t turn) {
     uint8_t *at = it.bytes;
@@ -109,6 +115,8 @@ static void write_keys(size_t turn) {
     CALL(KEYS, hot_exchange(&it.handle, KEY, turn + 1, turn, NULL) == HOT_EXCHANGED)                                               \
     CALL(KEYS, hot_try_add(&it.handle, KEY, 1, NULL) == HOT_WAS)                                                                   \
     CALL(KEYS, hot_add(&it.handle, KEY, 1, NULL) == HOT_WAS)                                                                       \
+    CALL(KEYS, hot_add_or_insert(&it.handle, KEY, 1, NULL) == HOT_WAS)                                                             \
+    CALL(KEYS, hot_update(&it.handle, KEY, change, NULL, NULL) == HOT_WAS)                                                         \
     CALL(2, hot_scan(&it.handle, ALL, it.pairs, PAIRS, &it.count, &it.more) == HOT_DONE && it.more)                                \
     CALL(2, hot_scan_reverse(&it.handle, ALL, it.pairs, PAIRS, &it.count, &it.more) == HOT_DONE && it.more)                        \
     CALL(2, hot_scan_last(&it.handle, ALL, it.pairs, PAIRS, &it.count, &it.more) == HOT_DONE && it.more)                           \

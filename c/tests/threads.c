@@ -905,6 +905,65 @@ static void test_emptying(void) {
     CHECK(hot_close(&handle) == HOT_DONE && hot_close_index(index) == HOT_DONE);
 }
 
+/* Tenth test: threads that add one to a key which others remove: by a call that puts it in, and by a function that is asked for the new value. What was removed
+ * and what is left make as much as was added. */
+#define ADDITIONS 20000
+
+typedef struct adder {
+    hot_handle handle;
+    uint64_t sum; /* of what it has added, or removed */
+} adder;
+
+static int count_up(void *context, uint64_t *value) {
+    ++*value;
+    return context == NULL;
+}
+
+static void *add_ones(void *given) {
+    adder *me = given;
+    uint64_t had;
+    int turn;
+    for (turn = 0; turn < ADDITIONS; turn++) {
+        hot_status status = turn % 2 ? hot_add_or_insert(&me->handle, bytes("sum"), 3, 1, &had)
+                                     : hot_update(&me->handle, bytes("sum"), 3, count_up, NULL, &had);
+        CHECK(status == HOT_WAS || status == (turn % 2 ? HOT_NEW : HOT_ABSENT));
+        CHECK(status != HOT_WAS || had > 0);
+        me->sum += status != HOT_ABSENT;
+    }
+    return NULL;
+}
+
+static void *remove_sums(void *given) {
+    adder *me = given;
+    uint64_t had;
+    int turn;
+    for (turn = 0; turn < ADDITIONS; turn++)
+        if (hot_remove(&me->handle, bytes("sum"), 3, &had) == HOT_REMOVED)
+            me->sum += had;
+    return NULL;
+}
+
+static void test_sums(void) {
+    static const hot_stock stock = {100, 100, 0, 0, 0, 0};
+    hot_index *index;
+    adder adders[4] = {{HOT_HANDLE, 0}, {HOT_HANDLE, 0}, {HOT_HANDLE, 0}, {HOT_HANDLE, 0}};
+    pthread_t threads[4];
+    uint64_t left = 0;
+    unsigned i;
+    CHECK(hot_open_index(&stock, 4, &index) == HOT_DONE);
+    for (i = 0; i < 4; i++)
+        CHECK(hot_open(index, &adders[i].handle) == HOT_DONE);
+    for (i = 0; i < 4; i++)
+        CHECK(pthread_create(&threads[i], NULL, i < 3 ? add_ones : remove_sums, &adders[i]) == 0);
+    for (i = 0; i < 4; i++)
+        CHECK(pthread_join(threads[i], NULL) == 0);
+    hot_get(&adders[0].handle, bytes("sum"), 3, &left);
+    CHECK(adders[0].sum + adders[1].sum + adders[2].sum == adders[3].sum + left && adders[0].sum >= ADDITIONS / 2);
+    for (i = 0; i < 4; i++)
+        CHECK(hot_close(&adders[i].handle) == HOT_DONE);
+    CHECK(hot_close_index(index) == HOT_DONE);
+}
+
 int main(void) {
     /* Keys, nodes and leaves: room for all; more keys than leaves; one node, which comes and goes. */
     static const unsigned crowds[5][3] = {{500, 60, 520}, {12, 16, 8}, {5, 1, 16}, {3, 1, 2}, {2, 1, 1}};
@@ -923,8 +982,9 @@ int main(void) {
     test_waves();
     test_values();
     test_emptying();
+    test_sums();
     if (!failures)
         puts("passed: threads that read while others change keys of all lengths, or make nodes merge, threads where few records are to spare, "
-             "threads that are stopped, and threads that empty a full index");
+             "threads that are stopped, threads that empty a full index, and threads that add to a key which comes and goes");
     return failures;
 }

@@ -156,6 +156,7 @@ extern "C" {
     ) -> Status;
     fn hot_remove_if(handle: *mut RawHandle, key: *const u8, length: usize, expected: u64, had: *mut u64) -> Status;
     fn hot_add(handle: *mut RawHandle, key: *const u8, length: usize, delta: u64, had: *mut u64) -> Status;
+    fn hot_add_or_insert(handle: *mut RawHandle, key: *const u8, length: usize, delta: u64, had: *mut u64) -> Status;
     fn hot_scan_packed(
         handle: *mut RawHandle,
         from: *const u8,
@@ -662,6 +663,12 @@ impl Lease {
     pub(crate) fn add(&self, key: &[u8], delta: u64) -> (Status, u64) {
         let mut had = 0;
         let status = unsafe { hot_add(self.raw(), key.as_ptr(), key.len(), delta, &mut had) };
+        (status, had)
+    }
+
+    pub(crate) fn add_or_insert(&self, key: &[u8], delta: u64) -> (Status, u64) {
+        let mut had = 0;
+        let status = unsafe { hot_add_or_insert(self.raw(), key.as_ptr(), key.len(), delta, &mut had) };
         (status, had)
     }
 

@@ -554,16 +554,9 @@ impl Handle {
     /// # Ok::<(), hot::Error>(())
     /// ```
     pub fn fetch_add(&self, key: impl AsRef<[u8]>, delta: u64) -> Result<Option<u64>, Error> {
-        let key = key.as_ref();
-        loop {
-            if let Some(had) = self.add(key, delta)? {
-                return Ok(Some(had));
-            }
-            match self.try_insert(key, delta) {
-                Ok(()) => return Ok(None),
-                Err(TryInsertError::Occupied(_)) => {}
-                Err(TryInsertError::Refused(why)) => return Err(why),
-            }
+        match self.lease.add_or_insert(key.as_ref(), delta) {
+            (ffi::WAS, had) => Ok(Some(had)),
+            (status, _) => Error::check(status).map(|_| None),
         }
     }
 
