@@ -1,5 +1,4 @@
-/* What of the library for C is written in C, and tested: the texts of statuses, pairs that are handed over one by one, and taken one by one
- * by a load, calls for many keys, an index that opens its handles one by one, and the calls that wait: the proved library may neither wait
+/* What of the library for C is written in C, and tested, but for cursor.c and heap.c: the texts of statuses, pairs that are taken one by one by a load, calls for many keys, an index that opens its handles one by one, and the calls that wait: the proved library may neither wait
  * nor yield, so it says when to try again, and the wait is here. */
 #define _POSIX_C_SOURCE 199506L
 #include "index.h"
@@ -90,25 +89,6 @@ hot_status hot_scan_prefix_reverse(hot_handle *handle, const uint8_t *prefix, si
     if (before == NULL)
         return proved_scan_whole_prefix_reverse(handle, prefix, length, pairs, limit, count, more);
     return proved_scan_prefix_before(handle, prefix, length, before, before_length, pairs, limit, count, more);
-}
-
-hot_status hot_each(hot_handle *handle, const uint8_t *from, size_t from_length, const uint8_t *upto, size_t upto_length,
-                    hot_visitor *visit, void *context) {
-    enum { PAGE = 32 };
-    hot_pair pairs[PAGE];
-    uint8_t next[HOT_MAX_KEY];
-    size_t count, place;
-    uint32_t more;
-    hot_status status;
-    while ((status = hot_scan(handle, from, from_length, upto, upto_length, pairs, PAGE, &count, &more)) == HOT_DONE) {
-        for (place = 0; place < count; place++)
-            if (!visit(context, &pairs[place]))
-                return HOT_DONE;
-        if (!more || hot_after(pairs[count - 1].key, pairs[count - 1].length, next, &from_length) == HOT_ABSENT)
-            return HOT_DONE;
-        from = next;
-    }
-    return status;
 }
 
 /* Writes the index of a handle. HOT_DONE; or HOT_CLOSED, and then nothing is written: a closed handle has none. */

@@ -3,8 +3,8 @@
  * hot_open_index makes an index, and hot_open opens a handle on it. A handle is the right to use the index. Calls with different handles
  * may run at the same time; calls with the same handle may not. So give each thread its own handle, or hand a handle over by a lock, by a
  * thread's start or join, or by a sequentially consistent atomic. A call takes effect for all others at once, or not at all. But these make
- * several calls, one after the other: hot_copy, hot_clear, hot_clear_range, hot_pop_first, hot_pop_last, hot_each and, for more than 64 keys,
- * hot_get_many and hot_get_packed.
+ * several calls, one after the other: hot_copy, hot_clear, hot_clear_range, hot_pop_first, hot_pop_last, hot_each and its like
+ * and, for more than 64 keys, hot_get_many and hot_get_packed.
  *
  * A key is 0 to HOT_MAX_KEY bytes of any value. Keys are ordered as by memcmp, and a key comes after its own prefixes. The index
  * copies keys: the memory of a key is yours again when the call returns.
@@ -98,7 +98,7 @@ extern const uint8_t hot_last_key[HOT_MAX_KEY];
 #define HOT_TO_END hot_last_key, HOT_MAX_KEY
 
 /* How a call came out. Each call says which of these it returns. From HOT_BUSY to HOT_NO_MEMORY, and from HOT_HELD_BACK on, the call
- * was refused and changed nothing; with any other status it was made. hot_copy, hot_clear, hot_clear_range, hot_each and hot_get_packed
+ * was refused and changed nothing; with any other status it was made. hot_copy, hot_clear, hot_clear_range, hot_each and its like, and hot_get_packed
  * return the status of the first of their calls that was refused: what those before it did stays. A load keeps the pairs before one that
  * was refused; where memory is refused, it makes no index. */
 typedef uint32_t hot_status;
@@ -528,6 +528,41 @@ typedef int hot_visitor(void *context, const hot_pair *pair);
  * HOT_CLOSED if `visit` closes the handle. */
 hot_status hot_each(hot_handle *handle, const uint8_t *from, size_t from_length, const uint8_t *upto, size_t upto_length,
                     hot_visitor *visit, void *context);
+
+/* hot_each downwards, of keys that begin with a prefix, and of these downwards: in falling key order each time begins at the key that hot_before gives
+ * for the last pair listed. They return what hot_each does. */
+hot_status hot_each_reverse(hot_handle *handle, const uint8_t *from, size_t from_length, const uint8_t *upto, size_t upto_length,
+                            hot_visitor *visit, void *context);
+hot_status hot_each_prefix(hot_handle *handle, const uint8_t *prefix, size_t length, hot_visitor *visit, void *context);
+hot_status hot_each_prefix_reverse(hot_handle *handle, const uint8_t *prefix, size_t length, hot_visitor *visit, void *context);
+
+/* A place among an index's keys, from which a program goes up and down, with a page of pairs. Its fields are the library's. It may be copied, and left
+ * at any time: between calls it holds nothing back. A call with it is a call with its handle, which stays where it is meanwhile. */
+typedef struct hot_cursor {
+    hot_handle *handle;
+    uint32_t at, count, place, limit, is_there, falls;
+    hot_head heads[64];
+    uint8_t bytes[8 * HOT_MAX_KEY];
+} hot_cursor;
+
+/* Puts a cursor at a key, which need not be in the index, before anything else is done with it, or again. It makes no steps.
+ * HOT_DONE; or HOT_KEY_TOO_LONG, HOT_CLOSED, and then the cursor stays as it was. */
+hot_status hot_seek(hot_cursor *cursor, hot_handle *handle, const uint8_t *key, size_t length);
+
+/* Goes to the next pair: the first one whose key is that of hot_seek or above, and then each time the first above the one where the cursor is. Writes
+ * where its key lies, the key's length, and the value; the key is there until the next call with the cursor. It fetches 8 to 64 pairs at a time, as
+ * hot_scan_packed does with room for 1920 bytes of keys, and else goes on in its page. So each pair was there at some moment of the fetch, and no key is
+ * missing that was there all along. Keys rise, and none comes twice. Any key may be removed or put in meanwhile, also by this handle: the cursor goes on
+ * behind a key that is gone, and sees no change in its page until it fetches those keys anew. Where it finds no more it stays, so a later call finds
+ * what has come since. What a value points to may be gone, unless the handle's section has been open since hot_seek. It makes at most as many steps as
+ * hot_scan with a limit of 64.
+ * HOT_FOUND, HOT_ABSENT; or HOT_CLOSED, HOT_NO_MEMORY (only if there was a pair), and then nothing was written and the cursor stays. */
+hot_status hot_next(hot_cursor *cursor, const uint8_t **key, size_t *length, uint64_t *value);
+
+/* hot_next downwards: goes to the last pair whose key is that of hot_seek or below, and then each time to the last below the one where the cursor is,
+ * by hot_scan_packed_reverse. Behind hot_seek to HOT_TO_END that is the last pair of all. A cursor may turn at any pair: in its page it goes back
+ * through the same pairs. It returns what hot_next does. */
+hot_status hot_previous(hot_cursor *cursor, const uint8_t **key, size_t *length, uint64_t *value);
 
 /* Writes the first pair whose key is `from` or above, by a scan for one pair; from an empty key on, that is the first pair of
  * all. Nothing is written unless it is found. It makes at most 168667 steps.

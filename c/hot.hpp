@@ -508,6 +508,31 @@ class packed {
     std::uint32_t more_ = 0;
 };
 
+/// A place among an index's keys, from which one goes up and down: hot_cursor. `handle::seek` makes it, and its handle stays open, in its place or
+/// moved, as long as the cursor is used. The key of a pair is valid until the cursor goes on.
+class cursor {
+  public:
+    /// Go to the next pair, or to the one before, and return it, or none where there is none, and then the cursor stays: hot_next, hot_previous. They
+    /// throw std::bad_alloc, and std::logic_error if the handle is closed. It stays then, too.
+    std::optional<pair> next() { return go(hot_next); }
+    std::optional<pair> previous() { return go(hot_previous); }
+
+  private:
+    friend class handle;
+    cursor(hot_handle *of, std::string_view key) { check(hot_seek(&at_, of, bytes(key), key.size())); }
+    template <class Call> std::optional<pair> go(Call call) {
+        const std::uint8_t *key = nullptr;
+        std::size_t length = 0;
+        std::uint64_t value = 0;
+        detail::call_begins();
+        const hot_status status = call(&at_, &key, &length, &value);
+        check(status);
+        return status == HOT_FOUND ? std::optional(pair{{reinterpret_cast<const char *>(key), length}, value}) : std::nullopt;
+    }
+
+    hot_cursor at_;
+};
+
 /// The right to use an index, for one thread at a time, which index::open gives. It closes itself. A move leaves the other handle closed,
 /// and a handle that is assigned to is closed first. A call on a closed handle throws std::logic_error. Otherwise calls throw only as
 /// `check` does.
@@ -650,6 +675,11 @@ class handle {
         return range(it(), from, upto, count, order::last);
     }
     range scan_last(key_view, key_view, std::size_t) && = delete;
+
+    /// A cursor at a key, which need not be there: hot_seek. From an empty key on `next` goes to the first pair, and from `greatest()` on `previous`
+    /// goes to the last one. It throws std::length_error.
+    [[nodiscard]] cursor seek(key_view key = {}) & { return cursor(it(), key); }
+    cursor seek(key_view = {}) && = delete;
 
     /// How many keys there are from one key to another, both included: hot_count. And how many begin with a prefix: hot_count_prefix.
     [[nodiscard]] std::size_t count(key_view from, key_view upto) {

@@ -33,7 +33,7 @@ static inline hot_status hot_call_ended(hot_status status) {
     return status;
 }
 
-/* What hot_each hands pairs to: some of its calls have ended then. */
+/* What hot_each and its like hand pairs to: some of their calls have ended then. */
 typedef struct hot_told_visitor {
     hot_visitor *visit;
     void *context;
@@ -45,10 +45,20 @@ static inline int hot_told_visit(void *visitor, const hot_pair *pair) {
     return it->visit(it->context, pair);
 }
 
-static inline hot_status hot_told_each(hot_handle *handle, const uint8_t *from, size_t from_length, const uint8_t *upto, size_t upto_length,
-                                       hot_visitor *visit, void *context) {
+typedef hot_status hot_told_range(hot_handle *handle, const uint8_t *from, size_t from_length, const uint8_t *upto, size_t upto_length,
+                                  hot_visitor *visit, void *context);
+typedef hot_status hot_told_prefix(hot_handle *handle, const uint8_t *prefix, size_t length, hot_visitor *visit, void *context);
+
+static inline hot_status hot_told_each(hot_told_range *each, hot_handle *handle, const uint8_t *from, size_t from_length, const uint8_t *upto,
+                                       size_t upto_length, hot_visitor *visit, void *context) {
     hot_told_visitor visitor = {visit, context};
-    return HOT_TELL(hot_each(handle, from, from_length, upto, upto_length, hot_told_visit, &visitor));
+    return HOT_TELL(each(handle, from, from_length, upto, upto_length, hot_told_visit, &visitor));
+}
+
+static inline hot_status hot_told_each_prefix(hot_told_prefix *each, hot_handle *handle, const uint8_t *prefix, size_t length, hot_visitor *visit,
+                                              void *context) {
+    hot_told_visitor visitor = {visit, context};
+    return HOT_TELL(each(handle, prefix, length, hot_told_visit, &visitor));
 }
 
 /* What hot_update asks for a new value: its look-up has ended then, and the change that it makes is still to begin. */
@@ -71,7 +81,10 @@ static inline hot_status hot_told_update(hot_handle *handle, const uint8_t *key,
     return HOT_TELL(hot_update(handle, key, length, hot_told_change, &changer, had));
 }
 
-#define hot_each(...) hot_told_each(__VA_ARGS__)
+#define hot_each(...) hot_told_each(hot_each, __VA_ARGS__)
+#define hot_each_reverse(...) hot_told_each(hot_each_reverse, __VA_ARGS__)
+#define hot_each_prefix(...) hot_told_each_prefix(hot_each_prefix, __VA_ARGS__)
+#define hot_each_prefix_reverse(...) hot_told_each_prefix(hot_each_prefix_reverse, __VA_ARGS__)
 #define hot_update(...) hot_told_update(__VA_ARGS__)
 #define hot_create(...) HOT_TELL(hot_create(__VA_ARGS__))
 #define hot_create_with(...) HOT_TELL(hot_create_with(__VA_ARGS__))
@@ -122,6 +135,9 @@ static inline hot_status hot_told_update(hot_handle *handle, const uint8_t *key,
 #define hot_scan_packed(...) HOT_TELL(hot_scan_packed(__VA_ARGS__))
 #define hot_scan_packed_reverse(...) HOT_TELL(hot_scan_packed_reverse(__VA_ARGS__))
 #define hot_load_packed(...) HOT_TELL(hot_load_packed(__VA_ARGS__))
+#define hot_seek(...) HOT_TELL(hot_seek(__VA_ARGS__))
+#define hot_next(...) HOT_TELL(hot_next(__VA_ARGS__))
+#define hot_previous(...) HOT_TELL(hot_previous(__VA_ARGS__))
 #define hot_first(...) HOT_TELL(hot_first(__VA_ARGS__))
 #define hot_last(...) HOT_TELL(hot_last(__VA_ARGS__))
 #define hot_count(...) HOT_TELL(hot_count(__VA_ARGS__))

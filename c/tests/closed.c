@@ -19,6 +19,8 @@ typedef struct room {
     hot_counts counts;
     hot_moment moment;
     hot_retirement retirement;
+    const uint8_t *at;
+    hot_cursor cursor;
     int visits;
 } room;
 
@@ -83,6 +85,12 @@ static hot_handle open_handle = HOT_HANDLE;
     CALL(hot_scan_packed(closed, key, 1, key, 1, to->key, 1, &to->head, 1, &to->count, &to->more))         \
     CALL(hot_scan_packed_reverse(closed, key, 1, key, 1, to->key, 1, &to->head, 1, &to->count, &to->more)) \
     CALL(hot_each(closed, key, 1, key, 1, visit, to))                                          \
+    CALL(hot_each_reverse(closed, key, 1, key, 1, visit, to))                                  \
+    CALL(hot_each_prefix(closed, key, 1, visit, to))                                           \
+    CALL(hot_each_prefix_reverse(closed, key, 1, visit, to))                                   \
+    CALL(hot_seek(&to->cursor, closed, key, 1))                                                \
+    CALL(hot_next(&to->cursor, &to->at, &to->count, &to->value))                               \
+    CALL(hot_previous(&to->cursor, &to->at, &to->count, &to->value))                           \
     CALL(hot_count(closed, key, 1, key, 1, &to->count))                                        \
     CALL(hot_count_prefix(closed, key, 1, &to->count))                                         \
     CALL(hot_scan_values(closed, key, 1, key, 1, &to->value, 1, &to->count, &to->more))        \
@@ -239,6 +247,7 @@ static void test_calls(hot_handle *closed, size_t way) {
         memset(&before, 7, sizeof before);
         before.lookup.key = key;
         before.lookup.length = 1;
+        before.cursor.handle = closed; /* as if it had been put somewhere before */
         after = before;
         status = make(number, closed, &after, &text);
         if (text == NULL)

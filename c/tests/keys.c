@@ -273,6 +273,7 @@ static void test_waits(void) {
 int main(void) {
     CHECK(sizeof(hot_handle) == 24 && sizeof(hot_pair) == 256 && sizeof(hot_stock) == 24 && sizeof(hot_head) == 16);
     CHECK(sizeof(hot_moment) == 8 && sizeof(hot_lookup) == 32 && sizeof(hot_states) == 16 && sizeof(hot_counts) == 104);
+    CHECK(sizeof(hot_cursor) == 2976);
     test_calls();
     test_many();
     test_expected();

@@ -590,7 +590,44 @@ static size_t put_next(hot_handle *handle, uint32_t *number) {
     return tries;
 }
 
-/* The same for an index that grows: made, filled, made anew, and loaded. */
+/* The next pair of a cursor, or the one before, again where memory was refused: a refused call writes nothing. Returns how often it was. */
+static size_t go(hot_status move(hot_cursor *, const uint8_t **, size_t *, uint64_t *), hot_cursor *cursor, uint64_t expected) {
+    const uint8_t *key = NULL;
+    size_t tries = 0, length = 999;
+    uint64_t value = 999;
+    hot_status status;
+    for (; (status = move(cursor, &key, &length, &value)) == HOT_NO_MEMORY; tries++)
+        CHECK(key == NULL && length == 999 && value == 999);
+    CHECK(status == HOT_FOUND && length == 8 && value == expected);
+    return tries;
+}
+
+/* A cursor goes up and down where the allocation of this number is refused. Tells whether one was. */
+static int test_cursor_refused(long number) {
+    enum { KEYS = 1000 };
+    static const hot_stock roomy = {500, 1500, 0, 0, 0, 0};
+    hot_handle handle = HOT_HANDLE;
+    hot_index *index;
+    hot_cursor cursor;
+    uint32_t place = 0;
+    size_t tries = 0;
+    CHECK(hot_open_index(&roomy, 1, &index) == HOT_DONE && hot_open(index, &handle) == HOT_DONE);
+    while (place < KEYS)
+        put_next(&handle, &place);
+    asked = 0;
+    refused = number;
+    CHECK(hot_seek(&cursor, &handle, hot_last_key, 0) == HOT_DONE);
+    for (place = 0; place < KEYS; place++)
+        tries += go(hot_next, &cursor, place);
+    for (place = KEYS - 1; place-- > 0;)
+        tries += go(hot_previous, &cursor, place);
+    CHECK(tries == (size_t)(asked >= number));
+    refused = 0;
+    CHECK(hot_close(&handle) == HOT_DONE && hot_close_index(index) == HOT_DONE && in_use == 0);
+    return asked >= number;
+}
+
+/* What calls return with an index that grows where the allocation of this number is refused: made, filled, made anew, and loaded. */
 static int test_growing_refused(long number) {
     hot_handle handles[2] = {HOT_HANDLE, HOT_HANDLE};
     hot_index *index = NULL;
@@ -674,7 +711,7 @@ static void test_made_at_once(void) {
 }
 
 int main(void) {
-    long few, more, growing = 1;
+    long few, more, growing = 1, cursors = 1;
     test_resident();
     test_load_resident();
     test_light();
@@ -691,10 +728,12 @@ int main(void) {
     test_made_at_once();
     while (test_growing_refused(growing))
         growing++;
+    while (test_cursor_refused(cursors))
+        cursors++;
     few = test_each_refused(&stock);
     more = test_each_refused(&large_stock);
-    CHECK(few > 15 && more > 15 && growing > 20);
+    CHECK(few > 15 && more > 15 && growing > 20 && cursors > 1);
     if (!failures)
-        printf("passed: each of %ld allocations was refused in turn, and nothing was lost\n", few + more + growing - 1);
+        printf("passed: each of %ld allocations was refused in turn, and nothing was lost\n", few + more + growing + cursors - 2);
     return failures;
 }

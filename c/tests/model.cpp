@@ -165,12 +165,26 @@ class random_calls {
         CHECK(packed.has_more() == (wanted.size() > page));
         const std::optional<hot::entry> first = handle_.first(from), last = handle_.last(upto);
         CHECK(wanted.empty() ? !first || first->key > upto : first == wanted.front() && last == wanted.back());
+        compare_cursors(from, upto, wanted);
         std::reverse(wanted.begin(), wanted.end());
         CHECK(handle_.scan_reverse(from, upto, page).entries() == wanted);
         CHECK(from == upto || (handle_.scan(upto, from).entries().empty() && handle_.count(upto, from) == 0));
         compare_prefix(one);
         CHECK(handle_.get_many({one, other}) == std::vector({held(one), held(other)}));
         CHECK(handle_.get(one) == held(one) && handle_.contains(other) == held(other).has_value());
+    }
+
+    // One cursor goes up through the pairs from a key to another and turns at times; one goes down.
+    void compare_cursors(const std::string &from, const std::string &upto, const std::vector<hot::entry> &wanted) {
+        using entry = std::optional<hot::entry>;
+        hot::cursor up = handle_.seek(from), down = handle_.seek(upto);
+        for (std::size_t place = 0; place < wanted.size(); place++) {
+            CHECK(entry(up.next()) == wanted[place] && entry(down.previous()) == wanted[wanted.size() - 1 - place]);
+            if (place > 0 && below(3) == 0)
+                CHECK(entry(up.previous()) == wanted[place - 1] && entry(up.next()) == wanted[place]);
+        }
+        const entry above = up.next(), under = down.previous();
+        CHECK((!above || above->key > upto) && (!under || under->key < from));
     }
 
     void compare_prefix(const std::string &prefix) {

@@ -65,6 +65,7 @@ static void test_look_ups(hot::handle &at) {
     CHECK(takes([&] { return at.first(); }) && takes([&] { return at.last(); }) && takes([&] { return at.last(two); }) && takes([&] { return at.empty(); }));
     CHECK(takes([] { return hot::after(one); }) && takes([] { return hot::before(one); }) && takes([] { return hot::key_of(one, 1); }));
     CHECK(takes([] { return hot::values_of<std::string>(hot::key_of(one)); }));
+    CHECK(!takes([&] { return at.seek(two).next(); }) && !takes([&] { return at.seek(hot::greatest()).previous(); }));
     // An iterator stays where it is until the next page is there.
     hot::range all = at.scan(one, three, 2);
     auto last = ++all.begin();

@@ -115,6 +115,16 @@ static int visit_object(void *context, const hot_pair *pair) {
     return 1;
 }
 
+static void read_by_cursor(hot_handle *handle) {
+    hot_cursor cursor;
+    const uint8_t *key;
+    size_t length;
+    uint64_t value;
+    CHECK(hot_seek(&cursor, handle, bytes(""), 0) == HOT_DONE);
+    while (hot_next(&cursor, &key, &length, &value) == HOT_FOUND)
+        read_object(value, key[0]);
+}
+
 static void *read_objects(void *given) {
     worker *me = given;
     uint32_t turn = 0;
@@ -127,6 +137,8 @@ static void *read_objects(void *given) {
             read_object(value, key);
         if (turn % 16 == 0)
             CHECK(hot_each(me->handle, bytes(""), 0, HOT_TO_END, visit_object, NULL) == HOT_DONE);
+        if (turn % 16 == 8)
+            read_by_cursor(me->handle);
         CHECK(hot_leave(me->handle) == HOT_DONE);
     }
     return NULL;
@@ -154,6 +166,15 @@ static void retire(worker *me, uint64_t value) {
     me->is_waiting[place] = 1;
 }
 
+/* Writes the key of an object that is given up, which becomes the value. */
+static int put_object(void *context, uint64_t *value) {
+    object *it = context;
+    STORE(it->key, LOAD(((object *)(uintptr_t)*value)->key));
+    STORE(it->is_given_up, 0);
+    *value = (uintptr_t)it;
+    return 1;
+}
+
 /* Each writer has half of the keys for itself. */
 static void *change_objects(void *given) {
     worker *me = given;
@@ -169,7 +190,11 @@ static void *change_objects(void *given) {
         STORE(me->objects[place].key, key);
         STORE(me->objects[place].is_given_up, 0);
         me->is_used[place] = 1;
-        status = hot_upsert(me->handle, &key, 1, (uintptr_t)&me->objects[place], &had);
+        status = HOT_ABSENT;
+        if (turn % 5 == 4)
+            status = hot_update(me->handle, &key, 1, put_object, &me->objects[place], &had);
+        if (status == HOT_ABSENT)
+            status = hot_upsert(me->handle, &key, 1, (uintptr_t)&me->objects[place], &had);
         CHECK(status == HOT_NEW || status == HOT_WAS);
         if (status == HOT_WAS)
             retire(me, had);

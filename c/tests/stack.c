@@ -33,6 +33,8 @@ static struct {
     hot_refusals refusals;
     hot_memory memory;
     hot_waits waits;
+    hot_cursor cursor;
+    const uint8_t *at;
 } it;
 
 /* The key of a turn: of 8 to HOT_MAX_KEY bytes, of which the first and the last are by chance. */
@@ -132,6 +134,12 @@ static void write_keys(size_t turn) {
     CALL(1, hot_open(it.loaded, &it.copy) == HOT_DONE)                                                                             \
     CALL(2, hot_copy(&it.copy, &it.handle) == HOT_DONE)                                                                            \
     CALL(2, hot_each(&it.handle, ALL, visit, NULL) == HOT_DONE)                                                                    \
+    CALL(2, hot_each_reverse(&it.handle, ALL, visit, NULL) == HOT_DONE)                                                            \
+    CALL(2, hot_each_prefix(&it.handle, it.key, 0, visit, NULL) == HOT_DONE)                                                       \
+    CALL(2, hot_each_prefix_reverse(&it.handle, it.key, 0, visit, NULL) == HOT_DONE)                                               \
+    CALL(2, hot_seek(&it.cursor, &it.handle, it.key, 0) == HOT_DONE)                                                               \
+    CALL(KEYS, hot_next(&it.cursor, &it.at, &it.next_length, &it.had) == HOT_FOUND)                                                \
+    CALL(KEYS - 1, hot_previous(&it.cursor, &it.at, &it.next_length, &it.had) == HOT_FOUND)                                        \
     CALL(2, hot_count(&it.handle, ALL, &it.count) == HOT_DONE && it.count == KEYS + LOADED)                                        \
     CALL(2, hot_count_prefix(&it.handle, it.key, 0, &it.count) == HOT_DONE && it.count == KEYS + LOADED)                           \
     CALL(2, hot_first(&it.handle, it.key, 0, it.pairs) == HOT_FOUND)                                                               \

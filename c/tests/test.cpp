@@ -226,6 +226,26 @@ static void test_stock() {
     CHECK(throws<std::invalid_argument>([&] { return hot::stock_for_any_keys(many, 8, 1); }));
 }
 
+// A cursor goes up and down, finds no more at both ends, and goes on behind keys that are gone; with a handle that was moved, too.
+static void test_cursors() {
+    auto handles = hot::create(1000, 1000);
+    hot::handle &handle = handles[0];
+    CHECK(!handle.seek().next() && !handle.seek(hot::greatest()).previous());
+    for (std::size_t length = 1; length <= 100; length++)
+        CHECK(handle.insert(std::string(length, 'a'), length).what == hot::status::inserted);
+    hot::cursor up = handle.seek(), down = handle.seek(hot::greatest()), within = handle.seek(std::string(50, 'a'));
+    hot::handle moved = std::move(handle);
+    for (std::size_t length = 1; length <= 100; length++) {
+        CHECK(up.next().value().key == std::string(length, 'a') && down.previous().value().value == 101 - length);
+        CHECK(moved.remove(std::string(length, 'a')).had == length && moved.insert(std::string(length, 'a'), length).had == std::nullopt);
+    }
+    CHECK(!up.next() && !down.previous() && up.previous().value().value == 99 && down.next().value().value == 2);
+    CHECK(within.previous().value().value == 50 && within.next().value().value == 51);
+    moved.clear();
+    CHECK(!moved.seek().next() && throws<std::length_error>([&] { return moved.seek(std::string(HOT_MAX_KEY + 1, 'a')); }));
+    CHECK(throws<std::logic_error>([&] { return handle.seek(); }));
+}
+
 // Keys of a, aa, .. to the greatest length, and one of the greatest length with other bytes: on each page, one goes on after its last;
 // and so it is downwards.
 static void test_scans() {
@@ -610,6 +630,7 @@ int main() {
     test_filled();
     test_stock();
     test_scans();
+    test_cursors();
     test_ends();
     test_containers();
     test_handles();
