@@ -12,13 +12,10 @@ elseif(PACKAGE_FIND_VERSION VERSION_LESS_EQUAL PACKAGE_VERSION AND PACKAGE_FIND_
     set(PACKAGE_VERSION_EXACT TRUE)
   endif()
 endif()
-# One for another processor than the compiler's is none.
-string(REGEX MATCH "^[^-]+" _hot_for "${CMAKE_LIBRARY_ARCHITECTURE}")
-if(NOT _hot_for)
-  string(TOLOWER "${CMAKE_SYSTEM_PROCESSOR}" _hot_for)
-  string(REGEX REPLACE "^amd64$" x86_64 _hot_for "${_hot_for}")
-  string(REGEX REPLACE "^arm64$" aarch64 _hot_for "${_hot_for}")
-endif()
+# One for another processor is none.
+string(TOLOWER "${CMAKE_SYSTEM_PROCESSOR}" _hot_for)
+string(REGEX REPLACE "^amd64$" x86_64 _hot_for "${_hot_for}")
+string(REGEX REPLACE "^arm64$" aarch64 _hot_for "${_hot_for}")
 if(_hot_for AND NOT _hot_for STREQUAL "@PROCESSOR@")
   set(PACKAGE_VERSION "${PACKAGE_VERSION} (@PROCESSOR@)")
   set(PACKAGE_VERSION_UNSUITABLE TRUE)
