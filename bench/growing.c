@@ -1,22 +1,16 @@
 /* Measures an index that grows beside one with a table for all keys: insertions by one thread, from few keys on, and look-ups, in nanoseconds of a
- * processor for each; what is resident at the end, and at most while it grows, in bytes for each key; how long a growth takes, and how much of
- * that makes the table, in milliseconds; and the longest call of a thread that inserts and of one that looks up, in milliseconds of the clock
- * but for those in which it waited for a processor: alone, and beside a thread that has the index grow ahead of need. Each is done some times, by
- * turns, in a process of its own; the median counts. A line has four cells, as bench/room.py reads them. `bench/run growing` builds and runs
- * it. */
+ * processor for each; what is resident at the end, in bytes for each key; and the longest insertion, in milliseconds of the clock but for those in
+ * which its thread waited for a processor. Each is done some times, by turns, in a process of its own; the median counts. A line has four cells, as
+ * bench/room.py reads them. `bench/run growing` builds and runs it. */
 #include "keys.h"
 #include <fcntl.h>
-#include <pthread.h>
-#include <stdatomic.h>
 #include <sys/wait.h>
 #include <unistd.h>
 
-enum { TIMES = 3, FEW = 1000, MOST = 20000000, FIGURES = 16 };
+enum { TIMES = 3, FEW = 1000, MOST = 20000000, FIGURES = 4 };
 
 static uint32_t count;
 static hot_index *at;
-static atomic_int is_over;
-static atomic_uint_fast32_t written;
 
 static double clock_of(clockid_t which)
 {
@@ -107,7 +101,6 @@ static double insert_all(hot_handle *handle, int is_timed)
         if (is_timed) {
             took = end_call(&by);
             longest = took > longest ? took : longest;
-            atomic_store_explicit(&written, number + 1, memory_order_relaxed);
         }
     }
     if (is_timed)
@@ -126,42 +119,8 @@ static void look_up_all(hot_handle *handle)
     }
 }
 
-static void *grow_ahead(void *unused)
-{
-    struct timespec nap = { 0, 100000 };
-    (void)unused;
-    while (!is_over)
-        if (hot_is_filling(at))
-            need(hot_grow(at) == HOT_DONE);
-        else
-            nanosleep(&nap, NULL);
-    return NULL;
-}
-
-/* Looks keys up that are there. Returns the longest call. */
-static void *look_up_on(void *longest)
-{
-    hot_handle handle = HOT_HANDLE;
-    uint8_t key[LONGEST];
-    uint64_t value = 0, turn;
-    stopwatch by = { open_schedstat(), 0, 0 };
-    need(hot_open(at, &handle) == HOT_DONE);
-    for (turn = 0; !is_over; turn++) {
-        uint32_t there = (uint32_t)atomic_load_explicit(&written, memory_order_relaxed);
-        size_t length = key_of(RANDOM, mixed(turn) % (there ? there : 1), key);
-        double took;
-        begin_call(&by);
-        need(hot_get(&handle, key, length, &value) == HOT_FOUND || there == 0);
-        took = end_call(&by);
-        *(double *)longest = took > *(double *)longest ? took : *(double *)longest;
-    }
-    need(hot_close(&handle) == HOT_DONE);
-    close(by.schedstat);
-    return NULL;
-}
-
-/* By one thread. */
-static void measure_alone(int grows, double *to)
+/* Inserts and look-ups; and in an index of its own inserts that are timed. */
+static void measure_one(int grows, double *to)
 {
     hot_handle handle = HOT_HANDLE;
     double first = resident(), began = clock_of(CLOCK_PROCESS_CPUTIME_ID);
@@ -172,64 +131,25 @@ static void measure_alone(int grows, double *to)
     began = clock_of(CLOCK_PROCESS_CPUTIME_ID);
     look_up_all(&handle);
     to[2] = (clock_of(CLOCK_PROCESS_CPUTIME_ID) - began) / count;
-    if (grows) {
-        double most = 0, all = 0, makes, step;
-        uint32_t more = 1, portion;
-        began = clock_of(CLOCK_PROCESS_CPUTIME_ID);
-        need(hot_grow_begin(at) == HOT_DONE);
-        makes = all = clock_of(CLOCK_PROCESS_CPUTIME_ID) - began;
-        for (portion = 0; more; portion++) {
-            double longest = 0;
-            began = clock_of(CLOCK_PROCESS_CPUTIME_ID);
-            need(hot_grow_step(at, &more) == HOT_DONE);
-            step = clock_of(CLOCK_PROCESS_CPUTIME_ID) - began;
-            all += step;
-            longest = step > longest ? step : longest;
-            makes += step > 5e6 ? step : 0;
-            if (portion % 64 == 0 || step > 1e6) {
-                double now = (resident() - first) / count;
-                most = now > most ? now : most;
-            }
-        }
-        to[3] = most;
-        to[4] = all / 1e6;
-        to[5] = makes / 1e6;
-    }
-}
-
-/* With calls that are timed: alone, or beside a thread that grows the index and one that looks up. */
-static void measure_longest(int grows, double *to)
-{
-    hot_handle handle = HOT_HANDLE;
-    pthread_t grower, reader;
-    open_index(grows, &handle);
-    to[0] = insert_all(&handle, 1);
     need(hot_close(&handle) == HOT_DONE && hot_close_index(at) == HOT_DONE);
-    handle = (hot_handle)HOT_HANDLE;
-    written = 0;
     open_index(grows, &handle);
-    need(pthread_create(&grower, NULL, grow_ahead, NULL) == 0 && pthread_create(&reader, NULL, look_up_on, &to[2]) == 0);
-    to[1] = insert_all(&handle, 1);
-    is_over = 1;
-    need(pthread_join(grower, NULL) == 0 && pthread_join(reader, NULL) == 0);
+    to[3] = insert_all(&handle, 1);
 }
 
-static void measure(double *to)
+static void measure(int grows, double *to)
 {
-    int pipes[2], part;
-    for (part = 0; part < 4; part++) {
-        double got[8] = { 0 };
-        pid_t child;
-        need(pipe(pipes) == 0);
-        child = fork();
-        if (child == 0) {
-            (part < 2 ? measure_alone : measure_longest)(part % 2, got);
-            _exit(write(pipes[1], got, sizeof got) != sizeof got);
-        }
-        need(child > 0 && read(pipes[0], got, sizeof got) == sizeof got && waitpid(child, NULL, 0) == child);
-        close(pipes[0]), close(pipes[1]);
-        memcpy(to + (part < 2 ? part * 3 : 9 + (part - 2) * 3), got, (part == 1 ? 6 : 3) * sizeof *got);
+    int pipes[2];
+    double got[FIGURES] = { 0 };
+    pid_t child;
+    need(pipe(pipes) == 0);
+    child = fork();
+    if (child == 0) {
+        measure_one(grows, got);
+        _exit(write(pipes[1], got, sizeof got) != sizeof got);
     }
+    need(child > 0 && read(pipes[0], got, sizeof got) == sizeof got && waitpid(child, NULL, 0) == child);
+    close(pipes[0]), close(pipes[1]);
+    memcpy(to, got, sizeof got);
 }
 
 static int compare(const void *one, const void *other)
@@ -240,26 +160,26 @@ static int compare(const void *one, const void *other)
 
 int main(int words, char **word)
 {
-    static const char *const names[15] = { "inserts, a table for all", "resident, a table for all", "look-ups, a table for all", "inserts, growing",
-        "resident, growing", "look-ups, growing", "resident at most while it grows", "a growth", "of it making the table",
-        "longest insert, a table for all", "longest insert beside two threads, a table for all", "longest look-up beside two threads, a table for all",
-        "longest insert, growing", "longest insert beside one that grows it", "longest look-up beside one that grows it" };
-    static double figures[FIGURES][TIMES];
-    int time, place, next = 1;
+    static const char *const names[FIGURES] = { "inserts", "resident", "look-ups", "longest insert" };
+    static double figures[2][FIGURES][TIMES];
+    int time, place, grows, next = 1;
     do {
         count = next < words ? (uint32_t)strtoul(word[next], NULL, 10) : 1000000;
         if (count < FEW || count > MOST)
             return 2;
-        for (time = 0; time < TIMES; time++) {
-            double to[FIGURES] = { 0 };
-            measure(to);
-            for (place = 0; place < 15; place++)
-                figures[place][time] = to[place];
-        }
-        for (place = 0; place < 15; place++) {
-            qsort(figures[place], TIMES, sizeof(double), compare);
-            printf("%s\t%s\t%u\t%.2f\n", names[place], kind_names[RANDOM], count, figures[place][TIMES / 2]);
-        }
+        for (time = 0; time < TIMES; time++)
+            for (grows = 0; grows < 2; grows++) {
+                double to[FIGURES];
+                measure(grows, to);
+                for (place = 0; place < FIGURES; place++)
+                    figures[grows][place][time] = to[place];
+            }
+        for (grows = 0; grows < 2; grows++)
+            for (place = 0; place < FIGURES; place++) {
+                qsort(figures[grows][place], TIMES, sizeof(double), compare);
+                printf("%s, %s\t%s\t%u\t%.2f\n", names[place], grows ? "growing" : "a table for all", kind_names[RANDOM], count,
+                       figures[grows][place][TIMES / 2]);
+            }
     } while (++next < words);
     return 0;
 }
