@@ -1218,8 +1218,9 @@ template <class Key> std::string bytes_of(const Key &key) {
 /// 240 bytes at most.
 ///
 /// An iterator keeps what it stands at: the object is there as long as the iterator, also when another thread has replaced or erased it. The map
-/// destroys an object that is out of it once no call can have just found it and no iterator stands at it: at once, by a later change, or when
-/// it goes. The destructor may make calls with the map, unless the map goes. Who changes an object that others may read does so by what it has of atomics or locks.
+/// destroys an object that is out of it once no call can have just found it and no iterator keeps it: at once, by a later change, or when it
+/// goes. The destructor may make calls with the map, unless the map goes. An object that others may read is changed by its own atomics or
+/// locks, or replaced.
 ///
 /// Changes wait while others are in their way. Where one throws, nothing is changed: what the copies of a key and an object throw;
 /// std::length_error for a key of more than 240 bytes; std::bad_alloc; std::runtime_error where the map is full. No call may be made
@@ -1240,8 +1241,9 @@ template <class Key, class T> class map {
     static constexpr std::size_t places = 64, page = 64;
 
   public:
-    /// Stands at a key and its object, and keeps both, also beyond the map. It goes through the keys that were there all along in their order, and
-    /// through others that were there for a time. It fetches some at a time, 64 at most, and keeps them, too; a copy of it fetches them anew.
+    /// Stands at a key and its object, and keeps both, also beyond the map, where it can't go on. It goes through the keys that were there all
+    /// along in their order, and through others that were there for a time. It fetches some at a time, 64 at most, and keeps them, too; a copy of
+    /// it fetches them anew.
     class iterator {
       public:
         using iterator_category = std::input_iterator_tag;
@@ -1405,7 +1407,7 @@ template <class Key, class T> class map {
             by.retire(told.had);
         return told.what == status::removed;
     }
-    /// Erases all keys, one by one. One that another thread puts in meanwhile may stay.
+    /// Erases all keys, one by one. One that another thread puts in meanwhile may stay. Where it throws, some keys are left.
     void clear() {
         for (iterator at = begin(); at != end(); ++at)
             erase(at);

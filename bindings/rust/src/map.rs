@@ -35,13 +35,14 @@ thread_local! {
 /// std::thread::scope(|scope| {
 ///     for (key, value) in [("ash", vec![1]), ("oak", vec![2, 3])] {
 ///         let map = &map;
-///         scope.spawn(move || map.insert(key.to_string(), value).map(|_| ()));
+///         scope.spawn(move || map.insert(key.to_string(), value).map(|entry| entry.value().len()).unwrap());
 ///     }
 /// });
 /// let oak = map.get("oak").unwrap();
 /// map.remove("oak")?;
 /// assert_eq!((oak.value().len(), map.len()), (2, 1));
 /// assert_eq!(map.range("a".to_string()..).next().unwrap().key(), "ash");
+/// assert_eq!(format!("{map:?}"), "{\"ash\": [1]}");
 /// # Ok::<(), hot::Error>(())
 /// ```
 ///
@@ -427,10 +428,11 @@ impl<K, V> Drop for Map<K, V> {
 
 impl<K: ToKey + fmt::Debug, V: fmt::Debug> fmt::Debug for Map<K, V> {
     fn fmt(&self, to: &mut fmt::Formatter<'_>) -> fmt::Result {
-        let pairs = self.iter().map(|entry| entry.node);
-        to.debug_map()
-            .entries(pairs.map(|node| (format!("{:?}", node.key), format!("{:?}", node.value))))
-            .finish()
+        let mut map = to.debug_map();
+        for entry in self {
+            map.entry(entry.key(), entry.value());
+        }
+        map.finish()
     }
 }
 
