@@ -355,7 +355,11 @@ static void test_fork(void) {
 /* A process that may have few addresses has a smaller table. A sanitizer has more of them. */
 #ifndef IS_WATCHED
 static void test_addresses(void) {
+    struct rlimit was;
     size_t room;
+    if (!limit_addresses((rlim_t)64 << 20, &was))
+        return;
+    CHECK(setrlimit(RLIMIT_AS, &was) == 0);
     for (room = (size_t)1 << 22; room < (size_t)1 << 40; room *= 4) {
         int status = 0;
         pid_t child = fork();
