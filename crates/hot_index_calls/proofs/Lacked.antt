@@ -196,9 +196,15 @@ module _ {G : Type 0} (table : TableView) (becomes : G → Event → G → Type 
           let u4 : HasRoomUsed words s4.0 = λ n low room. loads_used (a_leaf n) a_leaf l.large_from tags.large s3 s4 of_large (u3 n low room) in
           let u5 : HasRoomUsed words s5.0 = λ n low room. loads_used (a_leaf n) a_leaf l.wide_from tags.wide s4 s5 of_wide (u4 n low room) in
           record {
-            short = λ fits. record { free = class_short 0 l.medium_from SHORT_WORDS words tags.short s1 s2 (short_class l) (omega (arith, each.short)) of_short u1 (omega (arith, fits)); held = rest.short.held; obsolete = rest.short.obsolete };
-            medium = λ fits. record { free = class_short l.medium_from l.large_from MEDIUM_WORDS words tags.medium s2 s3 (medium_class l) (omega (arith, each.medium, order)) of_medium u2 (omega (arith, fits)); held = rest.medium.held; obsolete = rest.medium.obsolete };
-            large = λ fits. record { free = class_short l.large_from l.wide_from LARGE_WORDS words tags.large s3 s4 (large_class l) (omega (arith, each.large, order)) of_large u3 (omega (arith, fits)); held = rest.large.held; obsolete = rest.large.obsolete };
-            wide = λ fits. record { free = class_short l.wide_from l.long_from WIDE_WORDS words tags.wide s4 s5 (wide_class l) (omega (arith, each.wide, order)) of_wide u4 (omega (arith, fits)); held = rest.wide.held; obsolete = rest.wide.obsolete };
-            long = record { free = class_short l.long_from l.leaves LEAF_WORDS words tags.long s5 b (long_class l) (omega (arith, each.long, order)) of_long u5 (omega (arith, short)); held = rest.long.held; obsolete = rest.long.obsolete };
+            here = λ fits. record { free = class_short 0 l.medium_from SHORT_WORDS words tags.short s1 s2 (short_class l) (omega (arith, each.short)) of_short u1 (omega (arith, fits)); held = rest.short.held; obsolete = rest.short.obsolete };
+            larger = λ none. record {
+              here = λ fits. record { free = class_short l.medium_from l.large_from MEDIUM_WORDS words tags.medium s2 s3 (medium_class l) (omega (arith, each.medium, order)) of_medium u2 (omega (arith, fits)); held = rest.medium.held; obsolete = rest.medium.obsolete };
+              larger = λ none. record {
+                here = λ fits. record { free = class_short l.large_from l.wide_from LARGE_WORDS words tags.large s3 s4 (large_class l) (omega (arith, each.large, order)) of_large u3 (omega (arith, fits)); held = rest.large.held; obsolete = rest.large.obsolete };
+                larger = λ none. record {
+                  here = λ fits. record { free = class_short l.wide_from l.long_from WIDE_WORDS words tags.wide s4 s5 (wide_class l) (omega (arith, each.wide, order)) of_wide u4 (omega (arith, fits)); held = rest.wide.held; obsolete = rest.wide.obsolete };
+                  larger = λ none. record { free = class_short l.long_from l.leaves LEAF_WORDS words tags.long s5 b (long_class l) (omega (arith, each.long, order)) of_long u5 (omega (arith, short)); held = rest.long.held; obsolete = rest.long.obsolete };
+                };
+              };
+            };
           }

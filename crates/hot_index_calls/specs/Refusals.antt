@@ -52,11 +52,25 @@ pub record OfLeaves (IsSo : StateCounts → Type 0) (length : ℕ) (counts : Rec
   pub wide : length ≤ WIDE_BYTES → IsSo counts.wide
   pub long : IsSo counts.long
 
+-- Leaf records of a class have room for keys of up to `most` bytes. If a key of this length has room there, none of the class is free or may
+-- come back by the counts. If all of the class are committed then, or the key has no room there, `Larger` holds of the larger classes.
+pub record AreShortFrom (most length : ℕ) (counts : StateCounts) (Larger : Type 0) : Type 0 where
+  pub here : length ≤ most → AreShort 1 counts
+  pub larger : (length ≤ most → counts.uncommitted ≡ 0) → Larger
+
+-- By the counts no leaf record with room for a key of this length is free, and none may come back, in each class up to the first that has
+-- uncommitted ones. A change goes no further (`AreShortFrom`).
+abbrev pub AreLeavesShort : (length : ℕ) (counts : RecordCounts) → Type 0
+AreLeavesShort length counts =
+    AreShortFrom SHORT_BYTES length counts.short (AreShortFrom MEDIUM_BYTES length counts.medium (AreShortFrom LARGE_BYTES length counts.large
+    (AreShortFrom WIDE_BYTES length counts.wide (AreShort 1 counts.long))))
+
 -- By the counts, the index is full for a change that lacks a record of the kind `lacks`. Of node records fewer than `needs` are free, and
--- none may come back. Of leaf records with room for a key of this length none is free, and none may come back.
+-- none may come back. Of leaf records with room for a key of this length none is free, and none may come back, where the change looks for
+-- one (`AreLeavesShort`).
 abbrev pub IsShortOf : (lacks : Full) (needs length : ℕ) (counts : RecordCounts) → Type 0
 IsShortOf Nodes needs length counts = AreShort needs counts.nodes
-IsShortOf Leaves needs length counts = OfLeaves (AreShort 1) length counts
+IsShortOf Leaves needs length counts = AreLeavesShort length counts
 
 -- The refusal of a change that lacks a record of the kind `lacks` is final. Either the index is full by the counts (`IsShortOf`). Or it has
 -- one pass, so that no other might give a record back.

@@ -4,7 +4,7 @@ ghost use Rattle.std.specs.Prelude.{◌≡◌, ◌↔◌, ◌∷◌, [], IfSome,
 ghost use Rattle.rowex_writing.specs.declared.attempts.TryFault.TheVariants.{Busy};
 ghost use Rattle.rowex_writing.specs.build.Walks.{nodes_among};
 ghost use Rattle.hot_index_calls.specs.Answers.{fault_of};
-ghost use Rattle.hot_index_calls.specs.Refusals.{AreShort, IsPassing, IsShortOf, IsRefusalByCounts, OfLeaves};
+ghost use Rattle.hot_index_calls.specs.Refusals.{AreLeavesShort, AreShort, AreShortFrom, IsPassing, IsShortOf, IsRefusalByCounts};
 ghost use Rattle.hot_index_calls.specs.declared.census.RecordCounts.{RecordCounts as CountsView};
 ghost use Rattle.hot_index_calls.specs.declared.refusals.Refusal.TheVariants.{Full as IsFull};
 
@@ -111,13 +111,25 @@ fn are_short(needs: usize, counts: &StateCounts) -> bool
     (counts.free as usize) < needs && counts.held == 0 && counts.obsolete == 0
 }
 
-/// Returns whether `counts` show no leaf record with room for a key of `size` bytes that is free, held or obsolete, in any class.
+/// Returns whether `counts` show no leaf record with room for a key of `size` bytes that is free, held or obsolete, in any class up to the
+/// first that has uncommitted ones. A claim doesn't go on to larger records while smaller ones may be committed.
 fn are_leaves_short(size: usize, counts: &RecordCounts) -> bool
-    ensures { IsTrue result ↔ OfLeaves (AreShort 1) size counts.now }
+    ensures { IsTrue result ↔ AreLeavesShort size counts.now }
 {
-    (size > SHORT_BYTES || are_short(1, &counts.short))
-        && (size > MEDIUM_BYTES || are_short(1, &counts.medium))
-        && (size > LARGE_BYTES || are_short(1, &counts.large))
-        && (size > WIDE_BYTES || are_short(1, &counts.wide))
-        && are_short(1, &counts.long)
+    let long = are_short(1, &counts.long);
+    let wide = are_short_from(WIDE_BYTES, size, &counts.wide, long);
+    let large = are_short_from(LARGE_BYTES, size, &counts.large, wide);
+    let medium = are_short_from(MEDIUM_BYTES, size, &counts.medium, large);
+    are_short_from(SHORT_BYTES, size, &counts.short, medium)
+}
+
+/// Returns whether `counts`, those of the leaf records with room for `most` bytes, show none free, held or obsolete for a key of `size` bytes,
+/// and the `larger` ones none either, unless some of these are uncommitted.
+fn are_short_from(most: usize, size: usize, counts: &StateCounts, larger: bool) -> bool
+    ensures { IsTrue result ↔ AreShortFrom most size counts.now (IsTrue larger) }
+{
+    if size > most {
+        return larger;
+    }
+    are_short(1, counts) && (counts.uncommitted > 0 || larger)
 }
