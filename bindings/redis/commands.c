@@ -7,7 +7,6 @@
 #include "lookups.h"
 #include "ranges.h"
 #include "removals.h"
-#include "waits.h"
 #include <limits.h>
 #include <stdio.h>
 #include <string.h>
@@ -50,18 +49,14 @@ static void give_room(void *few, void *room) {
 
 /* ---- Single fields ---- */
 
-/* Makes a change, and returns 1; or 0, with a reply where it is refused, or where the client waits and the command is run again. */
-static int change_pairs(RedisModuleCtx *ctx, RedisModuleString *name, setting *it, const char *event, RedisModuleCmdFunc *run) {
+/* Makes a change: 0, with a reply, if it is refused. */
+static int change_pairs(RedisModuleCtx *ctx, RedisModuleString *name, setting *it, const char *event) {
     opened of;
     hot_status status;
     if (is_full(ctx))
         return refuse_memory(ctx);
     if (!open_key(&of, ctx, name, REDISMODULE_READ | REDISMODULE_WRITE))
         return 0;
-    if (wait_for_table(ctx, of.was, it->count, run)) {
-        close_key(&of);
-        return 0;
-    }
     status = map_set(of.was, it, &of.now);
     if (status == HOT_DONE && it->set > 0) {
         keep(&of);
@@ -85,7 +80,7 @@ static int om_set(RedisModuleCtx *ctx, RedisModuleString **argv, int argc) {
     if (!take_room(ctx, argc, few, sizeof *few, &room))
         return REDISMODULE_OK;
     it.words = room;
-    if (read_fields(ctx, argv + 2, (int)it.count * 2, 1, room) && change_pairs(ctx, argv[1], &it, "om.set", om_set))
+    if (read_fields(ctx, argv + 2, (int)it.count * 2, 1, room) && change_pairs(ctx, argv[1], &it, "om.set"))
         RedisModule_ReplyWithLongLong(ctx, (long long)(it.which == HELD_FIELD ? it.set : it.new_fields));
     give_room(few, room);
     return REDISMODULE_OK;
@@ -206,7 +201,7 @@ static int om_add(RedisModuleCtx *ctx, RedisModuleString **argv, int argc) {
         return RedisModule_ReplyWithError(ctx, "ERR increment or decrement would overflow");
     words[1].at = (const uint8_t *)room;
     words[1].length = write_number(number, room);
-    if (change_pairs(ctx, argv[1], &it, "om.add", om_add))
+    if (change_pairs(ctx, argv[1], &it, "om.add"))
         RedisModule_ReplyWithLongLong(ctx, number);
     return REDISMODULE_OK;
 }
@@ -241,20 +236,9 @@ static int om_cas(RedisModuleCtx *ctx, RedisModuleString **argv, int argc) {
     is_same = is_held(ctx, argv, words[0]);
     if (is_same == -1)
         return RedisModule_ReplyWithNull(ctx);
-    if (is_same == -2 || (is_same == 1 && !change_pairs(ctx, argv[1], &it, "om.cas", om_cas)))
+    if (is_same == -2 || (is_same == 1 && !change_pairs(ctx, argv[1], &it, "om.cas")))
         return REDISMODULE_OK;
     return RedisModule_ReplyWithLongLong(ctx, is_same);
-}
-
-/* A change of nothing. */
-static int om_may(RedisModuleCtx *ctx, RedisModuleString **argv, int argc) {
-    opened of;
-    if (argc != 2)
-        return RedisModule_WrongArity(ctx);
-    if (!open_key(&of, ctx, argv[1], REDISMODULE_READ))
-        return REDISMODULE_OK;
-    close_key(&of);
-    return RedisModule_ReplyWithLongLong(ctx, 1);
 }
 
 static int om_len(RedisModuleCtx *ctx, RedisModuleString **argv, int argc) {
@@ -394,13 +378,12 @@ static int om_stat(RedisModuleCtx *ctx, RedisModuleString **argv, int argc) {
         return RedisModule_ReplyWithNull(ctx);
     }
     it = of.now->form != INDEXED ? NULL : (const indexed_map *)of.now;
-    RedisModule_ReplyWithMap(ctx, 6);
+    RedisModule_ReplyWithMap(ctx, 5);
     reply_with_figure(ctx, "fields", map_length(of.now));
     reply_with_figure(ctx, "bytes", map_bytes(of.now));
     reply_with_figure(ctx, "has_index", it != NULL);
     reply_with_figure(ctx, "text_bytes", it == NULL ? 0 : it->text_bytes);
     reply_with_figure(ctx, "jobs", it == NULL ? 0 : it->uses - 1);
-    reply_with_figure(ctx, "is_growing", it == NULL ? 0 : (uint64_t)it->is_growing);
     close_key(&of);
     return REDISMODULE_OK;
 }
@@ -418,18 +401,16 @@ typedef struct command {
 } command;
 
 static const command commands[] = {
-    {"om.set", om_set, "write deny-oom fast blocking", -4, KEY_RW | KEY_UPDATE, arguments_of_set, "Sets fields of an ordered map",
+    {"om.set", om_set, "write deny-oom fast", -4, KEY_RW | KEY_UPDATE, arguments_of_set, "Sets fields of an ordered map",
      "O(k) a field"},
     {"om.get", om_get, "readonly fast", 3, KEY_RO | KEY_ACCESS, arguments_of_field, "Returns the value of a field", "O(k)"},
     {"om.mget", om_mget, "readonly blocking", -3, KEY_RO | KEY_ACCESS, arguments_of_mget, "Returns the values of fields",
      "O(k) a field"},
     {"om.del", om_del, "write fast blocking", -3, KEY_RW | KEY_DELETE, arguments_of_fields, "Removes fields", "O(k) a field"},
-    {"om.add", om_add, "write deny-oom fast blocking", 4, KEY_RW | KEY_ACCESS | KEY_UPDATE, arguments_of_add,
+    {"om.add", om_add, "write deny-oom fast", 4, KEY_RW | KEY_ACCESS | KEY_UPDATE, arguments_of_add,
      "Adds to the integer of a field", "O(k)"},
-    {"om.cas", om_cas, "write deny-oom fast blocking", 5, KEY_RW | KEY_ACCESS | KEY_UPDATE, arguments_of_cas,
+    {"om.cas", om_cas, "write deny-oom fast", 5, KEY_RW | KEY_ACCESS | KEY_UPDATE, arguments_of_cas,
      "Sets a field if it has the expected value", "O(k)"},
-    {"om.may", om_may, "write deny-oom fast", 2, KEY_RW | KEY_UPDATE, arguments_of_key,
-     "Returns 1 where the server takes changes, else its refusal: what has waited asks it", "O(1)"},
     {"om.exists", om_exists, "readonly fast", 3, KEY_RO, arguments_of_field, "Says whether there is a field", "O(k)"},
     {"om.len", om_len, "readonly fast", 2, KEY_RO, arguments_of_key, "Counts the fields", "O(1)"},
     {"om.range", om_range, "readonly blocking", -4, KEY_RO | KEY_ACCESS, arguments_of_range, "Lists fields of a range", "O(k + n)"},

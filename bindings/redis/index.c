@@ -1,4 +1,4 @@
-/* Maps with an index: what values lead to, tables that grow ahead of need, and what the server is told of their memory. */
+/* Maps with an index: what values lead to, copies where few pairs are left, and what the server is told of their memory. */
 #define _DEFAULT_SOURCE
 #include "index.h"
 #include "jobs.h"
@@ -8,11 +8,8 @@
 #include <string.h>
 #include <sys/mman.h>
 
-/* From so many pairs on a job makes the larger tables; and so many pairs at least a table is given back by one. */
-enum { LARGE = 2048 };
-
 long long memory_limit;
-atomic_ullong index_count, index_bytes, growth_count;
+atomic_ullong index_count, index_bytes;
 
 int is_over_limit(size_t more) {
     return memory_limit > 0 && atomic_load(&index_bytes) + more > (unsigned long long)memory_limit;
@@ -86,7 +83,8 @@ void index_leave(indexed_map *of) {
 }
 
 size_t index_memory(const indexed_map *of) {
-    return sizeof *of + bytes_of(of) + of->text_bytes + of->gone_room * sizeof *of->gone;
+    size_t bytes = sizeof *of + bytes_of(of) + of->text_bytes + of->gone_room * sizeof *of->gone;
+    return of->copy == NULL ? bytes : bytes + index_memory(of->copy);
 }
 
 /* ---- Retired values ---- */
@@ -200,7 +198,6 @@ static int take_next(void *context, const uint8_t **key, size_t *length, uint64_
     return 1;
 }
 
-/* The main thread notes how many pairs there are, while no other makes a table. */
 static void note_most(indexed_map *of) {
     if (of->most < of->count)
         of->most = of->count;
@@ -277,25 +274,107 @@ void index_free(indexed_map *of) {
     RedisModule_Free(of);
 }
 
-/* ---- Changes ---- */
+/* ---- Copies ---- */
 
-/* Has a job give it a table that has room, so that no change of the main thread finds it full. */
-static void look(indexed_map *of) {
-    of->next_look = (uint32_t)(of->count / 64 < UINT32_MAX ? of->count / 64 : UINT32_MAX) + 64;
-    if (of->is_growing)
-        return;
-    note_most(of);
-    index_tell(of);
-    of->asked = of->count;
-    if (of->count >= LARGE && hot_is_filling(of->index))
-        jobs_resize(of, 0);
+int index_has_few(const indexed_map *of) {
+    enum { LARGE = 2048 };
+    return of->copy == NULL && of->count > 0 && of->most >= LARGE && of->count < of->most / 8;
 }
 
-int index_is_short(const indexed_map *of, uint64_t more) {
-    /* A filling table has room for half as many more. But each takes a node, and gives one back that can be used once the job's
-     * call has ended: on a busy machine that may be late, and a command of many pairs finds none. */
-    enum { MANY = 100 };
-    return of->is_growing && of->count + more > of->asked + of->asked / (more < MANY ? 2 : 16);
+static int no_pairs(void *context, const uint8_t **key, size_t *length, uint64_t *value) {
+    (void)context;
+    (void)key;
+    (void)length;
+    (void)value;
+    return 0;
+}
+
+int index_begin_copy(indexed_map *of) {
+    of->copy = index_new(no_pairs, NULL);
+    of->rest_length = 0;
+    return of->copy != NULL;
+}
+
+void index_end_copy(indexed_map *of) {
+    if (of->copy != NULL)
+        map_drop((map *)of->copy);
+    of->copy = NULL;
+}
+
+/* Whether the copy has what there is of a field. */
+static int is_copied(const indexed_map *of, field key) {
+    size_t both = key.length < of->rest_length ? key.length : of->rest_length;
+    int order = of->copy == NULL ? 1 : memcmp(key.at, of->rest, both);
+    return order < 0 || (order == 0 && key.length < of->rest_length);
+}
+
+/* Gives a field of the copy a value. */
+static void put_in_copy(indexed_map *of, field key, word value) {
+    char room[TEXT_ROOM];
+    word made, had;
+    hot_status status = HOT_NO_MEMORY;
+    if (word_make(word_text(value, room), &made)) {
+        status = index_put(of->copy, key, made, &had);
+        if (status == HOT_WAS)
+            index_retire(of->copy, had);
+        else if (status != HOT_NEW)
+            word_free(made);
+    }
+    if (status != HOT_NEW && status != HOT_WAS)
+        index_end_copy(of);
+}
+
+static void take_of_copy(indexed_map *of, field key) {
+    word had;
+    if (index_take(of->copy, key, &had))
+        index_retire(of->copy, had);
+}
+
+static void put_page(indexed_map *of, const key_page *page) {
+    const uint8_t *at = page->bytes;
+    size_t place;
+    for (place = 0; place < page->count && of->copy != NULL; place++) {
+        field key = {at, page->heads[place].length};
+        put_in_copy(of, key, page->heads[place].value);
+        at += key.length;
+    }
+}
+
+indexed_map *index_copy_on(indexed_map *of, portion left) {
+    static key_page page;
+    indexed_map *made = of->copy;
+    key_range rest;
+    range_of_all(&rest);
+    rest.from_length = of->rest_length;
+    memcpy(rest.from, of->rest, of->rest_length);
+    do {
+        if (map_list((map *)of, &of->handle, &rest, 0, PAGE, &page) != HOT_DONE) {
+            index_end_copy(of);
+            return NULL;
+        }
+        page_cut(&page, 1, &left);
+        put_page(of, &page);
+        if (of->copy == NULL)
+            return NULL;
+        if (!page.more || !range_go_on(&rest, 0, &page)) {
+            of->copy = NULL;
+            made->row_at = of->row_at;
+            return made;
+        }
+    } while (left.pairs > 0 && left.bytes > 0);
+    of->rest_length = rest.from_length;
+    memcpy(of->rest, rest.from, rest.from_length);
+    return NULL;
+}
+
+/* ---- Changes ---- */
+
+static void look(indexed_map *of) {
+    of->next_look = (uint32_t)(of->count / 64 < UINT32_MAX ? of->count / 64 : UINT32_MAX) + 64;
+    note_most(of);
+    index_tell(of);
+    if (of->copy != NULL && of->count > of->most / 4)
+        index_end_copy(of);
 }
 
 hot_status index_put(indexed_map *of, field key, word value, word *had) {
@@ -303,6 +382,8 @@ hot_status index_put(indexed_map *of, field key, word value, word *had) {
     if (status != HOT_NEW && status != HOT_WAS)
         return status;
     of->text_bytes += word_bytes(value);
+    if (is_copied(of, key))
+        put_in_copy(of, key, value);
     if (status == HOT_NEW) {
         of->count++;
         of->record_bytes += pair_bytes(key.length);
@@ -317,18 +398,7 @@ int index_take(indexed_map *of, field key, word *had) {
         return 0;
     of->count--;
     of->record_bytes -= pair_bytes(key.length);
+    if (is_copied(of, key))
+        take_of_copy(of, key);
     return 1;
-}
-
-void index_trim(indexed_map *of) {
-    uint64_t most = of->most, most_bytes = of->most_bytes;
-    if (most < LARGE || of->count >= most / 8 || of->is_growing)
-        return;
-    of->most = of->count;
-    of->most_bytes = of->record_bytes;
-    of->asked = most;
-    if (!jobs_resize(of, 1)) {
-        of->most = most;
-        of->most_bytes = most_bytes;
-    }
 }

@@ -8,23 +8,6 @@
 #include <string.h>
 #include <sys/resource.h>
 
-/* What a keeper does with an index. */
-typedef struct keeping {
-    struct keeping *next;
-    indexed_map *of;
-    enum { GROW, TRIM, FREE } what;
-} keeping;
-
-/* Two threads keep indexes: one makes other tables, and one frees what may take long, so that no table waits for that. */
-typedef struct keeper {
-    const char *name;
-    int is_there;
-    keeping *asked; /* under the lock */
-    pthread_cond_t has_more;
-} keeper;
-static keeper resizer = {"map_resizer", 0, NULL, PTHREAD_COND_INITIALIZER},
-              freer = {"map_freer", 0, NULL, PTHREAD_COND_INITIALIZER};
-
 long long reader_threads = 3;
 atomic_ullong read_count, gone_count;
 unsigned long long most_at_once;
@@ -32,7 +15,7 @@ unsigned long long most_at_once;
 const portion read_portion = {2048, 1 << 20};
 
 static pthread_mutex_t lock = PTHREAD_MUTEX_INITIALIZER;
-static pthread_cond_t has_read = PTHREAD_COND_INITIALIZER;
+static pthread_cond_t has_read = PTHREAD_COND_INITIALIZER, has_gone = PTHREAD_COND_INITIALIZER;
 
 /* Reads that wait for a thread, in the order in which they came: those that none has begun, those that go on, those whose rest goes
  * in one portion, and those that will go on once fewer do. */
@@ -244,84 +227,49 @@ void jobs_read(RedisModuleCtx *ctx, read_job *it, indexed_map *of) {
     pthread_mutex_unlock(&lock);
 }
 
-/* ---- Keeping ---- */
+/* ---- Maps that go ---- */
 
-static keeping *begin_keeping(keeper *by) {
-    keeping *it;
-    pthread_mutex_lock(&lock);
-    while (by->asked == NULL)
-        pthread_cond_wait(&by->has_more, &lock);
-    it = by->asked;
-    by->asked = it->next;
-    pthread_mutex_unlock(&lock);
-    return it;
-}
+static int has_freer;
+static indexed_map *first_freed; /* under the lock */
 
-/* It grows in one go, which holds its lock: so no change of the main thread makes a portion of it. */
-static void resize(keeping *it) {
-    hot_status status = it->what == TRIM ? hot_trim(it->of->index) : hot_grow(it->of->index);
-    if (status == HOT_DONE)
-        atomic_fetch_add(&growth_count, 1);
-    index_tell(it->of);
-    it->of->is_growing = 0;
-    map_drop((map *)it->of);
-}
-
-static void *keep_all(void *by) {
-    if (by == &freer)
-        come_last();
+static void *free_all(void *unused) {
+    come_last();
     for (;;) {
-        keeping *it = begin_keeping(by);
-        if (it->what == FREE)
-            index_free(it->of);
-        else
-            resize(it);
-        RedisModule_Free(it);
+        indexed_map *it;
+        pthread_mutex_lock(&lock);
+        while (first_freed == NULL)
+            pthread_cond_wait(&has_gone, &lock);
+        it = first_freed;
+        first_freed = it->next_freed;
+        pthread_mutex_unlock(&lock);
+        index_free(it);
     }
-    return by;
-}
-
-/* Asks a keeper: 0 if there is none, or no memory. */
-static int ask(keeper *by, indexed_map *of, int what) {
-    keeping *it = by->is_there ? RedisModule_TryAlloc(sizeof *it) : NULL;
-    if (it == NULL)
-        return 0;
-    it->of = of;
-    it->what = what;
-    pthread_mutex_lock(&lock);
-    it->next = by->asked;
-    by->asked = it;
-    pthread_cond_signal(&by->has_more);
-    pthread_mutex_unlock(&lock);
-    return 1;
-}
-
-int jobs_resize(indexed_map *of, int is_trim) {
-    atomic_fetch_add(&of->uses, 1);
-    of->is_growing = 1;
-    if (ask(&resizer, of, is_trim ? TRIM : GROW))
-        return 1;
-    of->is_growing = 0;
-    atomic_fetch_sub(&of->uses, 1);
-    return 0;
+    return unused;
 }
 
 void jobs_free(indexed_map *of) {
     index_leave(of);
-    if (!ask(&freer, of, FREE))
+    if (!has_freer) {
         index_free(of);
+        return;
+    }
+    pthread_mutex_lock(&lock);
+    of->next_freed = first_freed;
+    first_freed = of;
+    pthread_cond_signal(&has_gone);
+    pthread_mutex_unlock(&lock);
 }
 
 /* ---- Threads ---- */
 
 /* Starts a thread that hears no signal: they are the main thread's. */
-static int start(void *(*run)(void *), void *of, const char *name) {
+static int start(void *(*run)(void *), const char *name) {
     sigset_t all, before;
     pthread_t made;
     int is_started;
     sigfillset(&all);
     pthread_sigmask(SIG_SETMASK, &all, &before);
-    is_started = pthread_create(&made, NULL, run, of) == 0;
+    is_started = pthread_create(&made, NULL, run, NULL) == 0;
     pthread_sigmask(SIG_SETMASK, &before, NULL);
     if (is_started) {
         pthread_setname_np(made, name);
@@ -332,9 +280,8 @@ static int start(void *(*run)(void *), void *of, const char *name) {
 
 void jobs_start(void) {
     long long at = 0;
-    while (at < reader_threads && start(read_all, NULL, "map_reader"))
+    while (at < reader_threads && start(read_all, "map_reader"))
         at++;
     reader_threads = at;
-    resizer.is_there = start(keep_all, &resizer, resizer.name);
-    freer.is_there = start(keep_all, &freer, freer.name);
+    has_freer = start(free_all, "map_freer");
 }

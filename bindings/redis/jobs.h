@@ -1,5 +1,5 @@
-/* Work beside the main thread: long reads by threads of their own, each with a handle of its own; a thread that makes larger
- * tables; and one that frees what nobody uses any more. */
+/* Work beside the main thread: long reads by threads of their own, each with a handle of its own, and a thread that frees what
+ * nobody uses any more. */
 #ifndef JOBS_H
 #define JOBS_H
 
@@ -52,9 +52,6 @@ void jobs_start(void);
 /* Blocks the client until a read has ended, which is freed then. The map stays until then. Reads that no thread has begun go first.
  * Twice as many as there are threads go on by turns, so that few replies grow at one time. They have one turn of four at least. */
 void jobs_read(RedisModuleCtx *ctx, read_job *it, indexed_map *of);
-
-/* Has a table made with room for more pairs, or for those that there are: 0 if it can't be asked for. */
-int jobs_resize(indexed_map *of, int is_trim);
 
 /* Has a map freed. */
 void jobs_free(indexed_map *of);

@@ -1,5 +1,6 @@
 /* Keys of commands, and the maps that they lead to. */
 #include "keys.h"
+#include "trims.h"
 #include "type.h"
 
 int refuse(RedisModuleCtx *ctx, const char *why) {
@@ -49,6 +50,7 @@ void keep(opened *it) {
 size_t take_fields(opened *it, const field *fields, size_t count, portion *left, uint64_t *taken) {
     size_t tried = it->now == NULL ? count : map_take(it->was, fields, count, left, taken, &it->now);
     keep(it);
+    trim(it);
     return tried;
 }
 

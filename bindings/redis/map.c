@@ -359,13 +359,11 @@ static map *row_again(indexed_map *of) {
     return (map *)made;
 }
 
-/* Gives an index that has lost pairs another form, or a smaller table, if few are left. */
+/* Gives an index that has lost pairs another form, if few are left. */
 static void settle(indexed_map *of, map **made) {
     map *smaller = of->count > 0 && of->count <= of->row_at ? row_again(of) : NULL;
     if (smaller != NULL)
         *made = smaller;
-    else
-        index_trim(of);
 }
 
 static size_t take_of_row(row_map *of, const field *fields, size_t count, portion *left, uint64_t *taken, map **made) {

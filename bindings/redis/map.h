@@ -45,19 +45,21 @@ typedef struct retired {
 typedef struct indexed_map {
     uint64_t number;
     uint8_t form;
-    atomic_uint uses;      /* the key's, until it is deleted, and that of each job */
-    atomic_int is_growing; /* a job gives it a larger table, or a smaller one */
+    atomic_uint uses; /* the key's, until it is deleted, and that of each job */
     hot_index *index;
     hot_handle handle;                        /* of the main thread, which makes all changes */
     uint64_t count, record_bytes, text_bytes; /* see pair_bytes */
-    uint64_t most, most_bytes;                /* so many pairs, and bytes of records, it had since its table was made */
+    uint64_t most, most_bytes;                /* the most pairs, and bytes of records, that it has had */
     uint64_t row_at;                          /* with so many pairs it may be a row again */
-    uint32_t next_look;                       /* after so many further new pairs it is looked how full the table is */
-    uint64_t asked;                           /* so many pairs it had when a job was asked for another table, or more */
+    uint32_t next_look;                       /* after so many further new pairs the server is told what it takes */
     retired *gone;                            /* values that jobs may still read */
     size_t gone_first, gone_count, gone_room;
     void *told[2]; /* memory of the server that stands for the index's: see index_tell */
     size_t told_bytes;
+    struct indexed_map *copy; /* what takes its place, once all pairs are there: see index_begin_copy */
+    size_t rest_length;       /* it has all pairs below this field */
+    uint8_t rest[HOT_MAX_KEY];
+    struct indexed_map *next_freed; /* the next one that a job frees */
 } indexed_map;
 
 /* What a command sets: pairs, of all fields, or of those alone that are absent or held. */

@@ -10,8 +10,8 @@
 #include "index.h"
 #include "jobs.h"
 #include "server.h"
+#include "trims.h"
 #include "type.h"
-#include "waits.h"
 #include <limits.h>
 #include <sys/prctl.h>
 
@@ -43,10 +43,9 @@ static void write_info(RedisModuleInfoCtx *ctx, int for_crash_report) {
     RedisModule_InfoAddSection(ctx, "maps");
     RedisModule_InfoAddFieldULongLong(ctx, "indexes", index_count);
     RedisModule_InfoAddFieldULongLong(ctx, "index_bytes", index_bytes);
-    RedisModule_InfoAddFieldULongLong(ctx, "growths", growth_count);
+    RedisModule_InfoAddFieldULongLong(ctx, "trims", trim_count);
     RedisModule_InfoAddFieldULongLong(ctx, "reads", read_count);
     RedisModule_InfoAddFieldULongLong(ctx, "clients_gone", gone_count);
-    RedisModule_InfoAddFieldULongLong(ctx, "waits", wait_count);
     RedisModule_InfoAddFieldULongLong(ctx, "most_pairs_at_once", most_at_once);
 }
 
@@ -61,14 +60,11 @@ static int refuse(RedisModuleCtx *ctx, const char *why) {
     return REDISMODULE_ERR;
 }
 
-/* The first index of a process registers it for membarrier. Once there are other threads, that waits 10 to 25 ms: so one is made
- * before. */
-static hot_status make_first(void) {
-    hot_index *first;
-    hot_status status = hot_open_growing(NULL, SIZE_MAX, 1, &first);
-    if (status == HOT_DONE)
-        hot_close_index(first);
-    return status;
+/* Looks whether the processor is new enough for the library. */
+static hot_status look_at_processor(void) {
+    static const hot_stock least = {1, 0, 0, 0, 0, 1};
+    size_t bytes;
+    return hot_stock_bytes(&least, 1, &bytes);
 }
 
 __attribute__((visibility("default"))) int RedisModule_OnLoad(RedisModuleCtx *ctx, RedisModuleString **argv, int argc);
@@ -87,7 +83,7 @@ int RedisModule_OnLoad(RedisModuleCtx *ctx, RedisModuleString **argv, int argc) 
     RedisModule_SetModuleAttribs(ctx, "ordered_map", MODULE_VERSION, INTERFACE_VERSION);
     if (argc > 0)
         return refuse(ctx, "it takes no arguments");
-    status = make_first();
+    status = look_at_processor();
     if (status != HOT_DONE)
         return refuse(ctx, hot_status_text(status));
     RedisModule_SetModuleOptions(ctx, HANDLE_IO_ERRORS | NO_IMPLICIT_SIGNAL_MODIFIED | HANDLE_REPL_ASYNC_LOAD);

@@ -14,7 +14,6 @@ typedef struct RedisModuleBlockedClient RedisModuleBlockedClient;
 typedef struct RedisModuleDigest RedisModuleDigest;
 typedef struct RedisModuleCommand RedisModuleCommand;
 typedef struct RedisModuleInfoCtx RedisModuleInfoCtx;
-typedef struct RedisModuleUser RedisModuleUser;
 typedef struct RedisModuleCallReply RedisModuleCallReply;
 typedef struct RedisModuleDefragCtx RedisModuleDefragCtx;
 
@@ -35,10 +34,6 @@ enum {
     IS_CHILD = 1 << 20,
     DENIES_BLOCKING = 1 << 21
 };
-
-/* Begins the form of a call that the server refuses as it refuses that of a client: `S` for its disk, replicas or role, `M` for
- * memory. */
-#define CALL_REFUSABLE "SM"
 
 /* What is said of a client, in version 1, and flags of it: it has subscribed to channels; it keeps what it reads, and is told of
  * changes. */
@@ -201,11 +196,6 @@ typedef struct RedisModuleTypeMethods {
     X(void, FreeCallReply, (RedisModuleCallReply * reply))                                                                         \
     X(RedisModuleCallReply *, CallReplyArrayElement, (RedisModuleCallReply * reply, size_t at))                                    \
     X(const char *, CallReplyStringPtr, (RedisModuleCallReply * reply, size_t * length))                                           \
-    X(void *, GetBlockedClientPrivateData, (RedisModuleCtx * ctx))                                                                 \
-    X(RedisModuleString *, GetCurrentUserName, (RedisModuleCtx * ctx))                                                             \
-    X(RedisModuleUser *, GetModuleUserFromUserName, (RedisModuleString * name))                                                    \
-    X(int, ACLCheckCommandPermissions, (RedisModuleUser * user, RedisModuleString * *argv, int argc))                              \
-    X(int, FreeModuleUser, (RedisModuleUser * user))                                                                               \
     X(unsigned long long, GetClientId, (RedisModuleCtx * ctx))                                                                     \
     X(int, GetClientInfoById, (RedisModuleClientInfo * to, uint64_t client))                                                       \
     X(int, AvoidReplicaTraffic, (void))                                                                                            \
