@@ -10,13 +10,12 @@ from servers import Server, flat
 
 # Of each command its least words, its arity, and its flags.
 COMMANDS: "dict[str, tuple[tuple[object, ...], int, set[str]]]" = {
-    "OM.SET": (("m", "a", 1), -4, {"write", "denyoom", "fast", "blocking"}),
+    "OM.SET": (("m", "a", 1), -4, {"write", "denyoom", "fast"}),
     "OM.GET": (("m", "a"), 3, {"readonly", "fast"}),
     "OM.MGET": (("m", "a"), -3, {"readonly", "blocking"}),
     "OM.DEL": (("m", "a"), -3, {"write", "fast", "blocking"}),
-    "OM.ADD": (("m", "a", 1), 4, {"write", "denyoom", "fast", "blocking"}),
-    "OM.CAS": (("m", "a", 1, 2), 5, {"write", "denyoom", "fast", "blocking"}),
-    "OM.MAY": (("m",), 2, {"write", "denyoom", "fast"}),
+    "OM.ADD": (("m", "a", 1), 4, {"write", "denyoom", "fast"}),
+    "OM.CAS": (("m", "a", 1, 2), 5, {"write", "denyoom", "fast"}),
     "OM.EXISTS": (("m", "a"), 3, {"readonly", "fast"}),
     "OM.LEN": (("m",), 2, {"readonly", "fast"}),
     "OM.RANGE": (("m", "-", "+"), -4, {"readonly", "blocking"}),
@@ -236,7 +235,7 @@ class Commands(unittest.TestCase):
                 (("OM.PREFIX", "m", "00", "WITHVALUES"), 100),
                 (("OM.POPMIN", "m"), 1),
                 (("OM.POPMIN", "none"), 0),
-                (("OM.STAT", "m"), 6),
+                (("OM.STAT", "m"), 5),
             ]:
                 self.assertTrue(client.run(*words).startswith(b"%%%d\r\n" % count), words)
             self.assertTrue(client.run("OM.SCAN", "m", 0).startswith(b"*2\r\n$5\r\n(0010\r\n%10\r\n$4\r\n0001\r\n$1\r\n1\r\n"))

@@ -448,7 +448,7 @@ class Memory(unittest.TestCase):
         with Server() as server:
             before = server.figure("used_memory")
             fill(server, "m", some_pairs(50_000))
-            # Where it waited for a table, the server has a buffer with its further commands.
+            # The server has a buffer for the client's commands.
             server.client.connection_pool.disconnect()
             server.client.ping()
             used = server.figure("used_memory") - before
@@ -460,6 +460,50 @@ class Memory(unittest.TestCase):
                 time.sleep(0.02)
             self.assertEqual(server.figure("ordered_map_index_bytes"), 0)
             self.assertLess(server.figure("used_memory") - before, used / 3)
+
+    def test_trims(self) -> None:
+        """An index gives memory back when few of its pairs are left. What changes meanwhile is not lost, in whichever part of it."""
+        count = 1_000_000 if IS_LONG else 100_000
+        pairs = {b"f%07d" % at: b"a value of more than seven bytes %d" % at if at % 2 else b"%d" % at for at in range(count)}
+        left, some = dict(list(pairs.items())[: count // 10]), random.Random(1)
+        with Server() as server:
+            fill(server, "m", pairs)
+            full = server.run("OM.STAT", "m")[3]
+            server.run("OM.DELRANGE", "m", b"[f%07d" % len(left), "+")
+            while server.figure("ordered_map_trims") == 0:
+                field = b"f%07d" % some.randrange(len(left))
+                if some.random() < 0.5:
+                    left[field] = b"a value that is another one %d" % some.randrange(10**6)
+                    server.run("OM.SET", "m", field, left[field])
+                else:
+                    self.assertEqual(server.run("OM.DEL", "m", field), left.pop(field, None) is not None)
+            self.assertLess(server.run("OM.STAT", "m")[3], full / 4)
+            server.until("everything", "ordered_map_indexes", 1)
+            self.assertEqual(server.run("OM.RANGE", "m", "-", "+", "WITHVALUES"), flat(sorted(left.items())))
+
+    def test_trims_that_end(self) -> None:
+        """One ends where its key goes, gets another name or another map, or where the map grows again."""
+        changes: "list[list[Any]]" = [[("DEL", "m")], [("RENAME", "m", "other")], [("SET", "m", "text")], [("FLUSHALL", "ASYNC")]]
+        pairs = {b"f%07d" % at: b"a value of more than seven bytes %d" % at for at in range(100_000)}
+        half = list(pairs.items())[:50_000]
+        changes.append([("OM.SET", "m", *flat(half[begin : begin + 2_500])) for begin in range(0, 50_000, 2_500)])
+        with Server() as server:
+            for change in changes:
+                server.client.flushall()
+                fill(server, "m", pairs)
+                with server.client.pipeline(transaction=True) as together:
+                    together.execute_command("OM.DELRANGE", "m", "[f0012000", "+")
+                    for words in change:
+                        together.execute_command(*words)
+                    together.execute()
+                time.sleep(0.2)
+                if change[0][0] == "RENAME":
+                    self.assertEqual(server.run("OM.RANGE", "other", "-", "+", "WITHVALUES"), flat(half[:12_000]))
+                if change[0][0] == "OM.SET":
+                    self.assertEqual(server.run("OM.RANGE", "m", "-", "+", "WITHVALUES"), flat(half))
+                self.assertEqual(server.figure("ordered_map_trims"), 0)
+            server.client.flushall()
+            server.until("everything", "ordered_map_indexes", 0)
 
     @unittest.skipIf(PRELOAD, "what stands before the server's libraries takes memory, too")
     def test_estimate(self) -> None:
@@ -475,8 +519,6 @@ class Memory(unittest.TestCase):
         used, resident = server.figure("used_memory"), server.resident()
         for at in range(maps):
             fill(server, f"m{at}", {some.randbytes(length): b"1" for _ in range(count)}, 100)
-        while any(server.run("OM.STAT", f"m{at}")[-1] for at in range(maps)):
-            time.sleep(0.01)
         server.client.connection_pool.disconnect()
         server.run("MEMORY", "PURGE")
         share = (server.figure("used_memory") - used) / (server.resident() - resident)
@@ -538,30 +580,6 @@ class Memory(unittest.TestCase):
             self.assertEqual(digest(server), before)
 
 
-def hold_resizer(server: Server) -> None:
-    """All threads have one processor, and the one that makes tables what others leave of it."""
-    assert server.process is not None
-    one = {min(os.sched_getaffinity(0))}
-    for task in Path(f"/proc/{server.process.pid}/task").iterdir():
-        os.sched_setaffinity(int(task.name), one)
-        if (task / "comm").read_text() == "map_resizer\n":
-            os.setpriority(os.PRIO_PROCESS, int(task.name), 19)
-
-
-def write_at_once(server: Server, pairs: "list[tuple[bytes, bytes]]") -> None:
-    """Sets a thousand pairs a command, and counts the commands. Every fifth is one of a transaction, and a client that leaves makes the same."""
-    client = redis.Redis(port=server.port)
-    for at in range(0, len(pairs), 1_000):
-        words = ["OM.SET", "m", *flat(pairs[at : at + 1_000])]
-        with client.pipeline(transaction=at % 5_000 == 0) as pipe:
-            pipe.execute_command(*words)
-            pipe.execute_command("OM.ADD", "m", "counter", 1)
-            pipe.execute()
-        other = redis.Redis(port=server.port).connection_pool.get_connection("_")
-        other.send_command(*words)
-        other.disconnect()
-
-
 class Jobs(unittest.TestCase):
     def test_reads_beside_changes(self) -> None:
         """Reads by jobs are in order, have each field that stays, and each value whole, while values are replaced and fields come and go, maps are
@@ -588,28 +606,6 @@ class Jobs(unittest.TestCase):
                         pipe.execute()
                 pipe.execute()
             self.assertEqual(server.run("OM.RANGE", "m", "-", "+", "WITHVALUES"), flat(sorted(pairs.items())))
-
-    def test_waits(self) -> None:
-        """Where the thread that makes tables gets little of a processor, clients wait for one. Each change is made once, and in the file and the
-        replica, too. Clients that can't wait don't, and some leave."""
-        pairs = some_pairs(60_000)
-        with Server("--appendonly", "yes") as server, Server("--replicaof", f"127.0.0.1 {server.port}") as replica:
-            hold_resizer(server)
-            writers = [threading.Thread(target=write_at_once, args=(server, list(pairs.items())[at::4])) for at in range(4)]
-            for writer in writers:
-                writer.start()
-            for writer in writers:
-                writer.join()
-            self.assertGreater(server.figure("ordered_map_waits"), 0)
-            self.assertEqual(server.figure("blocked_clients"), 0)
-            pairs[b"counter"] = b"60"
-            self.assertEqual(server.run("OM.RANGE", "m", "-", "+", "WITHVALUES"), flat(sorted(pairs.items())))
-            before = digest(server)
-            self.assertEqual(server.client.wait(1, 30_000), 1)
-            self.assertEqual(digest(replica), before)
-            server.stop()
-            server.start("--appendonly", "yes")
-            self.assertEqual(digest(server), before)
 
     def test_clients_that_go(self) -> None:
         """A read for a client that has left ends, and the map goes with it."""

@@ -1,7 +1,4 @@
-"""Commands whose clients wait: meanwhile their key goes, or moves to another server of a cluster, or the server comes to refuse such commands.
-
-A command waits for a larger table where the thread that makes tables is held. That takes ptrace.
-"""
+"""Commands whose clients wait: meanwhile their key changes, or moves to another server of a cluster."""
 import contextlib
 import ctypes
 import functools
@@ -28,7 +25,7 @@ trace.restype = ctypes.c_long
 @functools.cache
 def say_untraced() -> None:
     """Once for all tests."""
-    print("\nnot tried, since no thread may be traced: what comes between a command and its table")
+    print("\nnot tried, since no thread may be traced: what comes between a command and its reply")
 
 
 @contextlib.contextmanager
@@ -49,18 +46,13 @@ def held(server: Server, name: str) -> "Iterator[None]":
 
 
 class Client:
-    """One that need not wait for its replies. It returns them as the server writes them, but for lists and texts. It says that it is ASKING
-    before each command, if it is to."""
+    """One that need not wait for its replies. It returns them as the server writes them, but for lists and texts."""
 
-    def __init__(self, server: Server, asks: bool = False):
-        self.asks = asks
+    def __init__(self, server: Server):
         self.socket = socket.create_connection(("127.0.0.1", server.port), timeout=120)
         self.replies = self.socket.makefile("rb")
 
     def send(self, *words: object) -> "Client":
-        if self.asks:
-            self.socket.sendall(packed("ASKING"))
-            assert self.reply() == "+OK"
         self.socket.sendall(packed(*words))
         return self
 
@@ -78,16 +70,6 @@ class Client:
     def run(self, *words: object) -> Any:
         return self.send(*words).reply()
 
-    def waits(self, server: Server, *words: object) -> bool:
-        """Whether a command waits. If it doesn't, its reply is read."""
-        blocked = server.client.info("clients")["blocked_clients"]
-        self.send(*words)
-        while not self.has_reply(0.01):
-            if server.client.info("clients")["blocked_clients"] > blocked:
-                return True
-        self.reply()
-        return False
-
     def close(self) -> None:
         self.replies.close()
         self.socket.close()
@@ -97,112 +79,14 @@ def numbers(count: int, begin: int = 0) -> "dict[bytes, bytes]":
     return {b"f%07d" % at: b"%d" % at for at in range(begin, begin + count)}
 
 
-def wait_for_table(server: Server, name: str, clients: "list[Client]") -> None:
-    """Fills a map until commands of clients wait: one that sets one field, one that sets many, and two that read before."""
-    first, count, many = clients[0], 0, flat(list(numbers(1_000, 1_000_000).items()))
-    first.run("OM.SET", name, "counter", 7, "word", "old")
-    while first.run("OM.STAT", name)[-1] == ":0":
-        first.run("OM.SET", name, *flat(list(numbers(100, count).items())))
-        count += 100
-    while not first.waits(server, "OM.SET", name, b"f%07d" % count, count):
-        count += 1
-    for client, words in zip(clients[1:], [("OM.SET", name, *many), ("OM.ADD", name, "counter", 5), ("OM.CAS", name, "word", "old", "new")]):
-        assert client.waits(server, *words), words
-
-
 @contextlib.contextmanager
-def clients_of(server: Server, count: int, asks: bool = False) -> "Iterator[list[Client]]":
-    clients = [Client(server, asks) for _ in range(count)]
+def clients_of(server: Server, count: int) -> "Iterator[list[Client]]":
+    clients = [Client(server) for _ in range(count)]
     try:
         yield clients
     finally:
         for client in clients:
             client.close()
-
-
-def replies_behind(server: Server, name: str, meanwhile: "Callable[[], object]", asks: bool = False) -> "list[object]":
-    """What such commands reply with, where something comes before their table. The last client has the newer protocol."""
-    with clients_of(server, 4, asks) as clients:
-        clients[3].run("HELLO", 3)
-        with held(server, "map_resizer"):
-            wait_for_table(server, name, clients)
-            meanwhile()
-        return [client.reply() for client in clients]
-
-
-MADE = [":1", ":1000", ":12", ":1"]
-REFUSED = ["-TRYAGAIN the command has waited, and is refused by now"] * 4
-
-
-class Waits(unittest.TestCase):
-    def setUp(self) -> None:
-        self.server = Server()
-        self.addCleanup(self.server.end)
-
-    def behind(self, *words: object) -> "list[object]":
-        return replies_behind(self.server, "m", lambda: self.server.run(*words))
-
-    def test_keys_that_go(self) -> None:
-        """What has waited is run as if it came then, and its reply is in its client's protocol."""
-        self.assertEqual(self.behind("PING"), MADE)
-        self.server.client.delete("m")
-        self.assertEqual(self.behind("DEL", "m"), [":1", ":1000", ":5", "_"])
-        self.assertEqual(self.server.run("OM.LEN", "m"), 1_002)
-        self.server.client.delete("m")
-        self.assertEqual(self.behind("SET", "m", "text"), ["-WRONGTYPE Operation against a key holding the wrong kind of value"] * 4)
-        self.assertEqual(self.server.client.get("m"), b"text")
-
-    def test_statistics(self) -> None:
-        """What has waited counts once."""
-        self.server.client.config_resetstat()
-        self.assertEqual(self.behind("PING"), MADE)
-        stats = self.server.client.info("commandstats")
-        self.assertEqual([stats[f"cmdstat_om.{name}"]["calls"] for name in ("add", "cas")], [1, 1])
-
-    def test_refused(self) -> None:
-        """What the server would refuse by then is refused, and has changed nothing."""
-        for refuse, allow in [
-            (("ACL", "SETUSER", "default", "-om.set", "-om.add", "-om.cas"), ("ACL", "SETUSER", "default", "+@all")),
-            (("CONFIG", "SET", "min-replicas-to-write", 1), ("CONFIG", "SET", "min-replicas-to-write", 0)),
-            (("CONFIG", "SET", "maxmemory", 1), ("CONFIG", "SET", "maxmemory", 0)),
-        ]:
-            self.be_refused(refuse, allow)
-
-    def be_refused(self, refuse: "tuple[object, ...]", allow: "tuple[object, ...]") -> None:
-        before: "list[object]" = []
-
-        def come_between() -> None:
-            before.append(self.server.run("DEBUG", "DIGEST"))
-            self.server.run(*refuse)
-            self.server.client.ping()
-
-        self.assertEqual(replies_behind(self.server, "m", come_between), REFUSED, refuse)
-        self.server.run(*allow)
-        self.assertEqual(self.server.run("DEBUG", "DIGEST"), before[0], refuse)
-        self.server.client.delete("m")
-
-    def test_paused(self) -> None:
-        """A pause of changes comes behind the turn of what has waited: a server whose threads read may take it before the command is run."""
-        with Server("--io-threads", "2", "--io-threads-do-reads", "yes", "--appendonly", "yes") as server, clients_of(server, 10) as clients:
-            pausing, sleeping, *others = clients
-
-            def sleep() -> None:
-                """Threads read once several clients have commands at one time."""
-                sleeping.send("DEBUG", "SLEEP", 0.3)
-                for client in others:
-                    client.send("PING")
-                time.sleep(0.1)
-
-            def come_between() -> None:
-                sleep()
-                for client in (sleeping, *others):
-                    client.reply()
-                sleep()
-                pausing.send("CLIENT", "PAUSE", 400, "WRITE")
-
-            for said, made, refused in zip(replies_behind(server, "m", come_between), MADE, REFUSED):
-                self.assertIn(said, (made, refused))
-            self.assertEqual(pausing.reply(), "+OK")
 
 
 class Moments(unittest.TestCase):
@@ -323,7 +207,7 @@ class Moves(unittest.TestCase):
             try:
                 servers.append(Server("--cluster-enabled", "yes", "--cluster-node-timeout", "5000"))
             except RuntimeError as error:
-                print("\nnot tried, since no cluster starts: a slot that moves while a command waits")
+                print("\nnot tried, since no cluster starts: a slot that moves while a removal is under way")
                 raise unittest.SkipTest(str(error)) from error
             cls.addClassCleanup(servers[-1].end)
         cls.here, cls.there = servers
@@ -353,32 +237,6 @@ class Moves(unittest.TestCase):
         slot, to = self.here.run("CLUSTER KEYSLOT", name), self.there.run("CLUSTER MYID")
         self.there.run("CLUSTER SETSLOT", slot, "NODE", to)
         self.here.run("CLUSTER SETSLOT", slot, "NODE", to)
-
-    def test_changes(self) -> None:
-        """What has waited makes no key in a slot that has moved, or is on its way. Where its key is still there, it is made."""
-        self.change(MADE, self.begin_move)
-        self.change(REFUSED, self.begin_move, self.move)
-        self.change(REFUSED, self.begin_move, self.move, self.end_move)
-
-    def change(self, expected: "list[str]", *steps: "Callable[[str], object]") -> None:
-        name = self.new_key()
-        before: "list[object]" = []
-
-        def come_between() -> None:
-            before.append(self.here.run("DEBUG", "DIGEST-VALUE", name))
-            for step in steps:
-                step(name)
-
-        self.assertEqual(replies_behind(self.here, name, come_between), expected, steps)
-        if expected == REFUSED:
-            self.assertEqual(self.here.run("CLUSTER COUNTKEYSINSLOT", self.here.run("CLUSTER KEYSLOT", name)), 0, steps)
-            self.assertEqual(self.there.run("DEBUG", "DIGEST-VALUE", name), before[0], steps)
-
-    def test_asking(self) -> None:
-        """What has waited where its slot goes to is made, if its client is ASKING there."""
-        name = self.new_key()
-        self.begin_move(name)
-        self.assertEqual(replies_behind(self.there, name, lambda: None, asks=True), MADE)
 
     def move_before(self, *words: object) -> "tuple[str, object] | None":
         """Begins a removal, moves the slot before its end, and returns its key and its reply; or None, if it has ended before."""

@@ -50,25 +50,19 @@ class Refused(unittest.TestCase):
         self.assertEqual(self.server.run("OM.ADD", "m", "more", 1), 1)
 
     def test_growth(self) -> None:
-        """A table that is full doesn't grow: commands with several pairs set none of them."""
+        """An index that is there grows all the same. One that has few pairs left keeps its memory and its pairs."""
         pairs = numbers(9_000)
         fill(self.server, "m", pairs)
         self.switch.touch()
-        said, at = "", 9_000
-        while not said:
-            more = numbers(7, at) | {b"f0000000": b"changed %d" % at, b"f0000001": b"%d" % at}
-            try:
-                self.server.run("OM.SET", "m", *flat(list(more.items())))
-                pairs |= more
-                at += 7
-            except redis.ResponseError as error:
-                said = str(error)
-            self.assertLess(at, 1_000_000)
-        self.assertIn("no more memory", said)
+        fill(self.server, "m", numbers(91_000, 9_000))
+        self.assertEqual(self.server.run("OM.DEL", "m", *numbers(90_000, 10_000)), 90_000)
+        self.assertEqual(self.server.run("OM.LEN", "m"), 10_000)
         self.switch.unlink()
-        self.assertEqual(self.all(), flat(sorted(pairs.items())))
-        fill(self.server, "m", numbers(10_000, 100_000))
-        self.assertEqual(self.server.run("OM.LEN", "m"), len(pairs) + 10_000)
+        self.assertEqual(self.all(), flat(list(numbers(10_000).items())))
+        self.assertEqual(self.server.figure("ordered_map_trims"), 0)
+        self.assertEqual(self.server.run("OM.DEL", "m", "f0009999"), 1)
+        self.server.until("everything", "ordered_map_trims", 1)
+        self.assertEqual(self.all(), flat(list(numbers(9_999).items())))
 
     def test_reads(self) -> None:
         fill(self.server, "m", numbers(10_000))
