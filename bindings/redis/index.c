@@ -27,7 +27,7 @@ static void forget_pages(void *at, size_t bytes) {
 }
 
 /* A leaf record of the smallest size with room for the key, and a thirteenth of a node record, which is what random keys take of
- * one in a table that has grown. */
+ * one when they are loaded. */
 size_t pair_bytes(size_t length) {
     enum { NODE_PART = 36 };
     return NODE_PART + (length <= 8 ? 32 : length <= 24 ? 48 : length <= 56 ? 80 : length <= 88 ? 112 : 264);
@@ -230,7 +230,7 @@ indexed_map *index_new(hot_source *next, void *context) {
     if (made == NULL)
         return NULL;
     memset(made, 0, sizeof *made);
-    is_made = hot_load_growing(SIZE_MAX, jobs_threads() + 2, take_next, &from, &made->index, &count) == HOT_DONE;
+    is_made = hot_load_growing(SIZE_MAX, jobs_threads() + 1, take_next, &from, &made->index, &count) == HOT_DONE;
     if ((!is_made || from.is_refused) && made->index != NULL) {
         hot_close_index(made->index);
         is_made = 0;
