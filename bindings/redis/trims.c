@@ -6,12 +6,22 @@
 
 /* It has a use of the map, which is there until the next portion. */
 typedef struct trimming {
+    struct trimming *next;
     indexed_map *of;
     RedisModuleString *name;
     int database;
 } trimming;
 
 unsigned long long trim_count;
+
+/* They have their turns. */
+static trimming *first_waiting, **last_waiting = &first_waiting;
+
+static void line_up(trimming *it) {
+    it->next = NULL;
+    *last_waiting = it;
+    last_waiting = &it->next;
+}
 
 static void end(trimming *it) {
     index_end_copy(it->of);
@@ -42,11 +52,18 @@ static int copy_on(RedisModuleCtx *ctx, const trimming *it) {
 
 /* Between two portions clients have their commands run. */
 enum { PAUSE_MILLISECONDS = 1 };
-static void take_turn(RedisModuleCtx *ctx, void *of) {
-    if (copy_on(ctx, of))
-        RedisModule_CreateTimer(ctx, PAUSE_MILLISECONDS, take_turn, of);
+static void take_turn(RedisModuleCtx *ctx, void *unused) {
+    trimming *it = first_waiting;
+    (void)unused;
+    first_waiting = it->next;
+    if (first_waiting == NULL)
+        last_waiting = &first_waiting;
+    if (copy_on(ctx, it))
+        line_up(it);
     else
-        end(of);
+        end(it);
+    if (first_waiting != NULL)
+        RedisModule_CreateTimer(ctx, PAUSE_MILLISECONDS, take_turn, NULL);
 }
 
 void trim(opened *of) {
@@ -66,5 +83,7 @@ void trim(opened *of) {
     made->of = it;
     made->name = RedisModule_CreateString(NULL, (const char *)name.at, name.length);
     made->database = RedisModule_GetSelectedDb(of->ctx);
-    RedisModule_CreateTimer(of->ctx, PAUSE_MILLISECONDS, take_turn, made);
+    if (first_waiting == NULL)
+        RedisModule_CreateTimer(of->ctx, PAUSE_MILLISECONDS, take_turn, NULL);
+    line_up(made);
 }
