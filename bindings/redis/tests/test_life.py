@@ -8,7 +8,6 @@ import random
 import threading
 import time
 import unittest
-from pathlib import Path
 from typing import Any, Callable
 
 import redis
