@@ -1332,7 +1332,7 @@ template <class Key, class T> class map {
         std::string from_, upto_;
     };
 
-    /// An empty map, whose tables have `most` bytes each at most; objects don't count. It is an index that grows: index::growing. Throws as
+    /// An empty map, whose table has `most` bytes of records at most; objects don't count. It is an index that grows: index::growing. Throws as
     /// that does.
     explicit map(std::size_t most = SIZE_MAX) : index_(index::growing(places, most)), places_(new place[places]) {}
     map(const map &) = delete;
