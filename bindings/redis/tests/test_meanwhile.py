@@ -119,13 +119,12 @@ class Moments(unittest.TestCase):
 class Turns(unittest.TestCase):
     """A read that one thread can end at once goes before long ones."""
 
-    PAIRS = 50_000
     SHORT: "tuple[object, ...]" = ("OM.RANGE", "m", "-", "+", "LIMIT", 0, 1_100)
 
-    def ended_before(self, *words: object) -> int:
-        """How many of twelve clients have their replies once a short read has ended that was sent after theirs."""
+    def ended_before(self, pairs: int, *words: object) -> int:
+        """The number of clients, twelve at most, that have their replies when a short read ends that was sent after theirs."""
         with Server("--ordered_map.threads", "1") as server, clients_of(server, 13) as [short, *others]:
-            fill(server, "m", numbers(self.PAIRS))
+            fill(server, "m", numbers(pairs))
             for client in others:
                 client.send(*words)
             self.assertEqual(len(short.run(*self.SHORT)), 1_100)
@@ -134,8 +133,9 @@ class Turns(unittest.TestCase):
         return ended
 
     def test_short_reads(self) -> None:
-        for name in ("OM.RANGE", "OM.COUNT"):
-            self.assertLess(self.ended_before(name, "m", "-", "+"), 4, name)
+        # Twelve counts of 50,000 pairs may all end before the client looks.
+        for name, pairs in (("OM.RANGE", 50_000), ("OM.COUNT", 500_000)):
+            self.assertLess(self.ended_before(pairs, name, "m", "-", "+"), 4, name)
 
 
 class Limits(unittest.TestCase):
